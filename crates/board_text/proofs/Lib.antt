@@ -1,0 +1,9 @@
+pub mod Numbers
+pub mod Lines
+pub mod NumeralLemmas
+pub mod DominationPairs
+pub mod BitRows
+pub mod PairLemmas
+pub mod Faults
+pub mod OneReading
+pub mod Moves

@@ -1,0 +1,49 @@
+-- The faults of a board's text, as the table of the format has them.
+use Rattle.std.specs.Prelude.{◌≡◌, ◌≢◌, ℕ, ◌+◌, ◌-◌, ◌<◌, ◌⊎◌, List, [], ◌∷◌, ◌++◌, length, Contains, Option, Some, None, Result, Ok, Err}
+use Rattle.board_text.specs.LineForms.{Lacks}
+use Rattle.board_text.specs.Ranges.{InRange, AreNumbers}
+use Rattle.board_text.specs.PlainBoard.{PlainBoard, IsBoard, AreLabels, IsNext}
+use Rattle.board_text.specs.BoardText.{version_line, labels_line, pebbles_line, start_line, beats_line, end_line, head, front, board_text}
+use Rattle.std.specs.List.{flat_map}
+use Rattle.board_text.specs.declared.fault.BoardFault.{BoardFault}
+use Rattle.board_text.specs.declared.fault.BoardKind.{BoardKind}
+use Rattle.board_text.specs.declared.fault.BoardKind.TheVariants.{Version, Labels, Pebbles, Start, Beats, SelfBeat, TwoWay, Order, End, Trailing, Memory}
+
+-- no line `end` stands here
+abbrev pub NotEnd : List ℕ → Type 0
+NotEnd rest = Lacks (λ (u : Unit {0}). Unit {0}) (λ u. end_line) rest
+
+-- nothing stands here, or an `e`
+abbrev pub IsCut : List ℕ → Type 0
+IsCut rest = (rest ≡ []) ⊎ ((more : List ℕ) × (rest ≡ 101 ∷ more))
+
+-- a line with this pair stands here
+abbrev pub HasPair : ℕ → List ℕ → ℕ × ℕ → Type 0
+HasPair labels rest p = AreLabels labels p × (more : List ℕ) × (rest ≡ beats_line p ++ more)
+
+-- The fault of what stands after the `beats` lines of these pairs, where no fault before it in the table is there.
+abbrev pub PairFault : ℕ → List (ℕ × ℕ) → List ℕ → BoardKind → Type 0
+PairFault labels pairs rest End = NotEnd rest × IsCut rest
+PairFault labels pairs rest Beats = NotEnd rest × (IsCut rest → ⊥) × Lacks (AreLabels labels) beats_line rest
+PairFault labels pairs rest SelfBeat = (x : ℕ) × HasPair labels rest (x, x)
+PairFault labels pairs rest TwoWay = (x : ℕ) × (y : ℕ) × HasPair labels rest (x, y) × (x ≢ y) × Contains pairs (y, x)
+PairFault labels pairs rest Order = (x : ℕ) × (y : ℕ) × HasPair labels rest (x, y) × (x ≢ y) × (Contains pairs (y, x) → ⊥) × (IsNext pairs (x, y) → ⊥)
+PairFault labels pairs rest _ = ⊥
+
+-- The lines before this one are those of the `beats` lines of a board so far, and this one has the fault.
+abbrev pub InPairs : List ℕ → ℕ → BoardKind → Type 0
+InPairs text line kind = (b : PlainBoard) × (rest : List ℕ) × IsBoard b × (text ≡ front b ++ rest) × (line ≡ 5 + length b.pairs) × PairFault b.labels b.pairs rest kind
+
+-- All lines before this one are faultless, and this one has the fault and none before it in the table.
+-- Memory may be wanting once the first three lines are faultless.
+abbrev pub HasFault : List ℕ → ℕ → BoardKind → Type 0
+HasFault text line Version = (line ≡ 1) × Lacks (λ (u : Unit {0}). Unit {0}) (λ u. version_line) text
+HasFault text line Labels = (line ≡ 2) × (rest : List ℕ) × (text ≡ version_line ++ rest) × Lacks (InRange 1 256) labels_line rest
+HasFault text line Pebbles = (line ≡ 3) × (labels : ℕ) × (rest : List ℕ) × InRange 1 256 labels
+    × (text ≡ version_line ++ (labels_line labels ++ rest)) × Lacks (InRange 1 6) pebbles_line rest
+HasFault text line Start = (line ≡ 4) × (labels pebbles : ℕ) × (rest : List ℕ) × InRange 1 256 labels × InRange 1 6 pebbles
+    × (text ≡ version_line ++ (labels_line labels ++ (pebbles_line pebbles ++ rest))) × Lacks (AreNumbers pebbles labels) start_line rest
+HasFault text line Trailing = (b : PlainBoard) × (first : ℕ) × (more : List ℕ) × IsBoard b × (text ≡ board_text b ++ first ∷ more) × (line ≡ 6 + length b.pairs)
+HasFault text line Memory = (line ≡ 0) × (labels pebbles : ℕ) × (rest : List ℕ) × InRange 1 256 labels × InRange 1 6 pebbles
+    × (text ≡ version_line ++ (labels_line labels ++ (pebbles_line pebbles ++ rest)))
+HasFault text line kind = InPairs text line kind

@@ -1,0 +1,10 @@
+pub mod Ranges
+pub mod PlainBoard
+pub mod LineForms
+pub mod Numerals
+pub mod BoardText
+pub mod Domination
+pub mod BoardFaults
+pub mod Ends
+pub mod Whole
+pub mod Parsing

@@ -1,0 +1,45 @@
+-- What a reader of texts takes from the front of the bytes that are left.
+use Rattle.std.specs.Prelude.{◌≡◌, ◌≢◌, ℕ, ◌≤◌, List, [], ◌∷◌, ◌++◌, Option, Some, None, slice_index, length, All}
+use Rattle.std.specs.Char.{IsAsciiDigit}
+use Rattle.std.specs.List.{flat_map}
+use Rattle.std.specs.Fmt.{decimal}
+use Rattle.board_text.specs.Ranges.{InRange, AreNumbers}
+
+-- The line feed that closes each line.
+abbrev pub closed : List ℕ → List ℕ
+closed line = line ++ 10 ∷ []
+
+-- A word, a space and a number, in a line of their own.
+abbrev pub number_line : List ℕ → ℕ → List ℕ
+number_line word n = closed (word ++ 32 ∷ decimal n)
+
+-- Numbers, each with a space before it.
+abbrev pub spaced : List ℕ → List ℕ
+spaced ns = flat_map (λ n. 32 ∷ decimal n) ns
+
+-- A word and numbers, in a line of their own.
+abbrev pub numbers_line : List ℕ → List ℕ → List ℕ
+numbers_line word ns = closed (word ++ spaced ns)
+
+-- The bytes don't begin with anything of this form.
+abbrev pub Lacks : {X : Type 0} → (X → Type 0) → (X → List ℕ) → List ℕ → Type 0
+Lacks {X} P form bytes = (x : X) (more : List ℕ) → P x → bytes ≢ form x ++ more
+
+-- What was taken from the front: the x whose form stands there, and nothing only where there is none.
+abbrev pub Takes : {X : Type 0} → (X → Type 0) → (X → List ℕ) → Option X → List ℕ → List ℕ → Type 0
+Takes P form None old new = Lacks P form old
+Takes P form (Some x) old new = P x × (old ≡ form x ++ new)
+
+-- The bytes don't begin with a digit.
+abbrev pub NoDigit : List ℕ → Type 0
+NoDigit bytes = IsAsciiDigit (slice_index bytes 0) → ⊥
+
+-- A number has no digit after it: what was taken is all the digits that stand there.
+abbrev pub TakesNumber : ℕ → ℕ → Option ℕ → List ℕ → List ℕ → Type 0
+TakesNumber low high None old new = (n : ℕ) (more : List ℕ) → InRange low high n → NoDigit more → old ≢ decimal n ++ more
+TakesNumber low high (Some n) old new = InRange low high n × (old ≡ decimal n ++ new) × NoDigit new
+
+-- The same for numbers, each with a space before it.
+abbrev pub TakesNumbers : ℕ → ℕ → Option (List ℕ) → List ℕ → List ℕ → Type 0
+TakesNumbers count bound None old new = (ns : List ℕ) (more : List ℕ) → AreNumbers count bound ns → NoDigit more → old ≢ spaced ns ++ more
+TakesNumbers count bound (Some ns) old new = AreNumbers count bound ns × (old ≡ spaced ns ++ new) × NoDigit new

@@ -1,0 +1,120 @@
+//! Which labels dominate which, as bits.
+
+ghost use Rattle.std.specs.Prelude.{◌≡◌, ℕ, ◌+◌, ◌*◌, ◌/◌, ◌≤◌, ◌<◌, ◌++◌, ◌∷◌, [], List, length, true, IfOk, OnOk, string_bytes, IsTrue, ◌↔◌, Contains};
+ghost use Rattle.board_text.specs.Ranges.{InRange};
+ghost use Rattle.board_text.specs.PlainBoard.{AreLabels};
+ghost use Rattle.board_text.specs.Domination.{SetsPair};
+
+use std::alloc::{AllocError, Global};
+use std::marker::Model;
+
+/// How many words the row of a label has.
+pub const ROW_WORDS: usize = 4;
+
+/// The pairs of labels of which the first beats the second, ascending.
+///
+/// Each label has a row of bits, one for each label that beats it.
+#[derive(Drop)]
+pub struct Domination {
+    labels: u16,
+    /// The rows, one after the other.
+    rows: Vec<u64>,
+    /// The place after that of the last pair, where the pairs of labels are counted in ascending order.
+    next: u32,
+}
+
+impl Model for Domination {
+    ghost use Rattle.board_text.specs.Domination.{Pairs, pairs_of, AreRows};
+
+    ghost Value = { Pairs };
+
+    ghost view = { λ d. record { labels = d.labels; pairs = pairs_of d.labels d.rows.items } };
+
+    ghost invariant = { λ d. AreRows d.labels d.rows.items d.next };
+}
+
+impl Domination {
+    ghost use Rattle.board_text.specs.PlainBoard.{IsNext};
+    ghost use Rattle.board_text.specs.Domination.{has_bit};
+
+    /// No label beats another.
+    pub fn new(alloc: Global, labels: u16) -> Result<Domination, AllocError>
+        requires { InRange 1 256 labels }
+        ensures { IfOk result (λ d. (d.labels ≡ labels) × (d.pairs ≡ [])) }
+    {
+        let words = ROW_WORDS * labels as usize;
+        Ok(Domination {
+            labels,
+            rows: vec![in alloc; 0; words]?,
+            next: 0,
+        })
+    }
+
+    /// How many labels there are.
+    pub fn labels(&self) -> u16
+        ensures value { result ≡ self.now.labels }
+        ensures in_range { InRange 1 256 result }
+    {
+        self.labels
+    }
+
+    /// Whether x beats y.
+    pub fn contains(&self, x: u16, y: u16) -> bool
+        requires { AreLabels self.now.labels (x, y) }
+        ensures { IsTrue result ↔ Contains self.now.pairs (x, y) }
+    {
+        let word = self.rows[ROW_WORDS * y as usize + x as usize / 64];
+        (word >> (x % 64)) & 1 == 1
+    }
+
+    /// The bits of the labels that beat this one.
+    pub fn row(&self, label: u16) -> &[u64]
+        requires { label < self.now.labels }
+        ensures words { length result.now ≡ ROW_WORDS }
+        ensures bits { (x : ℕ) → x < 256 → (has_bit result.now x ≡ true) ↔ Contains self.now.pairs (x, label) }
+    {
+        let from = ROW_WORDS * label as usize;
+        &self.rows[from..from + ROW_WORDS]
+    }
+
+    /// Whether the pair comes after the last.
+    pub fn is_next(&self, x: u16, y: u16) -> bool
+        requires { AreLabels self.now.labels (x, y) }
+        ensures { IsTrue result ↔ IsNext self.now.pairs (x, y) }
+    {
+        self.next <= place(self.labels, x, y)
+    }
+
+    /// Lets x beat y, a pair that comes after the last.
+    pub fn push(&mut self, x: u16, y: u16)
+        requires labels { AreLabels self.old.labels (x, y) }
+        requires next { IsNext self.old.pairs (x, y) }
+        ensures labels { self.new.labels ≡ self.old.labels }
+        ensures pairs { self.new.pairs ≡ self.old.pairs ++ (x, y) ∷ [] }
+        ensures few { length self.new.pairs ≤ 65536 }
+    {
+        let place = place(self.labels, x, y);
+        set_pair(self.labels, self.rows.as_mut_slice(), x, y);
+        self.next = place + 1;
+    }
+}
+
+/// Sets the bit of a pair.
+fn set_pair(labels: u16, rows: &mut [u64], x: u16, y: u16)
+    requires few { labels ≤ 256 }
+    requires sized { length rows.old ≡ 4 * labels }
+    requires pair { AreLabels labels (x, y) }
+    ensures { SetsPair labels rows.old rows.new x y }
+{
+    rows[ROW_WORDS * y as usize + x as usize / 64] |= 1 << (x % 64);
+}
+
+/// Which place the pair has, where the pairs of labels are counted in ascending order.
+fn place(labels: u16, x: u16, y: u16) -> u32
+    requires few { labels ≤ 256 }
+    requires pair { AreLabels labels (x, y) }
+    ensures place { result ≡ x * labels + y }
+    ensures below { result < labels * labels }
+{
+    x as u32 * labels as u32 + y as u32
+}

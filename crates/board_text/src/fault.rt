@@ -1,0 +1,60 @@
+//! What can be wrong with the text of a board.
+
+ghost use Rattle.std.specs.Prelude.{◌≡◌};
+ghost use Rattle.board_text.specs.declared.fault.BoardKind.TheVariants.{Memory as OutOfMemory};
+
+use std::alloc::AllocError;
+
+/// What is wrong with a line of a board's text.
+#[derive(Clone, Copy, Debug, PartialEq, Eq)]
+pub enum BoardKind {
+    /// The first line isn't `board 1`.
+    Version = 1,
+    /// The second line isn't `labels` and a number from 1 to 256.
+    Labels,
+    /// The third line isn't `pebbles` and a number from 1 to 6.
+    Pebbles,
+    /// The fourth line isn't `start` and a label for each pebble.
+    Start,
+    /// A line among the pairs isn't `beats` and two labels.
+    Beats,
+    /// A label beats itself.
+    SelfBeat,
+    /// An earlier line has the pair the other way round.
+    TwoWay,
+    /// The pair doesn't come after that of the line before.
+    Order,
+    /// The line `end` is missing or cut.
+    End,
+    /// Something stands behind the line `end`.
+    Trailing,
+    /// A growth of memory was refused.
+    Memory,
+}
+
+/// The first fault of a board's text.
+#[derive(Clone, Copy, Debug, PartialEq, Eq)]
+pub struct BoardFault {
+    /// The number of the faulty line, counted from 1; 0 for want of memory.
+    pub line: u32,
+    pub kind: BoardKind,
+}
+
+impl BoardFault {
+    pub(crate) fn at(line: u32, kind: BoardKind) -> BoardFault
+        ensures { result ≡ record { line = line; kind = kind } }
+    {
+        BoardFault { line, kind }
+    }
+}
+
+impl From<AllocError> for BoardFault {
+    ghost from_gives = { λ _ f. f ≡ record { line = 0; kind = OutOfMemory } };
+
+    fn from(_error: AllocError) -> BoardFault {
+        BoardFault {
+            line: 0,
+            kind: BoardKind::Memory,
+        }
+    }
+}

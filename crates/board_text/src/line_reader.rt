@@ -1,0 +1,182 @@
+//! Reading lines, words and numbers from the front of a text.
+
+ghost use Rattle.std.specs.Prelude.{◌≡◌, ◌≢◌, ℕ, ◌≤◌, ◌<◌, ◌^◌, ◌++◌, ◌∷◌, [], List, length, slice_index, IsTrue, ◌↔◌, MatchOption, option_map};
+ghost use Rattle.std.specs.Char.{is_ascii_digit};
+ghost use Rattle.std.specs.Str.Parse.{AllDigits};
+ghost use Rattle.std.specs.Fmt.{decimal};
+ghost use Rattle.std.specs.List.{prefix_len};
+ghost use Rattle.board_text.specs.LineForms.{Takes, TakesNumber, NoDigit, number_line, numbers_line, TakesNumbers};
+ghost use Rattle.board_text.specs.Ranges.{InRange, AreNumbers};
+
+use std::marker::Model;
+use std::str;
+
+/// What a text of digits says.
+#[derive(Clone, Copy, Debug, PartialEq, Eq)]
+pub enum Numeral {
+    /// The number that they spell.
+    Number(u32),
+    /// A zero leads, or the number is 2^32 or more.
+    NoNumber,
+}
+
+/// What is left of a text, from which lines, words and numbers are taken at the front.
+///
+/// After a `None` nothing is known of what is left, unless the method says so.
+#[derive(Drop)]
+pub struct LineReader<'a> {
+    rest: &'a [u8],
+}
+
+impl<'a> Model for LineReader<'a> {
+    ghost use Rattle.std.specs.Prelude.{ℕ, List};
+
+    ghost Value = { List ℕ };
+
+    ghost view = { λ r. r.rest.now };
+}
+
+impl<'a> LineReader<'a> {
+    ghost use Rattle.board_text.specs.Numerals.{TakesNumeral, TakesNumerals};
+
+    /// A reader of all these bytes.
+    pub fn new(bytes: &'a [u8]) -> Self
+        ensures { result ≡ bytes.now }
+    {
+        LineReader { rest: bytes }
+    }
+
+    /// Whether nothing is left.
+    pub fn is_empty(&self) -> bool
+        ensures { IsTrue result ↔ (self.now ≡ []) }
+    {
+        self.rest.is_empty()
+    }
+
+    /// Whether the next byte is this one.
+    pub fn begins_with(&self, byte: u8) -> bool
+        ensures { IsTrue result ↔ ((more : List ℕ) × (self.now ≡ byte ∷ more)) }
+    {
+        self.rest.first() == Some(&byte)
+    }
+
+    /// Takes this text, where it stands at the front.
+    pub fn take(&mut self, text: &[u8]) -> Option<()>
+        ensures taken { MatchOption result ((more : List ℕ) → self.old ≢ text.now ++ more) (λ _. self.old ≡ text.now ++ self.new) }
+        ensures none { MatchOption result (self.new ≡ self.old) (λ _. Unit {0}) }
+    {
+        self.rest = self.rest.strip_prefix(text)?;
+        Some(())
+    }
+
+    /// Takes the digits at the front, as many as there are.
+    pub fn digits(&mut self) -> &'a [u8]
+        ensures digits { AllDigits 10 result.now }
+        ensures taken { self.old ≡ result.now ++ self.new }
+        ensures all { NoDigit self.new }
+    {
+        let (digits, rest) = split_digits(self.rest);
+        self.rest = rest;
+        digits
+    }
+
+    /// Takes the number at the front, where it is one and lies in the range.
+    pub fn number(&mut self, low: u32, high: u32) -> Option<u32>
+        ensures { TakesNumber low high result self.old self.new }
+    {
+        let n = value(self.digits())?;
+        if low <= n && n <= high { Some(n) } else { None }
+    }
+
+    /// Takes the digits at the front, one or more, with the number that they spell.
+    pub fn numeral(&mut self) -> Option<Numeral>
+        ensures { TakesNumeral result self.old self.new }
+    {
+        let digits = self.digits();
+        if digits.is_empty() {
+            return None;
+        }
+        match value(digits) {
+            Some(n) => Some(Numeral::Number(n)),
+            None => Some(Numeral::NoNumber),
+        }
+    }
+
+    /// Takes as many texts of digits as there is room for, each with a space before it.
+    pub fn numerals(&mut self, numerals: &mut [Numeral]) -> Option<()>
+        requires { 0 < length numerals.old }
+        ensures { TakesNumerals (length numerals.old) (option_map (λ _. numerals.new) result) self.old self.new }
+    {
+        for slot in numerals.iter_mut() {
+            self.take(b" ")?;
+            *slot = self.numeral()?;
+        }
+        Some(())
+    }
+
+    /// Takes a line of this word, a space and a number in the range.
+    pub fn number_line(&mut self, word: &[u8], low: u32, high: u32) -> Option<u32>
+        ensures { Takes (InRange low high) (number_line word.now) result self.old self.new }
+    {
+        self.take(word)?;
+        self.take(b" ")?;
+        let n = self.number(low, high)?;
+        self.take(b"\n")?;
+        Some(n)
+    }
+
+    /// Takes a line of this word and as many numbers below the bound as there is room for, each with a space before it.
+    pub fn numbers_line(&mut self, word: &[u8], numbers: &mut [u16], bound: u16) -> Option<()>
+        requires some { 0 < length numbers.old }
+        requires bound { 0 < bound }
+        ensures { Takes (AreNumbers (length numbers.old) bound) (numbers_line word.now) (option_map (λ _. numbers.new) result) self.old self.new }
+    {
+        self.take(word)?;
+        self.numbers(numbers, bound)?;
+        self.take(b"\n")?;
+        Some(())
+    }
+
+    fn numbers(&mut self, numbers: &mut [u16], bound: u16) -> Option<()>
+        requires some { 0 < length numbers.old }
+        requires bound { 0 < bound }
+        ensures { TakesNumbers (length numbers.old) bound (option_map (λ _. numbers.new) result) self.old self.new }
+    {
+        for number in numbers.iter_mut() {
+            self.take(b" ")?;
+            *number = self.number(0, u32::from(bound) - 1)? as u16;
+        }
+        Some(())
+    }
+}
+
+/// The digits at the front, as many as there are, and what follows them.
+fn split_digits(bytes: &[u8]) -> (&[u8], &[u8])
+    ensures digits { AllDigits 10 result.0.now }
+    ensures taken { bytes.now ≡ result.0.now ++ result.1.now }
+    ensures all { NoDigit result.1.now }
+{
+    bytes.split_at(count_digits(bytes))
+}
+
+/// How many digits stand at the front.
+fn count_digits(bytes: &[u8]) -> usize
+    ensures within { result ≤ length bytes.now }
+    ensures count { result ≡ prefix_len is_ascii_digit bytes.now }
+{
+    bytes.iter().take_while(|b| b.is_ascii_digit()).count()
+}
+
+/// The number that the digits spell, if it has no leading zero and fits.
+fn value(digits: &[u8]) -> Option<u32>
+    requires { AllDigits 10 digits.now }
+    ensures { MatchOption result ((n : ℕ) → n < 2 ^ 32 → digits.now ≢ decimal n) (λ n. digits.now ≡ decimal n) }
+{
+    if digits.len() > 1 && digits[0] == b'0' {
+        return None;
+    }
+    match str::from_utf8(digits) {
+        Ok(text) => text.parse().ok(),
+        Err(_) => None,
+    }
+}

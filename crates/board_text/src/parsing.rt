@@ -1,0 +1,124 @@
+//! Reading a board's text.
+
+ghost use Rattle.std.specs.Prelude.{◌≡◌, ◌≢◌, ℕ, ◌+◌, ◌-◌, ◌*◌, ◌≤◌, ◌<◌, ◌++◌, ◌∷◌, [], List, length, MatchOption, MatchResult, IfOk, IfErr};
+ghost use Rattle.board_text.specs.LineForms.{Takes};
+ghost use Rattle.board_text.specs.PlainBoard.{PlainBoard, AreLabels, IsBoard, ArePairs};
+ghost use Rattle.board_text.specs.BoardText.{beats_line, board_text};
+ghost use Rattle.board_text.specs.declared.fault.BoardKind.TheVariants.{Memory as OutOfMemory};
+ghost use Rattle.board_text.specs.BoardFaults.{HasFault};
+ghost use Rattle.board_text.specs.Parsing.{NextPair, PairsRead, PairsFault, HeadRead};
+
+use crate::board::Board;
+use crate::fault::{BoardFault, BoardKind};
+use crate::domination::Domination;
+use crate::line_reader::LineReader;
+use std::alloc::Global;
+
+/// Takes a line `beats x y`.
+fn take_pair(text: &mut LineReader<'_>, labels: u16) -> Option<(u16, u16)>
+    requires { 1 ≤ labels }
+    ensures { Takes (AreLabels labels) beats_line result text.old text.new }
+{
+    let mut pair = [0; 2];
+    text.numbers_line(b"beats", &mut pair, labels)?;
+    Some((pair[0], pair[1]))
+}
+
+/// The pair of the next line, or nothing at the line `end`.
+fn next_pair(text: &mut LineReader<'_>, beats: &Domination) -> Result<Option<(u16, u16)>, BoardKind>
+    ensures { NextPair beats.now.labels beats.now.pairs result text.old text.new }
+{
+    if text.take(b"end\n").is_some() {
+        return Ok(None);
+    }
+    if text.is_empty() || text.begins_with(b'e') {
+        return Err(BoardKind::End);
+    }
+    let Some((x, y)) = take_pair(text, beats.labels()) else {
+        return Err(BoardKind::Beats);
+    };
+    if x == y {
+        return Err(BoardKind::SelfBeat);
+    }
+    if beats.contains(y, x) {
+        return Err(BoardKind::TwoWay);
+    }
+    if !beats.is_next(x, y) {
+        return Err(BoardKind::Order);
+    }
+    Ok(Some((x, y)))
+}
+
+/// Takes the `beats` lines and `end`, and says at which line `end` stands.
+fn read_pairs(text: &mut LineReader<'_>, beats: &mut Domination) -> Result<u32, BoardFault>
+    requires { beats.old.pairs ≡ [] }
+    ensures labels { beats.new.labels ≡ beats.old.labels }
+    ensures read { IfOk result (λ line. PairsRead beats.old.labels beats.new.pairs line text.old text.new) }
+    ensures fault { IfErr result (λ fault. PairsFault beats.old.labels text.old fault) }
+    ensures few { IfOk result (λ line. line ≤ 65541) }
+{
+    let mut line = 5;
+    'lines: loop {
+        match next_pair(text, beats) {
+            Ok(Some((x, y))) => beats.push(x, y),
+            Ok(None) => return Ok(line),
+            Err(kind) => return Err(BoardFault { line, kind }),
+        }
+        line += 1;
+    }
+}
+
+/// Takes the first three lines, with the numbers of labels and pebbles.
+fn read_head(text: &mut LineReader<'_>) -> Result<(u16, u8), BoardFault>
+    ensures { HeadRead result text.old text.new }
+{
+    let Some(()) = text.take(b"board 1\n") else {
+        return Err(BoardFault::at(1, BoardKind::Version));
+    };
+    let Some(labels) = text.number_line(b"labels", 1, 256) else {
+        return Err(BoardFault::at(2, BoardKind::Labels));
+    };
+    let Some(pebbles) = text.number_line(b"pebbles", 1, 6) else {
+        return Err(BoardFault::at(3, BoardKind::Pebbles));
+    };
+    Ok((labels as u16, pebbles as u8))
+}
+
+/// The board that the bytes are the text of, or the first fault. Memory is taken after the third line.
+pub fn parse(alloc: Global, bytes: &[u8]) -> Result<Board, BoardFault>
+    // What is read is a board's text.
+    ensures found { IfOk result (λ board. IsBoard board × (bytes.now ≡ board_text board)) }
+    // A board's text is read, unless memory runs out.
+    ensures only { (b : PlainBoard) → IsBoard b → bytes.now ≡ board_text b → MatchResult result (λ board. board ≡ b) (λ fault. fault.kind ≡ OutOfMemory) }
+    // Which fault it is.
+    ensures fault { IfErr result (λ fault. HasFault bytes.now fault.line fault.kind) }
+{
+    read(alloc, bytes)
+}
+
+fn read(alloc: Global, bytes: &[u8]) -> Result<Board, BoardFault>
+    ensures found { IfOk result (λ board. IsBoard board × (bytes.now ≡ board_text board)) }
+    ensures fault { IfErr result (λ fault. HasFault bytes.now fault.line fault.kind) }
+{
+    let mut text = LineReader::new(bytes);
+    let (labels, pebbles) = read_head(&mut text)?;
+    let mut beats = Domination::new(alloc, labels)?;
+    let mut start = vec![in alloc; 0; usize::from(pebbles)]?;
+    let Some(()) = text.numbers_line(b"start", &mut start, labels) else {
+        return Err(BoardFault::at(4, BoardKind::Start));
+    };
+    let last = read_pairs(&mut text, &mut beats)?;
+    if !text.is_empty() {
+        return Err(BoardFault::at(last + 1, BoardKind::Trailing));
+    }
+    Ok(Board {
+        pebbles,
+        start,
+        beats,
+    })
+}
+
+/// A text is that of one board at most.
+pub fn one_board()
+    ensures { (a b : PlainBoard) → IsBoard a → IsBoard b → board_text a ≡ board_text b → a ≡ b }
+{}
