@@ -1,0 +1,22 @@
+-- What a proof claims of the start, and when its tables show that.
+use Rattle.std.specs.Prelude.{ℕ, ◌≤◌, ◌⊎◌, List}
+use Rattle.board_text.specs.PlainBoard.{PlainBoard}
+use Rattle.positions.specs.declared.claim.Claim.{Claim}
+use Rattle.positions.specs.declared.claim.Claim.TheVariants as claims
+use Rattle.positions.specs.declared.value.Value.TheVariants.{Finite, Forever}
+use Rattle.positions.specs.Value.{HasValue, HasValueAtMost}
+use Rattle.positions.specs.Table.{AnswerRow, RequestRow, Answers, StopsAfter, IsClosed, IsListed}
+
+-- the tables show the claim: the labeller's that so many requests are answered, the adversary's that no more are
+abbrev pub Shows : PlainBoard → List AnswerRow → List RequestRow → Claim → Type 0
+Shows board labeller adversary (claims.Exactly number) = Answers board labeller number board.start × StopsAfter board adversary number board.start
+Shows board labeller adversary (claims.AtLeast number) = Answers board labeller number board.start
+Shows board labeller adversary (claims.AtMost number) = StopsAfter board adversary number board.start
+Shows board labeller adversary claims.Forever = IsClosed board labeller × IsListed labeller board.start
+
+-- the claim holds of the start's value
+abbrev pub Holds : PlainBoard → Claim → Type 0
+Holds board (claims.Exactly number) = HasValue board board.start (Finite number)
+Holds board (claims.AtLeast number) = HasValue board board.start Forever ⊎ ((depth : ℕ) × (number ≤ depth) × HasValue board board.start (Finite depth))
+Holds board (claims.AtMost number) = HasValueAtMost board board.start number
+Holds board claims.Forever = HasValue board board.start Forever

@@ -1,0 +1,68 @@
+//! Laws over the definitions, each the contract of a function without a body.
+
+ghost use Rattle.std.specs.Prelude.{◌≡◌, ◌≢◌, ℕ, suc, ◌<◌, ◌≤◌, ◌↔◌, List, slice_index};
+ghost use Rattle.board_text.specs.PlainBoard.{PlainBoard, IsAntisymmetric, IsConfiguration};
+ghost use Rattle.positions.specs.declared.value.Value.{Value as Worth};
+ghost use Rattle.positions.specs.Game.{LabellerTree, AdversaryTree, Dominates};
+ghost use Rattle.positions.specs.Value.{HasValue, HasValueAtMost};
+ghost use Rattle.positions.specs.Table.{AnswerRow, RequestRow, Answers, IsClosed, IsListed, StopsAfter};
+ghost use Rattle.positions.specs.declared.claim.Claim.{Claim as Assertion};
+ghost use Rattle.positions.specs.Claim.{Shows, Holds};
+ghost use Rattle.positions.specs.Laws.{HasOneTree, LastsLess, HasRequestTo, Occurs};
+
+/// At each depth either the labeller or the adversary has a tree, and not both.
+pub fn one_has_a_tree()
+    ensures { (board : PlainBoard) → (depth : ℕ) → (configuration : List ℕ) → HasOneTree board depth configuration }
+{}
+
+/// A labeller who lasts longer lasts shorter.
+pub fn lasts_less()
+    ensures { (board : PlainBoard) → (depth : ℕ) → (configuration : List ℕ) → LastsLess board depth configuration }
+{}
+
+/// A value is at most one more than a number exactly where, for some pebble, all legal results have at most that number.
+pub fn values_by_requests()
+    ensures { (board : PlainBoard) → (most : ℕ) → (configuration : List ℕ)
+        → HasValueAtMost board configuration (suc most) ↔ HasRequestTo board configuration most }
+{}
+
+/// No configuration has two values.
+pub fn one_value_at_most()
+    ensures { (board : PlainBoard) → (configuration : List ℕ) → (first : Worth) → (second : Worth)
+        → HasValue board configuration first → HasValue board configuration second → first ≡ second }
+{}
+
+/// A table that answers so many requests gives a labeller's tree, a closed one trees of every depth,
+/// and one that stops after so many answers an adversary's tree of one more depth.
+pub fn tables_give_trees()
+    ensures answers { (board : PlainBoard) → (table : List AnswerRow) → (most : ℕ) → (configuration : List ℕ)
+        → Answers board table most configuration → LabellerTree board most configuration }
+    ensures closed { (board : PlainBoard) → (table : List AnswerRow) → (depth : ℕ) → (configuration : List ℕ)
+        → IsClosed board table → IsListed table configuration → LabellerTree board depth configuration }
+    ensures stops { (board : PlainBoard) → (table : List RequestRow) → (most : ℕ) → (configuration : List ℕ)
+        → StopsAfter board table most configuration → AdversaryTree board (suc most) configuration }
+{}
+
+/// Each configuration has a value, and no value that is smaller than one that occurs is left out.
+pub fn values_occur()
+    ensures some { (board : PlainBoard) → (configuration : List ℕ) → IsConfiguration board configuration
+        → (value : Worth) × HasValue board configuration value }
+    ensures smaller { (board : PlainBoard) → (less : ℕ) → (more : ℕ) → less ≤ more → Occurs board more → Occurs board less }
+{}
+
+/// At most one pebble dominates all others, and a lone one does.
+pub fn one_dominator()
+    ensures several { (board : PlainBoard) → (configuration : List ℕ) → (first : ℕ) → (second : ℕ) → IsAntisymmetric board
+        → first < board.pebbles → second < board.pebbles
+        → Dominates board configuration first (slice_index configuration first)
+        → Dominates board configuration second (slice_index configuration second)
+        → first ≡ second }
+    ensures lone { (board : PlainBoard) → (configuration : List ℕ) → (label : ℕ) → board.pebbles ≡ 1
+        → Dominates board configuration 0 label }
+{}
+
+/// What tables show holds.
+pub fn shown_claims_hold()
+    ensures { (board : PlainBoard) → (labeller : List AnswerRow) → (adversary : List RequestRow) → (claim : Assertion)
+        → IsConfiguration board board.start → Shows board labeller adversary claim → Holds board claim }
+{}
