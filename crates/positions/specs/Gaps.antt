@@ -1,0 +1,44 @@
+-- Gaps: a pebble, with labels for all other pebbles.
+use Rattle.std.specs.Prelude.{◌≡◌, ℕ, ◌+◌, ◌-◌, ◌*◌, ◌/◌, ◌%◌, ◌^◌, ◌<◌, ◌≤◌, List, ◌∷◌, length, take, drop, slice_index, Contains, AllPairs}
+use Rattle.std.specs.List.{remove, insert}
+use Rattle.board_text.specs.PlainBoard.{PlainBoard, places}
+use Rattle.positions.specs.Game.{Legal, Dominates}
+use Rattle.positions.specs.Ranks.{number_of, digits_of, rank_of, configuration_at}
+
+-- how many gaps each pebble has
+abbrev pub gaps_each : PlainBoard → ℕ
+gaps_each board = places board ^ (board.pebbles - 1)
+
+-- how many gaps a board has
+abbrev pub gaps : PlainBoard → ℕ
+gaps board = board.pebbles * gaps_each board
+
+-- the gap of a pebble at a configuration: behind the pebble, the other pebbles' labels, in order, read in base V
+abbrev pub gap_of : PlainBoard → List ℕ → ℕ → ℕ
+gap_of board configuration pebble = pebble * gaps_each board + number_of (places board) (remove configuration pebble)
+
+-- the pebble of a gap
+abbrev pub pebble_of : PlainBoard → ℕ → ℕ
+pebble_of board gap = gap / gaps_each board
+
+-- the labels of the other pebbles
+abbrev pub others_of : PlainBoard → ℕ → List ℕ
+others_of board gap = digits_of (places board) (board.pebbles - 1) (gap % gaps_each board)
+
+-- the member of a gap that has the label in the place of its pebble
+abbrev pub member_of : PlainBoard → ℕ → ℕ → List ℕ
+member_of board gap label = insert (others_of board gap) (pebble_of board gap) label
+
+-- the label may answer a request of the gap's pebble at the gap's members
+abbrev pub IsAnswer : PlainBoard → ℕ → ℕ → Type 0
+IsAnswer board gap label = Legal board (member_of board gap label) (pebble_of board gap) label
+
+-- the pebble dominates all others at the configuration
+abbrev pub IsDominator : PlainBoard → List ℕ → ℕ → Type 0
+IsDominator board configuration pebble = (pebble < board.pebbles) × Dominates board configuration pebble (slice_index configuration pebble)
+
+-- there are so many numbers of which the fact holds
+abbrev pub HasSize : (ℕ → Type 0) → ℕ → Type 0
+HasSize P size =
+    (members : List ℕ) × AllPairs (λ first second. first < second) members × ((number : ℕ) → (Contains members number → P number) × (P number → Contains members number))
+    × (length members ≡ size)

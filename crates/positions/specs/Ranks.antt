@@ -1,0 +1,25 @@
+-- Ranks: configurations as numbers.
+use Rattle.std.specs.Prelude.{ℕ, zero, suc, ◌+◌, ◌*◌, ◌/◌, ◌%◌, ◌^◌, List, [], ◌∷◌, length}
+use Rattle.board_text.specs.PlainBoard.{PlainBoard, places}
+
+-- the labels read in a base, the first most significant
+abbrev pub number_of : ℕ → List ℕ → ℕ
+number_of base [] = 0
+number_of base (label ∷ others) = label * base ^ length others + number_of base others
+
+-- so many digits of a number in a base, the most significant first
+abbrev pub digits_of : ℕ → ℕ → ℕ → List ℕ
+digits_of base zero number = []
+digits_of base (suc count) number = number / base ^ count ∷ digits_of base count (number % base ^ count)
+
+-- how many configurations a board has
+abbrev pub configurations : PlainBoard → ℕ
+configurations board = places board ^ board.pebbles
+
+-- the rank of a configuration: its labels read in base V, pebble 0 most significant
+abbrev pub rank_of : PlainBoard → List ℕ → ℕ
+rank_of board configuration = number_of (places board) configuration
+
+-- the configuration of a rank
+abbrev pub configuration_at : PlainBoard → ℕ → List ℕ
+configuration_at board rank = digits_of (places board) board.pebbles rank
