@@ -1,0 +1,4 @@
+pub mod Proof
+pub mod ProofText
+pub mod RowWords
+pub mod ProofFaults

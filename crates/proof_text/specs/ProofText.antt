@@ -1,0 +1,70 @@
+-- The text of a strategy document.
+use Rattle.std.specs.Prelude.{◌≡◌, ℕ, ◌+◌, List, [], ◌∷◌, ◌++◌, length, codes, if◌then◌else◌}
+use Rattle.std.specs.List.{flat_map}
+use Rattle.std.specs.Fmt.{decimal}
+use Rattle.board_text.specs.LineForms.{closed, number_line, spaced}
+use Rattle.positions.specs.declared.claim.Claim.{Claim}
+use Rattle.positions.specs.declared.claim.Claim.TheVariants.{Exactly, AtLeast, AtMost, Forever}
+use Rattle.positions.specs.declared.turns.Turns.{Turns}
+use Rattle.positions.specs.declared.turns.Turns.TheVariants.{Count, Always}
+use Rattle.positions.specs.Table.{AnswerRow, RequestRow}
+use Rattle.proof_text.specs.Proof.{PlainProof, asks_labeller, asks_adversary}
+
+abbrev pub version_line : List ℕ
+version_line = closed (codes "proof 1")
+
+abbrev pub claim_line : Claim → List ℕ
+claim_line (Exactly number) = number_line (codes "value") number
+claim_line (AtLeast number) = number_line (codes "least") number
+claim_line (AtMost number) = number_line (codes "most") number
+claim_line Forever = closed (codes "forever")
+
+-- a number, or a star
+abbrev pub turns_text : Turns → List ℕ
+turns_text (Count number) = decimal number
+turns_text Always = codes "*"
+
+-- `at l0 .. for m take v0 ..`
+abbrev pub answer_line : AnswerRow → List ℕ
+answer_line row = closed (codes "at" ++ (spaced row.at ++ (codes " for " ++ (turns_text row.turns ++ (codes " take" ++ spaced row.answers)))))
+
+-- `at l0 .. for m ask p`
+abbrev pub request_line : RequestRow → List ℕ
+request_line row = closed (codes "at" ++ (spaced row.at ++ (codes " for " ++ (decimal row.left ++ (codes " ask " ++ decimal row.request)))))
+
+abbrev pub labeller_line : ℕ → List ℕ
+labeller_line count = number_line (codes "labeller") count
+
+abbrev pub adversary_line : ℕ → List ℕ
+adversary_line count = number_line (codes "adversary") count
+
+abbrev pub end_line : List ℕ
+end_line = closed (codes "end")
+
+-- the first two lines
+abbrev pub head : Claim → List ℕ
+head claim = version_line ++ claim_line claim
+
+-- the labeller's section, where the claim asks for it
+abbrev pub labeller_section : Claim → List AnswerRow → List ℕ
+labeller_section claim rows = if asks_labeller claim then labeller_line (length rows) ++ flat_map answer_line rows else []
+
+-- the adversary's section, where the claim asks for it
+abbrev pub adversary_section : Claim → List RequestRow → List ℕ
+adversary_section claim rows = if asks_adversary claim then adversary_line (length rows) ++ flat_map request_line rows else []
+
+-- the text up to its last row
+abbrev pub front : PlainProof → List ℕ
+front proof = head proof.claim ++ (labeller_section proof.claim proof.labeller ++ adversary_section proof.claim proof.adversary)
+
+-- the text of a document
+abbrev pub proof_text : PlainProof → List ℕ
+proof_text proof = front proof ++ end_line
+
+-- how many lines the labeller's section has
+abbrev pub labeller_lines : Claim → List AnswerRow → ℕ
+labeller_lines claim rows = if asks_labeller claim then 1 + length rows else 0
+
+-- how many lines the adversary's section has
+abbrev pub adversary_lines : Claim → List RequestRow → ℕ
+adversary_lines claim rows = if asks_adversary claim then 1 + length rows else 0

@@ -1,0 +1,43 @@
+-- The words of a row, with digits in its places whether or not they spell numbers in range.
+use Rattle.std.specs.Prelude.{◌≡◌, ℕ, ◌<◌, ◌⊎◌, List, [], ◌∷◌, ◌++◌, codes, All}
+use Rattle.std.specs.Fmt.{decimal}
+use Rattle.std.specs.Str.Parse.{IsNumeral}
+use Rattle.board_text.specs.LineForms.{closed}
+use Rattle.board_text.specs.Numerals.{spaced_texts, AreTexts}
+
+-- the digits of a labeller's row; a star may stand for its turns
+pub record AnswerWords : Type 0 where
+  pub at : List (List ℕ)
+  pub turns : List ℕ
+  pub take : List (List ℕ)
+
+-- the digits of an adversary's row
+pub record RequestWords : Type 0 where
+  pub at : List (List ℕ)
+  pub left : List ℕ
+  pub ask : List ℕ
+
+-- digits, one or more, or a star
+abbrev pub IsTurnsText : List ℕ → Type 0
+IsTurnsText text = IsNumeral 10 text ⊎ (text ≡ codes "*")
+
+-- as many places as there are pebbles, each with one or more digits
+pub record AreAnswerWords (pebbles : ℕ) (words : AnswerWords) : Type 0 where
+  pub at : AreTexts pebbles words.at
+  pub turns : IsTurnsText words.turns
+  pub take : AreTexts pebbles words.take
+
+pub record AreRequestWords (pebbles : ℕ) (words : RequestWords) : Type 0 where
+  pub at : AreTexts pebbles words.at
+  pub left : IsNumeral 10 words.left
+  pub ask : IsNumeral 10 words.ask
+
+abbrev pub answer_words_line : AnswerWords → List ℕ
+answer_words_line words = closed (codes "at" ++ (spaced_texts words.at ++ (codes " for " ++ (words.turns ++ (codes " take" ++ spaced_texts words.take)))))
+
+abbrev pub request_words_line : RequestWords → List ℕ
+request_words_line words = closed (codes "at" ++ (spaced_texts words.at ++ (codes " for " ++ (words.left ++ (codes " ask " ++ words.ask)))))
+
+-- the digits spell a number below the bound
+abbrev pub SpellsBelow : ℕ → List ℕ → Type 0
+SpellsBelow bound text = (number : ℕ) × (number < bound) × (text ≡ decimal number)
