@@ -1,11 +1,14 @@
 -- The places of a row, one after the other.
-use Rattle.std.proofs.Common.{◌≡◌, ℕ, ◌+◌, ◌<◌, ◌≤◌, List, [], ◌∷◌, ◌++◌, length, All, get_or, refl, sym, ap, ◌∙◌, append_assoc, arith}
+use Rattle.std.proofs.Common.{◌≡◌, ◌≢◌, ℕ, ◌+◌, ◌^◌, ◌<◌, ◌≤◌, Bool, true, false, List, [], ◌∷◌, ◌++◌, length, map, take, set, All, get_or, refl, sym, ap, subst, ◌∙◌, append_assoc, arith}
 use Rattle.std.specs.List.{flat_map, AllByRecursion, AllZip}
 use Rattle.std.specs.Str.Parse.{IsNumeral}
-use Rattle.std.proofs.lemmas.List.{length-append, append-nil, flat_map_more, get_or_at, length_push}
-use Rattle.std.proofs.lemmas.List.Elements.{recursion_from_All, All-push}
+use Rattle.std.proofs.lemmas.List.{length-append, append-nil, flat_map_more, get_or_at, length_push, map-append, take_more_set, get_or_append_left}
+use Rattle.std.proofs.lemmas.List.Elements.{recursion_from_All, All-push, All-contains, Contains-push}
 use Rattle.board_text.specs.LineForms.{NoDigit}
-use Rattle.board_text.specs.Numerals.{spaced_texts, AreTexts, Says}
+use Rattle.board_text.specs.Numerals.{spaced_texts, AreTexts, Says, SpellsBelow, SpellNumbers}
+use Rattle.board_text.specs.declared.line_reader.Numeral.TheVariants.{Number, NoNumber}
+use Rattle.std.specs.Fmt.{decimal}
+use Rattle.std.proofs.lemmas.Fmt.{decimal_injective}
 use Rattle.board_text.specs.declared.line_reader.Numeral.{Numeral}
 use Rattle.board_text.proofs.Numbers.{digits_split}
 
@@ -54,9 +57,33 @@ pub texts_push : (ws : List (List ℕ)) (w old mid rest new : List ℕ) → old 
 texts_push ws w old mid rest new e f g =
     e ∙ ap (λ (t : List ℕ). spaced_texts ws ++ t) (f ∙ ap (λ (t : List ℕ). 32 ∷ t) g) ∙ sym (append_assoc (spaced_texts ws) (32 ∷ w) new) ∙ ap (λ (t : List ℕ). t ++ new) (flat_map_more (λ v. 32 ∷ v) [] ws w)
 
--- std's `AllZip-push` wants one type on both sides
-pub says_push : (ws : List (List ℕ)) (ps : List Numeral) (w : List ℕ) (p : Numeral) → AllZip Says ws ps → Says w p → AllZip Says (ws ++ w ∷ []) (ps ++ p ∷ [])
-says_push [] [] w p z s = (s, tt)
-says_push [] (q ∷ ps) w p z s = absurd z
-says_push (v ∷ ws) [] w p z s = absurd z
-says_push (v ∷ ws) (q ∷ ps) w p z s = (z.0, says_push ws ps w p z.1 s)
+-- ---- what the texts spell
+
+-- digits that say no number below the bound spell none
+pub spells_none : (bound : ℕ) (text : List ℕ) (numeral : Numeral) → bound ≤ 2 ^ 32 → Says text numeral → ((n : ℕ) → n < bound → numeral ≢ Number n) → SpellsBelow bound text → ⊥
+spells_none bound text NoNumber small says not spells = says spells.0 (omega (arith, spells.1)) spells.2
+spells_none bound text (Number m) small says not spells =
+    let same : spells.0 ≡ m = decimal_injective spells.0 m (omega (arith, spells.1)) (omega (arith, says.0)) (sym spells.2 ∙ says.1) in
+    let below : m < bound = omega (arith, same, spells.1) in
+    not m below refl
+
+pub spells_number : (text : List ℕ) (numeral : Numeral) (n : ℕ) → Says text numeral → numeral ≡ Number n → text ≡ decimal n
+spells_number text numeral n says e = (subst (λ (m : Numeral). Says text m) e says).1
+
+-- one more text that spells a number below the bound
+pub spell_some : (bound : ℕ) (texts : List (List ℕ)) (are : Bool) (numbers : List ℕ) (i : ℕ) (text : List ℕ) (n : ℕ) → i < length numbers → n < bound → text ≡ decimal n
+    → SpellNumbers bound texts are (take i numbers) → SpellNumbers bound (texts ++ text ∷ []) are (take (i + 1) (set numbers i n))
+spell_some bound texts true numbers i text n inside below spelled so_far =
+    let more : take (i + 1) (set numbers i n) ≡ take i numbers ++ n ∷ [] = take_more_set numbers i n inside in
+    rw more (
+      All-push (λ m. m < bound) (take i numbers) n so_far.0 below,
+      ap (λ (ts : List (List ℕ)). ts ++ text ∷ []) so_far.1 ∙ ap (λ (t : List ℕ). map decimal (take i numbers) ++ t ∷ []) spelled ∙ sym (map-append decimal (take i numbers) (n ∷ [])),
+    )
+spell_some bound texts false numbers i text n inside below spelled so_far =
+    λ all. so_far (λ k d lt.
+    let h : SpellsBelow bound (get_or (texts ++ text ∷ []) k d) = all k d (omega (arith, lt, length_push texts text)) in
+    subst (λ (t : List ℕ). SpellsBelow bound t) (get_or_append_left texts (text ∷ []) d k lt) h)
+
+-- one more that spells none
+pub spell_none : (bound : ℕ) (texts : List (List ℕ)) (text : List ℕ) (numbers : List ℕ) → (SpellsBelow bound text → ⊥) → SpellNumbers bound (texts ++ text ∷ []) false numbers
+spell_none bound texts text numbers none = λ all. none (All-contains (SpellsBelow bound) (texts ++ text ∷ []) text all (Contains-push texts text))

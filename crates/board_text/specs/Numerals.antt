@@ -1,6 +1,6 @@
 -- Texts of digits, whether or not they spell a number.
-use Rattle.std.specs.Prelude.{◌≡◌, ◌≢◌, ℕ, ◌^◌, ◌<◌, List, ◌∷◌, ◌++◌, length, All, Option, Some, None}
-use Rattle.std.specs.List.{flat_map, AllZip}
+use Rattle.std.specs.Prelude.{◌≡◌, ◌≢◌, ℕ, ◌^◌, ◌<◌, ◌≤◌, Bool, true, false, List, ◌∷◌, ◌++◌, length, map, All, Option, Some, None}
+use Rattle.std.specs.List.{flat_map}
 use Rattle.std.specs.Fmt.{decimal}
 use Rattle.std.specs.Str.Parse.{IsNumeral}
 use Rattle.board_text.specs.LineForms.{NoDigit}
@@ -9,8 +9,12 @@ use Rattle.board_text.specs.declared.line_reader.Numeral.TheVariants.{Number, No
 
 -- what the digits say
 abbrev pub Says : List ℕ → Numeral → Type 0
-Says digits (Number n) = digits ≡ decimal n
+Says digits (Number n) = (n < 2 ^ 32) × (digits ≡ decimal n)
 Says digits NoNumber = (n : ℕ) → n < 2 ^ 32 → digits ≢ decimal n
+
+-- the number in the range that digits say
+abbrev pub IsNumberIn : ℕ → ℕ → Numeral → ℕ → Type 0
+IsNumberIn low high numeral n = (low ≤ n) × (n ≤ high) × (numeral ≡ Number n)
 
 -- All the digits at the front, one or more, were taken; nothing only where there is none.
 abbrev pub TakesNumeral : Option Numeral → List ℕ → List ℕ → Type 0
@@ -24,7 +28,17 @@ spaced_texts ws = flat_map (λ w. 32 ∷ w) ws
 abbrev pub AreTexts : ℕ → List (List ℕ) → Type 0
 AreTexts count ws = (length ws ≡ count) × All (IsNumeral 10) ws
 
--- Texts of digits, each with a space before it, were taken, with what each says.
-abbrev pub TakesNumerals : ℕ → Option (List Numeral) → List ℕ → List ℕ → Type 0
-TakesNumerals count None old new = (ws : List (List ℕ)) (more : List ℕ) → AreTexts count ws → NoDigit more → old ≢ spaced_texts ws ++ more
-TakesNumerals count (Some numerals) old new = (ws : List (List ℕ)) × AreTexts count ws × (old ≡ spaced_texts ws ++ new) × NoDigit new × AllZip Says ws numerals
+-- the digits spell a number below the bound
+abbrev pub SpellsBelow : ℕ → List ℕ → Type 0
+SpellsBelow bound text = (number : ℕ) × (number < bound) × (text ≡ decimal number)
+
+-- whether each text spells a number below the bound, and then which
+abbrev pub SpellNumbers : ℕ → List (List ℕ) → Bool → List ℕ → Type 0
+SpellNumbers bound texts true numbers = All (λ n. n < bound) numbers × (texts ≡ map decimal numbers)
+SpellNumbers bound texts false numbers = All (SpellsBelow bound) texts → ⊥
+
+-- Texts of digits, each with a space before it, were taken, with the numbers below the bound that they spell, if they do.
+abbrev pub TakesNumerals : ℕ → ℕ → Option (Bool × List ℕ) → List ℕ → List ℕ → Type 0
+TakesNumerals count bound None old new = (texts : List (List ℕ)) (more : List ℕ) → AreTexts count texts → NoDigit more → old ≢ spaced_texts texts ++ more
+TakesNumerals count bound (Some (are, numbers)) old new =
+    (texts : List (List ℕ)) × AreTexts count texts × (old ≡ spaced_texts texts ++ new) × NoDigit new × SpellNumbers bound texts are numbers

@@ -7,6 +7,7 @@ ghost use Rattle.std.specs.Fmt.{decimal};
 ghost use Rattle.std.specs.List.{prefix_len};
 ghost use Rattle.board_text.specs.LineForms.{Takes, TakesNumber, NoDigit, number_line, numbers_line, TakesNumbers};
 ghost use Rattle.board_text.specs.Ranges.{InRange, AreNumbers};
+ghost use Rattle.board_text.specs.declared.line_reader.Numeral.TheVariants.{Number};
 
 use std::marker::Model;
 use std::str;
@@ -18,6 +19,30 @@ pub enum Numeral {
     Number(u32),
     /// A zero leads, or the number is 2^32 or more.
     NoNumber,
+}
+
+impl Numeral {
+    ghost use Rattle.board_text.specs.Numerals.{IsNumberIn};
+
+    /// The number, if it lies in the range from `low` to `high`, both of them too.
+    pub fn within(self, low: u32, high: u32) -> Option<u32>
+        ensures { MatchOption result ((n : ℕ) → IsNumberIn low high self n → ⊥) (IsNumberIn low high self) }
+    {
+        match self {
+            Numeral::Number(n) if low <= n && n <= high => Some(n),
+            _ => None,
+        }
+    }
+
+    /// The number, if it is below the bound.
+    pub fn below(self, bound: u16) -> Option<u16>
+        ensures { MatchOption result ((n : ℕ) → n < bound → self ≢ Number n) (λ n. (n < bound) × (self ≡ Number n)) }
+    {
+        match self {
+            Numeral::Number(n) if n < bound as u32 => Some(n as u16),
+            _ => None,
+        }
+    }
 }
 
 /// What is left of a text, from which lines, words and numbers are taken at the front.
@@ -102,16 +127,20 @@ impl<'a> LineReader<'a> {
         }
     }
 
-    /// Takes as many texts of digits as there is room for, each with a space before it.
-    pub fn numerals(&mut self, numerals: &mut [Numeral]) -> Option<()>
-        requires { 0 < length numerals.old }
-        ensures { TakesNumerals (length numerals.old) (option_map (λ _. numerals.new) result) self.old self.new }
+    /// Takes as many texts of digits as there is room for, each with a space before it, and says whether each spells a number below the bound. If so, these numbers are written.
+    pub fn numerals(&mut self, numbers: &mut [u16], bound: u16) -> Option<bool>
+        requires { 0 < length numbers.old }
+        ensures { TakesNumerals (length numbers.old) bound (option_map (λ are. (are, numbers.new)) result) self.old self.new }
     {
-        for slot in numerals.iter_mut() {
+        let mut are_numbers = true;
+        for number in numbers.iter_mut() {
             self.take(b" ")?;
-            *slot = self.numeral()?;
+            match self.numeral()?.below(bound) {
+                Some(n) => *number = n,
+                None => are_numbers = false,
+            }
         }
-        Some(())
+        Some(are_numbers)
     }
 
     /// Takes a line of this word, a space and a number in the range.

@@ -64,22 +64,22 @@ RequestRowFault board rows rest kind = ⊥
 
 -- The lines up to here are those of a labeller's section of so many rows, of which these have come.
 pub record InLabeller (board : PlainBoard) (text : List ℕ) (claim : Claim) (count : ℕ) (rows : List AnswerRow) (rest : List ℕ) : Type 0 where
-  pub claim : IsClaim claim
+  pub is_claim : IsClaim claim
   pub asked : asks_labeller claim ≡ true
-  pub count : count ≤ most_rows
+  pub few : count ≤ most_rows
   pub come : length rows ≤ count
-  pub rows : AreAnswerRows board claim rows
+  pub are_rows : AreAnswerRows board claim rows
   pub spelled : text ≡ head claim ++ (labeller_line count ++ (flat_map answer_line rows ++ rest))
 
 -- The lines up to here are the labeller's section, if there is one, and those of an adversary's section of so many rows, of which these have come.
 pub record InAdversary (board : PlainBoard) (text : List ℕ) (claim : Claim) (labeller : List AnswerRow) (count : ℕ) (rows : List RequestRow) (rest : List ℕ) : Type 0 where
-  pub claim : IsClaim claim
+  pub is_claim : IsClaim claim
   pub asked : asks_adversary claim ≡ true
-  pub labeller : AreAnswerRows board claim labeller
+  pub are_labeller : AreAnswerRows board claim labeller
   pub no_labeller : asks_labeller claim ≡ false → labeller ≡ []
-  pub count : count ≤ most_rows
+  pub few : count ≤ most_rows
   pub come : length rows ≤ count
-  pub rows : AreRequestRows board rows
+  pub are_rows : AreRequestRows board rows
   pub spelled : text ≡ head claim ++ (labeller_section claim labeller ++ (adversary_line count ++ (flat_map request_line rows ++ rest)))
 
 -- Where the head of a section should stand, it doesn't.

@@ -1,13 +1,12 @@
 use Rattle.std.proofs.Common.{◌≡◌, ◌++◌, ◌<◌, ℕ, List, take}
-use Rattle.std.specs.List.{AllZip}
 use Rattle.board_text.specs.LineForms.{NoDigit}
-use Rattle.board_text.specs.Numerals.{spaced_texts, AreTexts, Says}
+use Rattle.board_text.specs.Numerals.{spaced_texts, AreTexts, SpellNumbers}
 use Rattle.board_text.proofs.line_reader.LineReader.numerals.Given as goal
 
-abbrev pub invariant-loop-slot : goal.invariant-loop-slot
-invariant-loop-slot l =
+abbrev pub invariant-loop-number : goal.invariant-loop-number
+invariant-loop-number l =
     (texts : List (List ℕ))
-    × AreTexts l.slot-index texts
+    × AreTexts l.number-index texts
     × (l.initial.self ≡ spaced_texts texts ++ l.self)
-    × (0 < l.slot-index → NoDigit l.self)
-    × AllZip Says texts (take l.slot-index l.numerals)
+    × (0 < l.number-index → NoDigit l.self)
+    × SpellNumbers l.bound texts l.are_numbers (take l.number-index l.numbers)

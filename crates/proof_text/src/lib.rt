@@ -1,0 +1,9 @@
+//! Strategy documents: a claim on a board's value, with the strategies that are to show it, and their text.
+#![tactic(auto)]
+
+mod fault;
+mod proof;
+
+pub use fault::{ProofFault, ProofKind};
+pub use positions::{Claim, Turns};
+pub use proof::{AdversaryRow, LabellerRow, Proof};

@@ -1,0 +1,33 @@
+//! A strategy document, with configurations named by their ranks.
+
+use positions::{Claim, Turns};
+
+/// A labeller's row: an answer to each request at a configuration.
+#[derive(Clone, Copy, Debug, PartialEq, Eq)]
+pub struct LabellerRow {
+    /// The rank of the configuration.
+    pub at: u32,
+    /// For how many turns the configuration is listed.
+    pub turns: Turns,
+    /// The label that each pebble is put on; 0 in the places of pebbles that the board doesn't have.
+    pub take: [u16; 6],
+}
+
+/// An adversary's row: the request to make at a configuration.
+#[derive(Clone, Copy, Debug, PartialEq, Eq)]
+pub struct AdversaryRow {
+    /// The rank of the configuration.
+    pub at: u32,
+    /// How many answers the labeller has left at most.
+    pub left: u32,
+    /// The pebble that is requested.
+    pub ask: u8,
+}
+
+/// A claim on the value of the start, and a strategy for each side that the claim asks for.
+#[derive(Debug, Drop)]
+pub struct Proof {
+    pub claim: Claim,
+    pub labeller: Vec<LabellerRow>,
+    pub adversary: Vec<AdversaryRow>,
+}
