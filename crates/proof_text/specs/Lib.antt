@@ -2,3 +2,4 @@ pub mod Proof
 pub mod ProofText
 pub mod RowWords
 pub mod ProofFaults
+pub mod Reading

@@ -70,17 +70,19 @@ pub record IsRequestRow (board : PlainBoard) (row : RequestRow) : Type 0 where
 abbrev pub IsBefore : PlainBoard → List ℕ → List ℕ → Type 0
 IsBefore board first second = rank_of board first < rank_of board second
 
--- a labeller's section: its rows, in ascending order of rank
-pub record AreAnswerRows (board : PlainBoard) (claim : Claim) (rows : List AnswerRow) : Type 0 where
+-- the rows of a section: not too many, each as it should be, and their configurations in ascending order of rank
+pub record AreRows {X : Type 0} (board : PlainBoard) (IsRow : X → Type 0) (at : X → List ℕ) (rows : List X) : Type 0 where
   pub few : length rows ≤ most_rows
-  pub each : All (IsAnswerRow board claim) rows
-  pub ascending : AllPairs (λ first second. IsBefore board first.at second.at) rows
+  pub each : All IsRow rows
+  pub ascending : AllPairs (λ first second. IsBefore board (at first) (at second)) rows
+
+-- a labeller's section in a document with the claim
+abbrev pub AreAnswerRows : PlainBoard → Claim → List AnswerRow → Type 0
+AreAnswerRows board claim rows = AreRows board (IsAnswerRow board claim) (λ row. row.at) rows
 
 -- an adversary's section
-pub record AreRequestRows (board : PlainBoard) (rows : List RequestRow) : Type 0 where
-  pub few : length rows ≤ most_rows
-  pub each : All (IsRequestRow board) rows
-  pub ascending : AllPairs (λ first second. IsBefore board first.at second.at) rows
+abbrev pub AreRequestRows : PlainBoard → List RequestRow → Type 0
+AreRequestRows board rows = AreRows board (IsRequestRow board) (λ row. row.at) rows
 
 -- a document for the board: its rows are as the format has them, and sections that the claim doesn't ask for have none
 pub record IsProof (board : PlainBoard) (proof : PlainProof) : Type 0 where

@@ -1,5 +1,6 @@
 -- What each step of reading a document takes from the text.
 use Rattle.std.specs.Prelude.{◌≡◌, ◌≢◌, ℕ, ◌+◌, ◌<◌, ◌≤◌, ◌⊎◌, Bool, true, false, List, [], ◌∷◌, ◌++◌, length, map, All, Option, Some, None, MatchOption, Result, Ok, Err, codes}
+use Rattle.std.specs.List.{flat_map}
 use Rattle.std.specs.Fmt.{decimal}
 use Rattle.std.specs.Str.Parse.{IsNumeral}
 use Rattle.board_text.specs.LineForms.{Lacks, NoDigit}
@@ -7,13 +8,14 @@ use Rattle.board_text.specs.Numerals.{spaced_texts, AreTexts, SpellsBelow, Spell
 use Rattle.board_text.specs.PlainBoard.{PlainBoard}
 use Rattle.positions.specs.declared.claim.Claim.{Claim}
 use Rattle.positions.specs.declared.turns.Turns.{Turns}
+use Rattle.positions.specs.Ranks.{rank_of, configurations}
 use Rattle.proof_text.specs.declared.fault.ProofKind.{ProofKind}
 use Rattle.proof_text.specs.declared.proof.LabellerRow.{LabellerRow}
 use Rattle.proof_text.specs.declared.proof.AdversaryRow.{AdversaryRow}
-use Rattle.proof_text.specs.Proof.{AreTurns, IsAnswerRow, IsRequestRow, IsPadded, answer_row, request_row, answer_rows, request_rows, greatest_number}
-use Rattle.proof_text.specs.ProofText.{turns_text, answer_line, request_line}
+use Rattle.proof_text.specs.Proof.{AreTurns, AreRows, IsAnswerRow, IsRequestRow, IsPadded, answer_row, request_row, answer_rows, request_rows, greatest_number}
+use Rattle.proof_text.specs.ProofText.{turns_text, answer_line, request_line, labeller_line, adversary_line}
 use Rattle.proof_text.specs.RowWords.{AnswerWords, RequestWords, IsTurnsText, AreAnswerWords, AreRequestWords, answer_words_line, request_words_line}
-use Rattle.proof_text.specs.ProofFaults.{SpellsTurns, IsNextAnswer, IsNextRequest, AnswerRowFault, RequestRowFault}
+use Rattle.proof_text.specs.ProofFaults.{SpellsTurns, AnswerRowFault, RequestRowFault}
 use Rattle.proof_text.specs.declared.row_words.AnswerValues.{AnswerValues}
 use Rattle.proof_text.specs.declared.row_words.RequestValues.{RequestValues}
 
@@ -42,6 +44,57 @@ abbrev pub NumberOf : ℕ → List ℕ → Option ℕ → Type 0
 NumberOf bound text None = SpellsBelow bound text → ⊥
 NumberOf bound text (Some number) = (number < bound) × (text ≡ decimal number)
 
--- what the words of a labeller's row spell
-pub record AnswerSpelled (board : PlainBoard) (claim : Claim) (words : AnswerWords) (values : AnswerValues) (at answers : List ℕ) : Type 0 where
-  pub at : ?
+-- the words of a labeller's row spell these values, as far as they spell any
+pub record AnswerSpelled (labels : ℕ) (claim : Claim) (words : AnswerWords) (values : AnswerValues) (at answers : List ℕ) : Type 0 where
+  pub places : SpellNumbers labels words.at values.are_places at
+  pub turns : TurnsOf claim words.turns values.turns
+  pub taken : SpellNumbers labels words.take values.are_answers answers
+
+-- The words of a labeller's row were taken.
+abbrev pub TakesAnswerWords : ℕ → ℕ → Claim → Option AnswerValues → List ℕ → List ℕ → List ℕ → List ℕ → Type 0
+TakesAnswerWords pebbles labels claim None at answers old new = Lacks (AreAnswerWords pebbles) answer_words_line old
+TakesAnswerWords pebbles labels claim (Some values) at answers old new =
+    (words : AnswerWords) × AreAnswerWords pebbles words × (old ≡ answer_words_line words ++ new) × AnswerSpelled labels claim words values at answers
+
+-- the words of an adversary's row spell these values, as far as they spell any
+pub record RequestSpelled (labels pebbles : ℕ) (words : RequestWords) (values : RequestValues) (at : List ℕ) : Type 0 where
+  pub places : SpellNumbers labels words.at values.are_places at
+  pub number : NumberOf (greatest_number + 1) words.left values.left
+  pub pebble : NumberOf pebbles words.ask values.ask
+
+-- The words of an adversary's row were taken.
+abbrev pub TakesRequestWords : ℕ → ℕ → Option RequestValues → List ℕ → List ℕ → List ℕ → Type 0
+TakesRequestWords pebbles labels None at old new = Lacks (AreRequestWords pebbles) request_words_line old
+TakesRequestWords pebbles labels (Some values) at old new =
+    (words : RequestWords) × AreRequestWords pebbles words × (old ≡ request_words_line words ++ new) × RequestSpelled labels pebbles words values at
+
+-- the rank of the configuration is not below this one
+abbrev pub IsFrom : PlainBoard → ℕ → List ℕ → Type 0
+IsFrom board least at = least ≤ rank_of board at
+
+-- What the next line of a labeller's section says, where ranks may stand from the least on.
+abbrev pub NextAnswerRow : PlainBoard → Claim → ℕ → Result LabellerRow ProofKind → List ℕ → List ℕ → Type 0
+NextAnswerRow board claim least (Ok row) old new =
+    IsAnswerRow board claim (answer_row board row) × IsPadded board row × (least ≤ row.at) × (row.at < configurations board) × (old ≡ answer_line (answer_row board row) ++ new)
+NextAnswerRow board claim least (Err kind) old new = AnswerRowFault board claim (IsFrom board least) old kind
+
+-- What the next line of an adversary's section says.
+abbrev pub NextRequestRow : PlainBoard → ℕ → Result AdversaryRow ProofKind → List ℕ → List ℕ → Type 0
+NextRequestRow board least (Ok row) old new =
+    IsRequestRow board (request_row board row) × (least ≤ row.at) × (row.at < configurations board) × (old ≡ request_line (request_row board row) ++ new)
+NextRequestRow board least (Err kind) old new = RequestRowFault board (IsFrom board least) old kind
+
+-- A section was taken, from its head to its last row.
+pub record SectionRead {X : Type 0} (board : PlainBoard) (IsRow : X → Type 0) (at : X → List ℕ) (section_line : ℕ → List ℕ) (row_line : X → List ℕ) (rows : List X) (old new : List ℕ) : Type 0 where
+  pub are_rows : AreRows board IsRow at rows
+  pub spelled : old ≡ section_line (length rows) ++ (flat_map row_line rows ++ new)
+
+-- A labeller's section was taken.
+abbrev pub LabellerRead : PlainBoard → Claim → List LabellerRow → List ℕ → List ℕ → Type 0
+LabellerRead board claim rows old new =
+    SectionRead board (IsAnswerRow board claim) (λ row. row.at) labeller_line answer_line (answer_rows board rows) old new × All (IsPadded board) rows
+
+-- An adversary's section was taken.
+abbrev pub AdversaryRead : PlainBoard → List AdversaryRow → List ℕ → List ℕ → Type 0
+AdversaryRead board rows old new =
+    SectionRead board (IsRequestRow board) (λ row. row.at) adversary_line request_line (request_rows board rows) old new

@@ -1,6 +1,5 @@
 -- The words of a row, with digits in its places whether or not they spell numbers in range.
-use Rattle.std.specs.Prelude.{◌≡◌, ℕ, ◌<◌, ◌⊎◌, List, [], ◌∷◌, ◌++◌, codes, All}
-use Rattle.std.specs.Fmt.{decimal}
+use Rattle.std.specs.Prelude.{◌≡◌, ℕ, ◌⊎◌, List, [], ◌∷◌, ◌++◌, codes}
 use Rattle.std.specs.Str.Parse.{IsNumeral}
 use Rattle.board_text.specs.LineForms.{closed}
 use Rattle.board_text.specs.Numerals.{spaced_texts, AreTexts}
@@ -37,7 +36,3 @@ answer_words_line words = closed (codes "at" ++ (spaced_texts words.at ++ (codes
 
 abbrev pub request_words_line : RequestWords → List ℕ
 request_words_line words = closed (codes "at" ++ (spaced_texts words.at ++ (codes " for " ++ (words.left ++ (codes " ask " ++ words.ask)))))
-
--- the digits spell a number below the bound
-abbrev pub SpellsBelow : ℕ → List ℕ → Type 0
-SpellsBelow bound text = (number : ℕ) × (number < bound) × (text ≡ decimal number)

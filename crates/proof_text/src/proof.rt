@@ -2,6 +2,12 @@
 
 use positions::{Claim, Turns};
 
+/// The greatest number of a claim or a row.
+pub(crate) const MOST_TURNS: u32 = 1_000_000_000;
+
+/// The greatest number of rows in a section.
+pub(crate) const MOST_ROWS: u32 = 1_048_576;
+
 /// A labeller's row: an answer to each request at a configuration.
 #[derive(Clone, Copy, Debug, PartialEq, Eq)]
 pub struct LabellerRow {

@@ -1,0 +1,103 @@
+-- How the words of a row come apart.
+use Rattle.std.proofs.Common.{◌≡◌, ◌≢◌, ℕ, ◌+◌, ◌<◌, ◌≤◌, ◌⊎◌, List, [], ◌∷◌, ◌++◌, length, get_or, refl, sym, ap, ◌∙◌, append_assoc, arith, inl, inr}
+use Rattle.std.specs.Prelude.{codes}
+use Rattle.std.specs.Str.Parse.{IsNumeral}
+use Rattle.std.specs.Char.{IsAsciiDigit}
+use Rattle.std.proofs.lemmas.Str.Parse.{tells_digits}
+use Rattle.std.proofs.lemmas.List.{append_cancel_left, append-nil, length-append, nil_from_length}
+use Rattle.std.proofs.lemmas.List.Elements.{recursion_from_All}
+use Rattle.board_text.specs.LineForms.{NoDigit}
+use Rattle.board_text.specs.Numerals.{spaced_texts, AreTexts}
+use Rattle.board_text.proofs.Numbers.{digits_split}
+use Rattle.board_text.proofs.NumeralLemmas.{texts_split}
+use Rattle.board_text.proofs.Lines.{after}
+use Rattle.proof_text.specs.RowWords.{AnswerWords, RequestWords, IsTurnsText, AreAnswerWords, AreRequestWords, answer_words_line, request_words_line}
+use Rattle.proof_text.specs.Reading.{position_text}
+
+-- a space and a line feed are no digits
+pub no_digit_space : (more : List ℕ) → NoDigit (32 ∷ more)
+no_digit_space more = λ h. omega (arith, h.0)
+
+pub no_digit_lf : (more : List ℕ) → NoDigit (10 ∷ more)
+no_digit_lf more = λ h. omega (arith, h.0)
+
+-- digits don't begin with a star
+pub no_star : (digits x y : List ℕ) → IsNumeral 10 digits → digits ++ x ≡ 42 ∷ y → ⊥
+no_star [] x y is e = omega (arith, is.0)
+no_star (d ∷ digits) x y is e =
+    let first : d ≡ 42 = ap (λ (t : List ℕ). get_or t 0 0) e in
+    let digit : IsAsciiDigit d = (tells_digits.parts d digits is.1).0 in
+    omega (arith, first, digit.0)
+
+pub numerals_unique : (ds es x y : List ℕ) → IsNumeral 10 ds → IsNumeral 10 es → NoDigit x → NoDigit y → ds ++ x ≡ es ++ y → (ds ≡ es) × (x ≡ y)
+numerals_unique ds es x y p q no_x no_y e = digits_split ds es x y p.1 q.1 no_x no_y e
+
+pub turns_unique : (t u x y : List ℕ) → IsTurnsText t → IsTurnsText u → (NoDigit x ⊎ (t ≡ codes "*")) → NoDigit y → t ++ x ≡ u ++ y → (t ≡ u) × (x ≡ y)
+turns_unique t u x y (inl p) (inl q) (inl no_x) no_y e = numerals_unique t u x y p q no_x no_y e
+turns_unique t u x y (inl p) (inl q) (inr star) no_y e = absurd (no_star t [] [] p (append-nil t ∙ star))
+turns_unique t u x y (inl p) (inr q) stops no_y e = absurd (no_star t x y p (e ∙ ap (λ (s : List ℕ). s ++ y) q))
+turns_unique t u x y (inr p) (inl q) stops no_y e = absurd (no_star u y x q (sym e ∙ ap (λ (s : List ℕ). s ++ x) p))
+turns_unique t u x y (inr p) (inr q) stops no_y e =
+    let both : codes "*" ++ x ≡ codes "*" ++ y = ap (λ (s : List ℕ). s ++ x) (sym p) ∙ e ∙ ap (λ (s : List ℕ). s ++ y) q in
+    (p ∙ sym q, append_cancel_left (codes "*") x y both)
+
+pub texts_unique : (count : ℕ) (ws vs : List (List ℕ)) (x y : List ℕ) → AreTexts count ws → AreTexts count vs → NoDigit x → NoDigit y → spaced_texts ws ++ x ≡ spaced_texts vs ++ y → (ws ≡ vs) × (x ≡ y)
+texts_unique count ws vs x y are_ws are_vs no_x no_y e =
+    let l = texts_split ws vs x y (omega (arith, are_ws.0, are_vs.0)) (recursion_from_All (IsNumeral 10) ws are_ws.1) (recursion_from_All (IsNumeral 10) vs are_vs.1) (λ h. no_x) no_y e in
+    let none : l.others ≡ [] = nil_from_length l.others (omega (arith, are_ws.0, are_vs.0, ap length l.parts, length-append ws l.others)) in
+    (sym (l.parts ∙ ap (λ (o : List (List ℕ)). ws ++ o) none ∙ append-nil ws), l.spelled ∙ ap (λ (o : List (List ℕ)). spaced_texts o ++ y) none)
+
+pub position_unique : (count : ℕ) (ws vs : List (List ℕ)) (x y : List ℕ) → AreTexts count ws → AreTexts count vs → position_text ws x ≡ position_text vs y → (ws ≡ vs) × (x ≡ y)
+position_unique count ws vs x y are_ws are_vs e =
+    let texts : spaced_texts ws ++ (codes " for " ++ x) ≡ spaced_texts vs ++ (codes " for " ++ y) =
+    append_cancel_left (codes "at") (spaced_texts ws ++ (codes " for " ++ x)) (spaced_texts vs ++ (codes " for " ++ y)) e in
+    let s = texts_unique count ws vs (codes " for " ++ x) (codes " for " ++ y) are_ws are_vs (no_digit_space (codes "for " ++ x)) (no_digit_space (codes "for " ++ y)) texts in
+    (s.0, append_cancel_left (codes " for ") x y s.1)
+
+-- ---- a labeller's row
+
+regroup : (a b c d e f more : List ℕ) → ((a ++ (b ++ (c ++ (d ++ (e ++ f))))) ++ 10 ∷ []) ++ more ≡ a ++ (b ++ (c ++ (d ++ (e ++ (f ++ 10 ∷ more)))))
+regroup a b c d e f more = simp append_assoc
+
+pub answer_parts : (words : AnswerWords) (more : List ℕ) → answer_words_line words ++ more ≡ position_text words.at (words.turns ++ (codes " take" ++ (spaced_texts words.take ++ 10 ∷ more)))
+answer_parts words more = regroup (codes "at") (spaced_texts words.at) (codes " for ") words.turns (codes " take") (spaced_texts words.take) more
+
+-- the position of a row that stands here, and what follows it
+pub answer_position : (pebbles : ℕ) (words : AnswerWords) (texts : List (List ℕ)) (old rest more : List ℕ) → AreAnswerWords pebbles words → AreTexts pebbles texts
+    → old ≡ position_text texts rest → old ≡ answer_words_line words ++ more → (texts ≡ words.at) × (rest ≡ words.turns ++ (codes " take" ++ (spaced_texts words.take ++ 10 ∷ more)))
+answer_position pebbles words texts old rest more are are_texts p e =
+    position_unique pebbles texts words.at rest (words.turns ++ (codes " take" ++ (spaced_texts words.take ++ 10 ∷ more))) are_texts are.at (sym p ∙ e ∙ answer_parts words more)
+
+-- its turns
+pub answer_turns : (words : AnswerWords) (text rest new more : List ℕ) → IsTurnsText words.turns → IsTurnsText text → (NoDigit new ⊎ (text ≡ codes "*"))
+    → rest ≡ text ++ new → rest ≡ words.turns ++ (codes " take" ++ (spaced_texts words.take ++ 10 ∷ more)) → (text ≡ words.turns) × (new ≡ codes " take" ++ (spaced_texts words.take ++ 10 ∷ more))
+answer_turns words text rest new more is is_text stops p e =
+    turns_unique text words.turns new (codes " take" ++ (spaced_texts words.take ++ 10 ∷ more)) is_text is stops (no_digit_space (codes "take" ++ (spaced_texts words.take ++ 10 ∷ more))) (sym p ∙ e)
+
+pub answer_taken : (at take : List (List ℕ)) (turns old a b c d new : List ℕ) → old ≡ position_text at a → a ≡ turns ++ b → b ≡ codes " take" ++ c → c ≡ spaced_texts take ++ d → d ≡ (10 ∷ []) ++ new
+    → old ≡ answer_words_line (record { at = at; turns = turns; take = take }) ++ new
+answer_taken at take turns old a b c d new p q r s t = rw (p, q, r, s, t) (sym (answer_parts (record { at = at; turns = turns; take = take }) new))
+
+-- ---- an adversary's row
+
+pub request_parts : (words : RequestWords) (more : List ℕ) → request_words_line words ++ more ≡ position_text words.at (words.left ++ (codes " ask " ++ (words.ask ++ 10 ∷ more)))
+request_parts words more = regroup (codes "at") (spaced_texts words.at) (codes " for ") words.left (codes " ask ") words.ask more
+
+pub request_position : (pebbles : ℕ) (words : RequestWords) (texts : List (List ℕ)) (old rest more : List ℕ) → AreRequestWords pebbles words → AreTexts pebbles texts
+    → old ≡ position_text texts rest → old ≡ request_words_line words ++ more → (texts ≡ words.at) × (rest ≡ words.left ++ (codes " ask " ++ (words.ask ++ 10 ∷ more)))
+request_position pebbles words texts old rest more are are_texts p e =
+    position_unique pebbles texts words.at rest (words.left ++ (codes " ask " ++ (words.ask ++ 10 ∷ more))) are_texts are.at (sym p ∙ e ∙ request_parts words more)
+
+pub request_left : (words : RequestWords) (text rest new more : List ℕ) → IsNumeral 10 words.left → IsNumeral 10 text → NoDigit new
+    → rest ≡ text ++ new → rest ≡ words.left ++ (codes " ask " ++ (words.ask ++ 10 ∷ more)) → (text ≡ words.left) × (new ≡ codes " ask " ++ (words.ask ++ 10 ∷ more))
+request_left words text rest new more is is_text stops p e =
+    numerals_unique text words.left new (codes " ask " ++ (words.ask ++ 10 ∷ more)) is_text is stops (no_digit_space (codes "ask " ++ (words.ask ++ 10 ∷ more))) (sym p ∙ e)
+
+pub request_ask : (words : RequestWords) (text rest new more : List ℕ) → IsNumeral 10 words.ask → IsNumeral 10 text → NoDigit new
+    → rest ≡ text ++ new → rest ≡ words.ask ++ 10 ∷ more → (text ≡ words.ask) × (new ≡ 10 ∷ more)
+request_ask words text rest new more is is_text stops p e =
+    numerals_unique text words.ask new (10 ∷ more) is_text is stops (no_digit_lf more) (sym p ∙ e)
+
+pub request_taken : (at : List (List ℕ)) (left ask old a b c d new : List ℕ) → old ≡ position_text at a → a ≡ left ++ b → b ≡ codes " ask " ++ c → c ≡ ask ++ d → d ≡ (10 ∷ []) ++ new
+    → old ≡ request_words_line (record { at = at; left = left; ask = ask }) ++ new
+request_taken at left ask old a b c d new p q r s t = rw (p, q, r, s, t) (sym (request_parts (record { at = at; left = left; ask = ask }) new))

@@ -1,0 +1,134 @@
+//! The words of a row, taken from the front of a text, with what they spell.
+
+ghost use Rattle.std.specs.Prelude.{◌≡◌, ◌≢◌, ℕ, ◌+◌, ◌<◌, ◌≤◌, ◌++◌, ◌∷◌, [], List, length, option_map, MatchOption, codes, Some, None};
+ghost use Rattle.positions.specs.declared.turns.Turns.TheVariants.{Count, Always};
+ghost use Rattle.board_text.specs.declared.line_reader.Numeral.TheVariants.{Number};
+ghost use Rattle.proof_text.specs.Proof.{AreTurns};
+ghost use Rattle.proof_text.specs.Reading.{TakesPosition, TakesTurns, TakesAnswerWords, TakesRequestWords};
+
+use crate::proof::{MOST_TURNS};
+use board_text::line_reader::{LineReader, Numeral};
+use positions::{Claim, Turns};
+
+/// What the words of a labeller's row spell, beside its places and its answers.
+#[derive(Clone, Copy, Debug, PartialEq, Eq)]
+pub(crate) struct AnswerValues {
+    /// Each place of the position holds a label.
+    pub are_places: bool,
+    /// The turns, if they are such as the claim allows.
+    pub turns: Option<Turns>,
+    /// Each answer is a label.
+    pub are_answers: bool,
+}
+
+/// What the words of an adversary's row spell, beside its places.
+#[derive(Clone, Copy, Debug, PartialEq, Eq)]
+pub(crate) struct RequestValues {
+    /// Each place of the position holds a label.
+    pub are_places: bool,
+    /// The number of answers left, if it is in range.
+    pub left: Option<u32>,
+    /// The requested pebble, if it is one.
+    pub ask: Option<u8>,
+}
+
+/// Takes the words of a labeller's row.
+pub(crate) fn answer_words(
+    text: &mut LineReader<'_>,
+    labels: u16,
+    claim: Claim,
+    at: &mut [u16],
+    take: &mut [u16],
+) -> Option<AnswerValues>
+    requires some { 0 < length at.old }
+    requires same { length take.old ≡ length at.old }
+    ensures { TakesAnswerWords (length at.old) labels claim result at.new take.new text.old text.new }
+{
+    let are_places = position(text, labels, at)?;
+    let turns = turns(text, claim)?;
+    text.take(b" take")?;
+    let are_answers = text.numerals(take, labels)?;
+    text.take(b"\n")?;
+    Some(AnswerValues {
+        are_places,
+        turns,
+        are_answers,
+    })
+}
+
+/// Takes the words of an adversary's row.
+pub(crate) fn request_words(
+    text: &mut LineReader<'_>,
+    labels: u16,
+    pebbles: u8,
+    at: &mut [u16],
+) -> Option<RequestValues>
+    requires some { 0 < length at.old }
+    requires same { length at.old ≡ pebbles }
+    ensures { TakesRequestWords pebbles labels result at.new text.old text.new }
+{
+    let are_places = position(text, labels, at)?;
+    let left = text.numeral()?.within(0, MOST_TURNS);
+    text.take(b" ask ")?;
+    let ask = pebble(text.numeral()?, pebbles);
+    text.take(b"\n")?;
+    Some(RequestValues {
+        are_places,
+        left,
+        ask,
+    })
+}
+
+/// Takes `at`, the places of a position, and ` for `. Says whether each place holds a label; then these are written.
+fn position(text: &mut LineReader<'_>, labels: u16, at: &mut [u16]) -> Option<bool>
+    requires { 0 < length at.old }
+    ensures { TakesPosition (length at.old) labels (option_map (λ are. (are, at.new)) result) text.old text.new }
+{
+    text.take(b"at")?;
+    let are_labels = text.numerals(at, labels)?;
+    text.take(b" for ")?;
+    Some(are_labels)
+}
+
+/// Takes a star or digits, with the turns that they spell, if these are such as the claim allows.
+fn turns(text: &mut LineReader<'_>, claim: Claim) -> Option<Option<Turns>>
+    ensures { TakesTurns claim result text.old text.new }
+{
+    if text.take(b"*").is_some() {
+        return Some(always(claim));
+    }
+    Some(count(claim, text.numeral()?))
+}
+
+/// Turns without end, if the claim allows them.
+fn always(claim: Claim) -> Option<Turns>
+    ensures { MatchOption result (AreTurns claim Always → ⊥) (λ turns. AreTurns claim turns × (turns ≡ Always)) }
+{
+    match claim {
+        Claim::Forever => Some(Turns::Always),
+        _ => None,
+    }
+}
+
+/// So many turns, if the claim allows them.
+fn count(claim: Claim, numeral: Numeral) -> Option<Turns>
+    ensures { MatchOption result ((n : ℕ) → AreTurns claim (Count n) → numeral ≢ Number n) (λ turns. AreTurns claim turns × ((n : ℕ) × (turns ≡ Count n) × (numeral ≡ Number n))) }
+{
+    match claim {
+        Claim::Forever => None,
+        _ => match numeral.within(1, MOST_TURNS) {
+            Some(turns) => Some(Turns::Count(turns)),
+            None => None,
+        },
+    }
+}
+
+/// The pebble of this number, if there is one.
+fn pebble(numeral: Numeral, pebbles: u8) -> Option<u8>
+    ensures { MatchOption result ((n : ℕ) → n < pebbles → numeral ≢ Number n) (λ n. (n < pebbles) × (numeral ≡ Number n)) }
+{
+    match numeral.below(pebbles as u16) {
+        Some(pebble) => Some(pebble as u8),
+        None => None,
+    }
+}
