@@ -1,10 +1,10 @@
 -- Numbers and their digits, the most significant first.
-use Rattle.std.proofs.Common.{◌≡◌, ℕ, zero, suc, ◌+◌, ◌-◌, ◌*◌, ◌/◌, ◌%◌, ◌^◌, ◌<◌, ◌≤◌, List, [], ◌∷◌, ◌++◌, length, get_or, take, drop, set, refl, sym, ap, ◌∙◌, subst, inl, inr, arith, mod-lt, div-add-mod', mul-le-mul_right, suc-mul, mul_assoc, add-mul}
-use Rattle.std.proofs.Math.Nat.{one-le-pow, pow-zero, pow-succ', div-lt_iff_lt-mul, div-div-eq-div-mul}
-use Rattle.std.proofs.lemmas.Nat.{div-mul-add, mod-mul-add, mul-add-lt, pow-add, div_below}
-use Rattle.std.specs.List.{All, remove, insert}
-use Rattle.std.proofs.lemmas.List.{length-append, length-drop, length-take-le, drop_more, take-append-drop, take-set, set_split}
-use Rattle.std.proofs.lemmas.List.Elements.{All-head, All-tail, All-nil, All-cons, All-get_or, All-take, All-drop}
+use Rattle.std.proofs.Common.{◌≡◌, ℕ, zero, suc, ◌+◌, ◌*◌, ◌/◌, ◌%◌, ◌^◌, ◌<◌, ◌≤◌, List, [], ◌∷◌, ◌++◌, length, refl, ap, ◌∙◌, subst, arith, mod-lt, div-add-mod', mul-le-mul_right, suc-mul, mul_assoc, add-mul}
+use Rattle.std.proofs.Math.Nat.{one-le-pow, pow-zero, pow-succ', div-lt_iff_lt-mul}
+use Rattle.std.proofs.lemmas.Nat.{div-mul-add, mod-mul-add, pow-add}
+use Rattle.std.specs.List.{All}
+use Rattle.std.proofs.lemmas.List.{length-append}
+use Rattle.std.proofs.lemmas.List.Elements.{All-head, All-tail, All-nil, All-cons}
 use Rattle.positions.specs.Ranks.{number_of, digits_of}
 
 pub length-digits_of : (base count number : ℕ) → length (digits_of base count number) ≡ count
@@ -76,3 +76,11 @@ number_of-between base front label back =
     let grouped : number_of base front * base * base ^ length back ≡ number_of base front * (base * base ^ length back) = mul_assoc (number_of base front) base (base ^ length back) in
     let spread : (number_of base front * base + label) * base ^ length back ≡ number_of base front * base * base ^ length back + label * base ^ length back = add-mul (number_of base front * base) label (base ^ length back) in
     omega arith
+
+-- a list with a label behind
+pub number_of-push : (base : ℕ) (labels : List ℕ) (label : ℕ) → number_of base (labels ++ label ∷ []) ≡ number_of base labels * base + label
+number_of-push base labels label =
+    let none : base ^ 0 ≡ 1 = pow-zero base in
+    let one : base ^ 1 ≡ base = pow-succ' base 0 ∙ ap (λ n. base * n) none ∙ omega arith in
+    let whole : number_of base (labels ++ label ∷ []) ≡ number_of base labels * base ^ 1 + (label * base ^ 0 + 0) = number_of-append base labels (label ∷ []) in
+    whole ∙ ap (λ n. number_of base labels * n + (label * base ^ 0 + 0)) one ∙ ap (λ n. number_of base labels * base + (label * n + 0)) none ∙ omega arith
