@@ -1,9 +1,9 @@
 -- Gaps: a pebble, with labels for all other pebbles.
-use Rattle.std.specs.Prelude.{◌≡◌, ℕ, ◌+◌, ◌-◌, ◌*◌, ◌/◌, ◌%◌, ◌^◌, ◌<◌, ◌≤◌, List, ◌∷◌, length, take, drop, slice_index, Contains, AllPairs}
+use Rattle.std.specs.Prelude.{ℕ, ◌+◌, ◌-◌, ◌*◌, ◌/◌, ◌%◌, ◌^◌, ◌<◌, List, slice_index}
 use Rattle.std.specs.List.{remove, insert}
 use Rattle.board_text.specs.PlainBoard.{PlainBoard, places}
 use Rattle.positions.specs.Game.{Legal, Dominates}
-use Rattle.positions.specs.Ranks.{number_of, digits_of, rank_of, configuration_at}
+use Rattle.positions.specs.Ranks.{number_of, digits_of}
 
 -- how many gaps each pebble has
 abbrev pub gaps_each : PlainBoard → ℕ
@@ -34,11 +34,6 @@ abbrev pub IsAnswer : PlainBoard → ℕ → ℕ → Type 0
 IsAnswer board gap label = Legal board (member_of board gap label) (pebble_of board gap) label
 
 -- the pebble dominates all others at the configuration
-abbrev pub IsDominator : PlainBoard → List ℕ → ℕ → Type 0
-IsDominator board configuration pebble = (pebble < board.pebbles) × Dominates board configuration pebble (slice_index configuration pebble)
-
--- there are so many numbers of which the fact holds
-abbrev pub HasSize : (ℕ → Type 0) → ℕ → Type 0
-HasSize P size =
-    (members : List ℕ) × AllPairs (λ first second. first < second) members × ((number : ℕ) → (Contains members number → P number) × (P number → Contains members number))
-    × (length members ≡ size)
+pub record IsDominator (board : PlainBoard) (configuration : List ℕ) (pebble : ℕ) : Type 0 where
+  pub is_pebble : pebble < board.pebbles
+  pub dominates : Dominates board configuration pebble (slice_index configuration pebble)

@@ -1,5 +1,5 @@
 -- Ranks: configurations as numbers.
-use Rattle.std.specs.Prelude.{ℕ, zero, suc, ◌+◌, ◌*◌, ◌/◌, ◌%◌, ◌^◌, List, [], ◌∷◌, length}
+use Rattle.std.specs.Prelude.{◌≡◌, ℕ, zero, suc, ◌+◌, ◌*◌, ◌/◌, ◌%◌, ◌^◌, ◌<◌, List, [], ◌∷◌, length, take, slice_index}
 use Rattle.board_text.specs.PlainBoard.{PlainBoard, places}
 
 -- the labels read in a base, the first most significant
@@ -23,3 +23,9 @@ rank_of board configuration = number_of (places board) configuration
 -- the configuration of a rank
 abbrev pub configuration_at : PlainBoard → ℕ → List ℕ
 configuration_at board rank = digits_of (places board) board.pebbles rank
+
+-- two lists agree before some place, and at that place the first has the smaller number
+pub record ComesBefore (first second : List ℕ) : Type 0 where
+  pub place : ℕ
+  pub same_before : take place first ≡ take place second
+  pub smaller_there : slice_index first place < slice_index second place

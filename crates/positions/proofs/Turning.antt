@@ -1,0 +1,150 @@
+-- How ranks are turned with the weights of a space.
+use Rattle.std.proofs.Common.{◌≡◌, ℕ, suc, ◌+◌, ◌-◌, ◌*◌, ◌/◌, ◌%◌, ◌^◌, ◌<◌, ◌≤◌, List, [], ◌∷◌, ◌++◌, length, get_or, take, drop, refl, sym, ap, ◌∙◌, subst, arith, mod-lt}
+use Rattle.std.proofs.Math.Nat.{one-le-pow, pow-le-pow_right}
+use Rattle.std.proofs.Math.Seq.{drop-cons}
+use Rattle.std.proofs.lemmas.List.{take_more, length-take-le, take_all}
+use Rattle.std.proofs.lemmas.List.Elements.{All-take, All-get_or}
+use Rattle.board_text.specs.PlainBoard.{PlainBoard, IsConfiguration, places}
+use Rattle.positions.specs.Game.{moved}
+use Rattle.positions.specs.Ranks.{number_of, digits_of, configurations, rank_of, configuration_at}
+use Rattle.positions.specs.Weights.{AreNumbersOf}
+use Rattle.positions.proofs.Configurations.{moved_is_configuration}
+use Rattle.positions.proofs.Digits.{number_of-push, number_below}
+use Rattle.positions.proofs.Parts.{Parts, parts_at, quotient, remainder}
+use Rattle.positions.proofs.Ranks.{rank_of-configuration_at, configuration_at_is, rank_below}
+
+pub weight_positive : {labels pebbles size : ℕ} {words : List ℕ} (board : PlainBoard) (base : ℕ) (weights : List ℕ) (pebble : ℕ)
+    → AreNumbersOf board labels pebbles base size weights words → pebble < board.pebbles → 0 < get_or weights pebble 0
+weight_positive board base weights pebble are inside =
+    subst (λ w. 0 < w) (sym (are.weighs pebble inside)) (one-le-pow (board.pebbles - 1 - pebble) (places board) are.is_board.labels.0)
+
+-- the parts of a rank by a pebble, with its weight
+pub rank_parts : {labels pebbles size : ℕ} {words : List ℕ} (board : PlainBoard) (base : ℕ) (weights : List ℕ) (rank pebble : ℕ)
+    → AreNumbersOf board labels pebbles base size weights words → rank < configurations board → pebble < board.pebbles
+    → Parts (places board) (configuration_at board rank) pebble (get_or weights pebble 0)
+rank_parts board base weights rank pebble are below inside =
+    let is = configuration_at_is board rank below in
+    subst (λ w. Parts (places board) (configuration_at board rank) pebble w) (sym (are.weighs pebble inside))
+    (parts_at (places board) (configuration_at board rank) pebble board.pebbles is.each_label is.each_pebble inside)
+
+-- the label of a pebble
+pub held_is : {labels pebbles size : ℕ} {words : List ℕ} (board : PlainBoard) (base : ℕ) (weights : List ℕ) (rank pebble : ℕ)
+    → AreNumbersOf board labels pebbles base size weights words → rank < configurations board → pebble < board.pebbles
+    → rank / get_or weights pebble 0 % base ≡ get_or (configuration_at board rank) pebble 0
+held_is board base weights rank pebble are below inside =
+    let held : ℕ = get_or (configuration_at board rank) pebble 0 in
+    let parts = rank_parts board base weights rank pebble are below inside in
+    let whole = sym (rank_of-configuration_at board rank below) ∙ parts.whole in
+    ap (λ n. rank / get_or weights pebble 0 % n) are.base_is
+    ∙ ap (λ n. n % places board) (quotient rank (parts.before * places board + held) (get_or weights pebble 0) parts.behind whole parts.small)
+    ∙ remainder (parts.before * places board + held) parts.before (places board) held refl parts.low
+
+-- the rank with another label of a pebble
+pub record IsWith (board : PlainBoard) (base : ℕ) (weight rank pebble label : ℕ) : Type 0 where
+  pub rank_is : rank - rank / weight % base * weight + label * weight ≡ rank_of board (moved (configuration_at board rank) pebble label)
+  pub below : rank - rank / weight % base * weight + label * weight < configurations board
+  pub few : rank - rank / weight % base * weight + label * weight ≤ 1048576
+
+pub with_label : {labels pebbles size : ℕ} {words : List ℕ} (board : PlainBoard) (base : ℕ) (weights : List ℕ) (rank pebble label : ℕ)
+    → AreNumbersOf board labels pebbles base size weights words → rank < configurations board → pebble < board.pebbles → label < places board
+    → IsWith board base (get_or weights pebble 0) rank pebble label
+with_label board base weights rank pebble label are below inside low =
+    let held : ℕ = get_or (configuration_at board rank) pebble 0 in
+    let weight : ℕ = get_or weights pebble 0 in
+    let parts = rank_parts board base weights rank pebble are below inside in
+    let whole : rank ≡ (parts.before * places board + held) * weight + parts.behind = sym (rank_of-configuration_at board rank below) ∙ parts.whole in
+    let is : rank / weight % base ≡ held = held_is board base weights rank pebble are below inside in
+    let product : rank / weight % base * weight ≡ held * weight = ap (λ n. n * weight) is in
+    let changed : rank_of board (moved (configuration_at board rank) pebble label) ≡ (parts.before * places board + label) * weight + parts.behind = parts.changed label in
+    let same : rank - rank / weight % base * weight + label * weight ≡ rank_of board (moved (configuration_at board rank) pebble label) = omega arith in
+    let small : rank_of board (moved (configuration_at board rank) pebble label) < configurations board =
+    rank_below board (moved (configuration_at board rank) pebble label) (moved_is_configuration board (configuration_at board rank) pebble label low (configuration_at_is board rank below)) in
+    let few : configurations board ≤ 1048576 = are.few in
+    record {
+      rank_is = same;
+      below = subst (λ n. n < configurations board) (sym same) small;
+      few = omega arith;
+    }
+
+-- ---- from the last pebble to the first
+
+-- a number has the labels from a place on
+pub record IsRest (board : PlainBoard) (rank place rest : ℕ) : Type 0 where
+  pub below : rest < places board ^ (board.pebbles - place)
+  pub same : digits_of (places board) (board.pebbles - place) rest ≡ drop place (configuration_at board rank)
+
+pub rest_first : (board : PlainBoard) (rank : ℕ) → rank < configurations board → IsRest board rank 0 rank
+rest_first board rank below = let all : board.pebbles ≡ board.pebbles - 0 = omega arith in record {
+  below = subst (λ n. rank < places board ^ n) all below;
+  same = ap (λ n. digits_of (places board) n rank) (sym all);
+}
+
+pub record IsNextRest (board : PlainBoard) (rank place label rest : ℕ) : Type 0 where
+  pub label_is : label ≡ get_or (configuration_at board rank) place 0
+  pub low : label < places board
+  pub rest_is : IsRest board rank (place + 1) rest
+
+pub rest_next : {labels pebbles size : ℕ} {words : List ℕ} (board : PlainBoard) (base : ℕ) (weights : List ℕ) (rank place rest : ℕ)
+    → AreNumbersOf board labels pebbles base size weights words → rank < configurations board → place < board.pebbles
+    → IsRest board rank place rest → IsNextRest board rank place (rest / get_or weights place 0) (rest % get_or weights place 0)
+rest_next board base weights rank place rest are below inside is =
+    let left : ℕ = board.pebbles - 1 - place in
+    let weight : ℕ = places board ^ left in
+    let c : List ℕ = configuration_at board rank in
+    let configuration = configuration_at_is board rank below in
+    let long : length c ≡ board.pebbles = configuration.each_pebble in
+    let within : place < length c = omega arith in
+    let one_more : board.pebbles - place ≡ suc left = omega arith in
+    let one_less : left ≡ board.pebbles - (place + 1) = omega arith in
+    let split : drop place c ≡ get_or c place 0 ∷ drop (suc place) c = drop-cons c place 0 within in
+    let both : rest / weight ∷ digits_of (places board) left (rest % weight) ≡ get_or c place 0 ∷ drop (suc place) c =
+    ap (λ n. digits_of (places board) n rest) (sym one_more) ∙ is.same ∙ split in
+    let first : rest / weight ≡ get_or c place 0 = cc in
+    let others : digits_of (places board) left (rest % weight) ≡ drop (suc place) c = cc in
+    let next : suc place ≡ place + 1 = omega arith in
+    let weighs : weight ≡ get_or weights place 0 = sym (are.weighs place inside) in
+    subst (λ w. IsNextRest board rank place (rest / w) (rest % w)) weighs (record {
+      label_is = first;
+      low = subst (λ n. n < places board) (sym first) (All-get_or (λ label. label < places board) c place 0 within configuration.each_label);
+      rest_is = record {
+        below = subst (λ n. rest % weight < places board ^ n) one_less (mod-lt rest (one-le-pow left (places board) are.is_board.labels.0));
+        same = ap (λ n. digits_of (places board) n (rest % weight)) (sym one_less) ∙ others ∙ ap (λ n. drop n c) next;
+      };
+    })
+
+-- ---- the rank of a list, label by label
+
+pub record IsFrontNumber (board : PlainBoard) (configuration : List ℕ) (index number : ℕ) : Type 0 where
+  pub number_is : number ≡ number_of (places board) (take index configuration)
+  pub few : number ≤ 1048576
+
+pub front_none : (board : PlainBoard) (configuration : List ℕ) → IsFrontNumber board configuration 0 0
+front_none board configuration = record { number_is = refl; few = omega arith }
+
+pub record IsNextFront (board : PlainBoard) (configuration : List ℕ) (index number : ℕ) : Type 0 where
+  pub below : number < configurations board
+  pub front : IsFrontNumber board configuration (index + 1) number
+
+pub front_more : {labels pebbles size : ℕ} {words : List ℕ} (board : PlainBoard) (base : ℕ) (weights configuration : List ℕ) (index number : ℕ)
+    → AreNumbersOf board labels pebbles base size weights words → IsConfiguration board configuration → index < length configuration
+    → IsFrontNumber board configuration index number → IsNextFront board configuration index (number * base + get_or configuration index 0)
+front_more board base weights configuration index number are is inside front =
+    let label : ℕ = get_or configuration index 0 in
+    let some : 1 ≤ places board = are.is_board.labels.0 in
+    let front_list : List ℕ = take (index + 1) configuration in
+    let longer : front_list ≡ take index configuration ++ label ∷ [] = take_more configuration index 0 inside in
+    let same : number * base + label ≡ number_of (places board) front_list =
+    ap (λ b. number * b + label) are.base_is
+    ∙ ap (λ n. n * places board + label) front.number_is
+    ∙ sym (ap (number_of (places board)) longer ∙ number_of-push (places board) (take index configuration) label) in
+    let short : length front_list ≡ index + 1 = length-take-le (index + 1) configuration (omega arith) in
+    let low : number_of (places board) front_list < places board ^ length front_list =
+    number_below (places board) front_list (All-take (λ l. l < places board) (index + 1) configuration is.each_label) in
+    let long : length front_list ≤ board.pebbles = omega (arith, is.each_pebble) in
+    let most : places board ^ length front_list ≤ configurations board = pow-le-pow_right some long in
+    let few : configurations board ≤ 1048576 = are.few in
+    record { below = omega arith; front = record { number_is = same; few = omega arith } }
+
+pub front_all : (board : PlainBoard) (configuration : List ℕ) (index number : ℕ) → length configuration ≤ index
+    → IsFrontNumber board configuration index number → number ≡ rank_of board configuration
+front_all board configuration index number all front = front.number_is ∙ ap (number_of (places board)) (take_all index configuration all)

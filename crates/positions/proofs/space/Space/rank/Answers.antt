@@ -1,0 +1,20 @@
+use Rattle.std.proofs.Common.{◌<◌, arith}
+use Rattle.positions.proofs.SpaceNumbers.{numbers}
+use Rattle.positions.specs.Ranks.{rank_of, configurations}
+use Rattle.positions.proofs.Ranks.{rank_below}
+use Rattle.positions.proofs.Turning.{front_more, front_all}
+use Rattle.positions.proofs.space.Space.rank.Goals as goal
+
+pub loop-label-preserved : goal.loop-label-preserved
+loop-label-preserved c =
+    let s = c.self.inside in
+    let are = numbers c.args.self.now s c.self.view_is c.self.invariant in
+    (front_more c.args.self.now s.places s.weights c.args.configuration.now c.loop-label.label-index c.loop-label.rank are c.requires (omega arith) c.loop-label.invariant).front
+
+pub returns-clause-below : goal.returns-clause-below
+returns-clause-below c =
+    let s = c.self.inside in
+    let are = numbers c.args.self.now s c.self.view_is c.self.invariant in
+    let same = front_all c.args.self.now c.args.configuration.now c.loop-label.label-index c.loop-label.rank (omega arith) c.loop-label.invariant in
+    let low : rank_of c.args.self.now c.args.configuration.now < configurations c.args.self.now = rank_below c.args.self.now c.args.configuration.now c.requires in
+    omega (arith, same)
