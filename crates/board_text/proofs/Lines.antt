@@ -60,7 +60,7 @@ spaced_split (t ∷ taken) (n ∷ ns) rest more fits p q no_rest no_more e =
     let l = spaced_split taken ns rest more (omega arith) p.1 q.1 (λ h. no_rest (omega arith)) no_more s.1 in
     record { others = l.others; parts = cc; spelled = l.spelled }
 
-small_numbers : (bound : ℕ) (ns : List ℕ) → bound ≤ 2 ^ 32 → All (λ n. n < bound) ns → AllByRecursion (λ n. n < 2 ^ 32) ns
+pub small_numbers : (bound : ℕ) (ns : List ℕ) → bound ≤ 2 ^ 32 → All (λ n. n < bound) ns → AllByRecursion (λ n. n < 2 ^ 32) ns
 small_numbers bound ns small all = recursion_from_All (λ n. n < 2 ^ 32) ns (λ k d lt. let h : get_or ns k d < bound = all k d lt in omega arith)
 
 -- what stands next where more numbers are to come

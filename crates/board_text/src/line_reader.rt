@@ -78,6 +78,13 @@ impl<'a> LineReader<'a> {
         self.rest.is_empty()
     }
 
+    /// How many bytes are left.
+    pub fn len(&self) -> usize
+        ensures { result ≡ length self.now }
+    {
+        self.rest.len()
+    }
+
     /// Whether the next byte is this one.
     pub fn begins_with(&self, byte: u8) -> bool
         ensures { IsTrue result ↔ ((more : List ℕ) × (self.now ≡ byte ∷ more)) }

@@ -1,3 +1,7 @@
 pub mod Words
 pub mod Spelled
-pub mod Sections
+pub mod SectionLemmas
+pub mod RowLemmas
+pub mod DocumentFaults
+pub mod OneRow
+pub mod OneDocument

@@ -26,7 +26,7 @@ count_small (AtLeast k) n are = omega (arith, are.1)
 count_small (AtMost k) n are = omega (arith, are.1)
 count_small Forever n are = absurd are
 
-star_is_no_number : (n : ℕ) → n < 2 ^ 64 → codes "*" ≡ decimal n → ⊥
+pub star_is_no_number : (n : ℕ) → n < 2 ^ 64 → codes "*" ≡ decimal n → ⊥
 star_is_no_number n small e = no_star (decimal n) [] [] (decimal_is_IsNumeral n small).0 (append-nil (decimal n) ∙ sym e)
 
 pub turns_star : (claim : Claim) (r : Option Turns) → MatchOption r (AreTurns claim Always → ⊥) (λ turns. AreTurns claim turns × (turns ≡ Always)) → TurnsOf claim (codes "*") r

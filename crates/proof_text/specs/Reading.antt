@@ -12,8 +12,8 @@ use Rattle.positions.specs.Ranks.{rank_of, configurations}
 use Rattle.proof_text.specs.declared.fault.ProofKind.{ProofKind}
 use Rattle.proof_text.specs.declared.proof.LabellerRow.{LabellerRow}
 use Rattle.proof_text.specs.declared.proof.AdversaryRow.{AdversaryRow}
-use Rattle.proof_text.specs.Proof.{AreTurns, AreRows, IsAnswerRow, IsRequestRow, IsPadded, answer_row, request_row, answer_rows, request_rows, greatest_number}
-use Rattle.proof_text.specs.ProofText.{turns_text, answer_line, request_line, labeller_line, adversary_line}
+use Rattle.proof_text.specs.Proof.{AreTurns, AreRows, AreAnswerRows, AreRequestRows, asks_labeller, asks_adversary, IsAnswerRow, IsRequestRow, IsPadded, answer_row, request_row, answer_rows, request_rows, greatest_number, most_rows}
+use Rattle.proof_text.specs.ProofText.{turns_text, answer_line, request_line, labeller_line, adversary_line, labeller_section, adversary_section}
 use Rattle.proof_text.specs.RowWords.{AnswerWords, RequestWords, IsTurnsText, AreAnswerWords, AreRequestWords, answer_words_line, request_words_line}
 use Rattle.proof_text.specs.ProofFaults.{SpellsTurns, AnswerRowFault, RequestRowFault}
 use Rattle.proof_text.specs.declared.row_words.AnswerValues.{AnswerValues}
@@ -75,13 +75,13 @@ IsFrom board least at = least ≤ rank_of board at
 -- What the next line of a labeller's section says, where ranks may stand from the least on.
 abbrev pub NextAnswerRow : PlainBoard → Claim → ℕ → Result LabellerRow ProofKind → List ℕ → List ℕ → Type 0
 NextAnswerRow board claim least (Ok row) old new =
-    IsAnswerRow board claim (answer_row board row) × IsPadded board row × (least ≤ row.at) × (row.at < configurations board) × (old ≡ answer_line (answer_row board row) ++ new)
+    IsAnswerRow board claim (answer_row board row) × IsPadded board row × (least ≤ row.at) × (row.at < configurations board) × (configurations board ≤ most_rows) × (old ≡ answer_line (answer_row board row) ++ new)
 NextAnswerRow board claim least (Err kind) old new = AnswerRowFault board claim (IsFrom board least) old kind
 
 -- What the next line of an adversary's section says.
 abbrev pub NextRequestRow : PlainBoard → ℕ → Result AdversaryRow ProofKind → List ℕ → List ℕ → Type 0
 NextRequestRow board least (Ok row) old new =
-    IsRequestRow board (request_row board row) × (least ≤ row.at) × (row.at < configurations board) × (old ≡ request_line (request_row board row) ++ new)
+    IsRequestRow board (request_row board row) × (least ≤ row.at) × (row.at < configurations board) × (configurations board ≤ most_rows) × (old ≡ request_line (request_row board row) ++ new)
 NextRequestRow board least (Err kind) old new = RequestRowFault board (IsFrom board least) old kind
 
 -- A section was taken, from its head to its last row.
@@ -98,3 +98,16 @@ LabellerRead board claim rows old new =
 abbrev pub AdversaryRead : PlainBoard → List AdversaryRow → List ℕ → List ℕ → Type 0
 AdversaryRead board rows old new =
     SectionRead board (IsRequestRow board) (λ row. row.at) adversary_line request_line (request_rows board rows) old new
+
+-- A labeller's section was taken, or none where the claim doesn't ask for one.
+pub record LabellerPartRead (board : PlainBoard) (claim : Claim) (rows : List LabellerRow) (old new : List ℕ) : Type 0 where
+  pub are_rows : AreAnswerRows board claim (answer_rows board rows)
+  pub padded : All (IsPadded board) rows
+  pub none : asks_labeller claim ≡ false → answer_rows board rows ≡ []
+  pub spelled : old ≡ labeller_section claim (answer_rows board rows) ++ new
+
+-- An adversary's section was taken, or none where the claim doesn't ask for one.
+pub record AdversaryPartRead (board : PlainBoard) (claim : Claim) (rows : List AdversaryRow) (old new : List ℕ) : Type 0 where
+  pub are_rows : AreRequestRows board (request_rows board rows)
+  pub none : asks_adversary claim ≡ false → request_rows board rows ≡ []
+  pub spelled : old ≡ adversary_section claim (request_rows board rows) ++ new

@@ -1,7 +1,8 @@
 //! The claim of a document, taken from the front of a text.
 
 ghost use Rattle.board_text.specs.LineForms.{Takes};
-ghost use Rattle.proof_text.specs.Proof.{IsClaim};
+ghost use Rattle.std.specs.Prelude.{◌≡◌};
+ghost use Rattle.proof_text.specs.Proof.{IsClaim, asks_labeller as wants_labeller, asks_adversary as wants_adversary};
 ghost use Rattle.proof_text.specs.ProofText.{claim_line};
 
 use crate::proof::MOST_TURNS;
@@ -23,4 +24,18 @@ pub(crate) fn claim(text: &mut LineReader<'_>) -> Option<Claim>
     }
     text.take(b"forever\n")?;
     Some(Claim::Forever)
+}
+
+/// Whether a document with the claim has a labeller's section.
+pub(crate) fn asks_labeller(claim: Claim) -> bool
+    ensures { result ≡ wants_labeller claim }
+{
+    !matches!(claim, Claim::AtMost(_))
+}
+
+/// Whether a document with the claim has an adversary's section.
+pub(crate) fn asks_adversary(claim: Claim) -> bool
+    ensures { result ≡ wants_adversary claim }
+{
+    matches!(claim, Claim::Exactly(_) | Claim::AtMost(_))
 }

@@ -3,9 +3,13 @@
 
 mod claims;
 mod fault;
+mod parsing;
 mod proof;
 mod row_words;
+mod rows;
+mod sections;
 
+pub use parsing::parse;
 pub use fault::{ProofFault, ProofKind};
 pub use positions::{Claim, Turns};
 pub use proof::{AdversaryRow, LabellerRow, Proof};

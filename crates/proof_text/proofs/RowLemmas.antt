@@ -1,0 +1,212 @@
+-- From the words of a row to the row, or to its fault.
+use Rattle.std.proofs.Common.{◌≡◌, ℕ, ◌+◌, ◌-◌, ◌<◌, ◌≤◌, ◌⊎◌, Bool, true, false, List, [], ◌∷◌, ◌++◌, Option, Some, None, length, map, take, drop, replicate, get_or, All, refl, sym, ap, subst, ◌∙◌, arith, inl, inr, append_assoc}
+use Rattle.std.specs.Fmt.{decimal}
+use Rattle.std.specs.List.{flat_map, AllByRecursion}
+use Rattle.std.proofs.lemmas.List.{length-map, get_or-map, length-take, take_at, get_or-append_right, get_or-drop, get_or-replicate, get_or_past}
+use Rattle.std.proofs.lemmas.Bool.{cases_lt}
+use Rattle.std.specs.Prelude.{not, Result, Ok, Err}
+use Rattle.board_text.specs.Ranges.{AreNumbers}
+use Rattle.board_text.specs.LineForms.{spaced}
+use Rattle.board_text.specs.Numerals.{spaced_texts, AreTexts, SpellsBelow, SpellNumbers}
+use Rattle.board_text.specs.PlainBoard.{PlainBoard, IsConfiguration}
+use Rattle.positions.specs.declared.claim.Claim.{Claim}
+use Rattle.positions.specs.declared.turns.Turns.{Turns}
+use Rattle.positions.specs.Table.{AnswerRow, RequestRow}
+use Rattle.positions.specs.Ranks.{rank_of, configuration_at, configurations}
+use Rattle.positions.proofs.Ranks.{configuration_at-rank_of}
+use Rattle.proof_text.specs.declared.fault.ProofKind.TheVariants as kinds
+use Rattle.proof_text.specs.declared.row_words.AnswerValues.{AnswerValues}
+use Rattle.proof_text.specs.declared.row_words.RequestValues.{RequestValues}
+use Rattle.proof_text.specs.declared.proof.LabellerRow.{LabellerRow}
+use Rattle.proof_text.specs.Proof.{AreTurns, IsAnswerRow, IsRequestRow, IsPadded, answer_row, request_row, greatest_number, most_rows}
+use Rattle.proof_text.specs.ProofText.{turns_text, answer_line, request_line}
+use Rattle.proof_text.specs.RowWords.{AnswerWords, RequestWords, AreAnswerWords, AreRequestWords, answer_words_line, request_words_line}
+use Rattle.proof_text.specs.ProofFaults.{SpellLabels, SpellsTurns, AnswerRowFault, RequestRowFault}
+use Rattle.proof_text.specs.Reading.{TurnsOf, NumberOf, AnswerSpelled, TakesAnswerWords, RequestSpelled, TakesRequestWords, IsFrom, NextAnswerRow, NextRequestRow}
+
+-- numbers spelled one after the other
+pub spaced_numbers : (numbers : List ℕ) → spaced_texts (map decimal numbers) ≡ spaced numbers
+spaced_numbers [] = refl
+spaced_numbers (n ∷ numbers) = ap (λ (t : List ℕ). 32 ∷ (decimal n ++ t)) (spaced_numbers numbers)
+
+-- numbers below the bound are spelled so
+pub spelled_below : (bound : ℕ) (texts : List (List ℕ)) (numbers : List ℕ) → SpellNumbers bound texts true numbers → All (SpellsBelow bound) texts
+spelled_below bound texts numbers s =
+    subst (λ (ts : List (List ℕ)). All (SpellsBelow bound) ts) (sym s.1)
+    (λ k d lt.
+    let inside : k < length numbers = omega (arith, lt, length-map numbers decimal) in
+    (get_or numbers k 0, s.0 k 0 inside, get_or-map decimal numbers k 0 d inside))
+
+pub numbers_count : (count bound : ℕ) (texts : List (List ℕ)) (numbers : List ℕ) → length texts ≡ count → SpellNumbers bound texts true numbers → AreNumbers count bound numbers
+numbers_count count bound texts numbers e s = (sym (length-map numbers decimal) ∙ ap length (sym s.1) ∙ e, s.0)
+
+cases_spelled : (bound : ℕ) (texts : List (List ℕ)) (are : Bool) (numbers : List ℕ) → are ≡ true → SpellNumbers bound texts are numbers → SpellNumbers bound texts true numbers
+cases_spelled bound texts are numbers e s = subst (λ (b : Bool). SpellNumbers bound texts b numbers) e s
+
+cases_unspelled : (bound : ℕ) (texts : List (List ℕ)) (are : Bool) (numbers : List ℕ) → are ≡ false → SpellNumbers bound texts are numbers → SpellNumbers bound texts false numbers
+cases_unspelled bound texts are numbers e s = subst (λ (b : Bool). SpellNumbers bound texts b numbers) e s
+
+-- ---- a labeller's row
+
+pub answer_sizes : (p q l m : ℕ) (claim : Claim) (values : AnswerValues) (at answers old new : List ℕ) → p ≡ q → l ≡ m
+    → TakesAnswerWords p l claim (Some values) at answers old new → TakesAnswerWords q m claim (Some values) at answers old new
+answer_sizes p q l m claim values at answers old new e f t = rw (← e, ← f) t
+
+pub answer_label : (board : PlainBoard) (claim : Claim) (values : AnswerValues) (at answers old new : List ℕ) (MayStand : List ℕ → Type 0)
+    → TakesAnswerWords board.pebbles board.labels claim (Some values) at answers old new → (values.are_places ≡ false) ⊎ (values.are_answers ≡ false) → AnswerRowFault board claim MayStand old kinds.Label
+answer_label board claim values at answers old new MayStand (words, are, e, s) wrong =
+    (words, (are, new, e), λ all. elim wrong [
+      | inl places ↦ cases_unspelled board.labels words.at values.are_places at places s.places all.0
+      | inr taken ↦ cases_unspelled board.labels words.take values.are_answers answers taken s.taken all.1
+    ])
+
+pub answer_number : (board : PlainBoard) (claim : Claim) (values : AnswerValues) (at answers old new : List ℕ) (MayStand : List ℕ → Type 0)
+    → TakesAnswerWords board.pebbles board.labels claim (Some values) at answers old new → values.are_places ≡ true → values.are_answers ≡ true → values.turns ≡ None → AnswerRowFault board claim MayStand old kinds.Number
+answer_number board claim values at answers old new MayStand (words, are, e, s) places taken none =
+    (words, (are, new, e), spelled_below board.labels words.at at (cases_spelled board.labels words.at values.are_places at places s.places),
+    spelled_below board.labels words.take answers (cases_spelled board.labels words.take values.are_answers answers taken s.taken),
+    subst (λ (t : Option Turns). TurnsOf claim words.turns t) none s.turns)
+
+-- a row was read
+pub record AnswerRead (board : PlainBoard) (claim : Claim) (row : AnswerRow) (old new : List ℕ) : Type 0 where
+  pub is : IsAnswerRow board claim row
+  pub spelled : old ≡ answer_line row ++ new
+
+abbrev pub answer : List ℕ → Turns → List ℕ → AnswerRow
+answer at turns answers = record { at = at; turns = turns; answers = answers }
+
+answer_words_of : (at answers : List ℕ) (turns : Turns) (words : AnswerWords) → words.at ≡ map decimal at → words.turns ≡ turns_text turns → words.take ≡ map decimal answers
+    → answer_words_line words ≡ answer_line (answer at turns answers)
+answer_words_of at answers turns words e f g =
+    rw (e, f, g, spaced_numbers at, spaced_numbers answers) refl
+
+pub answer_read : (board : PlainBoard) (claim : Claim) (values : AnswerValues) (at answers old new : List ℕ) (turns : Turns)
+    → TakesAnswerWords board.pebbles board.labels claim (Some values) at answers old new → values.are_places ≡ true → values.are_answers ≡ true → values.turns ≡ Some turns
+    → AnswerRead board claim (answer at turns answers) old new
+answer_read board claim values at answers old new turns (words, are, e, s) places taken some =
+    let p = cases_spelled board.labels words.at values.are_places at places s.places in
+    let t = cases_spelled board.labels words.take values.are_answers answers taken s.taken in
+    let n : TurnsOf claim words.turns (Some turns) = subst (λ (t : Option Turns). TurnsOf claim words.turns t) some s.turns in
+    let count = numbers_count board.pebbles board.labels words.at at are.at.0 p in
+    record {
+      is = record { at = record { each_pebble = count.0; each_label = count.1 }; turns = n.0; answers = numbers_count board.pebbles board.labels words.take answers are.take.0 t };
+      spelled = e ∙ ap (λ (line : List ℕ). line ++ new) (answer_words_of at answers turns words p.1 n.1 t.1);
+    }
+
+pub answer_order : (board : PlainBoard) (claim : Claim) (row : AnswerRow) (old new : List ℕ) (rank least : ℕ) → AnswerRead board claim row old new → rank ≡ rank_of board row.at → rank < least
+    → AnswerRowFault board claim (IsFrom board least) old kinds.Order
+answer_order board claim row old new rank least read e lt = (row, read.is, new, read.spelled, λ from. omega (arith, e, lt, from))
+
+-- a row whose rank and answers are those that were read
+pub answer_next : (board : PlainBoard) (claim : Claim) (at answers zeros old new : List ℕ) (turns : Turns) (rank least : ℕ) → AnswerRead board claim (answer at turns answers) old new
+    → rank ≡ rank_of board at → rank < configurations board → configurations board ≤ most_rows → least ≤ rank → ((pebble : ℕ) → get_or zeros pebble 0 ≡ 0)
+    → NextAnswerRow board claim least (Ok (record { at = rank; turns = turns; take = answers ++ zeros })) old new
+answer_next board claim at answers zeros old new turns rank least read e below few above zero =
+    let len : length answers ≡ board.pebbles = read.is.answers.0 in
+    let place : configuration_at board rank ≡ at = ap (configuration_at board) e ∙ configuration_at-rank_of board at read.is.at in
+    let taken : take board.pebbles (answers ++ zeros) ≡ answers = take_at answers zeros board.pebbles len in
+    let same : answer_row board (record { at = rank; turns = turns; take = answers ++ zeros }) ≡ answer at turns answers = rw (place, taken) refl in (
+      subst (λ (row : AnswerRow). IsAnswerRow board claim row) (sym same) read.is,
+      λ pebble le. get_or-append_right answers zeros board.pebbles pebble 0 len le ∙ zero (pebble - board.pebbles),
+      above,
+      below,
+      few,
+      subst (λ (row : AnswerRow). old ≡ answer_line row ++ new) (sym same) read.spelled,
+    )
+
+-- ---- an adversary's row
+
+pub request_sizes : (p q l m : ℕ) (values : RequestValues) (at old new : List ℕ) → p ≡ q → l ≡ m
+    → TakesRequestWords p l (Some values) at old new → TakesRequestWords q m (Some values) at old new
+request_sizes p q l m values at old new e f t = rw (← e, ← f) t
+
+pub request_label : (board : PlainBoard) (values : RequestValues) (at old new : List ℕ) (MayStand : List ℕ → Type 0)
+    → TakesRequestWords board.pebbles board.labels (Some values) at old new → values.are_places ≡ false → RequestRowFault board MayStand old kinds.Label
+request_label board values at old new MayStand (words, are, e, s) wrong =
+    (words, (are, new, e), cases_unspelled board.labels words.at values.are_places at wrong s.places)
+
+pub request_pebble : (board : PlainBoard) (values : RequestValues) (at old new : List ℕ) (MayStand : List ℕ → Type 0)
+    → TakesRequestWords board.pebbles board.labels (Some values) at old new → values.are_places ≡ true → values.ask ≡ None → RequestRowFault board MayStand old kinds.Pebble
+request_pebble board values at old new MayStand (words, are, e, s) places none =
+    (words, (are, new, e), spelled_below board.labels words.at at (cases_spelled board.labels words.at values.are_places at places s.places),
+    subst (λ (n : Option ℕ). NumberOf board.pebbles words.ask n) none s.pebble)
+
+pub request_number : (board : PlainBoard) (values : RequestValues) (at old new : List ℕ) (ask : ℕ) (MayStand : List ℕ → Type 0)
+    → TakesRequestWords board.pebbles board.labels (Some values) at old new → values.are_places ≡ true → values.ask ≡ Some ask → values.left ≡ None → RequestRowFault board MayStand old kinds.Number
+request_number board values at old new ask MayStand (words, are, e, s) places some none =
+    (words, (are, new, e), spelled_below board.labels words.at at (cases_spelled board.labels words.at values.are_places at places s.places),
+    (let k : NumberOf board.pebbles words.ask (Some ask) = subst (λ (n : Option ℕ). NumberOf board.pebbles words.ask n) some s.pebble in (ask, k.0, k.1)),
+    subst (λ (n : Option ℕ). NumberOf (greatest_number + 1) words.left n) none s.number)
+
+-- a row was read
+pub record RequestRead (board : PlainBoard) (row : RequestRow) (old new : List ℕ) : Type 0 where
+  pub is : IsRequestRow board row
+  pub spelled : old ≡ request_line row ++ new
+
+abbrev pub request : List ℕ → ℕ → ℕ → RequestRow
+request at left ask = record { at = at; left = left; request = ask }
+
+request_words_of : (at : List ℕ) (left ask : ℕ) (words : RequestWords) → words.at ≡ map decimal at → words.left ≡ decimal left → words.ask ≡ decimal ask
+    → request_words_line words ≡ request_line (request at left ask)
+request_words_of at left ask words e f g =
+    rw (e, f, g, spaced_numbers at) refl
+
+pub request_read : (board : PlainBoard) (values : RequestValues) (at old new : List ℕ) (left ask : ℕ)
+    → TakesRequestWords board.pebbles board.labels (Some values) at old new → values.are_places ≡ true → values.left ≡ Some left → values.ask ≡ Some ask
+    → RequestRead board (request at left ask) old new
+request_read board values at old new left ask (words, are, e, s) places some_left some_ask =
+    let p = cases_spelled board.labels words.at values.are_places at places s.places in
+    let n : NumberOf (greatest_number + 1) words.left (Some left) = subst (λ (m : Option ℕ). NumberOf (greatest_number + 1) words.left m) some_left s.number in
+    let k : NumberOf board.pebbles words.ask (Some ask) = subst (λ (m : Option ℕ). NumberOf board.pebbles words.ask m) some_ask s.pebble in
+    let count = numbers_count board.pebbles board.labels words.at at are.at.0 p in
+    record {
+      is = record { at = record { each_pebble = count.0; each_label = count.1 }; left = omega (arith, n.0); request = k.0 };
+      spelled = e ∙ ap (λ (line : List ℕ). line ++ new) (request_words_of at left ask words p.1 n.1 k.1);
+    }
+
+pub request_order : (board : PlainBoard) (row : RequestRow) (old new : List ℕ) (rank least : ℕ) → RequestRead board row old new → rank ≡ rank_of board row.at → rank < least
+    → RequestRowFault board (IsFrom board least) old kinds.Order
+request_order board row old new rank least read e lt = (row, read.is, new, read.spelled, λ from. omega (arith, e, lt, from))
+
+pub request_next : (board : PlainBoard) (at old new : List ℕ) (left ask rank least : ℕ) → RequestRead board (request at left ask) old new
+    → rank ≡ rank_of board at → rank < configurations board → configurations board ≤ most_rows → least ≤ rank
+    → NextRequestRow board least (Ok (record { at = rank; left = left; ask = ask })) old new
+request_next board at old new left ask rank least read e below few above =
+    let place : configuration_at board rank ≡ at = ap (configuration_at board) e ∙ configuration_at-rank_of board at read.is.at in
+    let same : request_row board (record { at = rank; left = left; ask = ask }) ≡ request at left ask = rw place refl in (
+      subst (λ (row : RequestRow). IsRequestRow board row) (sym same) read.is,
+      above,
+      below,
+      few,
+      subst (λ (row : RequestRow). old ≡ request_line row ++ new) (sym same) read.spelled,
+    )
+
+-- ---- places on the stack
+
+abbrev pub six_zeros : List ℕ
+six_zeros = 0 ∷ 0 ∷ 0 ∷ 0 ∷ 0 ∷ 0 ∷ []
+
+pub zero_at : (place : ℕ) → get_or six_zeros place 0 ≡ 0
+zero_at place =
+    elim (cases_lt place 6) [
+      | inl lt ↦ get_or-replicate 6 place 0 0 lt
+      | inr past ↦ get_or_past six_zeros place 0 past
+    ]
+
+pub zero_behind : (n place : ℕ) → get_or (drop n six_zeros) place 0 ≡ 0
+zero_behind n place = get_or-drop n six_zeros place 0 ∙ zero_at (n + place)
+
+pub places_taken : (n : ℕ) → n ≤ 6 → length (take n six_zeros) ≡ n
+places_taken n few = omega (arith, length-take n six_zeros)
+
+pub not_false : (b : Bool) → not b ≡ false → b ≡ true
+not_false true e = refl
+not_false false e = absurd cc
+
+pub not_true : (b : Bool) → not b ≡ true → b ≡ false
+not_true true e = absurd cc
+not_true false e = refl
+
+-- a slice that was lent from the front of these and written
+pub front_written : (n : ℕ) (new rest : List ℕ) → length new ≡ n → take n (new ++ rest) ≡ new
+front_written n new rest len = take_at new rest n len
