@@ -95,7 +95,7 @@ own_member board configuration pebble is inside =
 
 -- ---- the members of a gap
 
-positive_each : (board : PlainBoard) (gap : ℕ) → gap < gaps board → 0 < gaps_each board
+pub positive_each : (board : PlainBoard) (gap : ℕ) → gap < gaps board → 0 < gaps_each board
 positive_each board gap below =
     elim (cases_lt 0 (gaps_each board)) [
       | inl some ↦ some
