@@ -81,6 +81,10 @@ size_of P test bound says =
 
 -- ---- counts
 
+pub count_below-zero : (test : ℕ → Bool) → count_below test 0 ≡ 0
+unfolding count_below
+count_below-zero test = refl
+
 pub count_below-same : (first second : ℕ → Bool) (bound : ℕ) → ((number : ℕ) → number < bound → first number ≡ second number) → count_below first bound ≡ count_below second bound
 unfolding count_below
 count_below-same first second zero same = refl
