@@ -1,5 +1,5 @@
 -- How many numbers below a bound pass a test.
-use Rattle.std.proofs.Common.{◌≡◌, ℕ, zero, suc, ◌+◌, ◌*◌, ◌/◌, ◌%◌, ◌^◌, ◌<◌, ◌≤◌, ◌↔◌, ◌⊎◌, Bool, true, false, cond, nat_eq, List, [], ◌∷◌, ◌++◌, length, get_or, Contains, Option, Some, None, refl, sym, ap, ◌∙◌, subst, inl, inr, arith}
+use Rattle.std.proofs.Common.{◌≡◌, ℕ, zero, suc, ◌+◌, ◌*◌, ◌%◌, ◌^◌, ◌<◌, ◌≤◌, ◌↔◌, Bool, true, false, cond, nat_eq, List, [], ◌∷◌, ◌++◌, length, get_or, Contains, Option, Some, None, refl, sym, ap, ◌∙◌, subst, inl, inr, arith}
 use Rattle.std.specs.List.{AllPairs}
 use Rattle.std.specs.Int.{bit_at}
 use Rattle.std.specs.Int.Count.{ones, ones_cat, ones-le, ones-ones}
@@ -56,11 +56,14 @@ no_more test bound size members fails are = record {
 
 some_members : (test : ℕ → Bool) (bound : ℕ) → (members : List ℕ) × AreMembers test bound (count_below test bound) members
 unfolding count_below
-some_members test zero = ([], record {
-  so_many = refl;
-  ascending = λ i j d less inside. absurd (omega arith);
-  each = λ number. (λ among. let inside : among.0 < 0 = among.1 in absurd (omega arith), λ is. let low : number < 0 = is.0 in absurd (omega arith));
-})
+some_members test zero = (
+  [],
+  record {
+    so_many = refl;
+    ascending = λ i j d less inside. absurd (omega arith);
+    each = λ number. (λ among. let inside : among.0 < 0 = among.1 in absurd (omega arith), λ is. let low : number < 0 = is.0 in absurd (omega arith));
+  },
+)
 some_members test (suc bound) = by (test bound) refl (some_members test bound)
   where
     by : (passes : Bool) → test bound ≡ passes → (members : List ℕ) × AreMembers test bound (count_below test bound) members

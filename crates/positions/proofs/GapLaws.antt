@@ -1,5 +1,5 @@
 -- Gaps, their pebbles and their members fit together.
-use Rattle.std.proofs.Common.{◌≡◌, ◌≢◌, ℕ, suc, ◌+◌, ◌-◌, ◌*◌, ◌/◌, ◌%◌, ◌^◌, ◌<◌, ◌≤◌, ◌↔◌, List, [], ◌∷◌, ◌++◌, length, get_or, take, drop, set, refl, sym, ap, ◌∙◌, subst, inl, inr, arith, mod-lt, div-add-mod'}
+use Rattle.std.proofs.Common.{◌≡◌, ℕ, suc, ◌+◌, ◌-◌, ◌*◌, ◌%◌, ◌^◌, ◌<◌, ◌≤◌, ◌↔◌, List, ◌∷◌, ◌++◌, length, get_or, take, drop, set, sym, ap, ◌∙◌, subst, inl, inr, arith, mod-lt, div-add-mod'}
 use Rattle.std.specs.List.{All, remove, insert}
 use Rattle.std.proofs.lemmas.Bool.{cases_lt}
 use Rattle.std.proofs.lemmas.Nat.{div-mul-add, mod-mul-add, mul-add-lt, div_below}
@@ -51,8 +51,8 @@ others_at board configuration pebble is inside =
     record {
       size = omega (arith, length-remove configuration pebble within);
       below = All-append (λ label. label < places board) (take pebble configuration) (drop (suc pebble) configuration)
-      (All-take (λ label. label < places board) pebble configuration is.each_label)
-      (All-drop (λ label. label < places board) (suc pebble) configuration is.each_label);
+          (All-take (λ label. label < places board) pebble configuration is.each_label)
+          (All-drop (λ label. label < places board) (suc pebble) configuration is.each_label);
     }
 
 others_below : (board : PlainBoard) (labels : List ℕ) → AreOthers board labels → number_of (places board) labels < gaps_each board
@@ -132,8 +132,8 @@ member_is board gap label below low =
     record {
       each_pebble = omega arith;
       each_label = All-append (λ l. l < places board) (take pebble others) (label ∷ drop pebble others)
-      (All-take (λ l. l < places board) pebble others are.below)
-      (All-cons (λ l. l < places board) label (drop pebble others) low (All-drop (λ l. l < places board) pebble others are.below));
+          (All-take (λ l. l < places board) pebble others are.below)
+          (All-cons (λ l. l < places board) label (drop pebble others) low (All-drop (λ l. l < places board) pebble others are.below));
     }
 
 pub label_of_member : (board : PlainBoard) (gap label : ℕ) → gap < gaps board → get_or (member_of board gap label) (pebble_of board gap) 0 ≡ label
@@ -144,7 +144,7 @@ gap_of-member_of board gap label below =
     let others : List ℕ = others_of board gap in
     ap (λ (l : List ℕ). pebble_of board gap * gaps_each board + number_of (places board) l) (remove-insert others (pebble_of board gap) label (has_place board gap below))
     ∙ ap (λ (n : ℕ). pebble_of board gap * gaps_each board + n)
-        (number_of-digits_of (places board) (board.pebbles - 1) (gap % gaps_each board) (mod-lt gap (positive_each board gap below)))
+    (number_of-digits_of (places board) (board.pebbles - 1) (gap % gaps_each board) (mod-lt gap (positive_each board gap below)))
     ∙ div-add-mod' gap (gaps_each board)
 
 -- ---- answers
@@ -181,10 +181,13 @@ legal_is_answer board configuration pebble label is inside =
 pub answer_beats_others : (board : PlainBoard) (gap label : ℕ) → gap < gaps board
     → IsAnswer board gap label ↔ ((label < board.labels) × All (Beats board label) (others_of board gap))
 answer_beats_others board gap label below = (
-  λ answer. (answer.is_label, All-from_get_or (Beats board label) others 0 (λ k inside. elim (cases_lt k pebble) [
-    | inl before ↦ subst (Beats board label) (get_or-insert_below others pebble label 0 k before place) (answer.dominates k (omega (arith, size)) (omega arith))
-    | inr behind ↦ subst (Beats board label) (get_or-insert_above others pebble label 0 k behind place) (answer.dominates (k + 1) (omega (arith, size)) (omega arith))
-  ])),
+  λ answer. (
+    answer.is_label,
+    All-from_get_or (Beats board label) others 0 (λ k inside. elim (cases_lt k pebble) [
+      | inl before ↦ subst (Beats board label) (get_or-insert_below others pebble label 0 k before place) (answer.dominates k (omega (arith, size)) (omega arith))
+      | inr behind ↦ subst (Beats board label) (get_or-insert_above others pebble label 0 k behind place) (answer.dominates (k + 1) (omega (arith, size)) (omega arith))
+    ]),
+  ),
   λ all. record {
     is_label = all.0;
     dominates = λ other inside differs. elim (cases_lt other pebble) [

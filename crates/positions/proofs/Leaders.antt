@@ -1,13 +1,12 @@
 -- Of the pebbles up to one, at most one can dominate all others.
-use Rattle.std.proofs.Common.{◌≡◌, ◌≢◌, ℕ, suc, ◌+◌, ◌<◌, ◌≤◌, List, get_or, sym, ap, ◌∙◌, subst, inl, inr, arith}
+use Rattle.std.proofs.Common.{◌≡◌, ◌≢◌, ℕ, ◌+◌, ◌<◌, get_or, sym, subst, inl, inr, arith}
 use Rattle.std.proofs.lemmas.Bool.{cases_eq}
-use Rattle.board_text.specs.PlainBoard.{PlainBoard, Beats, IsAntisymmetric, places}
+use Rattle.board_text.specs.PlainBoard.{PlainBoard, Beats, IsAntisymmetric}
 use Rattle.positions.specs.Game.{Legal}
 use Rattle.positions.specs.Ranks.{configuration_at}
 use Rattle.positions.specs.Gaps.{IsDominator}
 use Rattle.positions.specs.Counts.{IsSmallest}
 use Rattle.std.proofs.Common.{Some, None}
-use Rattle.positions.proofs.Turning.{IsRankRest}
 
 -- of the first pebbles no other one than the leader dominates
 pub record IsLeader (board : PlainBoard) (rank count leader label : ℕ) : Type 0 where
@@ -35,7 +34,7 @@ still_leads board rank count leader label next one_way inside is beats leads =
             let dominates = subst (λ p. IsDominator board (configuration_at board rank) p) same dominator in
             one_way label next beats
             (subst (λ l. Beats board next l) (sym leads.held) (subst (λ l. Beats board l (get_or (configuration_at board rank) leader 0)) (sym is)
-                (dominates.dominates leader (omega arith) (omega arith))))
+            (dominates.dominates leader (omega arith) (omega arith))))
         | inr other_one ↦ leads.only other (omega arith) differs dominator
       ];
     }
@@ -52,7 +51,7 @@ next_leads board rank count leader label next inside is fails leads =
         | inl same ↦
             let dominates = subst (λ p. IsDominator board (configuration_at board rank) p) same dominator in
             fails (subst (λ l. Beats board label l) (sym is) (subst (λ l. Beats board l (get_or (configuration_at board rank) count 0)) (sym leads.held)
-                (dominates.dominates count inside (omega arith))))
+            (dominates.dominates count inside (omega arith))))
         | inr other_one ↦ leads.only other (omega arith) other_one dominator
       ];
     }

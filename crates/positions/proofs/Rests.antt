@@ -2,10 +2,9 @@
 use Rattle.std.proofs.Common.{◌≡◌, ℕ, suc, ◌+◌, ◌-◌, ◌/◌, ◌%◌, ◌^◌, ◌<◌, ◌≤◌, List, ◌∷◌, length, get_or, drop, sym, ap, ◌∙◌, subst, arith, mod-lt}
 use Rattle.std.proofs.Math.Nat.{one-le-pow}
 use Rattle.std.proofs.Math.Seq.{drop-cons}
-use Rattle.std.specs.List.{All}
 use Rattle.std.proofs.lemmas.List.Elements.{All-get_or}
 use Rattle.positions.specs.Ranks.{digits_of}
-use Rattle.positions.proofs.Digits.{length-digits_of, digits_below}
+use Rattle.positions.proofs.Digits.{digits_below}
 
 -- so many digits of a number
 pub record AreDigits (base count number : ℕ) (digits : List ℕ) : Type 0 where

@@ -1,4 +1,4 @@
-use Rattle.std.proofs.Common.{◌≡◌, ◌^◌, ◌<◌, bit_and, get_or, refl, arith, rules}
+use Rattle.std.proofs.Common.{◌^◌, ◌<◌, bit_and, get_or, refl, arith, rules}
 use Rattle.positions.proofs.LabelBits.{search_first, search_next, search_some}
 use Rattle.positions.proofs.label_set.LabelSet.first_from.Goals as goal
 

@@ -1,4 +1,4 @@
-use Rattle.std.proofs.Common.{◌≡◌, ◌+◌, ◌*◌, ◌^◌, ◌<◌, ◌≤◌, get_or, sym, arith, rules}
+use Rattle.std.proofs.Common.{◌+◌, ◌*◌, ◌^◌, ◌<◌, get_or, sym, arith, rules}
 use Rattle.std.specs.Int.Count.{ones}
 use Rattle.board_text.specs.Domination.{has_bit}
 use Rattle.positions.proofs.Counting.{count_below-zero}

@@ -1,6 +1,5 @@
-use Rattle.std.proofs.Common.{◌≡◌, ℕ, ◌+◌, ◌<◌, ◌≤◌, ◌/◌, ◌%◌, get_or, refl, sym, subst, arith}
+use Rattle.std.proofs.Common.{◌≡◌, ℕ, ◌<◌, ◌≤◌, ◌/◌, get_or, refl, sym, subst, arith}
 use Rattle.board_text.specs.PlainBoard.{PlainBoard, Beats, places}
-use Rattle.positions.specs.Ranks.{configuration_at}
 use Rattle.positions.proofs.Rests.{rest_first}
 use Rattle.positions.proofs.SpaceNumbers.{numbers}
 use Rattle.positions.proofs.Turning.{weight_positive, rank_rest_next}
