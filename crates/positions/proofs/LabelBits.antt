@@ -1,10 +1,13 @@
 -- Sets of labels as bits.
-use Rattle.std.proofs.Common.{◌≡◌, ◌≢◌, ℕ, ◌+◌, ◌*◌, ◌/◌, ◌%◌, ◌^◌, ◌<◌, ◌↔◌, nat_eq, bit_or, true, false, List, length, get_or, set, replicate, refl, sym, ap, ◌∙◌, inl, inr, arith}
-use Rattle.std.specs.Int.{bit_at, w64}
-use Rattle.std.proofs.lemmas.Bool.{cases_eq, both_ways, eq-eqb}
+use Rattle.std.proofs.Common.{◌≡◌, ◌≢◌, ℕ, zero, suc, ◌+◌, ◌-◌, ◌*◌, ◌/◌, ◌%◌, ◌^◌, ◌<◌, ◌≤◌, ◌↔◌, min, nat_eq, bit_and, bit_or, true, false, List, [], ◌∷◌, length, get_or, set, replicate, Some, None, refl, sym, ap, ◌∙◌, subst, inl, inr, arith}
+use Rattle.std.specs.Int.{bit_at, w64, trailing_zeros}
+use Rattle.std.specs.Int.Count.{ones}
+use Rattle.std.proofs.lemmas.Bool.{cases_eq, cases_lt, both_ways, eqb-true, eq-eqb}
 use Rattle.std.proofs.lemmas.List.{get_or-set_same, get_or-set_other, get_or-replicate, length-set}
-use Rattle.std.proofs.lemmas.Nat.Bits.{bit_at_set_same, bit_at_set_other, bit_at-zero}
+use Rattle.std.proofs.lemmas.Nat.Bits.{bit_at_set_same, bit_at_set_other, bit_at-zero, bit_at_and, bit_at-lt, bit_at_ones, bit_at_mask_inside, bit_at_mask_below, bit_at-trailing_zeros, ones_shl}
 use Rattle.board_text.specs.Domination.{has_bit}
+use Rattle.positions.specs.Counts.{HasSize, IsSmallest}
+use Rattle.positions.proofs.Counting.{count_below, count_below-same, count_below-add, count_below-le, count_ones-is, size_of}
 
 -- the words with the bit of a label set
 abbrev pub with_bit : List ℕ → ℕ → List ℕ
@@ -67,3 +70,143 @@ below_more words bound small has = record {
     )
   ];
 }
+
+-- ---- what two rows have both
+
+pub bit_of_both : (a b i : ℕ) → (nat_eq (bit_at (bit_and a b) i) 1 ≡ true) ↔ ((nat_eq (bit_at a i) 1 ≡ true) × (nat_eq (bit_at b i) 1 ≡ true))
+bit_of_both a b i =
+    let same : bit_at (bit_and a b) i ≡ min (bit_at a i) (bit_at b i) = bit_at_and a b i in
+    let one : bit_at a i < 2 = bit_at-lt a i in
+    let other : bit_at b i < 2 = bit_at-lt b i in (
+      λ both.
+          let set : bit_at (bit_and a b) i ≡ 1 = eqb-true (bit_at (bit_and a b) i) 1 both in
+          (eq-eqb (bit_at a i) 1 (omega arith), eq-eqb (bit_at b i) 1 (omega arith)),
+      λ each.
+          let first : bit_at a i ≡ 1 = eqb-true (bit_at a i) 1 each.0 in
+          let second : bit_at b i ≡ 1 = eqb-true (bit_at b i) 1 each.1 in
+          eq-eqb (bit_at (bit_and a b) i) 1 (omega arith),
+    )
+
+-- the words that two rows have both
+abbrev pub both_of : List ℕ → List ℕ → List ℕ
+both_of first second =
+    bit_and (get_or first 0 0) (get_or second 0 0) ∷ bit_and (get_or first 1 0) (get_or second 1 0)
+    ∷ bit_and (get_or first 2 0) (get_or second 2 0) ∷ bit_and (get_or first 3 0) (get_or second 3 0) ∷ []
+
+word_of_both : (first second : List ℕ) (k : ℕ) → k < 4 → get_or (both_of first second) k 0 ≡ bit_and (get_or first k 0) (get_or second k 0)
+word_of_both first second zero low = refl
+word_of_both first second (suc zero) low = refl
+word_of_both first second (suc (suc zero)) low = refl
+word_of_both first second (suc (suc (suc zero))) low = refl
+word_of_both first second (suc (suc (suc (suc k)))) low = absurd (omega arith)
+
+pub has_bit-both : (first second : List ℕ) (x : ℕ) → x < 256 → (has_bit (both_of first second) x ≡ true) ↔ ((has_bit first x ≡ true) × (has_bit second x ≡ true))
+has_bit-both first second x small =
+    let word = word_of_both first second (x / 64) (omega arith) in
+    subst (λ w. (nat_eq (bit_at w (x % 64)) 1 ≡ true) ↔ ((has_bit first x ≡ true) × (has_bit second x ≡ true))) (sym word)
+    (bit_of_both (get_or first (x / 64) 0) (get_or second (x / 64) 0) (x % 64))
+
+-- ---- how many bits are set
+
+bit_of_word : (words : List ℕ) (k j : ℕ) → j < 64 → has_bit words (64 * k + j) ≡ nat_eq (bit_at (get_or words k 0) j) 1
+bit_of_word words k j small =
+    let place : (64 * k + j) / 64 ≡ k = omega arith in
+    let bit : (64 * k + j) % 64 ≡ j = omega arith in
+    ap (λ p. nat_eq (bit_at (get_or words p 0) ((64 * k + j) % 64)) 1) place ∙ ap (λ b. nat_eq (bit_at (get_or words k 0) b) 1) bit
+
+pub bits_more : (words : List ℕ) (k count : ℕ) → get_or words k 0 < 2 ^ 64 → count ≡ count_below (has_bit words) (64 * k)
+    → count + ones (get_or words k 0) ≡ count_below (has_bit words) (64 * (k + 1))
+bits_more words k count small is =
+    let next : 64 * (k + 1) ≡ 64 * k + 64 = omega arith in
+    let here : count_below (λ j. has_bit words (64 * k + j)) 64 ≡ ones (get_or words k 0) =
+    count_below-same (λ j. has_bit words (64 * k + j)) (λ j. nat_eq (bit_at (get_or words k 0) j) 1) 64 (λ j low. bit_of_word words k j low)
+    ∙ count_ones-is (get_or words k 0) small in
+    ap (λ n. n + ones (get_or words k 0)) is
+    ∙ ap (λ n. count_below (has_bit words) (64 * k) + n) (sym here)
+    ∙ sym (ap (count_below (has_bit words)) next ∙ count_below-add (has_bit words) (64 * k) 64)
+
+pub bits_few : (words : List ℕ) (bound count : ℕ) → count ≡ count_below (has_bit words) bound → count ≤ bound
+bits_few words bound count is = let few = count_below-le (has_bit words) bound in omega arith
+
+pub size_of_bits : (words : List ℕ) (bound count : ℕ) → bound ≡ 256 → count ≡ count_below (has_bit words) bound
+    → HasSize (λ x. (x < 256) × (has_bit words x ≡ true)) count
+size_of_bits words bound count all is =
+    let same : count_below (has_bit words) 256 ≡ count = ap (count_below (has_bit words)) (sym all) ∙ sym is in
+    subst (HasSize (λ x. (x < 256) × (has_bit words x ≡ true))) same
+    (size_of (λ x. (x < 256) × (has_bit words x ≡ true)) (has_bit words) 256 (λ x. (λ h. h, λ h. h)))
+
+-- ---- the first bit from a bound on
+
+-- no bit from the bound on is set before a word, and of that word the bits from the bound on are kept
+pub record IsSearched (words : List ℕ) (bound place kept : ℕ) : Type 0 where
+  pub none : (x : ℕ) → bound ≤ x → x < 64 * place → has_bit words x ≡ true → ⊥
+  pub keeps : (j : ℕ) → j < 64 → (bit_at kept j ≡ 1) ↔ (bound ≤ 64 * place + j)
+
+pub search_first : (words : List ℕ) (bound : ℕ) → IsSearched words bound (bound / 64) ((2 ^ 64 - 1) * 2 ^ (bound % 64) % 2 ^ 64)
+search_first words bound =
+    let shift : ℕ = bound % 64 in
+    let mask : (2 ^ 64 - 1) * 2 ^ shift % 2 ^ 64 ≡ 2 ^ 64 - 2 ^ shift = ones_shl 64 shift (omega arith) in
+    subst (λ k. IsSearched words bound (bound / 64) k) (sym mask) (record {
+      none = λ x from low set. absurd (omega arith);
+      keeps = λ j small. elim (cases_lt j shift) [
+        | inl below ↦ (
+          λ one. let zero : bit_at (2 ^ 64 - 2 ^ shift) j ≡ 0 = bit_at_mask_below shift 64 j below in absurd (omega arith),
+          λ from. absurd (omega arith),
+        )
+        | inr above ↦ (λ one. omega arith, λ from. bit_at_mask_inside shift 64 j above small)
+      ];
+    })
+
+pub search_next : (words : List ℕ) (bound place kept : ℕ) → bound / 64 ≤ place → place < 4 → bit_and (get_or words place 0) kept ≡ 0
+    → IsSearched words bound place kept → IsSearched words bound (place + 1) (2 ^ 64 - 1)
+search_next words bound place kept from inside empty searched = record {
+  none = λ x above low set. elim (cases_lt x (64 * place)) [
+    | inl before ↦ searched.none x above before set
+    | inr here ↦
+        let same : x / 64 ≡ place = omega arith in
+        let whole : 64 * place + x % 64 ≡ x = omega arith in
+        let bit : nat_eq (bit_at (get_or words place 0) (x % 64)) 1 ≡ true = ap (λ p. nat_eq (bit_at (get_or words p 0) (x % 64)) 1) (sym same) ∙ set in
+        let kept_bit : bit_at kept (x % 64) ≡ 1 = (searched.keeps (x % 64) (omega arith)).1 (omega arith) in
+        let both = (bit_of_both (get_or words place 0) kept (x % 64)).1 (bit, eq-eqb (bit_at kept (x % 64)) 1 kept_bit) in
+        let one : bit_at (bit_and (get_or words place 0) kept) (x % 64) ≡ 1 = eqb-true (bit_at (bit_and (get_or words place 0) kept) (x % 64)) 1 both in
+        let zero : bit_at (bit_and (get_or words place 0) kept) (x % 64) ≡ 0 = ap (λ w. bit_at w (x % 64)) empty ∙ bit_at-zero (x % 64) in
+        omega arith
+  ];
+  keeps = λ j small. (λ one. omega arith, λ above. bit_at_ones 64 j small);
+}
+
+abbrev pub HasBitFrom : List ℕ → ℕ → ℕ → Type 0
+HasBitFrom words bound x = (bound ≤ x) × (x < 256) × (has_bit words x ≡ true)
+
+pub search_none : (words : List ℕ) (bound place kept : ℕ) → 4 ≤ place → IsSearched words bound place kept → IsSmallest (HasBitFrom words bound) None
+search_none words bound place kept past searched = λ x has. let low : x < 256 = has.1 in searched.none x has.0 (omega arith) has.2
+
+pub search_some : (words : List ℕ) (bound place kept first : ℕ) → place < 4 → 0 < bit_and (get_or words place 0) kept → bit_and (get_or words place 0) kept < 2 ^ 64
+    → IsSearched words bound place kept → first ≡ 64 * place + trailing_zeros w64 (bit_and (get_or words place 0) kept)
+    → IsSmallest (HasBitFrom words bound) (Some first)
+search_some words bound place kept first inside some fits searched is =
+    let word : ℕ = bit_and (get_or words place 0) kept in
+    let lowest : ℕ = trailing_zeros w64 word in
+    let at = bit_at-trailing_zeros w64 word some fits in
+    let low : lowest < 64 = at.0 in
+    let both = (bit_of_both (get_or words place 0) kept lowest).0 (eq-eqb (bit_at word lowest) 1 at.1) in
+    let above : bound ≤ 64 * place + lowest = (searched.keeps lowest low).0 (eqb-true (bit_at kept lowest) 1 both.1) in
+    let set : has_bit words (64 * place + lowest) ≡ true = bit_of_word words place lowest low ∙ both.0 in (
+      (omega arith, omega arith, subst (λ x. has_bit words x ≡ true) (sym is) set),
+      λ other has. elim (cases_lt other first) [
+        | inr behind ↦ behind
+        | inl before ↦ elim (cases_lt other (64 * place)) [
+          | inl earlier ↦ absurd (searched.none other has.0 earlier has.2)
+          | inr here ↦
+              let from : bound ≤ other = has.0 in
+              let bit : other % 64 < lowest = omega arith in
+              let same : other / 64 ≡ place = omega arith in
+              let held : nat_eq (bit_at (get_or words place 0) (other % 64)) 1 ≡ true = ap (λ p. nat_eq (bit_at (get_or words p 0) (other % 64)) 1) (sym same) ∙ has.2 in
+              let kept_bit : bit_at kept (other % 64) ≡ 1 = (searched.keeps (other % 64) (omega arith)).1 (omega arith) in
+              let one : bit_at word (other % 64) ≡ 1 =
+              eqb-true (bit_at word (other % 64)) 1 ((bit_of_both (get_or words place 0) kept (other % 64)).1 (held, eq-eqb (bit_at kept (other % 64)) 1 kept_bit)) in
+              let zero : bit_at word (other % 64) ≡ 0 = at.2 (other % 64) bit in
+              absurd (omega arith)
+        ]
+      ],
+    )

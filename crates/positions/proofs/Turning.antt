@@ -1,16 +1,16 @@
 -- How ranks are turned with the weights of a space.
-use Rattle.std.proofs.Common.{◌≡◌, ℕ, suc, ◌+◌, ◌-◌, ◌*◌, ◌/◌, ◌%◌, ◌^◌, ◌<◌, ◌≤◌, List, [], ◌∷◌, ◌++◌, length, get_or, take, drop, refl, sym, ap, ◌∙◌, subst, arith, mod-lt}
+use Rattle.std.proofs.Common.{◌≡◌, ℕ, ◌+◌, ◌-◌, ◌*◌, ◌/◌, ◌%◌, ◌^◌, ◌<◌, ◌≤◌, List, [], ◌∷◌, ◌++◌, length, get_or, take, refl, sym, ap, ◌∙◌, subst, arith}
 use Rattle.std.proofs.Math.Nat.{one-le-pow, pow-le-pow_right}
-use Rattle.std.proofs.Math.Seq.{drop-cons}
 use Rattle.std.proofs.lemmas.List.{take_more, length-take-le, take_all}
-use Rattle.std.proofs.lemmas.List.Elements.{All-take, All-get_or}
+use Rattle.std.proofs.lemmas.List.Elements.{All-take}
 use Rattle.board_text.specs.PlainBoard.{PlainBoard, IsConfiguration, places}
 use Rattle.positions.specs.Game.{moved}
-use Rattle.positions.specs.Ranks.{number_of, digits_of, configurations, rank_of, configuration_at}
+use Rattle.positions.specs.Ranks.{number_of, configurations, rank_of, configuration_at}
 use Rattle.positions.specs.Weights.{AreNumbersOf}
 use Rattle.positions.proofs.Configurations.{moved_is_configuration}
-use Rattle.positions.proofs.Digits.{number_of-push, number_below}
+use Rattle.positions.proofs.Digits.{length-digits_of, number_of-push, number_below}
 use Rattle.positions.proofs.Parts.{Parts, parts_at, quotient, remainder}
+use Rattle.positions.proofs.Rests.{IsRest, IsNextRest, rest_next}
 use Rattle.positions.proofs.Ranks.{rank_of-configuration_at, configuration_at_is, rank_below}
 
 pub weight_positive : {labels pebbles size : ℕ} {words : List ℕ} (board : PlainBoard) (base : ℕ) (weights : List ℕ) (pebble : ℕ)
@@ -66,51 +66,18 @@ with_label board base weights rank pebble label are below inside low =
       few = omega arith;
     }
 
--- ---- from the last pebble to the first
+-- ---- the labels of a rank, from the first pebble to the last
 
 -- a number has the labels from a place on
-pub record IsRest (board : PlainBoard) (rank place rest : ℕ) : Type 0 where
-  pub below : rest < places board ^ (board.pebbles - place)
-  pub same : digits_of (places board) (board.pebbles - place) rest ≡ drop place (configuration_at board rank)
+abbrev pub IsRankRest : PlainBoard → ℕ → ℕ → ℕ → Type 0
+IsRankRest board rank place rest = IsRest (places board) board.pebbles (configuration_at board rank) place rest
 
-pub rest_first : (board : PlainBoard) (rank : ℕ) → rank < configurations board → IsRest board rank 0 rank
-rest_first board rank below = let all : board.pebbles ≡ board.pebbles - 0 = omega arith in record {
-  below = subst (λ n. rank < places board ^ n) all below;
-  same = ap (λ n. digits_of (places board) n rank) (sym all);
-}
-
-pub record IsNextRest (board : PlainBoard) (rank place label rest : ℕ) : Type 0 where
-  pub label_is : label ≡ get_or (configuration_at board rank) place 0
-  pub low : label < places board
-  pub rest_is : IsRest board rank (place + 1) rest
-
-pub rest_next : {labels pebbles size : ℕ} {words : List ℕ} (board : PlainBoard) (base : ℕ) (weights : List ℕ) (rank place rest : ℕ)
-    → AreNumbersOf board labels pebbles base size weights words → rank < configurations board → place < board.pebbles
-    → IsRest board rank place rest → IsNextRest board rank place (rest / get_or weights place 0) (rest % get_or weights place 0)
-rest_next board base weights rank place rest are below inside is =
-    let left : ℕ = board.pebbles - 1 - place in
-    let weight : ℕ = places board ^ left in
-    let c : List ℕ = configuration_at board rank in
-    let configuration = configuration_at_is board rank below in
-    let long : length c ≡ board.pebbles = configuration.each_pebble in
-    let within : place < length c = omega arith in
-    let one_more : board.pebbles - place ≡ suc left = omega arith in
-    let one_less : left ≡ board.pebbles - (place + 1) = omega arith in
-    let split : drop place c ≡ get_or c place 0 ∷ drop (suc place) c = drop-cons c place 0 within in
-    let both : rest / weight ∷ digits_of (places board) left (rest % weight) ≡ get_or c place 0 ∷ drop (suc place) c =
-    ap (λ n. digits_of (places board) n rest) (sym one_more) ∙ is.same ∙ split in
-    let first : rest / weight ≡ get_or c place 0 = cc in
-    let others : digits_of (places board) left (rest % weight) ≡ drop (suc place) c = cc in
-    let next : suc place ≡ place + 1 = omega arith in
-    let weighs : weight ≡ get_or weights place 0 = sym (are.weighs place inside) in
-    subst (λ w. IsNextRest board rank place (rest / w) (rest % w)) weighs (record {
-      label_is = first;
-      low = subst (λ n. n < places board) (sym first) (All-get_or (λ label. label < places board) c place 0 within configuration.each_label);
-      rest_is = record {
-        below = subst (λ n. rest % weight < places board ^ n) one_less (mod-lt rest (one-le-pow left (places board) are.is_board.labels.0));
-        same = ap (λ n. digits_of (places board) n (rest % weight)) (sym one_less) ∙ others ∙ ap (λ n. drop n c) next;
-      };
-    })
+pub rank_rest_next : {labels pebbles size : ℕ} {words : List ℕ} (board : PlainBoard) (base : ℕ) (weights : List ℕ) (rank place rest : ℕ)
+    → AreNumbersOf board labels pebbles base size weights words → place < board.pebbles → IsRankRest board rank place rest
+    → IsNextRest (places board) board.pebbles (configuration_at board rank) place (rest / get_or weights place 0) (rest % get_or weights place 0)
+rank_rest_next board base weights rank place rest are inside is =
+    rest_next (places board) board.pebbles (configuration_at board rank) place rest (get_or weights place 0) are.is_board.labels.0
+    (length-digits_of (places board) board.pebbles rank) inside (are.weighs place inside) is
 
 -- ---- the rank of a list, label by label
 

@@ -1,7 +1,8 @@
 //! Sets of labels, as bits.
 
-ghost use Rattle.std.specs.Prelude.{◌≡◌, ℕ, ◌<◌, ◌≤◌, ◌↔◌, true};
+ghost use Rattle.std.specs.Prelude.{◌≡◌, ℕ, ◌<◌, ◌≤◌, ◌↔◌, true, length};
 ghost use Rattle.board_text.specs.Domination.{has_bit};
+ghost use Rattle.positions.specs.Counts.{HasSize, IsSmallest};
 
 use board_text::ROW_WORDS;
 
@@ -22,5 +23,46 @@ impl LabelSet {
             words[label as usize / 64] |= 1 << (label % 64);
         }
         LabelSet { words }
+    }
+
+    /// The labels that are both in this set and in a row of bits.
+    pub(crate) fn intersection(self, row: &[u64]) -> LabelSet
+        requires { length row.now ≡ ROW_WORDS }
+        ensures { (x : ℕ) → x < 256 → (has_bit result.words x ≡ true) ↔ ((has_bit self.words x ≡ true) × (has_bit row.now x ≡ true)) }
+    {
+        LabelSet {
+            words: [
+                self.words[0] & row[0],
+                self.words[1] & row[1],
+                self.words[2] & row[2],
+                self.words[3] & row[3],
+            ],
+        }
+    }
+
+    /// How many labels are in the set.
+    pub(crate) fn len(&self) -> u32
+        ensures { HasSize (λ x. (x < 256) × (has_bit self.now.words x ≡ true)) result }
+    {
+        let mut count = 0;
+        for word in &self.words {
+            count += word.count_ones();
+        }
+        count
+    }
+
+    /// The smallest label of the set that is at least a bound.
+    pub(crate) fn first_from(&self, bound: u16) -> Option<u16>
+        ensures { IsSmallest (λ x. (bound ≤ x) × (x < 256) × (has_bit self.now.words x ≡ true)) result }
+    {
+        let mut kept = u64::MAX << (bound % 64);
+        for place in bound as usize / 64..ROW_WORDS {
+            let word = self.words[place] & kept;
+            if word != 0 {
+                return Some((64 * place) as u16 + word.trailing_zeros() as u16);
+            }
+            kept = u64::MAX;
+        }
+        None
     }
 }

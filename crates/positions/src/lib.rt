@@ -4,6 +4,7 @@
 mod claim;
 mod label_set;
 mod laws;
+mod laws_of_gaps;
 mod laws_of_ranks;
 mod slow;
 mod space;
@@ -16,6 +17,7 @@ pub use laws::{
     lasts_less, one_dominator, one_has_a_tree, one_value_at_most, shown_claims_hold,
     tables_give_trees, values_by_requests, values_occur,
 };
+pub use laws_of_gaps::{answers_of_gaps, gaps_of_configurations, members_of_gaps};
 pub use laws_of_ranks::{ranks_and_configurations, ranks_are_in_order};
 pub use slow::{is_legal, labeller_lasts, value_of};
 pub use space::{MAX_CONFIGURATIONS, Space};
