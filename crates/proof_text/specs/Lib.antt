@@ -3,3 +3,4 @@ pub mod ProofText
 pub mod RowWords
 pub mod ProofFaults
 pub mod Reading
+pub mod Rules

@@ -1,0 +1,61 @@
+-- What is found of rows by rank, said of configurations.
+use Rattle.std.proofs.Common.{◌≡◌, ◌≢◌, ℕ, ◌+◌, ◌<◌, ◌≤◌, List, length, map, get_or, refl, sym, ap, ◌∙◌, subst, arith, inl, inr}
+use Rattle.std.specs.List.{All, AllPairs, Contains}
+use Rattle.std.proofs.lemmas.Bool.{cases_order}
+use Rattle.std.proofs.lemmas.List.{get_or-map, length-map, get_or_default}
+use Rattle.std.proofs.lemmas.List.Elements.{All-contains}
+use Rattle.board_text.specs.PlainBoard.{PlainBoard, IsConfiguration}
+use Rattle.positions.specs.Ranks.{rank_of, configuration_at, configurations}
+use Rattle.positions.proofs.Ranks.{rank_of-configuration_at, configuration_at-rank_of}
+use Rattle.proof_check.specs.RowIndex.{AreRanked, HasNone, IsRowOf}
+
+pub Contains-map : {R X : Type 0} (f : R → X) (rows : List R) (row : R) → Contains rows row → Contains (map f rows) (f row)
+Contains-map f rows row is =
+    (is.0, omega (arith, length-map rows f, is.1), get_or-map f rows is.0 row (f row) is.1 ∙ ap f is.2)
+
+pub Contains-map_cases : {R X : Type 0} (f : R → X) (rows : List R) (d : R) (x : X) → Contains (map f rows) x → (row : R) × Contains rows row × (f row ≡ x)
+Contains-map_cases f rows d x is =
+    let inside : is.0 < length rows = omega (arith, length-map rows f, is.1) in
+    (get_or rows is.0 d, (is.0, inside, get_or_default rows is.0 (get_or rows is.0 d) d inside), sym (get_or-map f rows is.0 d x inside) ∙ is.2)
+
+-- rows of one rank are one
+same_row : {R : Type 0} (rank : R → ℕ) (size : ℕ) (rows : List R) (one other : R) → AreRanked rank size rows → Contains rows one → Contains rows other → rank one ≡ rank other → one ≡ other
+same_row {R} rank size rows one other are is_one is_other same =
+    elim (cases_order is_one.0 is_other.0) [
+      | inl equal ↦ sym is_one.2 ∙ ap (λ (k : ℕ). get_or rows k one) equal ∙ get_or_default rows is_other.0 one other is_other.1 ∙ is_other.2
+      | inr differ ↦ elim differ [
+        | inl less ↦
+            let lt : rank (get_or rows is_one.0 one) < rank (get_or rows is_other.0 one) = are.ascending is_one.0 is_other.0 one less is_other.1 in
+            let a : rank (get_or rows is_one.0 one) ≡ rank one = ap rank is_one.2 in
+            let b : rank (get_or rows is_other.0 one) ≡ rank other = ap rank (get_or_default rows is_other.0 one other is_other.1 ∙ is_other.2) in
+            absurd (omega (arith, lt, a, b, same))
+        | inr more ↦
+            let lt : rank (get_or rows is_other.0 one) < rank (get_or rows is_one.0 one) = are.ascending is_other.0 is_one.0 one more is_one.1 in
+            let a : rank (get_or rows is_one.0 one) ≡ rank one = ap rank is_one.2 in
+            let b : rank (get_or rows is_other.0 one) ≡ rank other = ap rank (get_or_default rows is_other.0 one other is_other.1 ∙ is_other.2) in
+            absurd (omega (arith, lt, a, b, same))
+      ]
+    ]
+
+-- f shows a row with its configuration in place of the rank
+module _ {R X : Type 0} (board : PlainBoard) (f : R → X) (rank : R → ℕ) (at : X → List ℕ) (shows : (row : R) → at (f row) ≡ configuration_at board (rank row))
+    (rows : List R) (are : AreRanked rank (configurations board) rows) (configuration : List ℕ) (is : IsConfiguration board configuration) (number : ℕ) (number_is : number ≡ rank_of board configuration) where
+
+  rank_is : (row : R) → Contains rows row → at (f row) ≡ configuration → rank row ≡ number
+  rank_is row among e =
+      let low : rank row < configurations board = All-contains (λ (r : R). rank r < configurations board) rows row are.each among in
+      sym (rank_of-configuration_at board (rank row) low) ∙ ap (rank_of board) (sym (shows row) ∙ e) ∙ sym number_is
+
+  pub none_there : (d : R) → HasNone rank rows number → (x : X) → Contains (map f rows) x → at x ≡ configuration → ⊥
+  none_there d none x among e =
+      let row = Contains-map_cases f rows d x among in
+      none row.0 row.1 (rank_is row.0 row.1 (ap at row.2 ∙ e))
+
+  pub row_there : (row : R) → IsRowOf rank rows number row → Contains (map f rows) (f row) × (at (f row) ≡ configuration)
+  row_there row is_row =
+      (Contains-map f rows row is_row.0, shows row ∙ ap (configuration_at board) (is_row.1 ∙ number_is) ∙ configuration_at-rank_of board configuration is)
+
+  pub only_there : (row : R) → IsRowOf rank rows number row → (x : X) → Contains (map f rows) x → at x ≡ configuration → x ≡ f row
+  only_there row is_row x among e =
+      let other = Contains-map_cases f rows row x among in
+      sym other.2 ∙ ap f (same_row rank (configurations board) rows other.0 row are other.1 is_row.0 (rank_is other.0 other.1 (ap at other.2 ∙ e) ∙ sym is_row.1))

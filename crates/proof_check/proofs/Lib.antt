@@ -1,0 +1,4 @@
+pub mod Indexing
+pub mod Found
+pub mod Answered
+pub mod Requested

@@ -1,0 +1,7 @@
+use Rattle.proof_check.proofs.Indexing.{index_more}
+use Rattle.proof_check.proofs.row_index.places_of.Goals as goal
+
+pub loop-place-preserved : goal.loop-place-preserved
+loop-place-preserved g c =
+    rw c.rank.ensures
+    (index_more g.R.Ranked.rank c.args.rows.now c.args.size c.loop-place.places.items c.loop-place.place c.index-rows-place.result c.requires c.loop-place-test.true c.index-rows-place.is c.loop-place.invariant)

@@ -1,0 +1,3 @@
+pub mod CheckFaults
+pub mod RowIndex
+pub mod Steps

@@ -1,0 +1,120 @@
+//! The adversary's rows of a document, checked.
+
+ghost use Rattle.std.specs.Prelude.{◌≡◌, ◌<◌, suc, MatchOption};
+ghost use Rattle.proof_text.specs.Proof.{request_row, request_rows};
+ghost use Rattle.proof_text.specs.Rules.{MeetsAnswer, MeetsAnswers, AdversaryObeys, IsListedBelow};
+ghost use Rattle.proof_check.specs.CheckFaults.{IsWrongRequest, AdversaryFault};
+ghost use Rattle.proof_check.specs.Steps.{IsRequesting, AreRequesting, RequestFaultAt, IsWrongBoundFor};
+
+use crate::fault::{CheckFault, Side};
+use crate::row_index::RowIndex;
+use board_text::Board;
+use positions::Space;
+use proof_text::AdversaryRow;
+
+/// What is wrong with the label as an answer to the row's request, if anything is.
+fn answer_fault(
+    board: &Board,
+    space: &Space,
+    rows: &RowIndex<'_, AdversaryRow>,
+    row: &AdversaryRow,
+    label: u16,
+) -> Option<CheckFault>
+    requires same_board { space.now ≡ board.now }
+    requires rows { AreRequesting board.now rows.now }
+    requires row { IsRequesting board.now row.now }
+    requires label { label < board.now.labels }
+    ensures { MatchOption result
+        (MeetsAnswer board.now (request_rows board.now rows.now) (request_row board.now row.now) label)
+        (RequestFaultAt board.now (request_rows board.now rows.now) (request_row board.now row.now) label) }
+{
+    if !space.legal(board, row.at, row.ask, label) {
+        return None;
+    }
+    if row.left == 0 {
+        return Some(CheckFault::NotStuck { at: row.at, label });
+    }
+    let Some(next) = rows.find(space.with(row.at, row.ask, label)) else {
+        return Some(CheckFault::Unlisted {
+            side: Side::Adversary,
+            at: row.at,
+            turn: label,
+        });
+    };
+    if next.left < row.left {
+        None
+    } else {
+        Some(CheckFault::TooLarge { at: row.at, label })
+    }
+}
+
+/// The fault of the row's first faulty label, if it has one.
+fn row_fault(
+    board: &Board,
+    space: &Space,
+    rows: &RowIndex<'_, AdversaryRow>,
+    row: &AdversaryRow,
+) -> Option<CheckFault>
+    requires same_board { space.now ≡ board.now }
+    requires rows { AreRequesting board.now rows.now }
+    requires row { IsRequesting board.now row.now }
+    ensures { MatchOption result
+        (MeetsAnswers board.now (request_rows board.now rows.now) (request_row board.now row.now))
+        (IsWrongRequest board.now (request_rows board.now rows.now) (request_row board.now row.now)) }
+{
+    for label in 0..board.labels() {
+        if let Some(fault) = answer_fault(board, space, rows, row, label) {
+            return Some(fault);
+        }
+    }
+    None
+}
+
+/// The fault of the first faulty row, if there is one.
+pub(crate) fn adversary_fault(
+    board: &Board,
+    space: &Space,
+    rows: &[AdversaryRow],
+    index: &RowIndex<'_, AdversaryRow>,
+) -> Option<CheckFault>
+    requires same_board { space.now ≡ board.now }
+    requires same_rows { index.now ≡ rows.now }
+    requires rows { AreRequesting board.now rows.now }
+    ensures { MatchOption result
+        (AdversaryObeys board.now (request_rows board.now rows.now))
+        (AdversaryFault board.now (request_rows board.now rows.now)) }
+{
+    for row in rows {
+        if let Some(fault) = row_fault(board, space, index, row) {
+            return Some(fault);
+        }
+    }
+    None
+}
+
+/// What is wrong with the start's number in the adversary's rows, where the value is to be at most this number.
+pub(crate) fn start_fault(
+    board: &Board,
+    space: &Space,
+    rows: &RowIndex<'_, AdversaryRow>,
+    most: u32,
+) -> Option<CheckFault>
+    requires same_board { space.now ≡ board.now }
+    requires rows { AreRequesting board.now rows.now }
+    ensures { MatchOption result
+        (IsListedBelow (request_rows board.now rows.now) board.now.start (suc most))
+        (IsWrongBoundFor board.now (request_rows board.now rows.now) most) }
+{
+    let Some(row) = rows.find(space.rank(board.start())) else {
+        return Some(CheckFault::StartMissing {
+            side: Side::Adversary,
+        });
+    };
+    if row.left <= most {
+        None
+    } else {
+        Some(CheckFault::StartNumber {
+            side: Side::Adversary,
+        })
+    }
+}
