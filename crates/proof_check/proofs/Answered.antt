@@ -1,9 +1,9 @@
 -- What a look at a labeller's row finds.
-use Rattle.std.proofs.Common.{◌≡◌, ◌↔◌, Bool, true, false, true≢false, IsTrue, ℕ, zero, suc, ◌+◌, ◌<◌, ◌≤◌, List, [], ◌∷◌, ◌++◌, length, get_or, take, map, Option, Some, None, slice_get, slice_index, refl, sym, ap, ◌∙◌, subst, arith}
-use Rattle.std.specs.List.{All, Contains}
-use Rattle.board_text.specs.PlainBoard.{PlainBoard, IsBoard, IsConfiguration}
+use Rattle.std.proofs.Common.{◌≡◌, ◌↔◌, Bool, false, true≢false, IsTrue, ℕ, zero, suc, ◌+◌, ◌<◌, ◌≤◌, List, [], ◌∷◌, ◌++◌, length, get_or, take, map, Some, slice_get, slice_index, refl, sym, ap, ◌∙◌, subst, arith}
+use Rattle.std.specs.List.{All}
+use Rattle.board_text.specs.PlainBoard.{PlainBoard, IsConfiguration}
 use Rattle.positions.specs.Game.{Legal, moved}
-use Rattle.positions.specs.Ranks.{rank_of, configuration_at, configurations}
+use Rattle.positions.specs.Ranks.{rank_of, configuration_at}
 use Rattle.positions.specs.Table.{AnswerRow}
 use Rattle.positions.specs.declared.turns.Turns.{Turns}
 use Rattle.positions.specs.declared.turns.Turns.TheVariants.{Always}
@@ -11,8 +11,8 @@ use Rattle.positions.proofs.Ranks.{rank_of-configuration_at, configuration_at_is
 use Rattle.positions.proofs.Configurations.{moved_is_configuration}
 use Rattle.proof_text.specs.declared.proof.LabellerRow.{LabellerRow}
 use Rattle.proof_text.specs.Proof.{answer_row, answer_rows}
-use Rattle.proof_text.specs.Rules.{IsEnough, IsWanted, one_less, IsListedFor, Serves, MeetsRequest, MeetsRequests}
-use Rattle.proof_check.specs.RowIndex.{AreRanked, HasNone, IsRowOf}
+use Rattle.proof_text.specs.Rules.{IsEnough, one_less, IsListedFor, Serves, MeetsRequest, MeetsRequests}
+use Rattle.proof_check.specs.RowIndex.{HasNone, IsRowOf}
 use Rattle.std.proofs.Common.{drop, take-append-drop, append_assoc}
 use Rattle.std.proofs.lemmas.List.{take_more, take_all, map-append, get_or_default}
 use Rattle.std.proofs.lemmas.List.Elements.{All-push}

@@ -8,7 +8,7 @@ use Rattle.positions.specs.Game.{moved}
 use Rattle.positions.specs.Table.{AnswerRow, AnswersLegally, AnswersAll, Answers, IsListed, IsClosed}
 use Rattle.positions.specs.declared.turns.Turns.{Turns}
 use Rattle.positions.specs.declared.turns.Turns.TheVariants.{Count, Always}
-use Rattle.proof_text.specs.Rules.{IsEnough, IsListedFor, Serves, MeetsRequest, MeetsRequests, LabellerObeys, one_less}
+use Rattle.proof_text.specs.Rules.{IsEnough, Serves, MeetsRequest, MeetsRequests, LabellerObeys, one_less}
 use Rattle.proof_check.proofs.FirstRows.{find-the, found}
 use lib.Pointwise.{pointwise, bytes_decides}
 

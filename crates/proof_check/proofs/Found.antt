@@ -1,6 +1,6 @@
 -- What is found of rows by rank, said of configurations.
-use Rattle.std.proofs.Common.{◌≡◌, ◌≢◌, ℕ, ◌+◌, ◌<◌, ◌≤◌, List, length, map, get_or, refl, sym, ap, ◌∙◌, subst, arith, inl, inr}
-use Rattle.std.specs.List.{All, AllPairs, Contains}
+use Rattle.std.proofs.Common.{◌≡◌, ℕ, ◌<◌, List, length, map, get_or, sym, ap, ◌∙◌, arith, inl, inr}
+use Rattle.std.specs.List.{Contains}
 use Rattle.std.proofs.lemmas.Bool.{cases_order}
 use Rattle.std.proofs.lemmas.List.{get_or-map, length-map, get_or_default}
 use Rattle.std.proofs.lemmas.List.Elements.{All-contains}
@@ -40,7 +40,6 @@ same_row {R} rank size rows one other are is_one is_other same =
 -- f shows a row with its configuration in place of the rank
 module _ {R X : Type 0} (board : PlainBoard) (f : R → X) (rank : R → ℕ) (at : X → List ℕ) (shows : (row : R) → at (f row) ≡ configuration_at board (rank row))
     (rows : List R) (are : AreRanked rank (configurations board) rows) (configuration : List ℕ) (is : IsConfiguration board configuration) (number : ℕ) (number_is : number ≡ rank_of board configuration) where
-
   rank_is : (row : R) → Contains rows row → at (f row) ≡ configuration → rank row ≡ number
   rank_is row among e =
       let low : rank row < configurations board = All-contains (λ (r : R). rank r < configurations board) rows row are.each among in

@@ -6,3 +6,4 @@ pub mod FirstRows
 pub mod Answering
 pub mod Stopping
 pub mod Showing
+pub mod Refusing

@@ -1,11 +1,10 @@
 -- What a look at an adversary's row finds.
-use Rattle.std.proofs.Common.{◌≡◌, ◌↔◌, Bool, true, false, IsTrue, ℕ, ◌+◌, ◌<◌, ◌≤◌, List, [], ◌∷◌, ◌++◌, length, get_or, take, map, refl, sym, ap, ◌∙◌, subst, arith, inl, inr}
-use Rattle.std.specs.List.{All, Contains}
-use Rattle.std.proofs.lemmas.Bool.{cases_lt}
+use Rattle.std.proofs.Common.{◌≡◌, ℕ, ◌+◌, ◌<◌, ◌≤◌, List, length, get_or, take, map, refl, ap, subst, arith}
+use Rattle.std.specs.List.{All}
 use Rattle.std.proofs.lemmas.List.{get_or_default}
-use Rattle.board_text.specs.PlainBoard.{PlainBoard, IsBoard, IsConfiguration}
-use Rattle.positions.specs.Game.{Legal, moved}
-use Rattle.positions.specs.Ranks.{rank_of, configuration_at, configurations}
+use Rattle.board_text.specs.PlainBoard.{PlainBoard, IsConfiguration}
+use Rattle.positions.specs.Game.{moved}
+use Rattle.positions.specs.Ranks.{rank_of, configuration_at}
 use Rattle.positions.specs.Table.{RequestRow}
 use Rattle.positions.proofs.Ranks.{rank_of-configuration_at, configuration_at_is}
 use Rattle.positions.proofs.Configurations.{moved_is_configuration}
@@ -15,7 +14,7 @@ use Rattle.proof_text.specs.Rules.{IsListedBelow, MeetsAnswer, MeetsAnswers}
 use Rattle.proof_check.specs.declared.fault.Side.TheVariants.{Labeller, Adversary}
 use Rattle.proof_check.specs.declared.fault.CheckFault.{CheckFault}
 use Rattle.proof_check.specs.declared.fault.CheckFault.TheVariants as faults
-use Rattle.proof_check.specs.RowIndex.{AreRanked, HasNone, IsRowOf}
+use Rattle.proof_check.specs.RowIndex.{HasNone, IsRowOf}
 use Rattle.proof_check.specs.CheckFaults.{HasRequest, IsWrongRequest, AdversaryFault}
 use Rattle.proof_check.specs.Steps.{IsRequesting, AreRequesting, RequestFaultAt}
 use Rattle.proof_check.proofs.Found.{none_there, row_there, only_there}

@@ -1,6 +1,6 @@
 -- A document that breaks no rule shows its claim.
-use Rattle.std.proofs.Common.{◌≡◌, ◌≢◌, ℕ, zero, suc, ◌+◌, ◌*◌, ◌/◌, ◌%◌, ◌^◌, ◌<◌, ◌≤◌, false, List, [], ◌∷◌, length, map, get_or, take, refl, sym, ap, ◌∙◌, subst, arith, inl, inr, div-lt_iff_lt-mul}
-use Rattle.std.specs.List.{All, AllPairs, Contains}
+use Rattle.std.proofs.Common.{◌≡◌, ℕ, zero, suc, ◌/◌, ◌%◌, ◌^◌, ◌<◌, ◌≤◌, List, length, get_or, take, refl, sym, ap, ◌∙◌, subst, arith, div-lt_iff_lt-mul}
+use Rattle.std.specs.List.{All}
 use Rattle.std.proofs.Math.Nat.{one-le-pow, pow-succ'}
 use Rattle.std.proofs.lemmas.List.{length-map, get_or-map, get_or-take}
 use Rattle.std.proofs.lemmas.List.Elements.{All-head}
@@ -16,7 +16,7 @@ use Rattle.positions.proofs.Ranks.{rank_of-configuration_at}
 use Rattle.proof_text.specs.declared.proof.LabellerRow.{LabellerRow}
 use Rattle.proof_text.specs.declared.proof.AdversaryRow.{AdversaryRow}
 use Rattle.proof_text.specs.Proof.{PlainProof, IsProof, IsAnswerRow, IsRequestRow, AreAnswerRows, AreRequestRows, AreTurns, answer_row, request_row, answer_rows, request_rows}
-use Rattle.proof_text.specs.Rules.{BreaksNoRule, Serves, LabellerObeys, wanted_of, StartIsBelow}
+use Rattle.proof_text.specs.Rules.{BreaksNoRule, Serves, wanted_of, StartIsBelow}
 use Rattle.proof_check.specs.Steps.{IsAnswering, AreAnswering, IsRequesting, AreRequesting}
 use Rattle.proof_check.proofs.Answering as answering
 use Rattle.proof_check.proofs.Stopping as stopping

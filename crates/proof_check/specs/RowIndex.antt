@@ -1,5 +1,5 @@
 -- Where the row of a rank stands.
-use Rattle.std.specs.Prelude.{◌≡◌, ◌≢◌, ℕ, ◌<◌, ◌≤◌, List, length, slice_index, slice_index_or, MatchOption, Option}
+use Rattle.std.specs.Prelude.{◌≡◌, ◌≢◌, ℕ, ◌<◌, ◌≤◌, List, length, slice_index, slice_index_or}
 use Rattle.std.specs.List.{All, AllPairs, Contains}
 
 -- rows of different ranks, in ascending order, each rank below the size

@@ -1,6 +1,6 @@
 -- What each step of checking finds.
-use Rattle.std.specs.Prelude.{◌≡◌, ℕ, suc, ◌<◌, ◌≤◌, List, Some, slice_get, slice_index}
-use Rattle.std.specs.List.{All, Contains}
+use Rattle.std.specs.Prelude.{◌≡◌, ℕ, suc, ◌<◌, List, Some, slice_get, slice_index}
+use Rattle.std.specs.List.{All}
 use Rattle.board_text.specs.PlainBoard.{PlainBoard, IsBoard}
 use Rattle.positions.specs.Game.{Legal, moved}
 use Rattle.positions.specs.Ranks.{rank_of, configurations}
@@ -10,8 +10,8 @@ use Rattle.proof_text.specs.declared.proof.LabellerRow.{LabellerRow}
 use Rattle.proof_text.specs.declared.proof.AdversaryRow.{AdversaryRow}
 use Rattle.proof_text.specs.Rules.{IsListedFor, IsWanted, one_less, IsListedBelow}
 use Rattle.proof_check.specs.RowIndex.{AreRanked}
-use Rattle.proof_check.specs.CheckFaults.{HasAnswers, HasRequest}
-use Rattle.proof_check.specs.declared.fault.Side.{Side}
+use Rattle.positions.specs.declared.claim.Claim.{Claim}
+use Rattle.proof_check.specs.CheckFaults.{HasAnswers, HasRequest, bound_of}
 use Rattle.proof_check.specs.declared.fault.Side.TheVariants.{Labeller, Adversary}
 use Rattle.proof_check.specs.declared.fault.CheckFault.{CheckFault}
 use Rattle.proof_check.specs.declared.fault.CheckFault.TheVariants as faults
@@ -74,3 +74,7 @@ abbrev pub IsWrongBoundFor : PlainBoard → List RequestRow → ℕ → CheckFau
 IsWrongBoundFor board rows most (faults.StartMissing Adversary) = ¬ HasRequest rows board.start
 IsWrongBoundFor board rows most (faults.StartNumber Adversary) = HasRequest rows board.start × ¬ IsListedBelow rows board.start (suc most)
 IsWrongBoundFor board rows most fault = ⊥
+
+-- what is wrong with the start where the claim may say that its value is at most some number
+abbrev pub IsWrongBoundOf : PlainBoard → List RequestRow → Claim → CheckFault → Type 0
+IsWrongBoundOf board rows claim fault = (most : ℕ) × (bound_of claim ≡ Some most) × IsWrongBoundFor board rows most fault

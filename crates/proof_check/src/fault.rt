@@ -1,7 +1,5 @@
 //! Why a document is refused.
 
-use std::alloc::AllocError;
-
 /// One of the two players.
 #[derive(Clone, Copy, Debug, PartialEq, Eq)]
 pub enum Side {
@@ -30,10 +28,4 @@ pub enum CheckFault {
     TooLarge { at: u32, label: u16 },
     /// A growth of memory was refused.
     Memory,
-}
-
-impl From<AllocError> for CheckFault {
-    fn from(_error: AllocError) -> CheckFault {
-        CheckFault::Memory
-    }
 }

@@ -2,8 +2,12 @@
 #![tactic(auto)]
 
 mod adversary;
+mod checking;
 mod fault;
 mod labeller;
+mod laws;
 mod row_index;
 
+pub use checking::{Shown, check};
 pub use fault::{CheckFault, Side};
+pub use laws::rules_show;

@@ -53,7 +53,11 @@ impl<'a, R: Ranked> Model for RowIndex<'a, R> {
 
 impl<'a, R: Ranked> RowIndex<'a, R> {
     /// The index of these rows, whose ranks ascend and are below the size.
-    pub(crate) fn new(alloc: Global, size: u32, rows: &'a [R]) -> Result<RowIndex<'a, R>, AllocError>
+    pub(crate) fn new(
+        alloc: Global,
+        size: u32,
+        rows: &'a [R],
+    ) -> Result<RowIndex<'a, R>, AllocError>
         requires { AreRanked R.rank size rows.now }
         ensures { IfOk result (λ index. index ≡ rows.now) }
     {

@@ -1,6 +1,6 @@
-use Rattle.std.proofs.Common.{rules, ◌≡◌, ◌<◌, ◌≤◌, length, ℕ, inl, inr, refl, sym, ap, ◌∙◌, subst, arith}
+use Rattle.std.proofs.Common.{◌≡◌, ◌<◌, ℕ, inl, inr, refl, arith}
 use Rattle.std.proofs.lemmas.Bool.{cases_eq}
-use Rattle.positions.specs.Game.{Legal, moved}
+use Rattle.positions.specs.Game.{Legal}
 use Rattle.positions.specs.Ranks.{configuration_at, rank_of}
 use Rattle.proof_check.proofs.Answered.{told}
 use Rattle.proof_check.proofs.Requested.{not_listed, has_request, listed_below, not_listed_below, result_of, result_is, rank_is}
@@ -25,9 +25,13 @@ returns-in_default c =
     let row = c.args.row.now in
     let legal : Legal board (configuration_at board row.at) row.ask c.args.label = (rw c.requires.same_board at c.legal.ensures).0 c.if-not-legal.false in
     let is = result_is board row c.args.label c.requires.row c.requires.label in
-    let number : c.with.result ≡ rank_of board (result_of board row c.args.label) = rw c.requires.same_board at c.with.ensures.rank in
-    (rank_is board row c.requires.row, refl, legal, some_left row.left c.if-row-eq0.false,
-    not_listed board c.args.rows.now c.requires.rows (result_of board row c.args.label) is c.with.result number row c.in_default.ensures)
+    let number : c.with.result ≡ rank_of board (result_of board row c.args.label) = rw c.requires.same_board at c.with.ensures.rank in (
+      rank_is board row c.requires.row,
+      refl,
+      legal,
+      some_left row.left c.if-row-eq0.false,
+      not_listed board c.args.rows.now c.requires.rows (result_of board row c.args.label) is c.with.result number row c.in_default.ensures,
+    )
 
 pub returns-then-next-row : goal.returns-then-next-row
 returns-then-next-row c =

@@ -1,4 +1,4 @@
-use Rattle.std.proofs.Common.{ℕ, ◌<◌, below_more, arith}
+use Rattle.std.proofs.Common.{ℕ, below_more, arith}
 use Rattle.proof_text.specs.Proof.{request_row, request_rows}
 use Rattle.proof_text.specs.Rules.{MeetsAnswer}
 use Rattle.proof_check.proofs.Requested.{wrong_request, all_labels}

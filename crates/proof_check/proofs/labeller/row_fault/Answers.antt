@@ -1,4 +1,4 @@
-use Rattle.std.proofs.Common.{ℕ, ◌<◌, below_more, arith}
+use Rattle.std.proofs.Common.{ℕ, below_more, arith}
 use Rattle.proof_text.specs.Proof.{answer_row, answer_rows}
 use Rattle.proof_text.specs.Rules.{MeetsRequest}
 use Rattle.proof_check.proofs.Answered.{wrong_answer}

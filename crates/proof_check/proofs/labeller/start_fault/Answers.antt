@@ -1,7 +1,5 @@
-use Rattle.std.proofs.Common.{◌≡◌, refl, sym, ap, ◌∙◌, subst, arith}
+use Rattle.std.proofs.Common.{◌≡◌}
 use Rattle.positions.specs.Ranks.{rank_of}
-use Rattle.board_text.specs.PlainBoard.{PlainBoard}
-use Rattle.proof_text.specs.Rules.{IsWanted, IsEnough}
 use Rattle.proof_check.proofs.Answered.{told, not_listed, has_answers, listed_for, not_listed_for, some_row}
 use Rattle.proof_check.proofs.labeller.start_fault.Goals as goal
 
@@ -26,6 +24,8 @@ pub returns-else-is_enough : goal.returns-else-is_enough
 returns-else-is_enough c =
     let board = c.args.board.now in
     let start = c.start.ensures.is_board.start in
-    let number : c.rank.result ≡ rank_of board board.start = rw (c.requires.same_board, c.start.ensures.value) at c.rank.ensures.rank in
-    (c.is_wanted.ensures.0 c.if-not-is_wanted.false, has_answers board c.args.rows.now c.requires.rows board.start start c.rank.result number c.in-Some.row.now c.in-Some.ensures,
-    not_listed_for board c.args.rows.now c.requires.rows board.start start c.rank.result number c.in-Some.row.now c.args.wanted c.in-Some.ensures (told c.is_enough.result c.is_enough.ensures c.if-is_enough.false))
+    let number : c.rank.result ≡ rank_of board board.start = rw (c.requires.same_board, c.start.ensures.value) at c.rank.ensures.rank in (
+      c.is_wanted.ensures.0 c.if-not-is_wanted.false,
+      has_answers board c.args.rows.now c.requires.rows board.start start c.rank.result number c.in-Some.row.now c.in-Some.ensures,
+      not_listed_for board c.args.rows.now c.requires.rows board.start start c.rank.result number c.in-Some.row.now c.args.wanted c.in-Some.ensures (told c.is_enough.result c.is_enough.ensures c.if-is_enough.false),
+    )

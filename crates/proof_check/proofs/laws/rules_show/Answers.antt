@@ -1,0 +1,5 @@
+use Rattle.proof_check.proofs.Showing.{shows}
+use Rattle.proof_check.proofs.laws.rules_show.Goals as goal
+
+pub returns : goal.returns
+returns c = shows
