@@ -2,17 +2,19 @@
 use Rattle.std.proofs.Common.{◌≡◌, ◌⊎◌, ℕ, zero, suc, ◌<◌, List, ◌∷◌, ◌++◌, Option, Some, None, slice_get, MatchOption, refl, sym, subst, arith, inl, inr}
 use Rattle.std.specs.List.{All, Contains}
 use Rattle.std.proofs.lemmas.List.Elements.{All-contains, Contains-append_right}
-use Rattle.board_text.specs.PlainBoard.{PlainBoard}
+use Rattle.board_text.specs.PlainBoard.{PlainBoard, IsConfiguration}
+use Rattle.positions.specs.Ranks.{rank_of, configurations}
+use Rattle.positions.proofs.Ranks.{rank_below}
 use Rattle.positions.specs.Game.{Legal}
 use Rattle.positions.specs.Table.{AnswerRow, RequestRow}
 use Rattle.positions.specs.declared.claim.Claim.{Claim}
 use Rattle.positions.specs.declared.claim.Claim.TheVariants.{Exactly, AtLeast, AtMost, Forever}
-use Rattle.proof_text.specs.Proof.{PlainProof}
+use Rattle.proof_text.specs.Proof.{PlainProof, IsProof}
 use Rattle.proof_text.specs.Rules.{BreaksNoRule, Serves, LabellerObeys, AdversaryObeys, MeetsRequests, MeetsRequest, MeetsAnswers, IsListedBelow, wanted_of, StartIsBelow}
 use Rattle.proof_check.specs.declared.fault.Side.TheVariants.{Labeller, Adversary}
 use Rattle.proof_check.specs.declared.fault.CheckFault.{CheckFault}
 use Rattle.proof_check.specs.declared.fault.CheckFault.TheVariants as faults
-use Rattle.proof_check.specs.CheckFaults.{FirstWrong, FirstPebble, IsWrongAnswer, IsWrongRequest, LabellerFault, AdversaryFault, IsWrongStart, IsWrongBound, bound_of, StartServes, IsCheckFault}
+use Rattle.proof_check.specs.CheckFaults.{FirstWrong, FirstPebble, IsWrongAnswer, IsWrongRequest, LabellerFault, AdversaryFault, IsWrongStart, IsWrongBound, bound_of, StartServes, IsCheckFault, NamesRanks}
 use Rattle.proof_check.specs.Steps.{IsWrongStartFor, IsWrongBoundOf}
 
 -- the first that isn't right is among them
@@ -88,10 +90,12 @@ requests_right board rows row (faults.IllegalAnswer at pebble) meets h = absurd 
 requests_right board rows row (faults.TooSmall at pebble) meets h = absurd h
 requests_right board rows row faults.Memory meets h = absurd h
 
--- the row that isn't right meets what all meet
+-- the row that isn't right is one of them, and meets what all meet
+contained : {X : Type 0} (IsRight : X → Type 0) (rows : List X) (row : X) → FirstWrong IsRight rows row → Contains rows row
+contained {X} IsRight rows row first = subst (λ (l : List X). Contains l row) (sym first.parts) (is_among first.before row first.after)
+
 it_meets : {X : Type 0} (IsRight : X → Type 0) (rows : List X) (row : X) → FirstWrong IsRight rows row → All IsRight rows → IsRight row
-it_meets {X} IsRight rows row first all =
-    All-contains IsRight rows row all (subst (λ (l : List X). Contains l row) (sym first.parts) (is_among first.before row first.after))
+it_meets IsRight rows row first all = All-contains IsRight rows row all (contained IsRight rows row first)
 
 -- ---- all together
 
@@ -160,3 +164,73 @@ module _ (board : PlainBoard) (proof : PlainProof) where
       → MatchOption found (AdversaryObeys board proof.adversary) (AdversaryFault board proof.adversary) → MatchOption found (BreaksNoRule board proof) (IsCheckFault board proof)
   by_adversary None starts obeys is = record { start_serves = starts.labeller; start_below = starts.adversary; labeller = obeys; adversary = is }
   by_adversary (Some fault) starts obeys is = is_fault fault (inr (inr (inr (starts, obeys, is))))
+
+  -- ---- ranks
+
+  answer_rank : IsProof board proof → (row : AnswerRow) (at : ℕ) → FirstWrong (MeetsRequests board proof.labeller) proof.labeller row → rank_of board row.at ≡ at → at < configurations board
+  answer_rank is row at first same =
+      subst (λ n. n < configurations board) same
+      (rank_below board row.at (All-contains (λ (r : AnswerRow). IsConfiguration board r.at) proof.labeller row (λ k d lt. (is.labeller.each k d lt).at) (contained (MeetsRequests board proof.labeller) proof.labeller row first)))
+
+  request_rank : IsProof board proof → (row : RequestRow) (at : ℕ) → FirstWrong (MeetsAnswers board proof.adversary) proof.adversary row → rank_of board row.at ≡ at → at < configurations board
+  request_rank is row at first same =
+      subst (λ n. n < configurations board) same
+      (rank_below board row.at (All-contains (λ (r : RequestRow). IsConfiguration board r.at) proof.adversary row (λ k d lt. (is.adversary.each k d lt).at) (contained (MeetsAnswers board proof.adversary) proof.adversary row first)))
+
+  named_by_labeller : (fault : CheckFault) → IsProof board proof → LabellerFault board proof.labeller fault → NamesRanks board fault
+  named_by_labeller (faults.IllegalAnswer at pebble) is wrong = answer_rank is wrong.row at wrong.first wrong.wrong.0
+  named_by_labeller (faults.Unlisted Labeller at pebble) is wrong = answer_rank is wrong.row at wrong.first wrong.wrong.0
+  named_by_labeller (faults.TooSmall at pebble) is wrong = answer_rank is wrong.row at wrong.first wrong.wrong.0
+  named_by_labeller (faults.Unlisted Adversary at turn) is wrong = absurd wrong.wrong
+  named_by_labeller (faults.StartMissing side) is wrong = tt
+  named_by_labeller (faults.StartNumber side) is wrong = tt
+  named_by_labeller (faults.NotStuck at label) is wrong = absurd wrong.wrong
+  named_by_labeller (faults.TooLarge at label) is wrong = absurd wrong.wrong
+  named_by_labeller faults.Memory is wrong = tt
+
+  named_by_adversary : (fault : CheckFault) → IsProof board proof → AdversaryFault board proof.adversary fault → NamesRanks board fault
+  named_by_adversary (faults.NotStuck at label) is wrong = request_rank is wrong.row at wrong.first wrong.wrong.0
+  named_by_adversary (faults.Unlisted Adversary at label) is wrong = request_rank is wrong.row at wrong.first wrong.wrong.0
+  named_by_adversary (faults.TooLarge at label) is wrong = request_rank is wrong.row at wrong.first wrong.wrong.0
+  named_by_adversary (faults.Unlisted Labeller at turn) is wrong = absurd wrong.wrong
+  named_by_adversary (faults.StartMissing side) is wrong = tt
+  named_by_adversary (faults.StartNumber side) is wrong = tt
+  named_by_adversary (faults.IllegalAnswer at pebble) is wrong = absurd wrong.wrong
+  named_by_adversary (faults.TooSmall at pebble) is wrong = absurd wrong.wrong
+  named_by_adversary faults.Memory is wrong = tt
+
+  named_by_start : (fault : CheckFault) → IsWrongStart board proof fault → NamesRanks board fault
+  named_by_start (faults.StartMissing side) wrong = tt
+  named_by_start (faults.StartNumber side) wrong = tt
+  named_by_start (faults.IllegalAnswer at pebble) wrong = absurd wrong
+  named_by_start (faults.Unlisted side at turn) wrong = absurd wrong
+  named_by_start (faults.TooSmall at pebble) wrong = absurd wrong
+  named_by_start (faults.NotStuck at label) wrong = absurd wrong
+  named_by_start (faults.TooLarge at label) wrong = absurd wrong
+  named_by_start faults.Memory wrong = tt
+
+  named_by_bound : (fault : CheckFault) → IsWrongBound board proof fault → NamesRanks board fault
+  named_by_bound (faults.StartMissing side) wrong = tt
+  named_by_bound (faults.StartNumber side) wrong = tt
+  named_by_bound (faults.IllegalAnswer at pebble) wrong = absurd wrong
+  named_by_bound (faults.Unlisted side at turn) wrong = absurd wrong
+  named_by_bound (faults.TooSmall at pebble) wrong = absurd wrong
+  named_by_bound (faults.NotStuck at label) wrong = absurd wrong
+  named_by_bound (faults.TooLarge at label) wrong = absurd wrong
+  named_by_bound faults.Memory wrong = tt
+
+  named : (fault : CheckFault) → IsProof board proof → OneOfFour fault → NamesRanks board fault
+  named fault is (inl wrong) = named_by_start fault wrong
+  named fault is (inr (inl (serves, wrong))) = named_by_bound fault wrong
+  named fault is (inr (inr (inl (starts, wrong)))) = named_by_labeller fault is wrong
+  named fault is (inr (inr (inr (starts, obeys, wrong)))) = named_by_adversary fault is wrong
+
+  pub names_ranks : (fault : CheckFault) → IsProof board proof → IsCheckFault board proof fault → NamesRanks board fault
+  names_ranks faults.Memory is wrong = tt
+  names_ranks (faults.StartMissing side) is wrong = tt
+  names_ranks (faults.StartNumber side) is wrong = tt
+  names_ranks (faults.IllegalAnswer at pebble) is wrong = named (faults.IllegalAnswer at pebble) is wrong
+  names_ranks (faults.Unlisted side at turn) is wrong = named (faults.Unlisted side at turn) is wrong
+  names_ranks (faults.TooSmall at pebble) is wrong = named (faults.TooSmall at pebble) is wrong
+  names_ranks (faults.NotStuck at label) is wrong = named (faults.NotStuck at label) is wrong
+  names_ranks (faults.TooLarge at label) is wrong = named (faults.TooLarge at label) is wrong

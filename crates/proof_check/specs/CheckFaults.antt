@@ -3,7 +3,7 @@ use Rattle.std.specs.Prelude.{◌≡◌, ℕ, suc, ◌<◌, ◌⊎◌, List, ◌
 use Rattle.std.specs.List.{All, Contains}
 use Rattle.board_text.specs.PlainBoard.{PlainBoard}
 use Rattle.positions.specs.Game.{Legal, moved}
-use Rattle.positions.specs.Ranks.{rank_of}
+use Rattle.positions.specs.Ranks.{rank_of, configurations}
 use Rattle.positions.specs.Table.{AnswerRow, RequestRow}
 use Rattle.positions.specs.declared.claim.Claim.{Claim}
 use Rattle.positions.specs.declared.claim.Claim.TheVariants.{Exactly, AtLeast, AtMost, Forever}
@@ -108,3 +108,12 @@ IsCheckFault board proof fault =
     ⊎ (Serves proof.labeller board.start (wanted_of proof.claim) × IsWrongBound board proof fault)
     ⊎ (StartServes board proof × LabellerFault board proof.labeller fault)
     ⊎ (StartServes board proof × LabellerObeys board proof.labeller × AdversaryFault board proof.adversary fault)
+
+-- the rank of a row that the fault names is one of the board's
+abbrev pub NamesRanks : PlainBoard → CheckFault → Type 0
+NamesRanks board (faults.IllegalAnswer at pebble) = at < configurations board
+NamesRanks board (faults.Unlisted side at turn) = at < configurations board
+NamesRanks board (faults.TooSmall at pebble) = at < configurations board
+NamesRanks board (faults.NotStuck at label) = at < configurations board
+NamesRanks board (faults.TooLarge at label) = at < configurations board
+NamesRanks board fault = Unit {0}

@@ -6,7 +6,7 @@ ghost use Rattle.positions.specs.Claim.{Shows};
 ghost use Rattle.proof_text.specs.Proof.{IsDocument, plain_proof, answer_rows, request_rows};
 ghost use Rattle.proof_text.specs.Rules as rules;
 ghost use Rattle.proof_text.specs.Rules.{BreaksNoRule, StartIsBelow};
-ghost use Rattle.proof_check.specs.CheckFaults.{IsCheckFault};
+ghost use Rattle.proof_check.specs.CheckFaults.{IsCheckFault, NamesRanks};
 ghost use Rattle.proof_check.specs.Steps.{AreAnswering, AreRequesting, IsWrongBoundOf};
 ghost use Rattle.proof_check.specs.declared.fault.CheckFault.TheVariants.{Memory as OutOfMemory};
 
@@ -26,13 +26,8 @@ pub struct Shown {
 }
 
 /// The claim of the document, if its rows show it, or the first fault in the order of checking.
-pub fn check(
-    alloc: Global,
-    space: &Space,
-    board: &Board,
-    proof: &Proof,
-) -> Result<Shown, CheckFault>
-    requires same_board { space.now ≡ board.now }
+pub fn check(alloc: Global, board: &Board, proof: &Proof) -> Result<Shown, CheckFault>
+    requires few { configurations board.now ≤ MAX_CONFIGURATIONS }
     requires document { IsDocument board.now proof.now }
     // What is shown is the document's claim.
     ensures claim { IfOk result (λ shown. shown.claim ≡ proof.now.claim) }
@@ -44,7 +39,12 @@ pub fn check(
     ensures accepts { BreaksNoRule board.now (plain_proof board.now proof.now) → IfErr result (λ fault. fault ≡ OutOfMemory) }
     // Which fault it is.
     ensures fault { IfErr result (λ fault. IsCheckFault board.now (plain_proof board.now proof.now) fault) }
+    // A fault names rows by ranks of the board.
+    ensures named { IfErr result (NamesRanks board.now) }
 {
+    let Ok(space) = Space::of(board) else {
+        unreachable!();
+    };
     let size = space.configurations();
     let Ok(labeller) = RowIndex::new(alloc, size, &proof.labeller) else {
         return Err(CheckFault::Memory);
@@ -52,7 +52,7 @@ pub fn check(
     let Ok(adversary) = RowIndex::new(alloc, size, &proof.adversary) else {
         return Err(CheckFault::Memory);
     };
-    match first_fault(board, space, proof, &labeller, &adversary) {
+    match first_fault(board, &space, proof, &labeller, &adversary) {
         Some(fault) => Err(fault),
         None => Ok(Shown { claim: proof.claim }),
     }
