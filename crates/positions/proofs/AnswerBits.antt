@@ -1,31 +1,20 @@
 -- The answers of a gap as bits: of each other pebble's label those that beat it.
-use Rattle.std.proofs.Common.{◌≡◌, ℕ, ◌+◌, ◌-◌, ◌/◌, ◌%◌, ◌^◌, ◌<◌, ◌≤◌, ◌↔◌, true, List, length, get_or, take, drop, sym, ap, ◌∙◌, subst, arith, mod-lt}
+use Rattle.std.proofs.Common.{◌≡◌, ℕ, ◌+◌, ◌-◌, ◌/◌, ◌%◌, ◌^◌, ◌<◌, ◌≤◌, ◌↔◌, true, List, length, get_or, take, drop, sym, ap, ◌∙◌, subst, arith}
 use Rattle.std.specs.List.{All, slice_range}
 use Rattle.std.proofs.Math.Nat.{one-le-pow}
 use Rattle.std.proofs.lemmas.List.{take_all, take-take, length-take-le, get_or-take, get_or-drop}
-use Rattle.std.proofs.lemmas.List.Elements.{All-nil, All-more, All-take, All-get_or}
+use Rattle.std.proofs.lemmas.List.Elements.{All-more, All-take, All-get_or}
 use Rattle.board_text.specs.PlainBoard.{PlainBoard, Beats, places}
 use Rattle.board_text.specs.Domination.{has_bit}
-use Rattle.positions.specs.Gaps.{gaps_each, gaps, others_of, IsAnswer}
+use Rattle.positions.specs.Gaps.{gaps, others_of, IsAnswer}
 use Rattle.positions.specs.Weights.{AreNumbersOf}
-use Rattle.positions.proofs.Rests.{IsRest, IsNextRest, rest_first, rest_next}
-use Rattle.positions.proofs.GapLaws.{positive_each, others_of_gap, answer_beats_others}
-use Rattle.positions.proofs.GapTurning.{first_weight}
+use Rattle.positions.proofs.Rests.{IsRest, IsNextRest, rest_next}
+use Rattle.positions.proofs.GapLaws.{others_of_gap, answer_beats_others}
 
 -- the bits of the labels that beat those of the first other pebbles, and the rest of the gap
 pub record IsNarrowed (board : PlainBoard) (gap place rest : ℕ) (words : List ℕ) : Type 0 where
   pub rest_is : IsRest (places board) (board.pebbles - 1) (others_of board gap) place rest
   pub bits : (x : ℕ) → x < 256 → (has_bit words x ≡ true) ↔ ((x < board.labels) × All (Beats board x) (take place (others_of board gap)))
-
-pub narrowed_none : {labels pebbles size : ℕ} {words : List ℕ} (board : PlainBoard) (base : ℕ) (weights : List ℕ) (gap : ℕ)
-    → AreNumbersOf board labels pebbles base size weights words → gap < gaps board → IsNarrowed board gap 0 (gap % get_or weights 0 0) words
-narrowed_none {words = words} board base weights gap are below = record {
-  rest_is = rw (first_weight board base weights are) (rest_first (places board) (board.pebbles - 1) (gap % gaps_each board) (mod-lt gap (positive_each board gap below)));
-  bits = λ x small. (
-    λ set. ((are.each_label x small).0 set, All-nil (Beats board x)),
-    λ is. (are.each_label x small).1 is.0,
-  );
-}
 
 -- the label of the next other pebble, by its weight
 pub next_other : {labels pebbles size : ℕ} {words : List ℕ} (board : PlainBoard) (base : ℕ) (weights : List ℕ) (gap place rest : ℕ)

@@ -1,9 +1,9 @@
 -- Sets of labels as bits.
-use Rattle.std.proofs.Common.{◌≡◌, ◌≢◌, ℕ, zero, suc, ◌+◌, ◌-◌, ◌*◌, ◌/◌, ◌%◌, ◌^◌, ◌<◌, ◌≤◌, ◌↔◌, min, nat_eq, bit_and, bit_or, true, false, List, [], ◌∷◌, length, get_or, set, replicate, Some, None, refl, sym, ap, ◌∙◌, subst, inl, inr, arith}
+use Rattle.std.proofs.Common.{◌≡◌, ◌≢◌, ℕ, zero, suc, ◌+◌, ◌-◌, ◌*◌, ◌/◌, ◌%◌, ◌^◌, ◌<◌, ◌≤◌, ◌↔◌, min, nat_eq, bit_and, bit_or, true, List, [], ◌∷◌, length, get_or, set, Some, refl, sym, ap, ◌∙◌, subst, inl, inr, arith}
 use Rattle.std.specs.Int.{bit_at, w64, trailing_zeros}
 use Rattle.std.specs.Int.Count.{ones}
-use Rattle.std.proofs.lemmas.Bool.{cases_eq, cases_lt, both_ways, eqb-true, eq-eqb}
-use Rattle.std.proofs.lemmas.List.{get_or-set_same, get_or-set_other, get_or-replicate, length-set}
+use Rattle.std.proofs.lemmas.Bool.{cases_eq, cases_lt, eqb-true, eq-eqb}
+use Rattle.std.proofs.lemmas.List.{get_or-set_same, get_or-set_other, length-set}
 use Rattle.std.proofs.lemmas.Nat.Bits.{bit_at_set_same, bit_at_set_other, bit_at-zero, bit_at_and, bit_at-lt, bit_at_ones, bit_at_mask_inside, bit_at_mask_below, bit_at-trailing_zeros, ones_shl}
 use Rattle.board_text.specs.Domination.{has_bit}
 use Rattle.positions.specs.Counts.{HasSize, IsSmallest}
@@ -41,20 +41,6 @@ has_bit-set_other words label x size small low other =
 pub record HasBelow (words : List ℕ) (bound : ℕ) : Type 0 where
   pub size : length words ≡ 4
   pub each : (x : ℕ) → x < 256 → (has_bit words x ≡ true) ↔ (x < bound)
-
-pub below_none : HasBelow (replicate 4 0) 0
-below_none = record {
-  size = refl;
-  each = λ x low. (
-    λ set. absurd (both_ways (has_bit (replicate 4 0) x) (no_bit x low) set),
-    λ less. absurd (omega arith),
-  );
-}
-  where
-    no_bit : (x : ℕ) → x < 256 → has_bit (replicate 4 0) x ≡ false
-    no_bit x low =
-        let inside : x / 64 < 4 = omega arith in
-        ap (λ (w : ℕ). nat_eq (bit_at w (x % 64)) 1) (get_or-replicate 4 (x / 64) 0 0 inside) ∙ ap (λ (b : ℕ). nat_eq b 1) (bit_at-zero (x % 64))
 
 pub below_more : (words : List ℕ) (bound : ℕ) → bound < 256 → HasBelow words bound → HasBelow (with_bit words bound) (bound + 1)
 below_more words bound small has = record {
@@ -177,9 +163,6 @@ search_next words bound place kept from inside empty searched = record {
 
 abbrev pub HasBitFrom : List ℕ → ℕ → ℕ → Type 0
 HasBitFrom words bound x = (bound ≤ x) × (x < 256) × (has_bit words x ≡ true)
-
-pub search_none : (words : List ℕ) (bound place kept : ℕ) → 4 ≤ place → IsSearched words bound place kept → IsSmallest (HasBitFrom words bound) None
-search_none words bound place kept past searched = λ x has. let low : x < 256 = has.1 in searched.none x has.0 (omega arith) has.2
 
 pub search_some : (words : List ℕ) (bound place kept first : ℕ) → place < 4 → 0 < bit_and (get_or words place 0) kept → bit_and (get_or words place 0) kept < 2 ^ 64
     → IsSearched words bound place kept → first ≡ 64 * place + trailing_zeros w64 (bit_and (get_or words place 0) kept)

@@ -85,9 +85,6 @@ pub record IsFrontNumber (board : PlainBoard) (configuration : List ℕ) (index 
   pub number_is : number ≡ number_of (places board) (take index configuration)
   pub few : number ≤ 1048576
 
-pub front_none : (board : PlainBoard) (configuration : List ℕ) → IsFrontNumber board configuration 0 0
-front_none board configuration = record { number_is = refl; few = omega arith }
-
 pub record IsNextFront (board : PlainBoard) (configuration : List ℕ) (index number : ℕ) : Type 0 where
   pub below : number < configurations board
   pub front : IsFrontNumber board configuration (index + 1) number

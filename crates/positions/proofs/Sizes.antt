@@ -1,0 +1,157 @@
+-- Of how many numbers a fact holds.
+use Rattle.std.proofs.Common.{◌≡◌, ◌≢◌, ℕ, zero, suc, ◌+◌, ◌-◌, ◌<◌, ◌≤◌, ◌↔◌, List, [], ◌∷◌, length, get_or, Contains, refl, sym, ap, ◌∙◌, subst, inl, inr, arith}
+use Rattle.std.specs.List.{AllPairs, remove}
+use Rattle.std.proofs.lemmas.Bool.{cases_eq, cases_lt}
+use Rattle.std.proofs.lemmas.List.{get_or_default}
+use Rattle.std.proofs.lemmas.List.Elements.{Contains-get_or}
+use Rattle.std.proofs.lemmas.List.Edits.{length-remove, get_or-remove_below, get_or-remove_above}
+use Rattle.std.proofs.lemmas.List.Quantifiers.{all_pairs_remove}
+use Rattle.positions.specs.Counts.{HasSize}
+
+-- ---- ascending lists
+
+abbrev IsAscending : List ℕ → Type 0
+IsAscending members = AllPairs (λ first second. first < second) members
+
+tail_ascends : (first : ℕ) (members : List ℕ) → IsAscending (first ∷ members) → IsAscending members
+tail_ascends first members ascends i j d less inside = ascends (suc i) (suc j) d (omega arith) (omega arith)
+
+-- what is in a list with a first one is that one, or behind it and larger
+behind_first : (first : ℕ) (members : List ℕ) (number : ℕ) → IsAscending (first ∷ members) → Contains members number → first < number
+behind_first first members number ascends among =
+    let larger : first < get_or members among.0 number = ascends 0 (suc among.0) number (omega arith) (let inside : among.0 < length members = among.1 in omega arith) in
+    subst (λ n. first < n) among.2 larger
+
+in_first : (first : ℕ) (members : List ℕ) → Contains (first ∷ members) first
+in_first first members = (0, omega arith, refl)
+
+in_rest : (first : ℕ) (members : List ℕ) (number : ℕ) → Contains members number → Contains (first ∷ members) number
+in_rest first members number among = (suc among.0, (let inside : among.0 < length members = among.1 in omega arith), among.2)
+
+first_or_rest : (first : ℕ) (members : List ℕ) (number : ℕ) → Contains (first ∷ members) number → number ≢ first → Contains members number
+first_or_rest first members number (zero, inside, same) differs = absurd (differs (sym same))
+first_or_rest first members number (suc place, inside, same) differs = (place, omega arith, same)
+
+at_least_first : (first : ℕ) (members : List ℕ) (number : ℕ) → IsAscending (first ∷ members) → Contains (first ∷ members) number → first ≤ number
+at_least_first first members number ascends among = elim (cases_eq number first) [
+  | inl same ↦ omega arith
+  | inr differs ↦ let larger : first < number = behind_first first members number ascends (first_or_rest first members number among differs) in omega arith
+]
+
+-- ascending lists with the same members are as long
+same_length : (ones others : List ℕ) → IsAscending ones → IsAscending others → ((number : ℕ) → Contains ones number ↔ Contains others number)
+    → length ones ≡ length others
+same_length [] [] ascends also same = refl
+same_length [] (other ∷ others) ascends also same = let among = (same other).1 (in_first other others) in let inside : among.0 < 0 = among.1 in absurd (omega arith)
+same_length (one ∷ ones) [] ascends also same = let among = (same one).0 (in_first one ones) in let inside : among.0 < 0 = among.1 in absurd (omega arith)
+same_length (one ∷ ones) (other ∷ others) ascends also same =
+    let low : one ≤ other = at_least_first one ones other ascends ((same other).1 (in_first other others)) in
+    let high : other ≤ one = at_least_first other others one also ((same one).0 (in_first one ones)) in
+    let equal : one ≡ other = omega arith in
+    let rest : length ones ≡ length others = same_length ones others (tail_ascends one ones ascends) (tail_ascends other others also) (λ number. (
+      λ among. let larger : one < number = behind_first one ones number ascends among in
+          first_or_rest other others number ((same number).0 (in_rest one ones number among)) (λ is. omega arith),
+      λ among. let larger : other < number = behind_first other others number also among in
+          first_or_rest one ones number ((same number).1 (in_rest other others number among)) (λ is. omega arith),
+    )) in
+    ap suc rest
+
+-- the place of a number in an ascending list is at most the number
+place_below : (members : List ℕ) → IsAscending members → (place : ℕ) → place < length members → place ≤ get_or members place 0
+place_below members ascends zero inside = omega arith
+place_below members ascends (suc place) inside =
+    let before : place ≤ get_or members place 0 = place_below members ascends place (omega arith) in
+    let less : get_or members place 0 < get_or members (suc place) 0 = ascends place (suc place) 0 (omega arith) inside in
+    omega arith
+
+-- ---- sizes
+
+-- two facts that hold of the same numbers
+pub same_fact_size : (P Q : ℕ → Type 0) (size : ℕ) → ((number : ℕ) → P number ↔ Q number) → HasSize P size → HasSize Q size
+same_fact_size P Q size same has = record {
+  members = has.members;
+  ascending = has.ascending;
+  each = λ number. (λ among. (same number).0 ((has.each number).0 among), λ holds. (has.each number).1 ((same number).1 holds));
+  so_many = has.so_many;
+}
+
+pub same_size : (P : ℕ → Type 0) (first second : ℕ) → HasSize P first → HasSize P second → first ≡ second
+same_size P first second one other =
+    sym one.so_many
+    ∙ same_length one.members other.members one.ascending other.ascending (λ number. (
+      λ among. (other.each number).1 ((one.each number).0 among),
+      λ among. (one.each number).1 ((other.each number).0 among),
+    ))
+    ∙ other.so_many
+
+pub size_at_most : (P : ℕ → Type 0) (size bound : ℕ) → HasSize P size → ((number : ℕ) → P number → number < bound) → size ≤ bound
+size_at_most P size bound has below = elim (cases_lt 0 size) [
+  | inr none ↦ omega arith
+  | inl some ↦
+      let long : length has.members ≡ size = has.so_many in
+      let last : size - 1 ≤ get_or has.members (size - 1) 0 = place_below has.members has.ascending (size - 1) (omega arith) in
+      let low : get_or has.members (size - 1) 0 < bound =
+      below (get_or has.members (size - 1) 0) ((has.each (get_or has.members (size - 1) 0)).0 (Contains-get_or has.members (size - 1) 0 (omega arith))) in
+      omega arith
+]
+
+pub size_zero : (P : ℕ → Type 0) → HasSize P 0 ↔ ((number : ℕ) → P number → ⊥)
+size_zero P = (
+  λ has number holds.
+      let among = (has.each number).1 holds in
+      let inside : among.0 < length has.members = among.1 in
+      let none : length has.members ≡ 0 = has.so_many in
+      omega arith,
+  λ none. record {
+    members = [];
+    ascending = λ i j d less inside. absurd (omega arith);
+    each = λ number. (λ among. let inside : among.0 < 0 = among.1 in absurd (omega arith), λ holds. absurd (none number holds));
+    so_many = refl;
+  },
+)
+
+-- without one number of which it holds
+pub size_without : (P : ℕ → Type 0) (size without : ℕ) → HasSize P (suc size) → P without → HasSize (λ number. P number × (number ≢ without)) size
+size_without P size without has holds =
+    let members : List ℕ = has.members in
+    let found = (has.each without).1 holds in
+    let place : ℕ = found.0 in
+    let inside : place < length members = found.1 in
+    let long : length members ≡ suc size = has.so_many in
+    let shorter : length (remove members place) + 1 ≡ length members = length-remove members place inside in
+    let at : get_or members place 0 ≡ without = get_or_default members place 0 without inside ∙ found.2 in
+    record {
+      members = remove members place;
+      ascending = all_pairs_remove (λ first second. first < second) members place inside has.ascending;
+      each = λ number. (
+        λ among.
+            let k : ℕ = among.0 in
+            let within : k < length (remove members place) = among.1 in
+            elim (cases_lt k place) [
+              | inl before ↦
+                  let read : get_or members k number ≡ number = sym (get_or-remove_below members place number k before inside) ∙ among.2 in
+                  let less : get_or members k 0 < get_or members place 0 = has.ascending k place 0 before inside in
+                  let value : get_or members k 0 ≡ number = get_or_default members k 0 number (omega arith) ∙ read in
+                  ((has.each number).0 (k, omega arith, read), λ equal. omega arith)
+              | inr behind ↦
+                  let read : get_or members (k + 1) number ≡ number = sym (get_or-remove_above members place number k behind inside) ∙ among.2 in
+                  let less : get_or members place 0 < get_or members (k + 1) 0 = has.ascending place (k + 1) 0 (omega arith) (omega arith) in
+                  let value : get_or members (k + 1) 0 ≡ number = get_or_default members (k + 1) 0 number (omega arith) ∙ read in
+                  ((has.each number).0 (k + 1, omega arith, read), λ equal. omega arith)
+            ],
+        λ is.
+            let among = (has.each number).1 is.0 in
+            let k : ℕ = among.0 in
+            let within : k < length members = among.1 in
+            elim (cases_lt k place) [
+              | inl before ↦ (k, omega arith, get_or-remove_below members place number k before inside ∙ among.2)
+              | inr from ↦ elim (cases_eq k place) [
+                | inl same ↦ absurd (is.1 (sym among.2 ∙ ap (λ n. get_or members n number) same ∙ get_or_default members place number 0 inside ∙ at))
+                | inr differs ↦
+                    let one_more : k - 1 + 1 ≡ k = omega arith in
+                    (k - 1, omega arith, get_or-remove_above members place number (k - 1) (omega arith) inside ∙ ap (λ n. get_or members n number) one_more ∙ among.2)
+              ]
+            ],
+      );
+      so_many = omega arith;
+    }
