@@ -1,0 +1,3 @@
+pub mod EndLines
+pub mod Labels
+pub mod Unanswered
