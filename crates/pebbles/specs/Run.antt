@@ -20,7 +20,7 @@ use Rattle.pebbles.specs.Output.{line_of}
 use Rattle.pebbles.specs.declared.running.Verdict.{Verdict}
 use Rattle.pebbles.specs.declared.running.Verdict.TheVariants.{Accepted, Refused}
 use Rattle.pebbles.specs.declared.running.RunFault.{RunFault}
-use Rattle.pebbles.specs.declared.running.RunFault.TheVariants.{Board, TooLarge, Proof, Memory, Worker, Read, Write, Limit}
+use Rattle.pebbles.specs.declared.running.RunFault.TheVariants.{Board, TooLarge, Proof, Memory, Read, Write, Limit}
 
 -- the greatest number of configurations of a board whose documents are checked
 abbrev pub most_configurations : ℕ

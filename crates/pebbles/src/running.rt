@@ -9,6 +9,7 @@ use board_text::{BoardFault, Failed, ReadFault, Sink, Source, read_all, write_al
 use proof_check::{CheckFault, Shown};
 use proof_text::ProofFault;
 use std::alloc::Global;
+use thiserror::Error;
 
 /// What a check says of a document.
 #[derive(Clone, Copy, Debug, PartialEq, Eq)]
@@ -19,24 +20,32 @@ pub enum Verdict {
     Refused(CheckFault),
 }
 
-/// Why a run ended without an answer.
-#[derive(Clone, Copy, Debug, PartialEq, Eq)]
+/// Why a run ended without an answer. It is shown as the program's fault line.
+#[derive(Clone, Copy, Debug, PartialEq, Eq, Error)]
 pub enum RunFault {
     /// The text of the board has a fault.
+    #[error("board fault line {} {:?}", .0.line, .0.kind)]
     Board(BoardFault),
     /// The board has more than 1,048,576 configurations.
+    #[error("board too large")]
     TooLarge,
     /// The text of the document has a fault.
+    #[error("proof fault line {} {:?}", .0.line, .0.kind)]
     Proof(ProofFault),
     /// A growth of memory was refused.
+    #[error("out of memory")]
     Memory,
     /// A thread couldn't be started.
+    #[error("worker not started")]
     Worker,
     /// The reader failed.
+    #[error("read fault")]
     Read,
     /// The writer failed.
+    #[error("write fault")]
     Write,
     /// The input is longer than it may be.
+    #[error("input too long")]
     Limit,
 }
 

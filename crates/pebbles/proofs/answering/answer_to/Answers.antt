@@ -1,4 +1,3 @@
-use Rattle.std.proofs.Common.{◌++◌, take, drop, sym, ◌∙◌, ap, take-append-drop}
 use Rattle.std.proofs.lemmas.Result.{err_from_is_err_and}
 use Rattle.pebbles.proofs.Unanswered.{no_board, begins_with, no_proof, two_parts}
 use Rattle.pebbles.proofs.answering.answer_to.Goals as goal

@@ -1,4 +1,4 @@
-use Rattle.std.proofs.Common.{◌++◌, ◌≡◌, string_bytes, take, length, refl, sym, ap, ◌∙◌, arith, get_or}
+use Rattle.std.proofs.Common.{string_bytes, arith}
 use Rattle.positions.specs.Ranks.{configuration_at}
 use Rattle.positions.proofs.Ranks.{configuration_at_is}
 use Rattle.pebbles.proofs.Labels.{one_more, all_labels}
