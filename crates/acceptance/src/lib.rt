@@ -1,0 +1,15 @@
+//! Tests that join the libraries.
+#![tactic(auto)]
+
+#[cfg(test)]
+mod board_faults;
+#[cfg(test)]
+mod boards;
+#[cfg(test)]
+mod fakes;
+#[cfg(test)]
+mod streams;
+#[cfg(test)]
+mod texts;
+#[cfg(test)]
+mod values;
