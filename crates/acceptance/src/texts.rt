@@ -4,6 +4,7 @@
 
 use board_text::{Board, BoardFault, BoardKind, parse};
 use std::alloc::{AllocError, Global};
+use std::fmt::Write;
 use std::process::Abort;
 
 /// Three labels in a cycle, each of which dominates one other.
@@ -64,8 +65,7 @@ fn write_largest(alloc: Global) -> Result<String, AllocError> {
     )?;
     for above in 0..256u16 {
         for below in 0..above {
-            text.push_str("beats ")?;
-            text.push_str(format!(in alloc; "{above} {below}\n")?.as_str())?;
+            writeln!(text, "beats {above} {below}")?;
         }
     }
     text.push_str("end\n")?;
