@@ -5,5 +5,9 @@ pub mod DominationPairs
 pub mod BitRows
 pub mod PairLemmas
 pub mod Faults
+pub mod Deciding
+pub mod SomeReading
+pub mod BeatsLines
+pub mod Endings
 pub mod OneReading
 pub mod Moves

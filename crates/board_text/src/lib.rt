@@ -4,6 +4,7 @@
 mod board;
 mod domination;
 mod fault;
+mod laws;
 pub mod line_reader;
 mod memory;
 mod parsing;
@@ -15,8 +16,9 @@ mod whole;
 pub use board::Board;
 pub use domination::{Domination, ROW_WORDS};
 pub use fault::{BoardFault, BoardKind};
+pub use laws::{board_or_fault, one_board, one_fault};
 pub use memory::Memory;
-pub use parsing::{one_board, parse};
+pub use parsing::parse;
 pub use sink::Sink;
 pub use source::{Failed, Source};
 pub use through::Through;

@@ -9,8 +9,8 @@ ghost use Rattle.board_text.specs.BoardFaults.{HasFault};
 ghost use Rattle.board_text.specs.Parsing.{NextPair, PairsRead, PairsFault, HeadRead};
 
 use crate::board::Board;
-use crate::fault::{BoardFault, BoardKind};
 use crate::domination::Domination;
+use crate::fault::{BoardFault, BoardKind};
 use crate::line_reader::LineReader;
 use std::alloc::Global;
 
@@ -117,8 +117,3 @@ fn read(alloc: Global, bytes: &[u8]) -> Result<Board, BoardFault>
         beats,
     })
 }
-
-/// A text is that of one board at most.
-pub fn one_board()
-    ensures { (a b : PlainBoard) → IsBoard a → IsBoard b → board_text a ≡ board_text b → a ≡ b }
-{}
