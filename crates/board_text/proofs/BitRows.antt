@@ -149,17 +149,6 @@ sets_pair labels rows x y few sized are =
       ];
     }
 
--- the bit that a word of the rows has is the pair's
-pub read_bit : (labels : ℕ) (rows : List ℕ) (next x y word : ℕ) → AreRows labels rows next → AreLabels labels (x, y) → word ≡ get_or rows (4 * y + x / 64) word
-    → nat_eq (bit_and (word / 2 ^ (x % 64)) 1) 1 ≡ beats_in rows x y
-read_bit labels rows next x y word is are read =
-    let first : x < labels = are.0 in
-    let second : y < labels = are.1 in
-    let few : labels ≤ 256 = is.in_range.1 in
-    let sized : length rows ≡ 4 * labels = is.sized in
-    let inside : 4 * y + x / 64 < length rows = omega arith in
-    ap (λ (n : ℕ). nat_eq n 1) (shr_and_one word (x % 64) ∙ ap (λ (w : ℕ). bit_at w (x % 64)) (get_or_read rows (4 * y + x / 64) word inside read 0))
-
 -- the next pair may stand at the end of all places at the latest
 next_within : (labels : ℕ) (rows : List ℕ) (next : ℕ) → AreRows labels rows next → next ≤ labels * labels
 next_within labels rows next is =

@@ -53,7 +53,7 @@ same_behind b [] (c ∷ more) v w e p q = cc
 same_behind b (c ∷ more) [] v w e p q = cc
 same_behind b (c ∷ more) (d ∷ other) v w e p q = p ∙ sym q
 
-is_cut_pair : (p : ℕ × ℕ) (rest more : List ℕ) → rest ≡ beats_line p ++ more → IsCut rest → ⊥
+pub is_cut_pair : (p : ℕ × ℕ) (rest more : List ℕ) → rest ≡ beats_line p ++ more → IsCut rest → ⊥
 is_cut_pair p rest more e (inl none) = not_nothing p more (sym e ∙ none)
 is_cut_pair p rest more e (inr letter) = not_cut p more letter.0 (sym e ∙ letter.1)
 

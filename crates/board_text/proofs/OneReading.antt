@@ -174,3 +174,8 @@ no_fault text line kind b is e h = elim (is_memory kind) [ inl none ↦ none | i
 pub only : (text : List ℕ) (b : PlainBoard) (r : Result PlainBoard BoardFault) → IfOk r (λ a. IsBoard a × (text ≡ board_text a)) → IfErr r (λ f. HasFault text f.line f.kind) → IsBoard b → text ≡ board_text b → MatchResult r (λ a. a ≡ b) (λ f. f.kind ≡ Memory)
 only text b (Ok a) found has_fault is e = one_board a b found.0 is (sym found.1 ∙ e)
 only text b (Err f) found has_fault is e = no_fault text f.line f.kind b is e has_fault
+
+-- what is built of the parts of a board is that board
+pub only_parts : (b : PlainBoard) (r : Result PlainBoard BoardFault) → IfOk r (λ a. IsBoard a × (a ≡ b)) → IfErr r (λ f. HasFault (board_text b) f.line f.kind) → IsBoard b → MatchResult r (λ a. a ≡ b) (λ f. f.kind ≡ Memory)
+only_parts b (Ok a) found has_fault is = found.1
+only_parts b (Err f) found has_fault is = no_fault (board_text b) f.line f.kind b is refl has_fault

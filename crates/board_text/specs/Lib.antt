@@ -8,4 +8,5 @@ pub mod BoardFaults
 pub mod Readings
 pub mod Ends
 pub mod Whole
+pub mod Misfits
 pub mod Parsing
