@@ -6,7 +6,11 @@ mod board_faults;
 #[cfg(test)]
 mod boards;
 #[cfg(test)]
+mod building;
+#[cfg(test)]
 mod fakes;
+#[cfg(test)]
+mod printing;
 #[cfg(test)]
 mod streams;
 #[cfg(test)]

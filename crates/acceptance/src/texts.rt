@@ -2,7 +2,7 @@
 //!
 //! A run of the tests may refuse one growth of memory, whichever. So a call that was refused one is made once more.
 
-use board_text::{Board, BoardFault, BoardKind, parse};
+use board_text::{Board, BoardFault, BoardKind, Memory, parse, print};
 use std::alloc::{AllocError, Global};
 use std::fmt::Write;
 use std::process::Abort;
@@ -44,6 +44,33 @@ pub fn read_board(alloc: Global, bytes: &[u8]) -> Result<Board, BoardFault> {
                 kind: BoardKind::Memory,
             },
         ) => parse(alloc, bytes),
+        answer => answer,
+    }
+}
+
+/// What `Board::build` answers where it is refused no growth.
+pub fn build_board(
+    alloc: Global,
+    labels: u16,
+    pebbles: u8,
+    start: &[u16],
+    pairs: &[(u16, u16)],
+) -> Result<Board, BoardFault> {
+    match Board::build(alloc, labels, pebbles, start, pairs) {
+        Err(
+            BoardFault {
+                line: 0,
+                kind: BoardKind::Memory,
+            },
+        ) => Board::build(alloc, labels, pebbles, start, pairs),
+        answer => answer,
+    }
+}
+
+/// What `print` answers where it is refused no growth.
+pub fn print_board(alloc: Global, board: &Board) -> Result<String, Memory> {
+    match print(alloc, board) {
+        Err(Memory) => print(alloc, board),
         answer => answer,
     }
 }
