@@ -1,15 +1,15 @@
 -- The pairs that bit rows have.
-use Rattle.std.proofs.Common.{◌≡◌, ◌≢◌, ℕ, ◌+◌, ◌*◌, ◌/◌, ◌%◌, ◌^◌, ◌<◌, ◌≤◌, ◌↔◌, IsTrue, nat_eq, bit_and, bit_or, Bool, true, false, List, [], ◌∷◌, ◌++◌, length, get_or, set, take, drop, replicate, Contains, refl, sym, ap, subst, ◌∙◌, arith, inl, inr}
+use Rattle.std.proofs.Common.{◌≡◌, ◌≢◌, ℕ, ◌+◌, ◌*◌, ◌/◌, ◌%◌, ◌^◌, ◌<◌, ◌≤◌, ◌↔◌, nat_eq, bit_or, true, false, List, [], ◌∷◌, ◌++◌, length, get_or, set, take, drop, replicate, Contains, refl, sym, ap, ◌∙◌, arith, inl, inr}
 use Rattle.std.specs.Int.{bit_at, w64}
 use Rattle.std.proofs.lemmas.Bool.{cases_lt, cases_eq, both_ways, eq-eqb}
-use Rattle.std.proofs.lemmas.List.{length-set, length-replicate, get_or-replicate, get_or-set_same, get_or-set_other, get_or_read, get_or_past, get_or-take, get_or-drop, take_at}
+use Rattle.std.proofs.lemmas.List.{length-set, length-replicate, get_or-replicate, get_or-set_same, get_or-set_other, get_or_past, get_or-take, get_or-drop, take_at}
 use Rattle.std.proofs.lemmas.List.Elements.{Contains-push}
 use Rattle.std.proofs.lemmas.Nat.{div-mul-add, mod-mul-add, mod_below, mul-add-lt, div-add-mod'}
 use Rattle.std.proofs.Math.Nat.{mul-le-mul_right}
-use Rattle.std.proofs.lemmas.Nat.Bits.{bit_at_set_same, bit_at_set_other, bit_at-zero, shr_and_one}
+use Rattle.std.proofs.lemmas.Nat.Bits.{bit_at_set_same, bit_at_set_other, bit_at-zero}
 use Rattle.board_text.specs.Ranges.{InRange}
-use Rattle.board_text.specs.PlainBoard.{Precedes, AreLabels, IsNext}
-use Rattle.board_text.specs.Domination.{has_bit, beats_in, mark_of, pairs_of, pairs_below, pair_at, EndsAt, ClearFrom, AreRows, SetsPair}
+use Rattle.board_text.specs.PlainBoard.{AreLabels, IsNext}
+use Rattle.board_text.specs.Domination.{has_bit, beats_in, mark_of, pairs_of, pair_at, ClearFrom, AreRows, SetsPair}
 use Rattle.board_text.proofs.DominationPairs.{NoMarks, pairs_more, pairs_none, has_mark, is_marked, place_grows, precedes_from_place}
 
 -- the mark of a pair's place is the pair's bit

@@ -1,10 +1,9 @@
 -- What stands after the pairs of a text: `end`, or a fault. There is one reading of it.
-use Rattle.std.proofs.Common.{◌≡◌, ◌≢◌, ℕ, ◌+◌, ◌^◌, ◌<◌, ◌≤◌, List, [], ◌∷◌, ◌++◌, length, Contains, All, subst, refl, sym, ap, ◌∙◌, arith, inl, inr}
-use Rattle.std.specs.List.{flat_map}
+use Rattle.std.proofs.Common.{◌≡◌, ◌≢◌, ℕ, ◌+◌, ◌≤◌, List, [], ◌∷◌, ◌++◌, length, Contains, subst, refl, sym, ap, ◌∙◌, arith, inl, inr}
 use Rattle.std.proofs.lemmas.List.{append_cancel_left}
 use Rattle.std.proofs.lemmas.List.Elements.{All-contains, Contains-append_left}
 use Rattle.board_text.specs.LineForms.{Lacks}
-use Rattle.board_text.specs.PlainBoard.{PlainBoard, plain_board, ArePairs, AreLabels, IsNext}
+use Rattle.board_text.specs.PlainBoard.{PlainBoard, ArePairs, AreLabels, IsNext}
 use Rattle.board_text.specs.BoardText.{beats_line, end_line}
 use Rattle.board_text.specs.BoardFaults.{NotEnd, IsCut, PairFault}
 use Rattle.board_text.specs.declared.fault.BoardKind.{BoardKind}

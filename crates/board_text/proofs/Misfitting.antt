@@ -1,5 +1,5 @@
 -- From the parts of a board to the fault of their text.
-use Rattle.std.proofs.Common.{◌≡◌, ◌≢◌, ℕ, suc, ◌+◌, ◌^◌, ◌<◌, ◌≤◌, List, [], ◌∷◌, ◌++◌, length, All, get_or, take, drop, refl, sym, ap, ◌∙◌, append_assoc, arith, inl, inr, take-append-drop, drop-cons, length-take-le}
+use Rattle.std.proofs.Common.{◌≡◌, ℕ, suc, ◌+◌, ◌^◌, ◌<◌, ◌≤◌, List, [], ◌∷◌, ◌++◌, length, All, get_or, take, drop, refl, sym, ap, ◌∙◌, append_assoc, arith, inl, inr, take-append-drop, drop-cons, length-take-le}
 use Rattle.std.specs.Prelude.{codes}
 use Rattle.std.specs.List.{flat_map, AllByRecursion}
 use Rattle.std.proofs.lemmas.Bool.{cases_lt}
@@ -7,9 +7,9 @@ use Rattle.std.proofs.lemmas.List.{append-nil}
 use Rattle.std.proofs.lemmas.List.Concat.{flat_map-append}
 use Rattle.std.proofs.lemmas.List.Elements.{recursion_from_All}
 use Rattle.board_text.specs.Ranges.{InRange, AreNumbers}
-use Rattle.board_text.specs.LineForms.{NoDigit, spaced, numbers_line}
-use Rattle.board_text.specs.PlainBoard.{PlainBoard, plain_board, IsBoard, ArePairs, AreLabels, IsNext}
-use Rattle.board_text.specs.BoardText.{version_line, labels_line, pebbles_line, start_line, beats_line, end_line, head, front, board_text}
+use Rattle.board_text.specs.LineForms.{NoDigit, spaced}
+use Rattle.board_text.specs.PlainBoard.{PlainBoard, plain_board, IsBoard, ArePairs, AreLabels}
+use Rattle.board_text.specs.BoardText.{version_line, labels_line, pebbles_line, start_line, beats_line, end_line, head, board_text}
 use Rattle.board_text.specs.BoardFaults.{PairFault, HasFault}
 use Rattle.board_text.specs.Misfits.{Misfits, HasMisfit}
 use Rattle.board_text.specs.declared.fault.BoardFault.{BoardFault}

@@ -1,20 +1,20 @@
 -- Each text is that of a board, or has a fault.
-use Rattle.std.proofs.Common.{◌≡◌, ◌≢◌, ℕ, zero, suc, ◌+◌, ◌<◌, ◌≤◌, ◌⊎◌, List, [], ◌∷◌, ◌++◌, length, subst, append_assoc, refl, sym, ap, ◌∙◌, arith, inl, inr}
+use Rattle.std.proofs.Common.{◌≡◌, ℕ, zero, suc, ◌+◌, ◌<◌, ◌≤◌, ◌⊎◌, List, [], ◌∷◌, ◌++◌, length, subst, append_assoc, refl, sym, ap, ◌∙◌, arith, inl, inr}
 use Rattle.std.proofs.lemmas.Bool.{cases_eq}
 use Rattle.std.proofs.lemmas.List.{append-nil, length-append}
 use Rattle.std.proofs.lemmas.List.Elements.{All-nil}
 use Rattle.std.specs.List.{flat_map}
 use Rattle.board_text.specs.Ranges.{InRange, AreNumbers}
-use Rattle.board_text.specs.PlainBoard.{PlainBoard, plain_board, IsBoard, ArePairs, AreLabels, IsNext}
+use Rattle.board_text.specs.PlainBoard.{PlainBoard, plain_board, IsBoard, ArePairs, AreLabels}
 use Rattle.board_text.specs.BoardText.{version_line, labels_line, pebbles_line, start_line, beats_line, end_line, head, front, board_text}
-use Rattle.board_text.specs.BoardFaults.{NotEnd, IsCut, HasPair, PairFault}
+use Rattle.board_text.specs.BoardFaults.{NotEnd, IsCut, PairFault}
 use Rattle.board_text.specs.Parsing.{CanFollow}
 use Rattle.board_text.specs.Readings.{IsBoardText, IsFaulty}
 use Rattle.board_text.specs.declared.fault.BoardKind.{BoardKind}
-use Rattle.board_text.specs.declared.fault.BoardKind.TheVariants.{Version, Labels, Pebbles, Start, Beats, SelfBeat, TwoWay, Order, End, Trailing, Memory}
-use Rattle.board_text.proofs.Deciding.{Decided, begins, Stands, number_stands, list_stands, pair_stands, contained, next}
+use Rattle.board_text.specs.declared.fault.BoardKind.TheVariants.{Version, Labels, Pebbles, Start, Beats, SelfBeat, TwoWay, Order, End, Trailing}
+use Rattle.board_text.proofs.Deciding.{Decided, begins, number_stands, list_stands, pair_stands, contained, next}
 use Rattle.board_text.proofs.PairLemmas.{pairs_push, line_push}
-use Rattle.board_text.proofs.Faults.{head_taken, front_taken, has_pair_fault, has_trailing}
+use Rattle.board_text.proofs.Faults.{head_taken, front_taken, has_pair_fault}
 
 -- what stands after the pairs so far: the line `end`, a fault, or a pair more
 data NextLine (labels : ℕ) (pairs : List (ℕ × ℕ)) (rest : List ℕ) : Type 0 where

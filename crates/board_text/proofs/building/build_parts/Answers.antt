@@ -1,9 +1,8 @@
-use Rattle.std.proofs.Common.{◌≡◌, ◌^◌, ◌<◌, arith, inl, inr}
+use Rattle.std.proofs.Common.{◌^◌, ◌<◌, arith, inl, inr}
 use Rattle.std.proofs.lemmas.Bool.{both_ways}
 use Rattle.std.proofs.lemmas.List.Elements.{All-from_get_or}
 use Rattle.std.proofs.lemmas.Result.{err_from_is_err_and}
-use Rattle.board_text.specs.Ranges.{InRange}
-use Rattle.board_text.specs.PlainBoard.{PlainBoard, plain_board}
+use Rattle.board_text.specs.PlainBoard.{plain_board}
 use Rattle.board_text.proofs.Misfitting.{labels_fault, pebbles_fault, memory_fault, start_fault, parts_fault}
 use Rattle.board_text.proofs.building.build_parts.Goals as goal
 

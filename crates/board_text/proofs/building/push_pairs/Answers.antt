@@ -1,4 +1,4 @@
-use Rattle.std.proofs.Common.{◌≡◌, ◌^◌, ◌<◌, ◌++◌, ◌∷◌, [], ℕ, List, get_or, ap, sym, ◌∙◌, arith, inl, inr}
+use Rattle.std.proofs.Common.{◌^◌, ◌++◌, ◌∷◌, [], ℕ, List, get_or, ap, sym, ◌∙◌, arith, inl, inr}
 use Rattle.std.proofs.lemmas.List.{take_more}
 use Rattle.board_text.specs.PlainBoard.{AreLabels}
 use Rattle.board_text.specs.declared.fault.BoardKind.TheVariants.{Beats}
