@@ -1,15 +1,15 @@
 -- The pairs that bit rows have.
-use Rattle.std.proofs.Common.{◌≡◌, ◌≢◌, ℕ, ◌+◌, ◌*◌, ◌/◌, ◌%◌, ◌^◌, ◌<◌, ◌≤◌, ◌↔◌, IsTrue, nat_eq, bit_and, bit_or, Bool, true, false, List, [], ◌∷◌, ◌++◌, length, get_or, set, take, drop, replicate, Contains, refl, sym, ap, subst, ◌∙◌, arith, inl, inr}
+use Rattle.std.proofs.Common.{◌≡◌, ◌≢◌, ℕ, ◌+◌, ◌*◌, ◌/◌, ◌%◌, ◌^◌, ◌<◌, ◌≤◌, ◌↔◌, nat_eq, bit_or, true, false, List, [], ◌∷◌, ◌++◌, length, get_or, set, take, drop, replicate, Contains, refl, sym, ap, ◌∙◌, arith, inl, inr}
 use Rattle.std.specs.Int.{bit_at, w64}
 use Rattle.std.proofs.lemmas.Bool.{cases_lt, cases_eq, both_ways, eq-eqb}
-use Rattle.std.proofs.lemmas.List.{length-set, length-replicate, get_or-replicate, get_or-set_same, get_or-set_other, get_or_read, get_or_past, get_or-take, get_or-drop, take_at}
+use Rattle.std.proofs.lemmas.List.{length-set, length-replicate, get_or-replicate, get_or-set_same, get_or-set_other, get_or_past, get_or-take, get_or-drop, take_at}
 use Rattle.std.proofs.lemmas.List.Elements.{Contains-push}
 use Rattle.std.proofs.lemmas.Nat.{div-mul-add, mod-mul-add, mod_below, mul-add-lt, div-add-mod'}
 use Rattle.std.proofs.Math.Nat.{mul-le-mul_right}
-use Rattle.std.proofs.lemmas.Nat.Bits.{bit_at_set_same, bit_at_set_other, bit_at-zero, shr_and_one}
+use Rattle.std.proofs.lemmas.Nat.Bits.{bit_at_set_same, bit_at_set_other, bit_at-zero}
 use Rattle.board_text.specs.Ranges.{InRange}
-use Rattle.board_text.specs.PlainBoard.{Precedes, AreLabels, IsNext}
-use Rattle.board_text.specs.Domination.{has_bit, beats_in, mark_of, pairs_of, pairs_below, pair_at, EndsAt, ClearFrom, AreRows, SetsPair}
+use Rattle.board_text.specs.PlainBoard.{AreLabels, IsNext}
+use Rattle.board_text.specs.Domination.{has_bit, beats_in, mark_of, pairs_of, pair_at, ClearFrom, AreRows, SetsPair}
 use Rattle.board_text.proofs.DominationPairs.{NoMarks, pairs_more, pairs_none, has_mark, is_marked, place_grows, precedes_from_place}
 
 -- the mark of a pair's place is the pair's bit
@@ -148,17 +148,6 @@ sets_pair labels rows x y few sized are =
             ∙ ap (λ (k : ℕ). nat_eq (bit_at (get_or rows k 0) (i % 64)) 1) (sym same)))
       ];
     }
-
--- the bit that a word of the rows has is the pair's
-pub read_bit : (labels : ℕ) (rows : List ℕ) (next x y word : ℕ) → AreRows labels rows next → AreLabels labels (x, y) → word ≡ get_or rows (4 * y + x / 64) word
-    → nat_eq (bit_and (word / 2 ^ (x % 64)) 1) 1 ≡ beats_in rows x y
-read_bit labels rows next x y word is are read =
-    let first : x < labels = are.0 in
-    let second : y < labels = are.1 in
-    let few : labels ≤ 256 = is.in_range.1 in
-    let sized : length rows ≡ 4 * labels = is.sized in
-    let inside : 4 * y + x / 64 < length rows = omega arith in
-    ap (λ (n : ℕ). nat_eq n 1) (shr_and_one word (x % 64) ∙ ap (λ (w : ℕ). bit_at w (x % 64)) (get_or_read rows (4 * y + x / 64) word inside read 0))
 
 -- the next pair may stand at the end of all places at the latest
 next_within : (labels : ℕ) (rows : List ℕ) (next : ℕ) → AreRows labels rows next → next ≤ labels * labels

@@ -1,11 +1,11 @@
 -- The pairs at the marked places, where place `x * labels + y` stands for x beating y.
-use Rattle.std.proofs.Common.{◌≡◌, ◌≢◌, ℕ, zero, suc, ◌+◌, ◌*◌, ◌/◌, ◌%◌, ◌<◌, ◌≤◌, Bool, true, false, cond, List, [], ◌∷◌, ◌++◌, length, add-one, Contains, refl, sym, ap, ◌∙◌, arith, inl, inr}
-use Rattle.std.proofs.lemmas.Bool.{cases_lt, cases_eq, cases_Bool, cases_order, both_ways, cond_both}
+use Rattle.std.proofs.Common.{◌≡◌, ◌≢◌, ℕ, zero, suc, ◌+◌, ◌*◌, ◌/◌, ◌%◌, ◌<◌, ◌≤◌, Bool, true, false, cond, List, [], ◌∷◌, ◌++◌, length, Contains, refl, sym, ap, ◌∙◌, arith, inl, inr}
+use Rattle.std.proofs.lemmas.Bool.{cases_lt, cases_eq, cases_Bool, cases_order, cond_both}
 use Rattle.std.proofs.lemmas.List.{append-nil, length-append}
 use Rattle.std.proofs.lemmas.List.Elements.{Contains-push, Contains-append_left, Contains-push_cases}
-use Rattle.std.proofs.lemmas.Nat.{div-mul-add, mod-mul-add, mod_below, row_fits, mul-add-lt, div-add-mod'}
-use Rattle.board_text.specs.PlainBoard.{Precedes, AreLabels, IsNext}
-use Rattle.board_text.specs.Domination.{pairs_below, pair_at, EndsAt}
+use Rattle.std.proofs.lemmas.Nat.{div-mul-add, mod-mul-add, mod_below, row_fits, div-add-mod'}
+use Rattle.board_text.specs.PlainBoard.{Precedes}
+use Rattle.board_text.specs.Domination.{pairs_below, pair_at}
 
 -- no place from `low` to below `high` is marked
 abbrev pub NoMarks : (ℕ → Bool) → ℕ → ℕ → Type 0

@@ -1,13 +1,12 @@
 -- From the parts of a text to its fault, or to its board.
-use Rattle.std.proofs.Common.{◌≡◌, ℕ, ◌+◌, ◌-◌, List, [], ◌∷◌, ◌++◌, length, take, drop, refl, subst, sym, ap, ◌∙◌, append_assoc, arith}
+use Rattle.std.proofs.Common.{◌≡◌, ℕ, ◌+◌, List, [], ◌∷◌, ◌++◌, length, take, drop, refl, subst, sym, ap, ◌∙◌, append_assoc}
 use Rattle.std.specs.List.{flat_map}
 use Rattle.std.proofs.lemmas.List.{append-nil, take_at}
-use Rattle.board_text.specs.Ranges.{InRange, AreNumbers}
 use Rattle.board_text.specs.declared.fault.BoardKind.{BoardKind}
 use Rattle.board_text.specs.declared.fault.BoardKind.TheVariants.{Version, Labels, Pebbles, Start, Beats, SelfBeat, TwoWay, Order, End, Trailing, Memory}
-use Rattle.board_text.specs.PlainBoard.{plain_board, PlainBoard, IsBoard, ArePairs}
+use Rattle.board_text.specs.PlainBoard.{plain_board, PlainBoard, IsBoard}
 use Rattle.board_text.specs.BoardText.{version_line, labels_line, pebbles_line, start_line, beats_line, end_line, head, front, board_text}
-use Rattle.board_text.specs.BoardFaults.{PairFault, InPairs, HasFault}
+use Rattle.board_text.specs.BoardFaults.{PairFault, HasFault}
 
 regroup_head : (a b c d x : List ℕ) → a ++ (b ++ (c ++ (d ++ x))) ≡ (a ++ (b ++ (c ++ d))) ++ x
 regroup_head a b c d x = simp append_assoc

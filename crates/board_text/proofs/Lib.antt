@@ -3,7 +3,13 @@ pub mod Lines
 pub mod NumeralLemmas
 pub mod DominationPairs
 pub mod BitRows
+pub mod PairLines
 pub mod PairLemmas
 pub mod Faults
+pub mod Deciding
+pub mod SomeReading
+pub mod BeatsLines
+pub mod Endings
+pub mod Misfitting
 pub mod OneReading
 pub mod Moves

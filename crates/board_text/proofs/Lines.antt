@@ -1,11 +1,11 @@
 -- The parts of a line, one after the other.
-use Rattle.std.proofs.Common.{◌≡◌, ℕ, ◌^◌, ◌<◌, ◌≤◌, ◌+◌, List, [], ◌∷◌, ◌++◌, length, All, get_or, refl, sym, ap, ◌∙◌, append_assoc, arith}
+use Rattle.std.proofs.Common.{◌≡◌, ℕ, ◌^◌, ◌<◌, ◌≤◌, List, [], ◌∷◌, ◌++◌, length, All, get_or, refl, sym, ap, ◌∙◌, append_assoc, arith}
 use Rattle.std.specs.Fmt.{decimal}
 use Rattle.std.specs.List.{AllByRecursion}
 use Rattle.std.proofs.lemmas.List.{append_cancel_left, append-nil, length-append, get_or_at, nil_from_length}
 use Rattle.std.proofs.lemmas.List.Elements.{recursion_from_All}
 use Rattle.board_text.specs.LineForms.{NoDigit, number_line, spaced, numbers_line}
-use Rattle.board_text.specs.Ranges.{InRange, AreNumbers}
+use Rattle.board_text.specs.Ranges.{AreNumbers}
 use Rattle.board_text.proofs.Numbers.{number_split}
 
 -- what follows a text that stands at the front

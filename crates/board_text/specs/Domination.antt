@@ -2,7 +2,7 @@
 use Rattle.std.specs.Prelude.{◌≡◌, ℕ, zero, suc, ◌+◌, ◌*◌, ◌/◌, ◌%◌, ◌<◌, ◌≤◌, ◌==◌, ◌⊎◌, List, [], ◌∷◌, ◌++◌, Bool, true, false, if◌then◌else◌, length, slice_index}
 use Rattle.std.specs.Int.{bit_at}
 use Rattle.board_text.specs.Ranges.{InRange}
-use Rattle.board_text.specs.PlainBoard.{AreLabels, Precedes}
+use Rattle.board_text.specs.PlainBoard.{AreLabels}
 
 -- whether the bit of a label is set in the words of a row
 abbrev pub has_bit : List ℕ → ℕ → Bool

@@ -5,6 +5,8 @@ pub mod Numerals
 pub mod BoardText
 pub mod Domination
 pub mod BoardFaults
+pub mod Readings
 pub mod Ends
 pub mod Whole
+pub mod Misfits
 pub mod Parsing

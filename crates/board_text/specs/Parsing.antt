@@ -1,5 +1,5 @@
 -- What each step of reading a board takes from the text.
-use Rattle.std.specs.Prelude.{◌≡◌, ◌≢◌, ℕ, ◌+◌, List, ◌∷◌, ◌++◌, length, Contains, Option, Some, None, Result, Ok, Err}
+use Rattle.std.specs.Prelude.{◌≡◌, ◌≢◌, ℕ, ◌+◌, List, ◌++◌, length, Contains, Option, Some, None, Result, Ok, Err}
 use Rattle.std.specs.List.{flat_map}
 use Rattle.board_text.specs.Ranges.{InRange}
 use Rattle.board_text.specs.PlainBoard.{ArePairs, AreLabels, IsNext}

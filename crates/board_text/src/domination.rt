@@ -3,9 +3,12 @@
 ghost use Rattle.std.specs.Prelude.{◌≡◌, ℕ, ◌+◌, ◌*◌, ◌/◌, ◌≤◌, ◌<◌, ◌++◌, ◌∷◌, [], List, length, true, IfOk, OnOk, string_bytes, IsTrue, ◌↔◌, Contains};
 ghost use Rattle.board_text.specs.Ranges.{InRange};
 ghost use Rattle.board_text.specs.PlainBoard.{AreLabels};
-ghost use Rattle.board_text.specs.Domination.{SetsPair};
+ghost use Rattle.board_text.specs.Domination.{SetsPair, beats_in, pairs_of};
+ghost use Rattle.std.specs.List.{flat_map};
+ghost use Rattle.board_text.specs.BoardText.{beats_line};
 
 use std::alloc::{AllocError, Global};
+use std::fmt::Write;
 use std::marker::Model;
 
 /// How many words the row of a label has.
@@ -63,8 +66,7 @@ impl Domination {
         requires { AreLabels self.now.labels (x, y) }
         ensures { IsTrue result ↔ Contains self.now.pairs (x, y) }
     {
-        let word = self.rows[ROW_WORDS * y as usize + x as usize / 64];
-        (word >> (x % 64)) & 1 == 1
+        has_pair(&self.rows, u32::from(x), u32::from(y))
     }
 
     /// The bits of the labels that beat this one.
@@ -97,6 +99,59 @@ impl Domination {
         set_pair(self.labels, self.rows.as_mut_slice(), x, y);
         self.next = place + 1;
     }
+}
+
+impl Domination {
+    ghost use Rattle.std.specs.List.{flat_map};
+    ghost use Rattle.board_text.specs.BoardText.{beats_line};
+
+    /// Writes a line for each pair, ascending.
+    pub(crate) fn write_lines(&self, text: &mut String) -> Result<(), AllocError>
+        ensures { OnOk result (string_bytes text.new ≡ string_bytes text.old ++ flat_map beats_line self.now.pairs) }
+    {
+        write_pairs(self.labels, &self.rows, text)
+    }
+
+    /// About how many bytes the lines of all pairs have, and no fewer than they have.
+    pub(crate) fn size_of_lines(&self) -> usize {
+        let size_of_line = match self.labels {
+            0..=10 => "beats 9 9\n".len(),
+            11..=100 => "beats 99 99\n".len(),
+            _ => "beats 255 255\n".len(),
+        };
+        let mut size: usize = 0;
+        for word in &self.rows {
+            size = size.saturating_add(word.count_ones() as usize * size_of_line);
+        }
+        size
+    }
+}
+
+/// Writes a line for each pair that the rows have.
+fn write_pairs(labels: u16, rows: &[u64], text: &mut String) -> Result<(), AllocError>
+    requires in_range { InRange 1 256 labels }
+    requires sized { length rows.now ≡ 4 * labels }
+    ensures { OnOk result (string_bytes text.new ≡ string_bytes text.old ++ flat_map beats_line (pairs_of labels rows.now)) }
+{
+    let labels = u32::from(labels);
+    for place in 0..labels * labels {
+        let x = place / labels;
+        let y = place % labels;
+        if has_pair(rows, x, y) {
+            writeln!(text, "beats {x} {y}")?;
+        }
+    }
+    Ok(())
+}
+
+/// Whether the rows say that x beats y.
+fn has_pair(rows: &[u64], x: u32, y: u32) -> bool
+    requires label { x < 256 }
+    requires row { 4 * y + 4 ≤ length rows.now }
+    ensures { result ≡ beats_in rows.now x y }
+{
+    let word = rows[ROW_WORDS * y as usize + x as usize / 64];
+    (word >> (x % 64)) & 1 == 1
 }
 
 /// Sets the bit of a pair.

@@ -2,11 +2,15 @@
 #![tactic(auto)]
 
 mod board;
+mod building;
 mod domination;
 mod fault;
+mod laws;
 pub mod line_reader;
 mod memory;
+mod pairs;
 mod parsing;
+mod printing;
 mod sink;
 mod source;
 mod through;
@@ -15,8 +19,10 @@ mod whole;
 pub use board::Board;
 pub use domination::{Domination, ROW_WORDS};
 pub use fault::{BoardFault, BoardKind};
+pub use laws::{board_or_fault, one_board, one_fault};
 pub use memory::Memory;
-pub use parsing::{one_board, parse};
+pub use parsing::parse;
+pub use printing::print;
 pub use sink::Sink;
 pub use source::{Failed, Source};
 pub use through::Through;

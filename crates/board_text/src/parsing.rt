@@ -9,9 +9,10 @@ ghost use Rattle.board_text.specs.BoardFaults.{HasFault};
 ghost use Rattle.board_text.specs.Parsing.{NextPair, PairsRead, PairsFault, HeadRead};
 
 use crate::board::Board;
-use crate::fault::{BoardFault, BoardKind};
 use crate::domination::Domination;
+use crate::fault::{BoardFault, BoardKind};
 use crate::line_reader::LineReader;
+use crate::pairs::pair_fault;
 use std::alloc::Global;
 
 /// Takes a line `beats x y`.
@@ -37,16 +38,10 @@ fn next_pair(text: &mut LineReader<'_>, beats: &Domination) -> Result<Option<(u1
     let Some((x, y)) = take_pair(text, beats.labels()) else {
         return Err(BoardKind::Beats);
     };
-    if x == y {
-        return Err(BoardKind::SelfBeat);
+    match pair_fault(beats, x, y) {
+        Some(kind) => Err(kind),
+        None => Ok(Some((x, y))),
     }
-    if beats.contains(y, x) {
-        return Err(BoardKind::TwoWay);
-    }
-    if !beats.is_next(x, y) {
-        return Err(BoardKind::Order);
-    }
-    Ok(Some((x, y)))
 }
 
 /// Takes the `beats` lines and `end`, and says at which line `end` stands.
@@ -117,8 +112,3 @@ fn read(alloc: Global, bytes: &[u8]) -> Result<Board, BoardFault>
         beats,
     })
 }
-
-/// A text is that of one board at most.
-pub fn one_board()
-    ensures { (a b : PlainBoard) → IsBoard a → IsBoard b → board_text a ≡ board_text b → a ≡ b }
-{}

@@ -1,4 +1,3 @@
-use Rattle.std.proofs.Common.{◌≤◌, ◌*◌, ◌+◌, arith}
 use Rattle.std.proofs.lemmas.Bool.{leb-true, le-leb}
 use Rattle.board_text.specs.PlainBoard.{AreLabels}
 use Rattle.board_text.proofs.BitRows.{next_from_place, place_from_next}

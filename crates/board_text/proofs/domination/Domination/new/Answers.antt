@@ -1,4 +1,4 @@
-use Rattle.std.proofs.Common.{◌≡◌, ℕ, ◌*◌, replicate, refl}
+use Rattle.std.proofs.Common.{◌≡◌, ◌*◌, replicate, refl}
 use Rattle.board_text.specs.Domination.{mark_of}
 use Rattle.board_text.proofs.DominationPairs.{pairs_none}
 use Rattle.board_text.proofs.BitRows.{rows_new, no_bit}

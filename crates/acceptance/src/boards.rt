@@ -1,0 +1,67 @@
+//! What boards say that are read from their texts.
+
+use crate::texts::{LONE_LABEL, THREE_CYCLE, board_of, largest_text};
+use board_text::Board;
+use std::alloc::AllocError;
+
+const ALL: u64 = u64::MAX;
+
+/// Whether these are the pairs of which the first label dominates the second.
+fn has_pairs(board: &Board, pairs: &[(u16, u16)]) -> bool {
+    for x in 0..board.labels() {
+        for y in 0..board.labels() {
+            if board.beats(x, y) != pairs.contains(&(x, y)) {
+                return false;
+            }
+        }
+    }
+    true
+}
+
+/// Whether these are the words of the labels that dominate this one.
+fn has_dominators(board: &Board, label: u16, words: &[u64]) -> bool {
+    label < board.labels() && board.dominators(label) == words
+}
+
+#[test]
+fn small_boards(rt: HostRuntime) {
+    let board = board_of(&rt, rt.alloc(), THREE_CYCLE);
+    assert_eq!(rt; board.labels(), 3);
+    assert_eq!(rt; board.pebbles(), 2);
+    assert_eq!(rt; board.start(), [0, 0].as_slice());
+    assert!(rt; has_pairs(&board, &[(0, 2), (1, 0), (2, 1)]));
+    for (label, dominators) in [(0, 0b010), (1, 0b100), (2, 0b001)] {
+        assert!(rt;
+            has_dominators(&board, label, &[dominators, 0, 0, 0]),
+            "{label}"
+        );
+    }
+    let board = board_of(&rt, rt.alloc(), LONE_LABEL);
+    assert_eq!(rt; board.labels(), 1);
+    assert_eq!(rt; board.pebbles(), 1);
+    assert!(rt; has_pairs(&board, &[]));
+}
+
+#[test]
+fn the_largest_board(rt: HostRuntime) -> Result<(), AllocError> {
+    let text = largest_text(rt.alloc())?;
+    let board = board_of(&rt, rt.alloc(), text.as_str());
+    assert_eq!(rt; board.labels(), 256);
+    assert_eq!(rt; board.pebbles(), 6);
+    assert_eq!(rt; board.start(), [255, 128, 100, 64, 9, 0].as_slice());
+    for (x, y) in [(255, 0), (255, 254), (1, 0), (128, 127), (64, 63)] {
+        assert!(rt; x < 256 && y < 256);
+        assert!(rt; board.beats(x, y) && !board.beats(y, x), "{x} {y}");
+        assert!(rt; !board.beats(x, x), "{x}");
+    }
+    for (label, words) in [
+        (0, [ALL - 1, ALL, ALL, ALL]),
+        (100, [0, ALL << 37, ALL, ALL]),
+        (127, [0, 0, ALL, ALL]),
+        (254, [0, 0, 0, 1 << 63]),
+        (255, [0, 0, 0, 0]),
+    ] {
+        assert!(rt; has_dominators(&board, label, &words), "{label}");
+    }
+    Ok(())
+}

@@ -1,0 +1,19 @@
+//! Tests that join the libraries.
+#![tactic(auto)]
+
+#[cfg(test)]
+mod board_faults;
+#[cfg(test)]
+mod boards;
+#[cfg(test)]
+mod building;
+#[cfg(test)]
+mod fakes;
+#[cfg(test)]
+mod printing;
+#[cfg(test)]
+mod streams;
+#[cfg(test)]
+mod texts;
+#[cfg(test)]
+mod values;

@@ -1,0 +1,129 @@
+-- Each text is that of a board, or has a fault.
+use Rattle.std.proofs.Common.{◌≡◌, ℕ, zero, suc, ◌+◌, ◌<◌, ◌≤◌, ◌⊎◌, List, [], ◌∷◌, ◌++◌, length, subst, append_assoc, refl, sym, ap, ◌∙◌, arith, inl, inr}
+use Rattle.std.proofs.lemmas.Bool.{cases_eq}
+use Rattle.std.proofs.lemmas.List.{append-nil, length-append}
+use Rattle.std.proofs.lemmas.List.Elements.{All-nil}
+use Rattle.std.specs.List.{flat_map}
+use Rattle.board_text.specs.Ranges.{InRange, AreNumbers}
+use Rattle.board_text.specs.PlainBoard.{PlainBoard, plain_board, IsBoard, ArePairs, AreLabels}
+use Rattle.board_text.specs.BoardText.{version_line, labels_line, pebbles_line, start_line, beats_line, end_line, head, front, board_text}
+use Rattle.board_text.specs.BoardFaults.{NotEnd, IsCut, PairFault}
+use Rattle.board_text.specs.Parsing.{CanFollow}
+use Rattle.board_text.specs.Readings.{IsBoardText, IsFaulty}
+use Rattle.board_text.specs.declared.fault.BoardKind.{BoardKind}
+use Rattle.board_text.specs.declared.fault.BoardKind.TheVariants.{Version, Labels, Pebbles, Start, Beats, SelfBeat, TwoWay, Order, End, Trailing}
+use Rattle.board_text.proofs.Deciding.{Decided, begins, number_stands, list_stands, pair_stands, contained, next}
+use Rattle.board_text.proofs.PairLemmas.{pairs_push, line_push}
+use Rattle.board_text.proofs.Faults.{head_taken, front_taken, has_pair_fault}
+
+-- what stands after the pairs so far: the line `end`, a fault, or a pair more
+data NextLine (labels : ℕ) (pairs : List (ℕ × ℕ)) (rest : List ℕ) : Type 0 where
+  ends : (more : List ℕ) → rest ≡ end_line ++ more → NextLine labels pairs rest
+  fault : (kind : BoardKind) → PairFault labels pairs rest kind → NextLine labels pairs rest
+  pair : (p : ℕ × ℕ) (more : List ℕ) → CanFollow labels pairs p → rest ≡ beats_line p ++ more → NextLine labels pairs rest
+
+is_cut : (rest : List ℕ) → Decided (IsCut rest)
+is_cut [] = inl (inl refl)
+is_cut (c ∷ more) =
+    elim (cases_eq c 101) [
+      | inl e ↦ inl (inr (more, ap (λ (d : ℕ). d ∷ more) e))
+      | inr differ ↦ inr (λ h. elim h [
+        | inl e ↦ cc
+        | inr f ↦ let e = f.1 in let same : c ≡ 101 = cc in differ same
+      ])
+    ]
+
+judged : (labels : ℕ) (pairs : List (ℕ × ℕ)) (rest : List ℕ) (p : ℕ × ℕ) (more : List ℕ) → AreLabels labels p → rest ≡ beats_line p ++ more → NextLine labels pairs rest
+judged labels pairs rest p more are e =
+    elim (cases_eq p.0 p.1) [
+      | inl same ↦ fault SelfBeat (p.0, ((are.0, are.0), more, e ∙ ap (λ (y : ℕ). beats_line (p.0, y) ++ more) (sym same)))
+      | inr differ ↦ elim (contained pairs (p.1, p.0)) [
+        | inl back ↦ fault TwoWay (p.0, p.1, (are, more, e), differ, back)
+        | inr one_way ↦ elim (next pairs p) [
+          | inl above ↦ pair p more (record { in_range = are; differ = differ; one_way = one_way; above = above }) e
+          | inr low ↦ fault Order (p.0, p.1, (are, more, e), differ, one_way, low)
+        ]
+      ]
+    ]
+
+next_line : (labels : ℕ) (pairs : List (ℕ × ℕ)) (rest : List ℕ) → NextLine labels pairs rest
+next_line labels pairs rest =
+    elim (begins end_line rest) [
+      | inl h ↦ ends h.0 h.1
+      | inr never ↦ let not_end : NotEnd rest = λ u more all e. never (more, e) in elim (is_cut rest) [
+        | inl cut ↦ fault End (not_end, cut)
+        | inr whole ↦ elim (pair_stands labels beats_line rest) [
+          | inl s ↦ judged labels pairs rest s.value s.more s.is s.spelled
+          | inr lacks ↦ fault Beats (not_end, whole, lacks)
+        ]
+      ]
+    ]
+
+-- the line `end` was found, and then so many bytes
+ended : (text : List ℕ) (b : PlainBoard) (more : List ℕ) → IsBoard b → text ≡ board_text b ++ more → IsBoardText text ⊎ IsFaulty text
+ended text b [] is e = inl (b, is, e ∙ append-nil (board_text b))
+ended text b (c ∷ more) is e = inr (6 + length b.pairs, Trailing, λ f. cc, (b, c, more, is, e, refl))
+
+-- one line more
+one_more : (b : PlainBoard) (p : ℕ × ℕ) (text rest more : List ℕ) → text ≡ front b ++ rest → rest ≡ beats_line p ++ more → text ≡ front (plain_board b.labels b.pebbles b.start (b.pairs ++ p ∷ [])) ++ more
+one_more b p text rest more e f =
+    let start = head b.labels b.pebbles b.start in
+    front_taken (plain_board b.labels b.pebbles b.start (b.pairs ++ p ∷ [])) text (flat_map beats_line b.pairs ++ rest) more
+    (e ∙ append_assoc start (flat_map beats_line b.pairs) rest)
+    (line_push b.pairs p (flat_map beats_line b.pairs ++ rest) rest more refl f)
+
+shorter : (p : ℕ × ℕ) (rest more : List ℕ) → rest ≡ beats_line p ++ more → length more < length rest
+shorter p rest more e = omega (arith, ap length e, length-append (beats_line p) more)
+
+from_line : (size : ℕ) (text : List ℕ) (b : PlainBoard) (rest : List ℕ) → length rest ≤ size → IsBoard b → text ≡ front b ++ rest → NextLine b.labels b.pairs rest → IsBoardText text ⊎ IsFaulty text
+from_line size text b rest fits is e (ends more f) = ended text b more is (e ∙ ap (λ (t : List ℕ). front b ++ t) f ∙ sym (append_assoc (front b) end_line more))
+from_line size text b rest fits is e (fault kind h) =
+    inr (5 + length b.pairs, kind, λ m. subst (λ k. PairFault b.labels b.pairs rest k) m h, has_pair_fault text (5 + length b.pairs) kind b rest is e refl h)
+from_line zero text b rest fits is e (pair p more can f) = absurd (omega (arith, shorter p rest more f, fits))
+from_line (suc size) text b rest fits is e (pair p more can f) =
+    let longer = plain_board b.labels b.pebbles b.start (b.pairs ++ p ∷ []) in
+    let is_longer : IsBoard longer = record { labels = is.labels; pebbles = is.pebbles; start = record { each_pebble = is.start.each_pebble; each_label = is.start.each_label }; pairs = pairs_push b.labels b.pairs p is.pairs can } in
+    from_line size text longer more (omega (arith, shorter p rest more f, fits)) is_longer (one_more b p text rest more e f) (next_line b.labels (b.pairs ++ p ∷ []) more)
+
+-- ---- the first four lines
+
+no_pairs : (labels : ℕ) → ArePairs labels []
+no_pairs labels = record {
+  of_labels = All-nil (AreLabels labels);
+  ascending = λ i j d less within. absurd (omega (arith, within));
+  one_way = λ x y h g. omega (arith, h.1);
+}
+
+after_start : (text : List ℕ) (labels pebbles : ℕ) (start rest : List ℕ) → InRange 1 256 labels → InRange 1 6 pebbles → AreNumbers pebbles labels start → text ≡ head labels pebbles start ++ rest → IsBoardText text ⊎ IsFaulty text
+after_start text labels pebbles start rest in_labels in_pebbles are e =
+    let b = plain_board labels pebbles start [] in
+    let is : IsBoard b = record { labels = in_labels; pebbles = in_pebbles; start = record { each_pebble = are.0; each_label = are.1 }; pairs = no_pairs labels } in
+    from_line (length rest) text b rest (omega arith) is (front_taken b text rest rest e refl) (next_line labels [] rest)
+
+after_pebbles : (text : List ℕ) (labels pebbles : ℕ) (rest : List ℕ) → InRange 1 256 labels → InRange 1 6 pebbles → text ≡ version_line ++ (labels_line labels ++ (pebbles_line pebbles ++ rest)) → IsBoardText text ⊎ IsFaulty text
+after_pebbles text labels pebbles rest in_labels in_pebbles e =
+    elim (list_stands pebbles labels start_line rest) [
+      | inl s ↦ after_start text labels pebbles s.value s.more in_labels in_pebbles s.is (head_taken labels pebbles s.value text rest s.more e s.spelled)
+      | inr lacks ↦ inr (4, Start, λ f. cc, (refl, labels, pebbles, rest, in_labels, in_pebbles, e, lacks))
+    ]
+
+after_labels : (text : List ℕ) (labels : ℕ) (rest : List ℕ) → InRange 1 256 labels → text ≡ version_line ++ (labels_line labels ++ rest) → IsBoardText text ⊎ IsFaulty text
+after_labels text labels rest in_labels e =
+    elim (number_stands 1 6 pebbles_line rest) [
+      | inl s ↦ after_pebbles text labels s.value s.more in_labels s.is (e ∙ ap (λ (t : List ℕ). version_line ++ (labels_line labels ++ t)) s.spelled)
+      | inr lacks ↦ inr (3, Pebbles, λ f. cc, (refl, labels, rest, in_labels, e, lacks))
+    ]
+
+after_version : (text rest : List ℕ) → text ≡ version_line ++ rest → IsBoardText text ⊎ IsFaulty text
+after_version text rest e =
+    elim (number_stands 1 256 labels_line rest) [
+      | inl s ↦ after_labels text s.value s.more s.is (e ∙ ap (λ (t : List ℕ). version_line ++ t) s.spelled)
+      | inr lacks ↦ inr (2, Labels, λ f. cc, (refl, rest, e, lacks))
+    ]
+
+pub board_or_fault : (text : List ℕ) → IsBoardText text ⊎ IsFaulty text
+board_or_fault text =
+    elim (begins version_line text) [
+      | inl h ↦ after_version text h.0 h.1
+      | inr never ↦ inr (1, Version, λ f. cc, (refl, λ u more all e. never (more, e)))
+    ]

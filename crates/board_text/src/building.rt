@@ -1,0 +1,96 @@
+//! Making a board of its parts.
+
+ghost use Rattle.std.specs.Prelude.{◌≡◌, ◌↔◌, IsTrue, [], MatchResult, IfOk, IfErr, OnOk};
+ghost use Rattle.board_text.specs.Ranges.{AreNumbers};
+ghost use Rattle.board_text.specs.PlainBoard.{plain_board, IsBoard, ArePairs};
+ghost use Rattle.board_text.specs.BoardText.{board_text};
+ghost use Rattle.board_text.specs.BoardFaults.{HasFault};
+ghost use Rattle.board_text.specs.Misfits.{HasMisfit};
+ghost use Rattle.board_text.specs.declared.fault.BoardKind.TheVariants.{Memory as OutOfMemory};
+
+use crate::board::Board;
+use crate::domination::Domination;
+use crate::fault::{BoardFault, BoardKind};
+use crate::pairs::pair_fault;
+use std::alloc::Global;
+
+impl Board {
+    /// The board of these parts, or the fault that the text of the same content has: at line 2, 3 or 4, or at line
+    /// 5 + i for the pair number i, counted from 0. Memory is taken after the third line.
+    pub fn build(
+        alloc: Global,
+        labels: u16,
+        pebbles: u8,
+        start: &[u16],
+        pairs: &[(u16, u16)],
+    ) -> Result<Board, BoardFault>
+        // What is built is a board, and of these parts.
+        ensures found { IfOk result (λ board. IsBoard board × (board ≡ plain_board labels pebbles start.now pairs.now)) }
+        // The parts of a board are built, unless memory runs out.
+        ensures only { IsBoard (plain_board labels pebbles start.now pairs.now)
+            → MatchResult result (λ board. board ≡ plain_board labels pebbles start.now pairs.now) (λ fault. fault.kind ≡ OutOfMemory) }
+        // Which fault it is.
+        ensures fault { IfErr result (λ fault. HasFault (board_text (plain_board labels pebbles start.now pairs.now)) fault.line fault.kind) }
+    {
+        build_parts(alloc, labels, pebbles, start, pairs)
+    }
+}
+
+fn build_parts(
+    alloc: Global,
+    labels: u16,
+    pebbles: u8,
+    start: &[u16],
+    pairs: &[(u16, u16)],
+) -> Result<Board, BoardFault>
+    ensures found { IfOk result (λ board. IsBoard board × (board ≡ plain_board labels pebbles start.now pairs.now)) }
+    ensures fault { IfErr result (λ fault. HasFault (board_text (plain_board labels pebbles start.now pairs.now)) fault.line fault.kind) }
+{
+    if labels < 1 || labels > 256 {
+        return Err(BoardFault::at(2, BoardKind::Labels));
+    }
+    if pebbles < 1 || pebbles > 6 {
+        return Err(BoardFault::at(3, BoardKind::Pebbles));
+    }
+    let mut beats = Domination::new(alloc, labels)?;
+    let mut own_start = vec![in alloc; 0; usize::from(pebbles)]?;
+    if !is_start(labels, pebbles, start) {
+        return Err(BoardFault::at(4, BoardKind::Start));
+    }
+    own_start.copy_from_slice(start);
+    push_pairs(&mut beats, pairs)?;
+    Ok(Board {
+        pebbles,
+        start: own_start,
+        beats,
+    })
+}
+
+/// Whether the list has a label for each pebble.
+fn is_start(labels: u16, pebbles: u8, start: &[u16]) -> bool
+    ensures { IsTrue result ↔ AreNumbers pebbles labels start.now }
+{
+    start.len() == usize::from(pebbles) && start.iter().all(|label| *label < labels)
+}
+
+/// Lets the first label of each pair beat the second, unless a pair can't follow those before it.
+fn push_pairs(beats: &mut Domination, pairs: &[(u16, u16)]) -> Result<(), BoardFault>
+    requires { beats.old.pairs ≡ [] }
+    ensures labels { beats.new.labels ≡ beats.old.labels }
+    ensures pushed { OnOk result (ArePairs beats.old.labels pairs.now × (beats.new.pairs ≡ pairs.now)) }
+    ensures fault { IfErr result (λ fault. HasMisfit beats.old.labels pairs.now fault) }
+{
+    let labels = beats.labels();
+    let mut line = 5;
+    for &(x, y) in pairs {
+        if x >= labels || y >= labels {
+            return Err(BoardFault::at(line, BoardKind::Beats));
+        }
+        if let Some(kind) = pair_fault(beats, x, y) {
+            return Err(BoardFault::at(line, kind));
+        }
+        beats.push(x, y);
+        line += 1;
+    }
+    Ok(())
+}

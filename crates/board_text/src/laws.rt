@@ -1,0 +1,26 @@
+//! Laws of the texts of boards, each the contract of a function without a body.
+
+ghost use Rattle.std.specs.Prelude.{◌≡◌, ◌≢◌, ℕ, ◌⊎◌, List};
+ghost use Rattle.board_text.specs.PlainBoard.{PlainBoard, IsBoard};
+ghost use Rattle.board_text.specs.BoardText.{board_text};
+ghost use Rattle.board_text.specs.BoardFaults.{HasFault};
+ghost use Rattle.board_text.specs.Readings.{IsBoardText, IsFaulty};
+ghost use Rattle.board_text.specs.declared.fault.BoardKind.{BoardKind as Kind};
+ghost use Rattle.board_text.specs.declared.fault.BoardKind.TheVariants.{Memory as OutOfMemory};
+
+/// A text is that of one board at most.
+pub fn one_board()
+    ensures { (first : PlainBoard) → (second : PlainBoard) → IsBoard first → IsBoard second → board_text first ≡ board_text second → first ≡ second }
+{}
+
+/// A text has one fault at most, want of memory aside.
+pub fn one_fault()
+    ensures { (text : List ℕ) → (line : ℕ) → (kind : Kind) → (other_line : ℕ) → (other_kind : Kind) → kind ≢ OutOfMemory → other_kind ≢ OutOfMemory
+        → HasFault text line kind → HasFault text other_line other_kind → (line ≡ other_line) × (kind ≡ other_kind) }
+{}
+
+/// A text is that of a board or has a fault, want of memory aside, and not both.
+pub fn board_or_fault()
+    ensures either { (text : List ℕ) → IsBoardText text ⊎ IsFaulty text }
+    ensures not_both { (text : List ℕ) → IsBoardText text → IsFaulty text → ⊥ }
+{}
