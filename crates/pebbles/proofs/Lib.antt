@@ -1,3 +1,4 @@
 pub mod EndLines
 pub mod Labels
 pub mod Unanswered
+pub mod Meanings

@@ -12,11 +12,12 @@ ghost use Rattle.pebbles.specs.Run.{IsAnswered, IsVerdict, CannotAnswer, CannotR
 use crate::joined::front_len;
 use crate::output::line;
 use crate::running::{RunFault, Verdict};
-use board_text::{Board, BoardFault, BoardKind};
+use board_text::{Board, BoardKind};
 use positions::Space;
 use proof_check::{CheckFault, check};
-use proof_text::{Proof, ProofFault, ProofKind};
+use proof_text::{Proof, ProofKind};
 use std::alloc::Global;
+use std::thread::Threads;
 
 /// A verdict, and the line that says it.
 #[derive(Drop)]
@@ -26,7 +27,11 @@ pub(crate) struct Answer {
 }
 
 /// The verdict on a board's document behind the board, and its line.
-pub(crate) fn answer_to(alloc: Global, text: &[u8]) -> Result<Answer, RunFault>
+pub(crate) fn answer_to(
+    rt: &(impl Threads + Sync),
+    alloc: Global,
+    text: &[u8],
+) -> Result<Answer, RunFault>
     ensures answered { IfOk result (λ answer. IsAnswered text.now answer.verdict (string_bytes answer.line)) }
     ensures fault { IfErr result (CannotAnswer text.now) }
 {
@@ -36,7 +41,7 @@ pub(crate) fn answer_to(alloc: Global, text: &[u8]) -> Result<Answer, RunFault>
         return Err(RunFault::TooLarge);
     };
     let proof = proof_of(alloc, &space, rest)?;
-    let verdict = verdict_on(alloc, &board, &proof)?;
+    let verdict = verdict_on(rt, alloc, &board, &proof)?;
     let Ok(line) = line(alloc, &space, verdict) else {
         return Err(RunFault::Memory);
     };
@@ -71,14 +76,19 @@ fn proof_of(alloc: Global, space: &Space, text: &[u8]) -> Result<Proof, RunFault
 }
 
 /// The verdict on the document.
-fn verdict_on(alloc: Global, board: &Board, proof: &Proof) -> Result<Verdict, RunFault>
+fn verdict_on(
+    rt: &(impl Threads + Sync),
+    alloc: Global,
+    board: &Board,
+    proof: &Proof,
+) -> Result<Verdict, RunFault>
     requires few { configurations board.now ≤ most_configurations }
     requires document { IsDocument board.now proof.now }
     ensures verdict { IfOk result (IsVerdict board.now (plain_proof board.now proof.now)) }
     ensures named { IfOk result (NamesRanksOf board.now) }
     ensures memory { IfErr result IsMemory }
 {
-    match check(alloc, board, proof) {
+    match check(rt, alloc, board, proof) {
         Ok(shown) => Ok(Verdict::Accepted(shown)),
         Err(CheckFault::Memory) => Err(RunFault::Memory),
         Err(fault) => Ok(Verdict::Refused(fault)),

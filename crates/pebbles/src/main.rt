@@ -7,6 +7,7 @@
 
 mod answering;
 mod joined;
+mod laws;
 mod output;
 mod running;
 
@@ -25,7 +26,7 @@ fn main(rt: HostRuntime) -> ExitCode {
     }
     let mut reader = Through::new(rt.stdin());
     let mut writer = Through::new(rt.stdout());
-    match run_joined(rt.alloc(), &mut reader, &mut writer) {
+    match run_joined(&rt, rt.alloc(), &mut reader, &mut writer) {
         Ok(Verdict::Accepted(_)) => ExitCode::SUCCESS,
         Ok(Verdict::Refused(_)) => ExitCode::from(3),
         Err(fault) => {

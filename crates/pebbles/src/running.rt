@@ -9,6 +9,7 @@ use board_text::{BoardFault, Failed, ReadFault, Sink, Source, read_all, write_al
 use proof_check::{CheckFault, Shown};
 use proof_text::ProofFault;
 use std::alloc::Global;
+use std::thread::Threads;
 use thiserror::Error;
 
 /// What a check says of a document.
@@ -56,6 +57,7 @@ pub const MAX_JOINED_BYTES: usize = 134_217_728;
 ///
 /// The reader and the writer must not have failed before. After a fault nothing was written, but for `Write`, after which a front of the line was.
 pub fn run_joined<R: Source, W: Sink>(
+    rt: &(impl Threads + Sync),
     alloc: Global,
     reader: &mut R,
     writer: &mut W,
@@ -74,7 +76,7 @@ pub fn run_joined<R: Source, W: Sink>(
         Err(ReadFault::Read) => return Err(RunFault::Read),
         Err(ReadFault::Limit) => return Err(RunFault::Limit),
     };
-    let answer = answer_to(alloc, text.as_slice())?;
+    let answer = answer_to(rt, alloc, text.as_slice())?;
     match write_all(writer, answer.line.as_bytes()) {
         Ok(()) => Ok(answer.verdict),
         Err(Failed) => Err(RunFault::Write),

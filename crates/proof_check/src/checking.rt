@@ -18,6 +18,7 @@ use board_text::Board;
 use positions::{MAX_CONFIGURATIONS, Space};
 use proof_text::{AdversaryRow, Claim, LabellerRow, Proof, Turns};
 use std::alloc::Global;
+use std::thread::Threads;
 
 /// A claim that a document has shown.
 #[derive(Clone, Copy, Debug, PartialEq, Eq)]
@@ -26,7 +27,12 @@ pub struct Shown {
 }
 
 /// The claim of the document, if its rows show it, or the first fault in the order of checking.
-pub fn check(alloc: Global, board: &Board, proof: &Proof) -> Result<Shown, CheckFault>
+pub fn check(
+    _rt: &(impl Threads + Sync),
+    alloc: Global,
+    board: &Board,
+    proof: &Proof,
+) -> Result<Shown, CheckFault>
     requires few { configurations board.now ≤ MAX_CONFIGURATIONS }
     requires document { IsDocument board.now proof.now }
     // What is shown is the document's claim.

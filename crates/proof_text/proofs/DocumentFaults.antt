@@ -1,7 +1,6 @@
 -- From the parts of a text to its fault.
-use Rattle.std.proofs.Common.{◌≡◌, ℕ, ◌+◌, ◌<◌, ◌≤◌, Bool, true, false, cond, List, [], ◌∷◌, ◌++◌, length, map, refl, sym, ap, subst, ◌∙◌, append_assoc, arith, inl, inr}
+use Rattle.std.proofs.Common.{◌≡◌, ℕ, ◌+◌, Bool, cond, List, [], ◌∷◌, ◌++◌, length, refl, sym, ap, ◌∙◌, append_assoc, inl, inr}
 use Rattle.std.proofs.lemmas.List.{length-map}
-use Rattle.board_text.specs.LineForms.{Lacks}
 use Rattle.board_text.specs.PlainBoard.{PlainBoard}
 use Rattle.positions.specs.declared.claim.Claim.{Claim}
 use Rattle.positions.specs.Table.{AnswerRow, RequestRow}
@@ -9,8 +8,8 @@ use Rattle.proof_text.specs.declared.fault.ProofKind.{ProofKind}
 use Rattle.proof_text.specs.declared.fault.ProofKind.TheVariants as kinds
 use Rattle.proof_text.specs.declared.proof.LabellerRow.{LabellerRow}
 use Rattle.proof_text.specs.declared.proof.AdversaryRow.{AdversaryRow}
-use Rattle.proof_text.specs.Proof.{PlainProof, IsProof, IsClaim, AreAnswerRows, AreRequestRows, asks_labeller, asks_adversary, answer_row, request_row, answer_rows, request_rows}
-use Rattle.proof_text.specs.ProofText.{version_line, claim_line, head, labeller_section, adversary_section, front, end_line, proof_text, labeller_lines, adversary_lines}
+use Rattle.proof_text.specs.Proof.{PlainProof, IsProof, IsClaim, asks_labeller, asks_adversary, answer_row, request_row, answer_rows, request_rows}
+use Rattle.proof_text.specs.ProofText.{version_line, claim_line, head, labeller_section, adversary_section, front, end_line, labeller_lines, adversary_lines}
 use Rattle.proof_text.specs.ProofFaults.{LabellerFault, AdversaryFault, HasFault, end_number}
 use Rattle.proof_text.specs.Reading.{LabellerPartRead, AdversaryPartRead}
 

@@ -1,14 +1,11 @@
 -- A text is the text of one document at most, and then it has no fault.
-use Rattle.std.proofs.Common.{◌≡◌, ◌≢◌, ℕ, ◌+◌, ◌-◌, ◌^◌, ◌<◌, ◌≤◌, Bool, true, false, cond, List, [], ◌∷◌, ◌++◌, length, get_or, All, AllPairs, refl, sym, ap, subst, ◌∙◌, append_assoc, arith, inl, inr}
+use Rattle.std.proofs.Common.{◌≡◌, ℕ, ◌+◌, ◌<◌, ◌≤◌, Bool, true, false, cond, List, [], ◌∷◌, ◌++◌, length, get_or, All, AllPairs, refl, sym, ap, subst, ◌∙◌, append_assoc, arith, inl, inr}
 use Rattle.std.specs.Prelude.{codes, Result, Ok, Err, IfOk, IfErr, MatchResult}
 use Rattle.std.specs.List.{flat_map, AllByRecursion}
-use Rattle.std.proofs.lemmas.Bool.{cases_Bool, both_ways}
 use Rattle.std.proofs.lemmas.List.{append_cancel_left, append-nil, length-append, nil_from_length, get_or_at}
 use Rattle.std.proofs.lemmas.List.Elements.{recursion_from_All}
-use Rattle.board_text.specs.LineForms.{Lacks}
 use Rattle.board_text.proofs.Lines.{number_line_unique}
 use Rattle.board_text.specs.LineForms.{number_line}
-use Rattle.board_text.specs.Ranges.{InRange}
 use Rattle.board_text.specs.PlainBoard.{PlainBoard, IsBoard}
 use Rattle.positions.specs.declared.claim.Claim.{Claim}
 use Rattle.positions.specs.declared.claim.Claim.TheVariants.{Exactly, AtLeast, AtMost, Forever}
@@ -17,9 +14,9 @@ use Rattle.proof_text.specs.declared.fault.ProofFault.{ProofFault}
 use Rattle.proof_text.specs.declared.fault.ProofKind.{ProofKind}
 use Rattle.proof_text.specs.declared.fault.ProofKind.TheVariants as kinds
 use Rattle.proof_text.specs.declared.proof.Proof.{Proof}
-use Rattle.proof_text.specs.Proof.{PlainProof, IsProof, IsDocument, plain_proof, IsClaim, IsBefore, AreRows, AreAnswerRows, AreRequestRows, IsAnswerRow, IsRequestRow, asks_labeller, asks_adversary, most_rows, greatest_number}
-use Rattle.proof_text.specs.ProofText.{version_line, claim_line, head, labeller_line, adversary_line, answer_line, request_line, labeller_section, adversary_section, front, end_line, proof_text}
-use Rattle.proof_text.specs.ProofFaults.{MayFollow, RowsCome, InSection, InLabeller, InAdversary, AnswerRowFault, RequestRowFault, LabellerFault, AdversaryFault, HasFault}
+use Rattle.proof_text.specs.Proof.{PlainProof, IsProof, IsDocument, plain_proof, IsClaim, IsBefore, AreRows, AreAnswerRows, AreRequestRows, IsAnswerRow, IsRequestRow, asks_labeller, asks_adversary}
+use Rattle.proof_text.specs.ProofText.{version_line, claim_line, head, answer_line, request_line, labeller_section, adversary_section, front, end_line, proof_text}
+use Rattle.proof_text.specs.ProofFaults.{MayFollow, RowsCome, InSection, AnswerRowFault, RequestRowFault, LabellerFault, AdversaryFault, HasFault}
 use Rattle.proof_text.proofs.OneRow.{answer_unique, request_unique, no_answer_fault, no_request_fault}
 
 -- ---- the claim
@@ -99,7 +96,6 @@ is_row : {X : Type 0} (IsRow : X → Type 0) (rows : List X) (m : X) (ms : List 
 is_row {X} IsRow rows m ms each =
     let h = each (length rows) m (omega (arith, length-append rows (m ∷ ms))) in
     rw (get_or_at rows m ms m (length rows) refl) at h
-
 
 -- what is left of the rows of a section, where one of them has the fault
 next_row : {X : Type 0} (board : PlainBoard) (IsRow : X → Type 0) (at : X → List ℕ) (line : X → List ℕ) (RowFault : (List ℕ → Type 0) → List ℕ → ProofKind → Type 0) (rows all more : List X) (rest tail : List ℕ) (kind : ProofKind)

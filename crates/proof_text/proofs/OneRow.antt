@@ -1,15 +1,14 @@
 -- A row has one reading.
-use Rattle.std.proofs.Common.{◌≡◌, ◌≢◌, ℕ, ◌+◌, ◌^◌, ◌<◌, ◌≤◌, ◌⊎◌, List, [], ◌∷◌, ◌++◌, length, map, get_or, All, refl, sym, ap, subst, ◌∙◌, append_assoc, arith, inl, inr}
+use Rattle.std.proofs.Common.{◌≡◌, ℕ, ◌^◌, ◌<◌, ◌≤◌, List, [], ◌∷◌, ◌++◌, length, map, get_or, All, refl, sym, ap, subst, ◌∙◌, arith, inl, inr}
 use Rattle.std.specs.Prelude.{codes}
 use Rattle.std.specs.Fmt.{decimal}
-use Rattle.std.specs.List.{AllByRecursion}
 use Rattle.std.specs.Str.Parse.{IsNumeral}
 use Rattle.std.proofs.lemmas.Fmt.{decimal_is_IsNumeral, decimal_injective}
 use Rattle.std.proofs.lemmas.List.{append_cancel_left, append-nil, length-append, nil_from_length, length-map, get_or-map}
 use Rattle.board_text.specs.Ranges.{AreNumbers}
-use Rattle.board_text.specs.LineForms.{NoDigit, spaced}
+use Rattle.board_text.specs.LineForms.{spaced}
 use Rattle.board_text.specs.Numerals.{spaced_texts, AreTexts, SpellsBelow}
-use Rattle.board_text.specs.PlainBoard.{PlainBoard, IsBoard, IsConfiguration}
+use Rattle.board_text.specs.PlainBoard.{PlainBoard, IsBoard}
 use Rattle.board_text.proofs.Lines.{spaced_split, small_numbers}
 use Rattle.positions.specs.declared.claim.Claim.{Claim}
 use Rattle.positions.specs.declared.turns.Turns.{Turns}
@@ -21,19 +20,20 @@ use Rattle.proof_text.specs.Proof.{AreTurns, IsAnswerRow, IsRequestRow}
 use Rattle.proof_text.specs.ProofText.{turns_text, answer_line, request_line}
 use Rattle.proof_text.specs.RowWords.{AnswerWords, RequestWords, IsTurnsText, AreAnswerWords, AreRequestWords, answer_words_line, request_words_line}
 use Rattle.proof_text.specs.ProofFaults.{AnswerRowFault, RequestRowFault}
-use Rattle.proof_text.proofs.Words.{no_digit_space, no_digit_lf, no_star, turns_unique, texts_unique, position_unique, numerals_unique, answer_parts, request_parts}
+use Rattle.proof_text.proofs.Words.{no_digit_space, no_digit_lf, turns_unique, texts_unique, position_unique, numerals_unique, answer_parts, request_parts}
 use Rattle.proof_text.proofs.Spelled.{count_small, star_is_no_number}
 use Rattle.proof_text.proofs.RowLemmas.{spaced_numbers}
 
 -- ---- the words of a row that was written
 
 decimals_are_texts : (count bound : ℕ) (numbers : List ℕ) → bound ≤ 2 ^ 32 → AreNumbers count bound numbers → AreTexts count (map decimal numbers)
-decimals_are_texts count bound numbers small are =
-    (length-map numbers decimal ∙ are.0,
-     λ k d lt.
-     let inside : k < length numbers = omega (arith, lt, length-map numbers decimal) in
-     let below : get_or numbers k 0 < bound = are.1 k 0 inside in
-     subst (λ (t : List ℕ). IsNumeral 10 t) (sym (get_or-map decimal numbers k 0 d inside)) (decimal_is_IsNumeral (get_or numbers k 0) (omega (arith, below, small))).0)
+decimals_are_texts count bound numbers small are = (
+  length-map numbers decimal ∙ are.0,
+  λ k d lt.
+      let inside : k < length numbers = omega (arith, lt, length-map numbers decimal) in
+      let below : get_or numbers k 0 < bound = are.1 k 0 inside in
+      subst (λ (t : List ℕ). IsNumeral 10 t) (sym (get_or-map decimal numbers k 0 d inside)) (decimal_is_IsNumeral (get_or numbers k 0) (omega (arith, below, small))).0,
+)
 
 decimals_spell : (count bound : ℕ) (numbers : List ℕ) → AreNumbers count bound numbers → All (SpellsBelow bound) (map decimal numbers)
 decimals_spell count bound numbers are = λ k d lt.
@@ -99,10 +99,12 @@ pub answer_unique : (board : PlainBoard) (claim : Claim) (p q : AnswerRow) (x y 
 answer_unique board claim p q x y is_board is_p is_q e =
     let s = answer_words_unique board.pebbles (answer_words p) (answer_words q) x y (are_answer_words board claim p is_board is_p) (are_answer_words board claim q is_board is_q)
     (ap (λ (l : List ℕ). l ++ x) (answer_written p) ∙ e ∙ ap (λ (l : List ℕ). l ++ y) (sym (answer_written q))) in
-    let small = few_labels board is_board in
-    (same_answer p q (same_numbers board.pebbles board.labels p.at q.at small (is_p.at.each_pebble, is_p.at.each_label) (is_q.at.each_pebble, is_q.at.each_label) s.at)
-    (same_turns claim p.turns q.turns is_p.turns is_q.turns s.turns)
-    (same_numbers board.pebbles board.labels p.answers q.answers small is_p.answers is_q.answers s.take), s.rest)
+    let small = few_labels board is_board in (
+      same_answer p q (same_numbers board.pebbles board.labels p.at q.at small (is_p.at.each_pebble, is_p.at.each_label) (is_q.at.each_pebble, is_q.at.each_label) s.at)
+          (same_turns claim p.turns q.turns is_p.turns is_q.turns s.turns)
+          (same_numbers board.pebbles board.labels p.answers q.answers small is_p.answers is_q.answers s.take),
+      s.rest,
+    )
 
 -- where a row stands that may, there is no fault
 pub no_answer_fault : (board : PlainBoard) (claim : Claim) (MayStand : List ℕ → Type 0) (row : AnswerRow) (rest more : List ℕ) (kind : ProofKind) → IsBoard board → IsAnswerRow board claim row → MayStand row.at
@@ -111,8 +113,10 @@ no_answer_fault board claim MayStand row rest more kinds.Row is_board is may e l
     lacks (answer_words row) more (are_answer_words board claim row is_board is) (e ∙ ap (λ (l : List ℕ). l ++ more) (sym (answer_written row)))
 no_answer_fault board claim MayStand row rest more kinds.Label is_board is may e (words, has, wrong) =
     let s = answer_words_unique board.pebbles words (answer_words row) has.1 more has.0 (are_answer_words board claim row is_board is) (sym has.2 ∙ e ∙ ap (λ (l : List ℕ). l ++ more) (sym (answer_written row))) in
-    wrong (subst (λ (ts : List (List ℕ)). All (SpellsBelow board.labels) ts) (sym s.at) (decimals_spell board.pebbles board.labels row.at (is.at.each_pebble, is.at.each_label)),
-    subst (λ (ts : List (List ℕ)). All (SpellsBelow board.labels) ts) (sym s.take) (decimals_spell board.pebbles board.labels row.answers is.answers))
+    wrong (
+      subst (λ (ts : List (List ℕ)). All (SpellsBelow board.labels) ts) (sym s.at) (decimals_spell board.pebbles board.labels row.at (is.at.each_pebble, is.at.each_label)),
+      subst (λ (ts : List (List ℕ)). All (SpellsBelow board.labels) ts) (sym s.take) (decimals_spell board.pebbles board.labels row.answers is.answers),
+    )
 no_answer_fault board claim MayStand row rest more kinds.Number is_board is may e (words, has, at, take, wrong) =
     let s = answer_words_unique board.pebbles words (answer_words row) has.1 more has.0 (are_answer_words board claim row is_board is) (sym has.2 ∙ e ∙ ap (λ (l : List ℕ). l ++ more) (sym (answer_written row))) in
     wrong (row.turns, is.turns, s.turns)
@@ -171,10 +175,12 @@ same_request p q a t s =
 pub request_unique : (board : PlainBoard) (p q : RequestRow) (x y : List ℕ) → IsBoard board → IsRequestRow board p → IsRequestRow board q → request_line p ++ x ≡ request_line q ++ y → (p ≡ q) × (x ≡ y)
 request_unique board p q x y is_board is_p is_q e =
     let s = request_words_unique board.pebbles (request_words p) (request_words q) x y (are_request_words board p is_board is_p) (are_request_words board q is_board is_q)
-    (ap (λ (l : List ℕ). l ++ x) (request_written p) ∙ e ∙ ap (λ (l : List ℕ). l ++ y) (sym (request_written q))) in
-    (same_request p q (same_numbers board.pebbles board.labels p.at q.at (few_labels board is_board) (is_p.at.each_pebble, is_p.at.each_label) (is_q.at.each_pebble, is_q.at.each_label) s.at)
-    (decimal_injective p.left q.left (small_left board p is_p) (small_left board q is_q) s.left)
-    (decimal_injective p.request q.request (small_request board p is_board is_p) (small_request board q is_board is_q) s.ask), s.rest)
+    (ap (λ (l : List ℕ). l ++ x) (request_written p) ∙ e ∙ ap (λ (l : List ℕ). l ++ y) (sym (request_written q))) in (
+      same_request p q (same_numbers board.pebbles board.labels p.at q.at (few_labels board is_board) (is_p.at.each_pebble, is_p.at.each_label) (is_q.at.each_pebble, is_q.at.each_label) s.at)
+          (decimal_injective p.left q.left (small_left board p is_p) (small_left board q is_q) s.left)
+          (decimal_injective p.request q.request (small_request board p is_board is_p) (small_request board q is_board is_q) s.ask),
+      s.rest,
+    )
 
 pub no_request_fault : (board : PlainBoard) (MayStand : List ℕ → Type 0) (row : RequestRow) (rest more : List ℕ) (kind : ProofKind) → IsBoard board → IsRequestRow board row → MayStand row.at
     → rest ≡ request_line row ++ more → RequestRowFault board MayStand rest kind → ⊥

@@ -1,14 +1,13 @@
 -- From the words of a row to the row, or to its fault.
-use Rattle.std.proofs.Common.{◌≡◌, ℕ, ◌+◌, ◌-◌, ◌<◌, ◌≤◌, ◌⊎◌, Bool, true, false, List, [], ◌∷◌, ◌++◌, Option, Some, None, length, map, take, drop, replicate, get_or, All, refl, sym, ap, subst, ◌∙◌, arith, inl, inr, append_assoc}
+use Rattle.std.proofs.Common.{◌≡◌, ℕ, ◌+◌, ◌-◌, ◌<◌, ◌≤◌, ◌⊎◌, Bool, true, false, List, [], ◌∷◌, ◌++◌, Option, Some, None, length, map, take, drop, get_or, All, refl, sym, ap, subst, ◌∙◌, arith, inl, inr}
 use Rattle.std.specs.Fmt.{decimal}
-use Rattle.std.specs.List.{flat_map, AllByRecursion}
 use Rattle.std.proofs.lemmas.List.{length-map, get_or-map, length-take, take_at, get_or-append_right, get_or-drop, get_or-replicate, get_or_past}
 use Rattle.std.proofs.lemmas.Bool.{cases_lt}
-use Rattle.std.specs.Prelude.{not, Result, Ok, Err}
+use Rattle.std.specs.Prelude.{not, Ok}
 use Rattle.board_text.specs.Ranges.{AreNumbers}
 use Rattle.board_text.specs.LineForms.{spaced}
-use Rattle.board_text.specs.Numerals.{spaced_texts, AreTexts, SpellsBelow, SpellNumbers}
-use Rattle.board_text.specs.PlainBoard.{PlainBoard, IsConfiguration}
+use Rattle.board_text.specs.Numerals.{spaced_texts, SpellsBelow, SpellNumbers}
+use Rattle.board_text.specs.PlainBoard.{PlainBoard}
 use Rattle.positions.specs.declared.claim.Claim.{Claim}
 use Rattle.positions.specs.declared.turns.Turns.{Turns}
 use Rattle.positions.specs.Table.{AnswerRow, RequestRow}
@@ -17,12 +16,11 @@ use Rattle.positions.proofs.Ranks.{configuration_at-rank_of}
 use Rattle.proof_text.specs.declared.fault.ProofKind.TheVariants as kinds
 use Rattle.proof_text.specs.declared.row_words.AnswerValues.{AnswerValues}
 use Rattle.proof_text.specs.declared.row_words.RequestValues.{RequestValues}
-use Rattle.proof_text.specs.declared.proof.LabellerRow.{LabellerRow}
-use Rattle.proof_text.specs.Proof.{AreTurns, IsAnswerRow, IsRequestRow, IsPadded, answer_row, request_row, greatest_number, most_rows}
+use Rattle.proof_text.specs.Proof.{IsAnswerRow, IsRequestRow, answer_row, request_row, greatest_number, most_rows}
 use Rattle.proof_text.specs.ProofText.{turns_text, answer_line, request_line}
-use Rattle.proof_text.specs.RowWords.{AnswerWords, RequestWords, AreAnswerWords, AreRequestWords, answer_words_line, request_words_line}
-use Rattle.proof_text.specs.ProofFaults.{SpellLabels, SpellsTurns, AnswerRowFault, RequestRowFault}
-use Rattle.proof_text.specs.Reading.{TurnsOf, NumberOf, AnswerSpelled, TakesAnswerWords, RequestSpelled, TakesRequestWords, IsFrom, NextAnswerRow, NextRequestRow}
+use Rattle.proof_text.specs.RowWords.{AnswerWords, RequestWords, answer_words_line, request_words_line}
+use Rattle.proof_text.specs.ProofFaults.{AnswerRowFault, RequestRowFault}
+use Rattle.proof_text.specs.Reading.{TurnsOf, NumberOf, TakesAnswerWords, TakesRequestWords, IsFrom, NextAnswerRow, NextRequestRow}
 
 -- numbers spelled one after the other
 pub spaced_numbers : (numbers : List ℕ) → spaced_texts (map decimal numbers) ≡ spaced numbers
@@ -54,18 +52,24 @@ answer_sizes p q l m claim values at answers old new e f t = rw (← e, ← f) t
 
 pub answer_label : (board : PlainBoard) (claim : Claim) (values : AnswerValues) (at answers old new : List ℕ) (MayStand : List ℕ → Type 0)
     → TakesAnswerWords board.pebbles board.labels claim (Some values) at answers old new → (values.are_places ≡ false) ⊎ (values.are_answers ≡ false) → AnswerRowFault board claim MayStand old kinds.Label
-answer_label board claim values at answers old new MayStand (words, are, e, s) wrong =
-    (words, (are, new, e), λ all. elim wrong [
-      | inl places ↦ cases_unspelled board.labels words.at values.are_places at places s.places all.0
-      | inr taken ↦ cases_unspelled board.labels words.take values.are_answers answers taken s.taken all.1
-    ])
+answer_label board claim values at answers old new MayStand (words, are, e, s) wrong = (
+  words,
+  (are, new, e),
+  λ all. elim wrong [
+    | inl places ↦ cases_unspelled board.labels words.at values.are_places at places s.places all.0
+    | inr taken ↦ cases_unspelled board.labels words.take values.are_answers answers taken s.taken all.1
+  ],
+)
 
 pub answer_number : (board : PlainBoard) (claim : Claim) (values : AnswerValues) (at answers old new : List ℕ) (MayStand : List ℕ → Type 0)
     → TakesAnswerWords board.pebbles board.labels claim (Some values) at answers old new → values.are_places ≡ true → values.are_answers ≡ true → values.turns ≡ None → AnswerRowFault board claim MayStand old kinds.Number
-answer_number board claim values at answers old new MayStand (words, are, e, s) places taken none =
-    (words, (are, new, e), spelled_below board.labels words.at at (cases_spelled board.labels words.at values.are_places at places s.places),
-    spelled_below board.labels words.take answers (cases_spelled board.labels words.take values.are_answers answers taken s.taken),
-    subst (λ (t : Option Turns). TurnsOf claim words.turns t) none s.turns)
+answer_number board claim values at answers old new MayStand (words, are, e, s) places taken none = (
+  words,
+  (are, new, e),
+  spelled_below board.labels words.at at (cases_spelled board.labels words.at values.are_places at places s.places),
+  spelled_below board.labels words.take answers (cases_spelled board.labels words.take values.are_answers answers taken s.taken),
+  subst (λ (t : Option Turns). TurnsOf claim words.turns t) none s.turns,
+)
 
 -- a row was read
 pub record AnswerRead (board : PlainBoard) (claim : Claim) (row : AnswerRow) (old new : List ℕ) : Type 0 where
@@ -127,16 +131,22 @@ request_label board values at old new MayStand (words, are, e, s) wrong =
 
 pub request_pebble : (board : PlainBoard) (values : RequestValues) (at old new : List ℕ) (MayStand : List ℕ → Type 0)
     → TakesRequestWords board.pebbles board.labels (Some values) at old new → values.are_places ≡ true → values.ask ≡ None → RequestRowFault board MayStand old kinds.Pebble
-request_pebble board values at old new MayStand (words, are, e, s) places none =
-    (words, (are, new, e), spelled_below board.labels words.at at (cases_spelled board.labels words.at values.are_places at places s.places),
-    subst (λ (n : Option ℕ). NumberOf board.pebbles words.ask n) none s.pebble)
+request_pebble board values at old new MayStand (words, are, e, s) places none = (
+  words,
+  (are, new, e),
+  spelled_below board.labels words.at at (cases_spelled board.labels words.at values.are_places at places s.places),
+  subst (λ (n : Option ℕ). NumberOf board.pebbles words.ask n) none s.pebble,
+)
 
 pub request_number : (board : PlainBoard) (values : RequestValues) (at old new : List ℕ) (ask : ℕ) (MayStand : List ℕ → Type 0)
     → TakesRequestWords board.pebbles board.labels (Some values) at old new → values.are_places ≡ true → values.ask ≡ Some ask → values.left ≡ None → RequestRowFault board MayStand old kinds.Number
-request_number board values at old new ask MayStand (words, are, e, s) places some none =
-    (words, (are, new, e), spelled_below board.labels words.at at (cases_spelled board.labels words.at values.are_places at places s.places),
-    (let k : NumberOf board.pebbles words.ask (Some ask) = subst (λ (n : Option ℕ). NumberOf board.pebbles words.ask n) some s.pebble in (ask, k.0, k.1)),
-    subst (λ (n : Option ℕ). NumberOf (greatest_number + 1) words.left n) none s.number)
+request_number board values at old new ask MayStand (words, are, e, s) places some none = (
+  words,
+  (are, new, e),
+  spelled_below board.labels words.at at (cases_spelled board.labels words.at values.are_places at places s.places),
+  (let k : NumberOf board.pebbles words.ask (Some ask) = subst (λ (n : Option ℕ). NumberOf board.pebbles words.ask n) some s.pebble in (ask, k.0, k.1)),
+  subst (λ (n : Option ℕ). NumberOf (greatest_number + 1) words.left n) none s.number,
+)
 
 -- a row was read
 pub record RequestRead (board : PlainBoard) (row : RequestRow) (old new : List ℕ) : Type 0 where

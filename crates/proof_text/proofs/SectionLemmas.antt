@@ -1,8 +1,8 @@
 -- The rows of a section, one after the other.
-use Rattle.std.proofs.Common.{◌≡◌, ◌≢◌, ℕ, suc, ◌+◌, ◌-◌, ◌<◌, ◌≤◌, ◌↔◌, Bool, true, false, List, [], ◌∷◌, ◌++◌, length, get_or, take, map, All, AllPairs, refl, sym, ap, subst, ◌∙◌, arith, inl, inr, append_assoc}
+use Rattle.std.proofs.Common.{◌≡◌, ℕ, ◌+◌, ◌-◌, ◌<◌, ◌≤◌, List, [], ◌∷◌, ◌++◌, length, get_or, take, AllPairs, refl, sym, ap, subst, ◌∙◌, arith, inl, inr, append_assoc}
 use Rattle.std.specs.List.{flat_map}
 use Rattle.std.proofs.lemmas.Bool.{cases_lt}
-use Rattle.std.proofs.lemmas.List.{take_all, take_more, flat_map_more, length-append, length_push, get_or_at, map-append, length-map}
+use Rattle.std.proofs.lemmas.List.{take_all, take_more, flat_map_more, length_push, get_or_at, map-append, length-map}
 use Rattle.std.proofs.lemmas.List.Elements.{All-push, All-nil}
 use Rattle.std.proofs.lemmas.List.Quantifiers.{all_pairs_push}
 use Rattle.board_text.specs.PlainBoard.{PlainBoard}
@@ -14,7 +14,7 @@ use Rattle.proof_text.specs.declared.fault.ProofKind.{ProofKind}
 use Rattle.proof_text.specs.declared.fault.ProofKind.TheVariants as kinds
 use Rattle.proof_text.specs.declared.proof.LabellerRow.{LabellerRow}
 use Rattle.proof_text.specs.declared.proof.AdversaryRow.{AdversaryRow}
-use Rattle.proof_text.specs.Proof.{AreRows, IsBefore, most_rows, IsAnswerRow, IsRequestRow, IsPadded, answer_row, answer_rows, request_row, request_rows}
+use Rattle.proof_text.specs.Proof.{AreRows, IsBefore, most_rows, IsAnswerRow, IsRequestRow, answer_row, answer_rows, request_row, request_rows}
 use Rattle.proof_text.specs.ProofText.{labeller_line, answer_line, adversary_line, request_line}
 use Rattle.proof_text.specs.ProofFaults.{MayFollow, RowsCome, AnswerRowFault, RequestRowFault, InLabeller, InAdversary}
 use Rattle.proof_text.specs.Reading.{IsFrom, NextAnswerRow, NextRequestRow}
@@ -70,9 +70,10 @@ pub from_none : {X : Type 0} (board : PlainBoard) (at : X → List ℕ) → Foll
 from_none board at configuration = (λ h. omega arith, λ h. follows_none board at configuration)
 
 pub from_push : {X : Type 0} (board : PlainBoard) (at : X → List ℕ) (rows : List X) (row : X) (rank : ℕ) → rank_of board (at row) ≡ rank → FollowsFrom board at (rows ++ row ∷ []) (rank + 1)
-from_push board at rows row rank e configuration =
-    (λ h. let lt : rank_of board (at row) < rank_of board configuration = last_before board at rows row configuration h in omega (arith, e, lt),
-     λ h. follows_last board at rows row configuration (omega (arith, e, h)))
+from_push board at rows row rank e configuration = (
+  λ h. let lt : rank_of board (at row) < rank_of board configuration = last_before board at rows row configuration h in omega (arith, e, lt),
+  λ h. follows_last board at rows row configuration (omega (arith, e, h)),
+)
 
 -- one more row
 pub come_push : {X : Type 0} (board : PlainBoard) (IsRow : X → Type 0) (at : X → List ℕ) (section_line : ℕ → List ℕ) (row_line : X → List ℕ) (text : List ℕ) (count least : ℕ) (rows : List X) (row : X) (rest new : List ℕ)

@@ -1,5 +1,5 @@
 -- What the digits of a row spell.
-use Rattle.std.proofs.Common.{◌≡◌, ◌≢◌, ℕ, suc, ◌+◌, ◌^◌, ◌<◌, ◌≤◌, Bool, true, false, List, [], ◌∷◌, ◌++◌, Option, Some, None, refl, sym, ap, subst, ◌∙◌, arith}
+use Rattle.std.proofs.Common.{◌≡◌, ◌≢◌, ℕ, ◌+◌, ◌^◌, ◌<◌, ◌≤◌, true, false, List, [], ◌++◌, Option, Some, None, sym, ap, ◌∙◌, arith}
 use Rattle.std.specs.Prelude.{codes, MatchOption}
 use Rattle.std.specs.Option.{is_some}
 use Rattle.std.specs.Fmt.{decimal}
@@ -8,7 +8,7 @@ use Rattle.std.proofs.lemmas.Fmt.{decimal_is_IsNumeral, decimal_injective}
 use Rattle.std.proofs.lemmas.List.{append-nil}
 use Rattle.board_text.specs.declared.line_reader.Numeral.{Numeral}
 use Rattle.board_text.specs.declared.line_reader.Numeral.TheVariants.{Number, NoNumber}
-use Rattle.board_text.specs.Numerals.{Says, IsNumberIn, SpellsBelow}
+use Rattle.board_text.specs.Numerals.{Says, IsNumberIn}
 use Rattle.board_text.proofs.NumeralLemmas.{spells_none, spells_number}
 use Rattle.positions.specs.declared.claim.Claim.{Claim}
 use Rattle.positions.specs.declared.claim.Claim.TheVariants.{Exactly, AtLeast, AtMost, Forever}
@@ -16,7 +16,6 @@ use Rattle.positions.specs.declared.turns.Turns.{Turns}
 use Rattle.positions.specs.declared.turns.Turns.TheVariants.{Count, Always}
 use Rattle.proof_text.specs.Proof.{AreTurns, greatest_number}
 use Rattle.proof_text.specs.ProofText.{turns_text}
-use Rattle.proof_text.specs.ProofFaults.{SpellsTurns}
 use Rattle.proof_text.specs.Reading.{TurnsOf, NumberOf}
 use Rattle.proof_text.proofs.Words.{no_star}
 

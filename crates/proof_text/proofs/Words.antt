@@ -1,5 +1,5 @@
 -- How the words of a row come apart.
-use Rattle.std.proofs.Common.{◌≡◌, ◌≢◌, ℕ, ◌+◌, ◌<◌, ◌≤◌, ◌⊎◌, List, [], ◌∷◌, ◌++◌, length, get_or, refl, sym, ap, ◌∙◌, append_assoc, arith, inl, inr}
+use Rattle.std.proofs.Common.{◌≡◌, ℕ, ◌⊎◌, List, [], ◌∷◌, ◌++◌, length, get_or, sym, ap, ◌∙◌, append_assoc, arith, inl, inr}
 use Rattle.std.specs.Prelude.{codes}
 use Rattle.std.specs.Str.Parse.{IsNumeral}
 use Rattle.std.specs.Char.{IsAsciiDigit}
@@ -10,7 +10,6 @@ use Rattle.board_text.specs.LineForms.{NoDigit}
 use Rattle.board_text.specs.Numerals.{spaced_texts, AreTexts}
 use Rattle.board_text.proofs.Numbers.{digits_split}
 use Rattle.board_text.proofs.NumeralLemmas.{texts_split}
-use Rattle.board_text.proofs.Lines.{after}
 use Rattle.proof_text.specs.RowWords.{AnswerWords, RequestWords, IsTurnsText, AreAnswerWords, AreRequestWords, answer_words_line, request_words_line}
 use Rattle.proof_text.specs.Reading.{position_text}
 

@@ -1,5 +1,5 @@
 -- The faults of a document's text, in the order of the format.
-use Rattle.std.specs.Prelude.{◌≡◌, ℕ, ◌+◌, ◌<◌, ◌≤◌, ◌⊎◌, Bool, true, false, List, [], ◌∷◌, ◌++◌, length, All}
+use Rattle.std.specs.Prelude.{◌≡◌, ℕ, ◌+◌, ◌<◌, ◌≤◌, ◌⊎◌, true, false, List, [], ◌∷◌, ◌++◌, length, All}
 use Rattle.std.specs.List.{flat_map}
 use Rattle.board_text.specs.LineForms.{Lacks}
 use Rattle.board_text.specs.Ranges.{InRange}
@@ -61,7 +61,7 @@ RequestRowFault board MayStand rest kind = ⊥
 
 -- The head of a section of so many rows stands here, and these rows have come.
 pub record RowsCome {X : Type 0} (board : PlainBoard) (IsRow : X → Type 0) (at : X → List ℕ) (section_line : ℕ → List ℕ) (row_line : X → List ℕ)
-  (text : List ℕ) (count : ℕ) (rows : List X) (rest : List ℕ) : Type 0 where
+    (text : List ℕ) (count : ℕ) (rows : List X) (rest : List ℕ) : Type 0 where
   pub few : count ≤ most_rows
   pub come : length rows ≤ count
   pub are_rows : AreRows board IsRow at rows

@@ -1,5 +1,5 @@
 -- The words of a row, with digits in its places whether or not they spell numbers in range.
-use Rattle.std.specs.Prelude.{◌≡◌, ℕ, ◌⊎◌, List, [], ◌∷◌, ◌++◌, codes}
+use Rattle.std.specs.Prelude.{◌≡◌, ℕ, ◌⊎◌, List, ◌++◌, codes}
 use Rattle.std.specs.Str.Parse.{IsNumeral}
 use Rattle.board_text.specs.LineForms.{closed}
 use Rattle.board_text.specs.Numerals.{spaced_texts, AreTexts}

@@ -9,7 +9,7 @@ mod row_words;
 mod rows;
 mod sections;
 
-pub use parsing::parse;
 pub use fault::{ProofFault, ProofKind};
+pub use parsing::parse;
 pub use positions::{Claim, Turns};
 pub use proof::{AdversaryRow, LabellerRow, Proof};

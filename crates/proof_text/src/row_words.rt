@@ -6,7 +6,7 @@ ghost use Rattle.board_text.specs.declared.line_reader.Numeral.TheVariants.{Numb
 ghost use Rattle.proof_text.specs.Proof.{AreTurns};
 ghost use Rattle.proof_text.specs.Reading.{TakesPosition, TakesTurns, TakesAnswerWords, TakesRequestWords};
 
-use crate::proof::{MOST_TURNS};
+use crate::proof::MOST_TURNS;
 use board_text::line_reader::{LineReader, Numeral};
 use positions::{Claim, Turns};
 

@@ -5,34 +5,34 @@ use Rattle.proof_check.proofs.Refusing.{only_memory, names_ranks}
 use Rattle.proof_check.proofs.checking.check.Goals as goal
 
 pub new-requires : goal.new-requires
-new-requires c =
+new-requires g c =
     let board = c.args.board.now in
     let ready = are_answering board (rw c.in-Ok.ensures.same_board at c.configurations-size.ensures.is_board) c.args.proof.now.claim c.args.proof.now.labeller.items c.requires.document.is_proof.labeller in
     rw (c.configurations-size.ensures.value, c.in-Ok.ensures.same_board, c.deref.ensures.value) ready.ranked
 
 pub new-requires-2 : goal.new-requires-2
-new-requires-2 c =
+new-requires-2 g c =
     let board = c.args.board.now in
     let ready = are_requesting board (rw c.in-Ok.ensures.same_board at c.configurations-size.ensures.is_board) c.args.proof.now.adversary.items c.requires.document.is_proof.adversary in
     rw (c.configurations-size.ensures.value, c.in-Ok.ensures.same_board, c.deref-2.ensures.value) ready.ranked
 
 pub first_fault-requires-clause-answering : goal.first_fault-requires-clause-answering
-first_fault-requires-clause-answering c =
+first_fault-requires-clause-answering g c =
     are_answering c.args.board.now (rw c.in-Ok.ensures.same_board at c.configurations-size.ensures.is_board) c.args.proof.now.claim c.args.proof.now.labeller.items c.requires.document.is_proof.labeller
 
 pub first_fault-requires-clause-requesting : goal.first_fault-requires-clause-requesting
-first_fault-requires-clause-requesting c =
+first_fault-requires-clause-requesting g c =
     are_requesting c.args.board.now (rw c.in-Ok.ensures.same_board at c.configurations-size.ensures.is_board) c.args.proof.now.adversary.items c.requires.document.is_proof.adversary
 
 pub returns-in-Some-clause-accepts : goal.returns-in-Some-clause-accepts
-returns-in-Some-clause-accepts c = λ rules. only_memory c.args.board.now (plain_proof c.args.board.now c.args.proof.now) c.in-Some.fault rules c.in-Some.ensures
+returns-in-Some-clause-accepts g c = λ rules. only_memory c.args.board.now (plain_proof c.args.board.now c.args.proof.now) c.in-Some.fault rules c.in-Some.ensures
 
 pub returns-clause-shows : goal.returns-clause-shows
-returns-clause-shows c = shows c.args.board.now (plain_proof c.args.board.now c.args.proof.now) c.requires.document.is_proof c.in-None.ensures
+returns-clause-shows g c = shows c.args.board.now (plain_proof c.args.board.now c.args.proof.now) c.requires.document.is_proof c.in-None.ensures
 
 pub returns-in-Some-clause-named : goal.returns-in-Some-clause-named
-returns-in-Some-clause-named c =
+returns-in-Some-clause-named g c =
     names_ranks c.args.board.now (plain_proof c.args.board.now c.args.proof.now) c.in-Some.fault c.requires.document.is_proof c.in-Some.ensures
 
 pub unreachable-requires : goal.unreachable-requires
-unreachable-requires c = omega (arith, c.requires.few, c.in_default.ensures.too_large)
+unreachable-requires g c = omega (arith, c.requires.few, c.in_default.ensures.too_large)

@@ -1,4 +1,4 @@
-use Rattle.std.proofs.Common.{◌++◌, ◌∷◌, ◌≡◌, ◌∙◌, refl, sym, arith}
+use Rattle.std.proofs.Common.{◌++◌, ◌∷◌, ◌∙◌, sym}
 use Rattle.std.specs.Prelude.{codes}
 use Rattle.board_text.specs.Numerals.{spaced_texts}
 use Rattle.board_text.proofs.Lines.{after}

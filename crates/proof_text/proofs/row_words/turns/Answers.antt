@@ -1,4 +1,4 @@
-use Rattle.std.proofs.Common.{◌≡◌, refl, sym, ◌∙◌, inl, inr, arith}
+use Rattle.std.proofs.Common.{refl, sym, ◌∙◌, inl, inr}
 use Rattle.std.specs.Prelude.{codes}
 use Rattle.proof_text.proofs.Spelled.{turns_star, turns_digits, taken_star, not_taken}
 use Rattle.proof_text.proofs.row_words.turns.Goals as goal

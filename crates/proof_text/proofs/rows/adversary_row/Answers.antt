@@ -1,4 +1,4 @@
-use Rattle.std.proofs.Common.{◌≡◌, ◌≤◌, ◌++◌, ℕ, List, length, take, drop, ap, sym, ◌∙◌, arith}
+use Rattle.std.proofs.Common.{drop, ap, sym, ◌∙◌}
 use Rattle.positions.specs.Ranks.{rank_of}
 use Rattle.proof_text.specs.Reading.{IsFrom}
 use Rattle.proof_text.proofs.RowLemmas.{request_sizes, request_label, request_pebble, request_number, request_read, request_order, request_next, six_zeros, not_false, not_true, front_written}

@@ -1,4 +1,4 @@
-use Rattle.std.proofs.Common.{◌≡◌, ◌≤◌, ◌++◌, ℕ, List, length, take, drop, ap, sym, ◌∙◌, inl, inr, arith}
+use Rattle.std.proofs.Common.{◌≤◌, drop, ap, sym, ◌∙◌, inl, inr, arith}
 use Rattle.positions.specs.Ranks.{rank_of}
 use Rattle.proof_text.specs.Reading.{IsFrom}
 use Rattle.proof_text.proofs.RowLemmas.{answer_sizes, answer_label, answer_number, answer_read, answer_order, answer_next, six_zeros, zero_behind, places_taken, not_false, not_true, front_written}

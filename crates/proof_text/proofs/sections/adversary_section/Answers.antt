@@ -1,7 +1,5 @@
-use Rattle.std.proofs.Common.{◌≡◌, ◌+◌, ◌++◌, ◌∷◌, [], ℕ, List, length, map, refl, sym, ap, subst, ◌∙◌, arith}
-use Rattle.std.specs.Prelude.{is_ok, is_err}
-use Rattle.std.proofs.lemmas.List.{map-append, length-map, length_push}
-use Rattle.positions.specs.Table.{RequestRow}
+use Rattle.std.proofs.Common.{◌≡◌, ◌+◌, ◌++◌, ◌∷◌, [], ℕ, length, refl, ap, ◌∙◌, arith}
+use Rattle.std.proofs.lemmas.List.{length-map, length_push}
 use Rattle.proof_text.specs.Proof.{IsRequestRow, request_rows, request_row}
 use Rattle.proof_text.specs.ProofText.{adversary_line, request_line}
 use Rattle.proof_text.proofs.SectionLemmas.{come_none, requests_push, request_fault_in}

@@ -1,4 +1,4 @@
-use Rattle.std.proofs.Common.{◌≡◌, ◌≤◌, length, All}
+use Rattle.std.proofs.Common.{◌≡◌, ◌≤◌, length}
 use Rattle.proof_text.specs.Proof.{IsRequestRow, request_rows, most_rows}
 use Rattle.proof_text.specs.ProofText.{adversary_line, request_line}
 use Rattle.proof_text.specs.ProofFaults.{RowsCome}

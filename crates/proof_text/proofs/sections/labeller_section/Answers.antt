@@ -1,8 +1,6 @@
-use Rattle.std.proofs.Common.{◌≡◌, ◌+◌, ◌++◌, ◌∷◌, [], ℕ, List, length, map, refl, sym, ap, subst, ◌∙◌, arith}
-use Rattle.std.specs.Prelude.{is_ok, is_err}
-use Rattle.std.proofs.lemmas.List.{map-append, length-map, length_push}
+use Rattle.std.proofs.Common.{◌≡◌, ◌+◌, ◌++◌, ◌∷◌, [], ℕ, length, refl, ap, ◌∙◌, arith}
+use Rattle.std.proofs.lemmas.List.{length-map, length_push}
 use Rattle.std.proofs.lemmas.List.Elements.{All-push}
-use Rattle.positions.specs.Table.{AnswerRow}
 use Rattle.proof_text.specs.Proof.{IsAnswerRow, answer_rows, answer_row, IsPadded}
 use Rattle.proof_text.specs.ProofText.{labeller_line, answer_line}
 use Rattle.proof_text.proofs.SectionLemmas.{come_none, answers_push, answer_fault_in}
