@@ -36,6 +36,7 @@ impl Board {
     }
 }
 
+/// The same. What `only` says of it follows from the other two clauses.
 fn build_parts(
     alloc: Global,
     labels: u16,
@@ -46,10 +47,10 @@ fn build_parts(
     ensures found { IfOk result (λ board. IsBoard board × (board ≡ plain_board labels pebbles start.now pairs.now)) }
     ensures fault { IfErr result (λ fault. HasFault (board_text (plain_board labels pebbles start.now pairs.now)) fault.line fault.kind) }
 {
-    if labels < 1 || labels > 256 {
+    if labels == 0 || labels > 256 {
         return Err(BoardFault::at(2, BoardKind::Labels));
     }
-    if pebbles < 1 || pebbles > 6 {
+    if pebbles == 0 || pebbles > 6 {
         return Err(BoardFault::at(3, BoardKind::Pebbles));
     }
     let mut beats = Domination::new(alloc, labels)?;

@@ -99,11 +99,6 @@ impl Domination {
         set_pair(self.labels, self.rows.as_mut_slice(), x, y);
         self.next = place + 1;
     }
-}
-
-impl Domination {
-    ghost use Rattle.std.specs.List.{flat_map};
-    ghost use Rattle.board_text.specs.BoardText.{beats_line};
 
     /// Writes a line for each pair, ascending.
     pub(crate) fn write_lines(&self, text: &mut String) -> Result<(), AllocError>

@@ -9,7 +9,7 @@ use crate::domination::Domination;
 use crate::fault::BoardKind;
 
 /// What is wrong with a pair that is to follow those so far.
-pub fn pair_fault(beats: &Domination, x: u16, y: u16) -> Option<BoardKind>
+pub(crate) fn pair_fault(beats: &Domination, x: u16, y: u16) -> Option<BoardKind>
     requires { AreLabels beats.now.labels (x, y) }
     ensures { MatchOption result (CanFollow beats.now.labels beats.now.pairs (x, y)) (λ kind. Misfits beats.now.labels beats.now.pairs (x, y) kind) }
 {

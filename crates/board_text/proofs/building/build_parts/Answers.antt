@@ -6,15 +6,15 @@ use Rattle.board_text.specs.PlainBoard.{plain_board}
 use Rattle.board_text.proofs.Misfitting.{labels_fault, pebbles_fault, memory_fault, start_fault, parts_fault}
 use Rattle.board_text.proofs.building.build_parts.Goals as goal
 
-pub returns-then-labels-lt1-clause-fault : goal.returns-then-labels-lt1-clause-fault
-returns-then-labels-lt1-clause-fault c =
+pub returns-then-labels-eq0-clause-fault : goal.returns-then-labels-eq0-clause-fault
+returns-then-labels-eq0-clause-fault c =
     let b = plain_board c.args.labels c.args.pebbles c.args.start.now c.args.pairs.now in
-    rw c.at.ensures (labels_fault b (omega arith) (λ h. elim c.then-labels-lt1.either [ inl w ↦ omega (arith, w, h.0) | inr w ↦ omega (arith, w, h.1) ]))
+    rw c.at.ensures (labels_fault b (omega arith) (λ h. elim c.then-labels-eq0.either [ inl w ↦ omega (arith, w, h.0) | inr w ↦ omega (arith, w, h.1) ]))
 
-pub returns-then-pebbles-lt1-clause-fault : goal.returns-then-pebbles-lt1-clause-fault
-returns-then-pebbles-lt1-clause-fault c =
+pub returns-then-pebbles-eq0-clause-fault : goal.returns-then-pebbles-eq0-clause-fault
+returns-then-pebbles-eq0-clause-fault c =
     let b = plain_board c.args.labels c.args.pebbles c.args.start.now c.args.pairs.now in
-    rw c.at-then-pebbles-lt1.ensures (pebbles_fault b (omega arith, omega arith) (omega arith) (λ h. elim c.then-pebbles-lt1.either [ inl w ↦ omega (arith, w, h.0) | inr w ↦ omega (arith, w, h.1) ]))
+    rw c.at-then-pebbles-eq0.ensures (pebbles_fault b (omega arith, omega arith) (omega arith) (λ h. elim c.then-pebbles-eq0.either [ inl w ↦ omega (arith, w, h.0) | inr w ↦ omega (arith, w, h.1) ]))
 
 pub returns-in_err-beats-clause-fault : goal.returns-in_err-beats-clause-fault
 returns-in_err-beats-clause-fault c =
