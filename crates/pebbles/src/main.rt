@@ -6,10 +6,14 @@
 #![tactic(auto)]
 
 mod answering;
+#[cfg(test)]
+mod fakes;
 mod joined;
 mod laws;
 mod output;
 mod running;
+#[cfg(test)]
+mod tests;
 
 use board_text::Through;
 use running::{RunFault, Verdict, run_joined};

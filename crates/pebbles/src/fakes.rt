@@ -1,0 +1,116 @@
+//! Readers and writers that give and take one byte a call, and fail when they are told to.
+
+ghost use Rattle.std.specs.Prelude.{◌≡◌, ◌≤◌, Some, take, false};
+
+use board_text::{Failed, Sink, Source};
+
+/// Gives one byte a call. Once its good calls are used up, a call fails.
+#[derive(Drop)]
+pub struct Drip<'a> {
+    rest: &'a [u8],
+    good_calls: usize,
+    has_failed: bool,
+}
+
+impl<'a> Drip<'a> {
+    pub fn new(rest: &'a [u8], good_calls: usize) -> Drip<'a>
+        ensures { result ≡ record { rest = rest.entry; good_calls = good_calls; has_failed = false } }
+    {
+        Drip {
+            rest,
+            good_calls,
+            has_failed: false,
+        }
+    }
+}
+
+impl Source for Drip<'_> {
+    ghost left = { λ s. Some s.rest.now };
+
+    ghost has_failed = { λ s. s.has_failed };
+
+    fn read(&mut self, into: &mut [u8]) -> Result<usize, Failed> {
+        if self.good_calls == 0 {
+            self.has_failed = true;
+            return Err(Failed);
+        }
+        self.good_calls -= 1;
+        if into.is_empty() || self.rest.is_empty() {
+            return Ok(0);
+        }
+        into[0] = self.rest[0];
+        self.rest = &self.rest[1..];
+        Ok(1)
+    }
+
+    fn failed(&self) -> bool {
+        self.has_failed
+    }
+}
+
+/// How a writer fails.
+#[derive(Clone, Copy, PartialEq, Eq)]
+pub enum Failing {
+    /// It answers an error.
+    Refuses,
+    /// It takes nothing.
+    TakesNothing,
+}
+
+/// Takes one byte a call, at most `ROOM` in all. Once its good calls or its room are used up, a call fails.
+#[derive(Drop)]
+pub struct Trickle<const ROOM: usize> {
+    bytes: [u8; ROOM],
+    count: usize,
+    good_calls: usize,
+    failing: Failing,
+    has_failed: bool,
+    ghost fits: { count ≤ ROOM },
+}
+
+impl<const ROOM: usize> Trickle<ROOM> {
+    pub fn new(good_calls: usize, failing: Failing) -> Trickle<ROOM>
+        ensures unfailed { result.has_failed ≡ false }
+        ensures empty { result.count ≡ 0 }
+    {
+        Trickle {
+            bytes: [0; ROOM],
+            count: 0,
+            good_calls,
+            failing,
+            has_failed: false,
+        }
+    }
+
+    /// What it has taken.
+    pub fn taken(&self) -> &[u8] {
+        &self.bytes[..self.count]
+    }
+}
+
+impl<const ROOM: usize> Sink for Trickle<ROOM> {
+    ghost taken = { λ s. Some (take s.count s.bytes) };
+
+    ghost has_failed = { λ s. s.has_failed };
+
+    fn write(&mut self, from: &[u8]) -> Result<usize, Failed> {
+        if from.is_empty() {
+            return Ok(0);
+        }
+        if self.good_calls == 0 || self.count == ROOM {
+            self.has_failed = true;
+            return match self.failing {
+                Failing::Refuses => Err(Failed),
+                Failing::TakesNothing => Ok(0),
+            };
+        }
+        self.good_calls -= 1;
+        self.bytes[self.count] = from[0];
+        self.count += 1;
+        Ok(1)
+    }
+
+    fn failed(&self) -> bool {
+        self.has_failed
+    }
+}

@@ -1,0 +1,191 @@
+//! Runs over readers and writers that are slow, that fail, and that are refused memory.
+
+use crate::fakes::{Drip, Failing, Trickle};
+use crate::joined::front_len;
+use crate::running::{RunFault, Verdict, run_joined};
+use board_text::{BoardFault, BoardKind, Sink, Source};
+use proof_check::{CheckFault, Shown, Side};
+use proof_text::{Claim, ProofFault, ProofKind};
+use std::alloc::Global;
+use std::thread::Threads;
+
+const PLENTY: usize = 100_000;
+
+const ROOM: usize = 100;
+
+const NOTHING: &[u8] = b"";
+
+/// The chain of three labels, with a document that two requests are answered.
+const LEAST_TWO: &[u8] =
+    b"board 1\nlabels 3\npebbles 2\nstart 0 0\nbeats 1 0\nbeats 2 0\nbeats 2 1\nend\n\
+    proof 1\nleast 2\nlabeller 3\nat 0 0 for 2 take 1 1\nat 0 1 for 1 take 2 1\nat 1 0 for 1 take 1 2\nend\n";
+
+const ACCEPTED: &[u8] = b"accepted least 2\n";
+
+/// The same, with a start that isn't listed.
+const MISSING: &[u8] =
+    b"board 1\nlabels 3\npebbles 2\nstart 0 0\nbeats 1 0\nbeats 2 0\nbeats 2 1\nend\n\
+    proof 1\nleast 1\nlabeller 0\nend\n";
+
+const REFUSED: &[u8] = b"refused labeller start missing\n";
+
+type Answer = Result<Verdict, RunFault>;
+
+const SHOWN: Answer = Ok(Verdict::Accepted(Shown {
+    claim: Claim::AtLeast(2),
+}));
+
+/// Whether a run answers and writes what it should, or was refused memory and wrote nothing; and whether the ends failed where it says so.
+fn serves(
+    rt: &(impl Threads + Sync),
+    alloc: Global,
+    text: &[u8],
+    reads: usize,
+    writes: usize,
+    failing: Failing,
+    wanted: Answer,
+    written: &[u8],
+) -> bool {
+    let mut reader = Drip::new(text, reads);
+    let mut writer = Trickle::<ROOM>::new(writes, failing);
+    let answer = run_joined(rt, alloc, &mut reader, &mut writer);
+    let told = reader.failed() == (answer == Err(RunFault::Read))
+        && writer.failed() == (answer == Err(RunFault::Write));
+    if answer == Err(RunFault::Memory) {
+        return told && writer.taken().is_empty();
+    }
+    told && answer == wanted && writer.taken() == written
+}
+
+#[test]
+fn fronts(rt: HostRuntime) {
+    assert_eq!(rt; front_len(b"ab\nend\nrest\nend\n"), 7);
+    assert_eq!(rt; front_len(b"end\n"), 4);
+    assert_eq!(rt; front_len(b"end"), 3);
+    assert_eq!(rt; front_len(b"xend\n end\nend \nend"), 18);
+    assert_eq!(rt; front_len(b"xend\nend\n"), 9);
+}
+
+#[test]
+fn one_byte_a_call(rt: HostRuntime) {
+    let alloc = rt.alloc();
+    assert!(rt;
+        serves(
+            &rt,
+            alloc,
+            LEAST_TWO,
+            PLENTY,
+            PLENTY,
+            Failing::Refuses,
+            SHOWN,
+            ACCEPTED
+        )
+    );
+    let missing = Ok(Verdict::Refused(CheckFault::StartMissing {
+        side: Side::Labeller,
+    }));
+    assert!(rt;
+        serves(
+            &rt,
+            alloc,
+            MISSING,
+            PLENTY,
+            PLENTY,
+            Failing::Refuses,
+            missing,
+            REFUSED
+        )
+    );
+}
+
+#[test]
+fn faults_write_nothing(rt: HostRuntime) {
+    let alloc = rt.alloc();
+    let board = Err(RunFault::Board(BoardFault {
+        line: 1,
+        kind: BoardKind::Version,
+    }));
+    assert!(rt;
+        serves(
+            &rt,
+            alloc,
+            NOTHING,
+            PLENTY,
+            PLENTY,
+            Failing::Refuses,
+            board,
+            NOTHING
+        )
+    );
+    let front = front_len(LEAST_TWO);
+    let proof = Err(RunFault::Proof(ProofFault {
+        line: 1,
+        kind: ProofKind::Version,
+    }));
+    assert!(rt;
+        serves(
+            &rt,
+            alloc,
+            LEAST_TWO.get(..front).unwrap_or(NOTHING),
+            PLENTY,
+            PLENTY,
+            Failing::Refuses,
+            proof,
+            NOTHING
+        )
+    );
+    let large: &[u8] = b"board 1\nlabels 33\npebbles 4\nstart 0 0 0 0\nend\n";
+    assert!(rt;
+        serves(
+            &rt,
+            alloc,
+            large,
+            PLENTY,
+            PLENTY,
+            Failing::Refuses,
+            Err(RunFault::TooLarge),
+            NOTHING
+        )
+    );
+}
+
+#[test]
+fn a_read_fails_at_each_call(rt: HostRuntime) {
+    for calls in 0..LEAST_TWO.len() + 1 {
+        assert!(rt;
+            serves(
+                &rt,
+                rt.alloc(),
+                LEAST_TWO,
+                calls,
+                PLENTY,
+                Failing::Refuses,
+                Err(RunFault::Read),
+                NOTHING
+            ),
+            "at call {calls}"
+        );
+    }
+}
+
+#[test]
+fn a_write_fails_at_each_call(rt: HostRuntime) {
+    for failing in [Failing::Refuses, Failing::TakesNothing] {
+        for calls in 0..ACCEPTED.len() {
+            let written = ACCEPTED.get(..calls).unwrap_or(NOTHING);
+            assert!(rt;
+                serves(
+                    &rt,
+                    rt.alloc(),
+                    LEAST_TWO,
+                    PLENTY,
+                    calls,
+                    failing,
+                    Err(RunFault::Write),
+                    written
+                ),
+                "at call {calls}"
+            );
+        }
+    }
+}
