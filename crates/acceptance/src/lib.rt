@@ -12,6 +12,8 @@ mod fakes;
 #[cfg(test)]
 mod printing;
 #[cfg(test)]
+mod spaces;
+#[cfg(test)]
 mod streams;
 #[cfg(test)]
 mod texts;

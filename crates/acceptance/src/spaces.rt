@@ -1,0 +1,151 @@
+//! Ranks and gaps of boards, and their answers by the slow program.
+
+ghost use Rattle.std.specs.Prelude.{◌≡◌, ◌↔◌, IsTrue};
+ghost use Rattle.board_text.specs.PlainBoard.{IsConfiguration};
+
+use crate::texts::{
+    CHAIN_OF_THREE, CYCLE_WITH_A_WAY_IN, LONE_LABEL, NO_PAIRS, ONE_PAIR, SHARED_LABEL, THREE_CYCLE,
+    THREE_PEBBLES, board_of, build_board,
+};
+use board_text::Board;
+use positions::{Space, TooLarge, is_legal};
+
+/// How many configurations the board has, if a space is made for it.
+fn count_configurations(board: &Board) -> Result<u32, TooLarge> {
+    let space = Space::of(board)?;
+    Ok(space.configurations())
+}
+
+/// Whether the list has a label for each pebble.
+fn is_configuration(space: &Space, configuration: &[u16]) -> bool
+    ensures { IsTrue result ↔ IsConfiguration space.now configuration.now }
+{
+    let labels = space.labels();
+    configuration.len() == usize::from(space.pebbles())
+        && configuration.iter().all(|label| *label < labels)
+}
+
+/// The rank of a list of labels, where it is a configuration.
+fn rank_of(space: &Space, configuration: &[u16]) -> Option<u32> {
+    if !is_configuration(space, configuration) {
+        return None;
+    }
+    Some(space.rank(configuration))
+}
+
+/// Writes the labels at a rank to the front of a list.
+fn write_labels(space: &Space, rank: u32, labels: &mut [u16; 6]) {
+    if rank < space.configurations() {
+        for pebble in 0..space.pebbles() {
+            labels[pebble as usize] = space.label_at(rank, pebble);
+        }
+    }
+}
+
+/// Whether each rank is that of the labels at it.
+fn ranks_lead_back(space: &Space) -> bool {
+    for rank in 0..space.configurations() {
+        let mut labels = [0; 6];
+        write_labels(space, rank, &mut labels);
+        let configuration = &labels[..space.pebbles() as usize];
+        if rank_of(space, configuration) != Some(rank) {
+            return false;
+        }
+    }
+    true
+}
+
+/// Whether the space and the slow program agree about each answer to each request.
+fn legal_by_definition(board: &Board, space: &Space) -> bool
+    requires same_board { space.now ≡ board.now }
+{
+    for rank in 0..space.configurations() {
+        let mut labels = [0; 6];
+        write_labels(space, rank, &mut labels);
+        let configuration = &labels[..space.pebbles() as usize];
+        if !is_configuration(space, configuration) {
+            return false;
+        }
+        for pebble in 0..space.pebbles() {
+            for label in 0..space.labels() {
+                if space.legal(board, rank, pebble, label)
+                    != is_legal(board, configuration, pebble, label)
+                {
+                    return false;
+                }
+            }
+        }
+    }
+    true
+}
+
+#[test]
+fn ranks_of_a_chain(rt: HostRuntime) {
+    let board = board_of(&rt, rt.alloc(), CHAIN_OF_THREE);
+    let space = Space::of(&board).expect(&rt, "a small board");
+    assert_eq!(rt; rank_of(&space, &[1, 2]), Some(5));
+    assert!(rt; space.configurations() == 9 && space.pebbles() == 2 && space.labels() == 3);
+    assert_eq!(rt; space.with(5, 0, 2), 8);
+    assert_eq!(rt; space.dominator(&board, 5), Some(1));
+    assert_eq!(rt; space.dominator(&board, 8), None);
+}
+
+#[test]
+fn gaps_of_a_chain(rt: HostRuntime) {
+    let board = board_of(&rt, rt.alloc(), CHAIN_OF_THREE);
+    let space = Space::of(&board).expect(&rt, "a small board");
+    assert!(rt; space.configurations() == 9 && space.pebbles() == 2);
+    assert_eq!(rt; space.gap(5, 0), 2);
+    assert_eq!(rt; space.gap(5, 1), 4);
+}
+
+#[test]
+fn answers_of_a_chain(rt: HostRuntime) {
+    let board = board_of(&rt, rt.alloc(), CHAIN_OF_THREE);
+    let space = Space::of(&board).expect(&rt, "a small board");
+    assert!(rt; space.gaps() == 6 && space.labels() == 3);
+    assert_eq!(rt; space.member(4, 0), 3);
+    assert_eq!(rt; space.count_answers(&board, 4), 1);
+    assert_eq!(rt; space.next_answer(&board, 4, 0), Some(2));
+}
+
+#[test]
+fn sizes(rt: HostRuntime) {
+    let board = board_of(&rt, rt.alloc(), NO_PAIRS);
+    assert_eq!(rt; count_configurations(&board), Ok(1_048_576));
+    let board = build_board(rt.alloc(), 33, 4, &[0, 0, 0, 0], &[]).expect(&rt, "parts of a board");
+    assert_eq!(rt; count_configurations(&board), Err(TooLarge));
+}
+
+#[test]
+fn legal_answers(rt: HostRuntime) {
+    for text in [
+        THREE_CYCLE,
+        ONE_PAIR,
+        CHAIN_OF_THREE,
+        LONE_LABEL,
+        SHARED_LABEL,
+        CYCLE_WITH_A_WAY_IN,
+        THREE_PEBBLES,
+    ] {
+        let board = board_of(&rt, rt.alloc(), text);
+        let space = Space::of(&board).expect(&rt, "a small board");
+        assert!(rt; legal_by_definition(&board, &space), "{text}");
+    }
+}
+
+#[test]
+fn most_labels_and_most_pebbles(rt: HostRuntime) {
+    for (labels, pebbles, start, configurations) in [
+        (256, 1, [0].as_slice(), 256),
+        (3, 6, &[0, 0, 0, 0, 0, 0], 729),
+    ] {
+        let board = build_board(rt.alloc(), labels, pebbles, start, &[]).expect(
+            &rt,
+            "parts of a board",
+        );
+        let space = Space::of(&board).expect(&rt, "a small board");
+        assert_eq!(rt; space.configurations(), configurations);
+        assert!(rt; ranks_lead_back(&space), "{labels} labels");
+    }
+}
