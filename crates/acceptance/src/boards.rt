@@ -1,10 +1,50 @@
 //! What boards say that are read from their texts.
 
-use crate::texts::{LONE_LABEL, THREE_CYCLE, board_of, largest_text};
+use crate::texts::{LONE_LABEL, THREE_CYCLE, board_of, build_board, largest_text};
 use board_text::Board;
 use std::alloc::AllocError;
 
 const ALL: u64 = u64::MAX;
+
+/// Three copies of the three-cycle in a cycle: a label's copy is its number divided by three.
+const CYCLE_OF_CYCLES: &[(u16, u16)] = &[
+    (0, 2),
+    (0, 6),
+    (0, 7),
+    (0, 8),
+    (1, 0),
+    (1, 6),
+    (1, 7),
+    (1, 8),
+    (2, 1),
+    (2, 6),
+    (2, 7),
+    (2, 8),
+    (3, 0),
+    (3, 1),
+    (3, 2),
+    (3, 5),
+    (4, 0),
+    (4, 1),
+    (4, 2),
+    (4, 3),
+    (5, 0),
+    (5, 1),
+    (5, 2),
+    (5, 4),
+    (6, 3),
+    (6, 4),
+    (6, 5),
+    (6, 8),
+    (7, 3),
+    (7, 4),
+    (7, 5),
+    (7, 6),
+    (8, 3),
+    (8, 4),
+    (8, 5),
+    (8, 7),
+];
 
 /// Whether these are the pairs of which the first label dominates the second.
 fn has_pairs(board: &Board, pairs: &[(u16, u16)]) -> bool {
@@ -64,4 +104,20 @@ fn the_largest_board(rt: HostRuntime) -> Result<(), AllocError> {
         assert!(rt; has_dominators(&board, label, &words), "{label}");
     }
     Ok(())
+}
+
+#[test]
+fn a_cycle_of_cycles(rt: HostRuntime) {
+    let board = build_board(rt.alloc(), 9, 2, &[0, 0], CYCLE_OF_CYCLES).expect(
+        &rt,
+        "parts of a board",
+    );
+    assert!(rt; board.labels() == 9);
+    for label in 0..9 {
+        assert_eq!(rt;
+            board.beats(0, label),
+            [2, 6, 7, 8].contains(&label),
+            "{label}"
+        );
+    }
 }

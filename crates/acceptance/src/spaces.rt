@@ -79,6 +79,45 @@ fn legal_by_definition(board: &Board, space: &Space) -> bool
     true
 }
 
+/// The number of a pebble's legal labels and the smallest of them, by the slow program.
+fn legal_labels(board: &Board, space: &Space, rank: u32, pebble: u8) -> (u32, Option<u16>)
+    requires same_board { space.now ≡ board.now }
+{
+    let mut labels = [0; 6];
+    write_labels(space, rank, &mut labels);
+    let configuration = &labels[..space.pebbles() as usize];
+    let mut count: u32 = 0;
+    let mut smallest = None;
+    if is_configuration(space, configuration) && pebble < space.pebbles() {
+        for label in 0..space.labels() {
+            if is_legal(board, configuration, pebble, label) {
+                smallest = smallest.or(Some(label));
+                count = count.saturating_add(1);
+            }
+        }
+    }
+    (count, smallest)
+}
+
+/// Whether the space and the slow program agree about the answers of each gap.
+fn answers_by_definition(board: &Board, space: &Space) -> bool
+    requires same_board { space.now ≡ board.now }
+{
+    for rank in 0..space.configurations() {
+        for pebble in 0..space.pebbles() {
+            let gap = space.gap(rank, pebble);
+            let answers = (
+                space.count_answers(board, gap),
+                space.next_answer(board, gap, 0),
+            );
+            if answers != legal_labels(board, space, rank, pebble) {
+                return false;
+            }
+        }
+    }
+    true
+}
+
 #[test]
 fn ranks_of_a_chain(rt: HostRuntime) {
     let board = board_of(&rt, rt.alloc(), CHAIN_OF_THREE);
@@ -97,6 +136,9 @@ fn gaps_of_a_chain(rt: HostRuntime) {
     assert!(rt; space.configurations() == 9 && space.pebbles() == 2);
     assert_eq!(rt; space.gap(5, 0), 2);
     assert_eq!(rt; space.gap(5, 1), 4);
+    assert!(rt; space.gaps() == 6);
+    assert_eq!(rt; space.gap_pebble(2), 0);
+    assert_eq!(rt; space.gap_pebble(4), 1);
 }
 
 #[test]
@@ -131,6 +173,7 @@ fn legal_answers(rt: HostRuntime) {
         let board = board_of(&rt, rt.alloc(), text);
         let space = Space::of(&board).expect(&rt, "a small board");
         assert!(rt; legal_by_definition(&board, &space), "{text}");
+        assert!(rt; answers_by_definition(&board, &space), "{text}");
     }
 }
 
