@@ -8,7 +8,7 @@ ghost use Rattle.positions.specs.Value.{HasValue, HasValueAtMost};
 ghost use Rattle.positions.specs.Table.{AnswerRow, RequestRow, Answers, IsClosed, IsListed, StopsAfter};
 ghost use Rattle.positions.specs.declared.claim.Claim.{Claim as Assertion};
 ghost use Rattle.positions.specs.Claim.{Shows, Holds};
-ghost use Rattle.positions.specs.Laws.{HasOneTree, LastsLess, HasRequestTo, Occurs};
+ghost use Rattle.positions.specs.Laws.{HasOneTree, HasOneValue, LastsLess, HasRequestTo, Occurs};
 
 /// At each depth either the labeller or the adversary has a tree, and not both.
 pub fn one_has_a_tree()
@@ -43,10 +43,9 @@ pub fn tables_give_trees()
         → StopsAfter board table most configuration → AdversaryTree board (suc most) configuration }
 {}
 
-/// Each configuration has a value, and no value that is smaller than one that occurs is left out.
+/// Each configuration has exactly one value, and no value that is smaller than one that occurs is left out.
 pub fn values_occur()
-    ensures some { (board : PlainBoard) → (configuration : List ℕ) → IsConfiguration board configuration
-        → (value : Worth) × HasValue board configuration value }
+    ensures one { (board : PlainBoard) → (configuration : List ℕ) → IsConfiguration board configuration → HasOneValue board configuration }
     ensures smaller { (board : PlainBoard) → (less : ℕ) → (more : ℕ) → less ≤ more → Occurs board more → Occurs board less }
 {}
 
