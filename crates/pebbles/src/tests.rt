@@ -189,3 +189,120 @@ fn a_write_fails_at_each_call(rt: HostRuntime) {
         }
     }
 }
+
+#[test]
+fn inputs_and_their_lines(rt: HostRuntime) {
+    for (text, wanted, written) in [
+        (
+            b"board 1\nlabels 3\npebbles 2\nstart 0 0\nbeats 1 0\nbeats 2 0\nbeats 2 1\nend\nproof 1\nleast 2\nlabeller 2\nat 0 0 for 2 take 1 1\nat 0 1 for 1 take 2 1\nend\n".as_slice(),
+            Ok(Verdict::Refused(CheckFault::Unlisted {
+                side: Side::Labeller,
+                at: 0,
+                turn: 0,
+            })),
+            b"refused labeller row 0 0 pebble 0 unlisted\n".as_slice(),
+        ),
+        (
+            b"board 1\nlabels 3\npebbles 2\nstart 0 0\nbeats 1 0\nbeats 2 0\nbeats 2 1\nend\nproof 1\nleast 2\nlabeller 3\nat 0 0 for 2 take 0 1\nat 0 1 for 1 take 2 1\nat 1 0 for 1 take 1 2\nend\n".as_slice(),
+            Ok(Verdict::Refused(CheckFault::IllegalAnswer { at: 0, pebble: 0 })),
+            b"refused labeller row 0 0 pebble 0 illegal answer\n".as_slice(),
+        ),
+        (
+            b"board 1\nlabels 3\npebbles 2\nstart 0 0\nbeats 1 0\nbeats 2 0\nbeats 2 1\nend\nproof 1\nleast 3\nlabeller 3\nat 0 0 for 2 take 1 1\nat 0 1 for 1 take 2 1\nat 1 0 for 1 take 1 2\nend\n".as_slice(),
+            Ok(Verdict::Refused(CheckFault::StartNumber {
+                side: Side::Labeller,
+            })),
+            b"refused labeller start number\n".as_slice(),
+        ),
+        (
+            b"board 1\nlabels 3\npebbles 2\nstart 0 0\nbeats 1 0\nbeats 2 0\nbeats 2 1\nend\nproof 1\nleast 3\nlabeller 3\nat 0 0 for 3 take 1 1\nat 0 1 for 1 take 2 1\nat 1 0 for 1 take 1 2\nend\n".as_slice(),
+            Ok(Verdict::Refused(CheckFault::TooSmall { at: 0, pebble: 0 })),
+            b"refused labeller row 0 0 pebble 0 too small\n".as_slice(),
+        ),
+        (
+            b"board 1\nlabels 3\npebbles 2\nstart 0 0\nbeats 1 0\nbeats 2 0\nbeats 2 1\nend\nproof 1\nleast 0\nlabeller 0\nend\n".as_slice(),
+            Ok(Verdict::Accepted(Shown {
+                claim: Claim::AtLeast(0),
+            })),
+            b"accepted least 0\n".as_slice(),
+        ),
+        (
+            b"board 1\nlabels 3\npebbles 2\nstart 0 0\nbeats 1 0\nbeats 2 0\nbeats 2 1\nend\nproof 1\nvalue 2\nlabeller 3\nat 0 0 for 2 take 1 1\nat 0 1 for 1 take 2 1\nat 1 0 for 1 take 1 2\nend\n".as_slice(),
+            Err(RunFault::Proof(ProofFault {
+                line: 7,
+                kind: ProofKind::Section,
+            })),
+            b"".as_slice(),
+        ),
+        (
+            b"board 1\nlabels 03\npebbles 2\nstart 0 0\nbeats 1 0\nbeats 2 0\nbeats 2 1\nend\n".as_slice(),
+            Err(RunFault::Board(BoardFault {
+                line: 2,
+                kind: BoardKind::Labels,
+            })),
+            b"".as_slice(),
+        ),
+        (
+            b"board 1\nlabels 3\npebbles 7\nstart 0 0\nbeats 1 0\nbeats 2 0\nbeats 2 1\nend\n".as_slice(),
+            Err(RunFault::Board(BoardFault {
+                line: 3,
+                kind: BoardKind::Pebbles,
+            })),
+            b"".as_slice(),
+        ),
+        (
+            b"board 1\nlabels 3\npebbles 2\nstart 0 3\nbeats 1 0\nbeats 2 0\nbeats 2 1\nend\n".as_slice(),
+            Err(RunFault::Board(BoardFault {
+                line: 4,
+                kind: BoardKind::Start,
+            })),
+            b"".as_slice(),
+        ),
+        (
+            b"board 1\nlabels 3\npebbles 2\nstart 0 0\nbeats 1 0\nbeats 0 1\nbeats 2 1\nend\n".as_slice(),
+            Err(RunFault::Board(BoardFault {
+                line: 6,
+                kind: BoardKind::TwoWay,
+            })),
+            b"".as_slice(),
+        ),
+        (
+            b"board 1\nlabels 3\npebbles 2\nstart 0 0\nbeats 1 1\nbeats 2 0\nbeats 2 1\nend\n".as_slice(),
+            Err(RunFault::Board(BoardFault {
+                line: 5,
+                kind: BoardKind::SelfBeat,
+            })),
+            b"".as_slice(),
+        ),
+        (
+            b"board 1\nlabels 3\npebbles 2\nstart 0 0\nbeats 1 0\nbeats 1 0\nbeats 2 1\nend\n".as_slice(),
+            Err(RunFault::Board(BoardFault {
+                line: 6,
+                kind: BoardKind::Order,
+            })),
+            b"".as_slice(),
+        ),
+        (
+            b"board 1\nlabels 3\npebbles 2\nstart 0 0\nbeats 1 0\nbeats 2 0\nbeats 2 1\n".as_slice(),
+            Err(RunFault::Board(BoardFault {
+                line: 8,
+                kind: BoardKind::End,
+            })),
+            b"".as_slice(),
+        ),
+    ] {
+        assert!(rt;
+            serves(
+                &rt,
+                rt.alloc(),
+                text,
+                PLENTY,
+                PLENTY,
+                Failing::Refuses,
+                wanted,
+                written
+            ),
+            "{wanted:?}"
+        );
+    }
+}
