@@ -8,6 +8,10 @@ mod boards;
 #[cfg(test)]
 mod building;
 #[cfg(test)]
+mod document_texts;
+#[cfg(test)]
+mod documents;
+#[cfg(test)]
 mod fakes;
 #[cfg(test)]
 mod printing;

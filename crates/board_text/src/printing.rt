@@ -29,7 +29,7 @@ pub fn print(alloc: Global, board: &Board) -> Result<String, Memory>
 }
 
 /// Writes numbers, each with a space before it.
-fn write_numbers(text: &mut String, numbers: &[u16]) -> Result<(), AllocError>
+pub fn write_numbers(text: &mut String, numbers: &[u16]) -> Result<(), AllocError>
     ensures { OnOk result (string_bytes text.new ≡ string_bytes text.old ++ spaced numbers.now) }
 {
     for number in numbers {

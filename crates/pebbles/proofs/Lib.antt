@@ -1,4 +1,4 @@
 pub mod EndLines
-pub mod Labels
+pub mod Pushing
 pub mod Unanswered
 pub mod Meanings

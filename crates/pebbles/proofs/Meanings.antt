@@ -10,11 +10,11 @@ use Rattle.std.proofs.lemmas.Fmt.{decimal_injective}
 use Rattle.std.proofs.lemmas.List.{append_cancel_right, append_cancel_left}
 use Rattle.positions.proofs.Tables.{tree_from_answers}
 use Rattle.positions.proofs.Claims.{claim_holds as shown_holds}
-use Rattle.proof_text.specs.ProofText.{proof_text}
+use Rattle.proof_text.specs.ProofText.{claim_words, proof_text}
 use Rattle.proof_text.specs.Proof.{PlainProof, IsClaim, greatest_number}
 use Rattle.proof_check.specs.declared.checking.Shown.{Shown}
 use Rattle.proof_check.specs.declared.fault.CheckFault.{CheckFault}
-use Rattle.pebbles.specs.Output.{claim_words, fault_words, line_of}
+use Rattle.pebbles.specs.Output.{fault_words, line_of}
 use Rattle.pebbles.specs.Run.{IsVerdict, IsAnswered}
 use Rattle.pebbles.specs.Meaning.{AcceptsLeast, CanAnswer}
 use Rattle.pebbles.specs.declared.running.Verdict.{Verdict}

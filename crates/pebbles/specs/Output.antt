@@ -4,21 +4,13 @@ use Rattle.std.specs.Fmt.{decimal}
 use Rattle.board_text.specs.LineForms.{closed, spaced}
 use Rattle.board_text.specs.PlainBoard.{PlainBoard}
 use Rattle.positions.specs.Ranks.{configuration_at}
-use Rattle.positions.specs.declared.claim.Claim.{Claim}
-use Rattle.positions.specs.declared.claim.Claim.TheVariants.{Exactly, AtLeast, AtMost, Forever}
+use Rattle.proof_text.specs.ProofText.{claim_words}
 use Rattle.proof_check.specs.declared.fault.Side.{Side}
 use Rattle.proof_check.specs.declared.fault.Side.TheVariants.{Labeller, Adversary}
 use Rattle.proof_check.specs.declared.fault.CheckFault.{CheckFault}
 use Rattle.proof_check.specs.declared.fault.CheckFault.TheVariants as faults
 use Rattle.pebbles.specs.declared.running.Verdict.{Verdict}
 use Rattle.pebbles.specs.declared.running.Verdict.TheVariants.{Accepted, Refused}
-
--- a claim, as a document has it in its second line
-abbrev pub claim_words : Claim → List ℕ
-claim_words (Exactly number) = codes "value " ++ decimal number
-claim_words (AtLeast number) = codes "least " ++ decimal number
-claim_words (AtMost number) = codes "most " ++ decimal number
-claim_words Forever = codes "forever"
 
 -- a side's name
 abbrev pub side_word : Side → List ℕ

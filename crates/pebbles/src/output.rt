@@ -1,17 +1,16 @@
 //! The one line that a check writes.
 
 ghost use Rattle.std.specs.Prelude.{◌≡◌, ◌<◌, ◌++◌, IfOk, OnOk, string_bytes, codes};
-ghost use Rattle.board_text.specs.LineForms.{spaced};
-ghost use Rattle.positions.specs.Ranks.{configurations, configuration_at};
+ghost use Rattle.positions.specs.Ranks.{configurations};
 ghost use Rattle.proof_check.specs.CheckFaults.{NamesRanks};
-ghost use Rattle.pebbles.specs.Output.{line_of, claim_words, side_word as word_of_side, turn_word as word_of_turn, row_words, fault_words};
+ghost use Rattle.pebbles.specs.Output.{line_of, side_word as word_of_side, turn_word as word_of_turn, row_words, fault_words};
 ghost use Rattle.pebbles.specs.Run.{NamesRanksOf};
 
 use crate::running::Verdict;
 use board_text::Memory;
-use positions::Space;
+use positions::{Space, write_labels};
 use proof_check::{CheckFault, Side};
-use proof_text::Claim;
+use proof_text::write_claim;
 use std::alloc::{AllocError, Global};
 use std::fmt::Write;
 
@@ -33,17 +32,6 @@ pub(crate) fn line(alloc: Global, space: &Space, verdict: Verdict) -> Result<Str
     }
     text.push_str("\n")?;
     Ok(text)
-}
-
-fn write_claim(text: &mut String, claim: Claim) -> Result<(), AllocError>
-    ensures { OnOk result (string_bytes text.new ≡ string_bytes text.old ++ claim_words claim) }
-{
-    match claim {
-        Claim::Exactly(number) => write!(text, "value {number}"),
-        Claim::AtLeast(number) => write!(text, "least {number}"),
-        Claim::AtMost(number) => write!(text, "most {number}"),
-        Claim::Forever => text.push_str("forever"),
-    }
 }
 
 fn write_fault(text: &mut String, space: &Space, fault: CheckFault) -> Result<(), AllocError>
@@ -99,18 +87,6 @@ fn write_row(
     write_labels(text, space, at)?;
     text.push_str(turn_word(side))?;
     write!(text, "{turn}")
-}
-
-/// Writes the labels of the configuration of a rank, each with a space before it.
-fn write_labels(text: &mut String, space: &Space, at: u32) -> Result<(), AllocError>
-    requires { at < configurations space.now }
-    ensures { OnOk result (string_bytes text.new ≡ string_bytes text.old ++ spaced (configuration_at space.now at)) }
-{
-    for pebble in 0..space.pebbles() {
-        let label = space.label_at(at, pebble);
-        write!(text, " {label}")?;
-    }
-    Ok(())
 }
 
 fn side_word(side: Side) -> &'static str

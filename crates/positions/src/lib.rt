@@ -11,6 +11,7 @@ mod space;
 mod too_large;
 mod turns;
 mod value;
+mod writing;
 
 pub use claim::Claim;
 pub use laws::{
@@ -24,3 +25,4 @@ pub use space::{MAX_CONFIGURATIONS, Space};
 pub use too_large::TooLarge;
 pub use turns::Turns;
 pub use value::Value;
+pub use writing::write_labels;

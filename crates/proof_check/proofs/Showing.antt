@@ -16,6 +16,7 @@ use Rattle.positions.proofs.Ranks.{rank_of-configuration_at}
 use Rattle.proof_text.specs.declared.proof.LabellerRow.{LabellerRow}
 use Rattle.proof_text.specs.declared.proof.AdversaryRow.{AdversaryRow}
 use Rattle.proof_text.specs.Proof.{PlainProof, IsProof, IsAnswerRow, IsRequestRow, AreAnswerRows, AreRequestRows, AreTurns, answer_row, request_row, answer_rows, request_rows}
+use Rattle.proof_text.proofs.RankedRows.{rank_small, answer_each, request_each}
 use Rattle.proof_text.specs.Rules.{BreaksNoRule, Serves, wanted_of, StartIsBelow}
 use Rattle.proof_check.specs.Steps.{IsAnswering, AreAnswering, IsRequesting, AreRequesting}
 use Rattle.proof_check.proofs.Answering as answering
@@ -59,21 +60,7 @@ shows board proof is rules = by proof.claim is.labeller is.adversary rules.start
 
 -- ---- rows as they are looked at
 
--- digits below the base are those of a number below its power
-number_small : (base count number : ℕ) → 1 ≤ base → 1 ≤ count → All (λ label. label < base) (digits_of base count number) → number < base ^ count
-number_small base zero number some one each = absurd (omega arith)
-number_small base (suc count) number some one each =
-    let first : number / base ^ count < base = All-head (λ l. l < base) (number / base ^ count) (digits_of base count (number % base ^ count)) each in
-    subst (λ n. number < n) (sym (pow-succ' base count)) ((div-lt_iff_lt-mul (one-le-pow count base some)).0 first)
-
-rank_small : (board : PlainBoard) (rank : ℕ) → IsBoard board → IsConfiguration board (configuration_at board rank) → rank < configurations board
-rank_small board rank is_board is = number_small board.labels board.pebbles rank is_board.labels.0 is_board.pebbles.0 is.each_label
-
 module _ (board : PlainBoard) (is_board : IsBoard board) where
-  answer_each : (claim : Claim) (rows : List LabellerRow) → AreAnswerRows board claim (answer_rows board rows) → (k : ℕ) (d : LabellerRow) → k < length rows → IsAnswerRow board claim (answer_row board (get_or rows k d))
-  answer_each claim rows are k d lt =
-      subst (IsAnswerRow board claim) (get_or-map (answer_row board) rows k d (answer_row board d) lt) (are.each k (answer_row board d) (omega (arith, length-map rows (answer_row board), lt)))
-
   answering_row : (claim : Claim) (row : LabellerRow) → IsAnswerRow board claim (answer_row board row) → IsAnswering board row
   answering_row claim row is = record {
     is_rank = rank_small board row.at is_board is.at;
@@ -84,7 +71,7 @@ module _ (board : PlainBoard) (is_board : IsBoard board) where
 
   pub are_answering : (claim : Claim) (rows : List LabellerRow) → AreAnswerRows board claim (answer_rows board rows) → AreAnswering board rows
   are_answering claim rows are =
-      let each : (k : ℕ) (d : LabellerRow) → k < length rows → IsAnswering board (get_or rows k d) = λ k d lt. answering_row claim (get_or rows k d) (answer_each claim rows are k d lt) in
+      let each : (k : ℕ) (d : LabellerRow) → k < length rows → IsAnswering board (get_or rows k d) = λ k d lt. answering_row claim (get_or rows k d) (answer_each board claim rows are k d lt) in
       record {
         is_board = is_board;
         ranked = record {
@@ -102,14 +89,10 @@ module _ (board : PlainBoard) (is_board : IsBoard board) where
         each = each;
       }
 
-  request_each : (rows : List AdversaryRow) → AreRequestRows board (request_rows board rows) → (k : ℕ) (d : AdversaryRow) → k < length rows → IsRequestRow board (request_row board (get_or rows k d))
-  request_each rows are k d lt =
-      subst (IsRequestRow board) (get_or-map (request_row board) rows k d (request_row board d) lt) (are.each k (request_row board d) (omega (arith, length-map rows (request_row board), lt)))
-
   pub are_requesting : (rows : List AdversaryRow) → AreRequestRows board (request_rows board rows) → AreRequesting board rows
   are_requesting rows are =
       let each : (k : ℕ) (d : AdversaryRow) → k < length rows → IsRequesting board (get_or rows k d) =
-      λ k d lt. record { is_rank = rank_small board (get_or rows k d).at is_board (request_each rows are k d lt).at; is_pebble = (request_each rows are k d lt).request } in
+      λ k d lt. record { is_rank = rank_small board (get_or rows k d).at is_board (request_each board rows are k d lt).at; is_pebble = (request_each board rows are k d lt).request } in
       record {
         is_board = is_board;
         ranked = record {

@@ -5,3 +5,4 @@ pub mod RowLemmas
 pub mod DocumentFaults
 pub mod OneRow
 pub mod OneDocument
+pub mod RankedRows

@@ -13,11 +13,15 @@ use Rattle.proof_text.specs.Proof.{PlainProof, asks_labeller, asks_adversary}
 abbrev pub version_line : List ℕ
 version_line = closed (codes "proof 1")
 
+-- a claim, in words
+abbrev pub claim_words : Claim → List ℕ
+claim_words (Exactly number) = codes "value " ++ decimal number
+claim_words (AtLeast number) = codes "least " ++ decimal number
+claim_words (AtMost number) = codes "most " ++ decimal number
+claim_words Forever = codes "forever"
+
 abbrev pub claim_line : Claim → List ℕ
-claim_line (Exactly number) = number_line (codes "value") number
-claim_line (AtLeast number) = number_line (codes "least") number
-claim_line (AtMost number) = number_line (codes "most") number
-claim_line Forever = closed (codes "forever")
+claim_line claim = closed (claim_words claim)
 
 -- a number, or a star
 abbrev pub turns_text : Turns → List ℕ

@@ -1,13 +1,15 @@
-//! The claim of a document, taken from the front of a text.
+//! The claim of a document, taken from the front of a text and written.
 
 ghost use Rattle.board_text.specs.LineForms.{Takes};
-ghost use Rattle.std.specs.Prelude.{◌≡◌};
+ghost use Rattle.std.specs.Prelude.{◌≡◌, ◌++◌, OnOk, string_bytes};
 ghost use Rattle.proof_text.specs.Proof.{IsClaim, asks_labeller as wants_labeller, asks_adversary as wants_adversary};
-ghost use Rattle.proof_text.specs.ProofText.{claim_line};
+ghost use Rattle.proof_text.specs.ProofText.{claim_line, claim_words};
 
 use crate::proof::MOST_TURNS;
 use board_text::line_reader::LineReader;
 use positions::Claim;
+use std::alloc::AllocError;
+use std::fmt::Write;
 
 /// Takes the line of a claim.
 pub(crate) fn claim(text: &mut LineReader<'_>) -> Option<Claim>
@@ -38,4 +40,16 @@ pub(crate) fn asks_adversary(claim: Claim) -> bool
     ensures { result ≡ wants_adversary claim }
 {
     matches!(claim, Claim::Exactly(_) | Claim::AtMost(_))
+}
+
+/// Writes a claim as a document has it: its word and, where it has one, its number.
+pub fn write_claim(text: &mut String, claim: Claim) -> Result<(), AllocError>
+    ensures { OnOk result (string_bytes text.new ≡ string_bytes text.old ++ claim_words claim) }
+{
+    match claim {
+        Claim::Exactly(number) => write!(text, "value {number}"),
+        Claim::AtLeast(number) => write!(text, "least {number}"),
+        Claim::AtMost(number) => write!(text, "most {number}"),
+        Claim::Forever => text.push_str("forever"),
+    }
 }

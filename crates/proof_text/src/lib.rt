@@ -3,13 +3,18 @@
 
 mod claims;
 mod fault;
+mod laws;
 mod parsing;
+mod printing;
 mod proof;
 mod row_words;
 mod rows;
 mod sections;
 
+pub use claims::write_claim;
 pub use fault::{ProofFault, ProofKind};
+pub use laws::{documents_have_no_fault, one_document, one_row_of_a_rank};
 pub use parsing::parse;
 pub use positions::{Claim, Turns};
+pub use printing::print;
 pub use proof::{AdversaryRow, LabellerRow, Proof};

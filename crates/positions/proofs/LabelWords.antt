@@ -1,6 +1,5 @@
 -- Labels that are written one behind the other.
-use Rattle.std.proofs.Common.{◌≡◌, ℕ, ◌+◌, ◌<◌, ◌≤◌, List, [], ◌∷◌, ◌++◌, length, take, slice_index, sym, ap, ◌∙◌, append_assoc, Result, Ok, Err, OnOk, cond}
-use Rattle.std.specs.Result.{is_ok}
+use Rattle.std.proofs.Common.{◌≡◌, ℕ, ◌+◌, ◌<◌, ◌≤◌, List, [], ◌∷◌, ◌++◌, length, take, slice_index, sym, ap, ◌∙◌, append_assoc}
 use Rattle.std.specs.Fmt.{decimal}
 use Rattle.std.proofs.lemmas.List.{take_more, take_all, flat_map_more}
 use Rattle.board_text.specs.LineForms.{spaced}
@@ -13,8 +12,3 @@ one_more labels k label old text more inside is so_far written =
 
 pub all_labels : (labels : List ℕ) (k : ℕ) (old text : List ℕ) → length labels ≤ k → text ≡ old ++ spaced (take k labels) → text ≡ old ++ spaced labels
 all_labels labels k old text whole is = is ∙ ap (λ (l : List ℕ). old ++ spaced l) (take_all k labels whole)
-
--- words that are pushed behind others, where the push is well
-pub pushed : {E : Type 0} (result : Result (Unit {0}) E) (old middle new words more : List ℕ) → middle ≡ old ++ words → new ≡ cond (is_ok result) (middle ++ more) middle → OnOk result (new ≡ old ++ (words ++ more))
-pushed (Ok u) old middle new words more first second = second ∙ ap (λ (m : List ℕ). m ++ more) first ∙ append_assoc old words more
-pushed (Err e) old middle new words more first second = tt

@@ -1,8 +1,8 @@
 use Rattle.std.proofs.Common.{string_bytes, arith}
 use Rattle.positions.specs.Ranks.{configuration_at}
 use Rattle.positions.proofs.Ranks.{configuration_at_is}
-use Rattle.pebbles.proofs.Labels.{one_more, all_labels}
-use Rattle.pebbles.proofs.output.write_labels.Goals as goal
+use Rattle.positions.proofs.LabelWords.{one_more, all_labels}
+use Rattle.positions.proofs.writing.write_labels.Goals as goal
 
 pub loop-pebble-preserved : goal.loop-pebble-preserved
 loop-pebble-preserved c =

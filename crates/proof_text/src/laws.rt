@@ -1,0 +1,35 @@
+//! Laws of the texts of documents, each the contract of a function without a body.
+
+ghost use Rattle.std.specs.Prelude.{◌≡◌, ℕ, ◌<◌, List, slice_index};
+ghost use Rattle.board_text.specs.PlainBoard.{PlainBoard, IsBoard};
+ghost use Rattle.positions.specs.Ranks.{configurations};
+ghost use Rattle.proof_text.specs.Proof.{PlainProof, IsProof, IsPadded, answer_row, request_row};
+ghost use Rattle.proof_text.specs.ProofText.{proof_text};
+ghost use Rattle.proof_text.specs.ProofFaults.{HasFault};
+ghost use Rattle.proof_text.specs.declared.fault.ProofKind.{ProofKind as Kind};
+ghost use Rattle.proof_text.specs.declared.fault.ProofKind.TheVariants.{Memory as OutOfMemory};
+ghost use Rattle.proof_text.specs.declared.proof.LabellerRow.{LabellerRow as RankedAnswers};
+ghost use Rattle.proof_text.specs.declared.proof.AdversaryRow.{AdversaryRow as RankedRequest};
+
+/// For one board a text is that of one document at most. So the text that is printed for a document is read back as that document.
+pub fn one_document()
+    ensures { (board : PlainBoard) → (first : PlainProof) → (second : PlainProof) → IsBoard board → IsProof board first → IsProof board second
+        → proof_text first ≡ proof_text second → first ≡ second }
+{}
+
+/// No line of a document's text has a fault: all that can be wanting is memory.
+pub fn documents_have_no_fault()
+    ensures { (board : PlainBoard) → (document : PlainProof) → (line : ℕ) → (kind : Kind) → IsBoard board → IsProof board document
+        → HasFault board (proof_text document) line kind → kind ≡ OutOfMemory }
+{}
+
+/// Rows that name the same configuration by its rank, and say the same of it, are the same in each field.
+pub fn one_row_of_a_rank()
+    ensures labeller { (board : PlainBoard) → (first : RankedAnswers) → (second : RankedAnswers)
+        → first.at < configurations board → second.at < configurations board → IsPadded board first → IsPadded board second
+        → answer_row board first ≡ answer_row board second
+        → (first.at ≡ second.at) × (first.turns ≡ second.turns) × ((pebble : ℕ) → slice_index first.take pebble ≡ slice_index second.take pebble) }
+    ensures adversary { (board : PlainBoard) → (first : RankedRequest) → (second : RankedRequest)
+        → first.at < configurations board → second.at < configurations board
+        → request_row board first ≡ request_row board second → first ≡ second }
+{}
