@@ -2,13 +2,16 @@
 //!
 //! A run of the tests may refuse one growth of memory, whichever. So a call that was refused one is made once more.
 
-ghost use Rattle.std.specs.Prelude.{IfOk};
+ghost use Rattle.std.specs.Prelude.{◌≤◌, IfOk};
+ghost use Rattle.positions.specs.Ranks.{configurations};
 ghost use Rattle.proof_text.specs.Proof.{IsDocument};
 
-use board_text::Memory;
-use positions::Space;
+use board_text::{Board, Memory};
+use positions::{MAX_CONFIGURATIONS, Space};
+use proof_check::{CheckFault, Shown, check};
 use proof_text::{Proof, ProofFault, ProofKind, parse, print};
 use std::alloc::Global;
+use std::thread::Threads;
 
 /// For the three-cycle: answers without end.
 pub const CYCLE_FOREVER: &str = "proof 1\nforever\nlabeller 7\n\
@@ -68,4 +71,32 @@ pub fn print_document(alloc: Global, space: &Space, proof: &Proof) -> Result<Str
         Err(Memory) => print(alloc, space, proof),
         answer => answer,
     }
+}
+
+/// What `check` answers where it is refused no growth.
+pub fn check_document(
+    rt: &(impl Threads + Sync),
+    alloc: Global,
+    board: &Board,
+    proof: &Proof,
+) -> Result<Shown, CheckFault>
+    requires few { configurations board.now ≤ MAX_CONFIGURATIONS }
+    requires document { IsDocument board.now proof.now }
+{
+    match check(rt, alloc, board, proof) {
+        Err(CheckFault::Memory) => check(rt, alloc, board, proof),
+        answer => answer,
+    }
+}
+
+/// What the checker says of the document with this text, where the board is small and the text is a document.
+pub fn check_text(
+    rt: &(impl Threads + Sync),
+    alloc: Global,
+    board: &Board,
+    text: &[u8],
+) -> Option<Result<Shown, CheckFault>> {
+    let space = Space::of(board).ok()?;
+    let proof = read_document(alloc, &space, text).ok()?;
+    Some(check_document(rt, alloc, board, &proof))
 }

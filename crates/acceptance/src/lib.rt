@@ -8,11 +8,15 @@ mod boards;
 #[cfg(test)]
 mod building;
 #[cfg(test)]
+mod checks;
+#[cfg(test)]
 mod document_texts;
 #[cfg(test)]
 mod documents;
 #[cfg(test)]
 mod fakes;
+#[cfg(test)]
+mod long_documents;
 #[cfg(test)]
 mod printing;
 #[cfg(test)]

@@ -1,6 +1,5 @@
 -- What a look at a labeller's row finds.
-use Rattle.std.proofs.Common.{◌≡◌, ◌↔◌, Bool, false, true≢false, IsTrue, ℕ, zero, suc, ◌+◌, ◌<◌, ◌≤◌, List, [], ◌∷◌, ◌++◌, length, get_or, take, map, Some, slice_get, slice_index, refl, sym, ap, ◌∙◌, subst, arith}
-use Rattle.std.specs.List.{All}
+use Rattle.std.proofs.Common.{◌≡◌, ◌↔◌, Bool, false, true≢false, IsTrue, ℕ, zero, suc, ◌<◌, List, [], ◌∷◌, length, take, Some, slice_get, slice_index, refl, sym, ◌∙◌, subst, arith}
 use Rattle.board_text.specs.PlainBoard.{PlainBoard, IsConfiguration}
 use Rattle.positions.specs.Game.{Legal, moved}
 use Rattle.positions.specs.Ranks.{rank_of, configuration_at}
@@ -11,15 +10,12 @@ use Rattle.positions.proofs.Ranks.{rank_of-configuration_at, configuration_at_is
 use Rattle.positions.proofs.Configurations.{moved_is_configuration}
 use Rattle.proof_text.specs.declared.proof.LabellerRow.{LabellerRow}
 use Rattle.proof_text.specs.Proof.{answer_row, answer_rows}
-use Rattle.proof_text.specs.Rules.{IsEnough, one_less, IsListedFor, Serves, MeetsRequest, MeetsRequests}
+use Rattle.proof_text.specs.Rules.{IsEnough, one_less, IsListedFor, Serves, MeetsRequest}
 use Rattle.proof_check.specs.RowIndex.{HasNone, IsRowOf}
-use Rattle.std.proofs.Common.{drop, take-append-drop, append_assoc}
-use Rattle.std.proofs.lemmas.List.{take_more, take_all, map-append, get_or_default}
-use Rattle.std.proofs.lemmas.List.Elements.{All-push}
 use Rattle.proof_check.specs.declared.fault.Side.TheVariants.{Labeller, Adversary}
 use Rattle.proof_check.specs.declared.fault.CheckFault.{CheckFault}
 use Rattle.proof_check.specs.declared.fault.CheckFault.TheVariants as faults
-use Rattle.proof_check.specs.CheckFaults.{HasAnswers, IsWrongAnswer, FirstWrong, LabellerFault}
+use Rattle.proof_check.specs.CheckFaults.{HasAnswers, IsWrongAnswer}
 use Rattle.proof_check.specs.Steps.{IsAnswering, AreAnswering, AnswerFaultAt}
 use Rattle.proof_check.proofs.Found.{none_there, row_there, only_there}
 
@@ -83,44 +79,6 @@ wrong_answer board rows row pebble (faults.StartNumber side) below before h = ab
 wrong_answer board rows row pebble (faults.NotStuck at label) below before h = absurd h
 wrong_answer board rows row pebble (faults.TooLarge at label) below before h = absurd h
 wrong_answer board rows row pebble faults.Memory below before h = absurd h
-
--- rows up to the first faulty one
-pub first_wrong : {R X : Type 0} (f : R → X) (IsRight : X → Type 0) (rows : List R) (k : ℕ) (row : R) → k < length rows → row ≡ get_or rows k row → All IsRight (map f (take k rows)) → FirstWrong IsRight (map f rows) (f row)
-first_wrong {R} {X} f IsRight rows k row inside here right = record {
-  before = map f (take k rows);
-  after = map f (drop (k + 1) rows);
-  parts = ap (map f) (sym (take-append-drop (k + 1) rows)) ∙ map-append f (take (k + 1) rows) (drop (k + 1) rows)
-      ∙ ap (λ (l : List X). l ++ map f (drop (k + 1) rows)) (ap (map f) (take_more rows k row inside) ∙ map-append f (take k rows) (get_or rows k row ∷ []))
-      ∙ append_assoc (map f (take k rows)) (map f (get_or rows k row ∷ [])) (map f (drop (k + 1) rows))
-      ∙ ap (λ (r : R). map f (take k rows) ++ f r ∷ map f (drop (k + 1) rows)) (sym here);
-  right = right;
-}
-
--- one row more is right
-pub right_more : {R X : Type 0} (f : R → X) (IsRight : X → Type 0) (rows : List R) (k : ℕ) (row : R) → k < length rows → row ≡ get_or rows k row → All IsRight (map f (take k rows)) → IsRight (f row) → All IsRight (map f (take (k + 1) rows))
-right_more {R} {X} f IsRight rows k row inside here right more =
-    subst (λ (l : List X). All IsRight l) (sym (ap (map f) (take_more rows k row inside) ∙ map-append f (take k rows) (get_or rows k row ∷ []) ∙ ap (λ (r : R). map f (take k rows) ++ f r ∷ []) (sym here)))
-    (All-push IsRight (map f (take k rows)) (f row) right more)
-
--- the first faulty row of a slice
-pub labeller_fault_at : (board : PlainBoard) (rows all : List LabellerRow) (k : ℕ) (d : LabellerRow) (fault : CheckFault) → all ≡ rows → k < length rows
-    → All (MeetsRequests board (answer_rows board rows)) (map (answer_row board) (take k rows)) → IsWrongAnswer board (answer_rows board all) (answer_row board (get_or rows k d)) fault
-    → LabellerFault board (answer_rows board rows) fault
-labeller_fault_at board rows all k d fault same inside right wrong = record {
-  row = answer_row board (get_or rows k d);
-  first = first_wrong (answer_row board) (MeetsRequests board (answer_rows board rows)) rows k (get_or rows k d) inside (get_or_default rows k d (get_or rows k d) inside) right;
-  wrong = subst (λ (l : List LabellerRow). IsWrongAnswer board (answer_rows board l) (answer_row board (get_or rows k d)) fault) same wrong;
-}
-
-pub labeller_right_more : (board : PlainBoard) (rows all : List LabellerRow) (k : ℕ) (d : LabellerRow) → all ≡ rows → k < length rows
-    → All (MeetsRequests board (answer_rows board rows)) (map (answer_row board) (take k rows)) → MeetsRequests board (answer_rows board all) (answer_row board (get_or rows k d))
-    → All (MeetsRequests board (answer_rows board rows)) (map (answer_row board) (take (k + 1) rows))
-labeller_right_more board rows all k d same inside right more =
-    right_more (answer_row board) (MeetsRequests board (answer_rows board rows)) rows k (get_or rows k d) inside (get_or_default rows k d (get_or rows k d) inside) right
-    (subst (λ (l : List LabellerRow). MeetsRequests board (answer_rows board l) (answer_row board (get_or rows k d))) same more)
-
-pub all_right : {R X : Type 0} (f : R → X) (IsRight : X → Type 0) (rows : List R) (k : ℕ) → length rows ≤ k → All IsRight (map f (take k rows)) → All IsRight (map f rows)
-all_right {R} f IsRight rows k whole right = subst (λ (l : List R). All IsRight (map f l)) (take_all k rows whole) right
 
 -- a row, where one is wanted for the end of a list
 pub some_row : LabellerRow

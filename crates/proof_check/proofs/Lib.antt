@@ -7,3 +7,4 @@ pub mod Answering
 pub mod Stopping
 pub mod Showing
 pub mod Refusing
+pub mod FirstRow

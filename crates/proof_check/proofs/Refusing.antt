@@ -63,7 +63,7 @@ same_answer board rows row pebble label meets first =
     let other : slice_get row.answers pebble ≡ Some label = first.answer in
     (m, cc)
 
-answers_right : (board : PlainBoard) (rows : List AnswerRow) (row : AnswerRow) (fault : CheckFault) → MeetsRequests board rows row → IsWrongAnswer board rows row fault → ⊥
+pub answers_right : (board : PlainBoard) (rows : List AnswerRow) (row : AnswerRow) (fault : CheckFault) → MeetsRequests board rows row → IsWrongAnswer board rows row fault → ⊥
 answers_right board rows row (faults.IllegalAnswer at pebble) meets (r, (label, first, illegal)) =
     let (m, same) = same_answer board rows row pebble label meets first in illegal (subst (Legal board row.at pebble) same m.legal)
 answers_right board rows row (faults.Unlisted Labeller at pebble) meets (r, (label, first, legal, wanted, none)) =
@@ -78,7 +78,7 @@ answers_right board rows row (faults.NotStuck at label) meets h = absurd h
 answers_right board rows row (faults.TooLarge at label) meets h = absurd h
 answers_right board rows row faults.Memory meets h = absurd h
 
-requests_right : (board : PlainBoard) (rows : List RequestRow) (row : RequestRow) (fault : CheckFault) → MeetsAnswers board rows row → IsWrongRequest board rows row fault → ⊥
+pub requests_right : (board : PlainBoard) (rows : List RequestRow) (row : RequestRow) (fault : CheckFault) → MeetsAnswers board rows row → IsWrongRequest board rows row fault → ⊥
 requests_right board rows row (faults.NotStuck at label) meets (r, first, none_left) =
     let l = meets label first.legal in let below : l.row.left < row.left = l.below in omega (arith, below, none_left)
 requests_right board rows row (faults.Unlisted Adversary at label) meets (r, first, some, none) = let l = meets label first.legal in none (l.row, l.among, l.at)

@@ -1,7 +1,5 @@
 -- What a look at an adversary's row finds.
-use Rattle.std.proofs.Common.{◌≡◌, ℕ, ◌+◌, ◌<◌, ◌≤◌, List, length, get_or, take, map, refl, ap, subst, arith}
-use Rattle.std.specs.List.{All}
-use Rattle.std.proofs.lemmas.List.{get_or_default}
+use Rattle.std.proofs.Common.{◌≡◌, ℕ, ◌<◌, ◌≤◌, List, refl, ap, arith}
 use Rattle.board_text.specs.PlainBoard.{PlainBoard, IsConfiguration}
 use Rattle.positions.specs.Game.{moved}
 use Rattle.positions.specs.Ranks.{rank_of, configuration_at}
@@ -15,10 +13,9 @@ use Rattle.proof_check.specs.declared.fault.Side.TheVariants.{Labeller, Adversar
 use Rattle.proof_check.specs.declared.fault.CheckFault.{CheckFault}
 use Rattle.proof_check.specs.declared.fault.CheckFault.TheVariants as faults
 use Rattle.proof_check.specs.RowIndex.{HasNone, IsRowOf}
-use Rattle.proof_check.specs.CheckFaults.{HasRequest, IsWrongRequest, AdversaryFault}
+use Rattle.proof_check.specs.CheckFaults.{HasRequest, IsWrongRequest}
 use Rattle.proof_check.specs.Steps.{IsRequesting, AreRequesting, RequestFaultAt}
 use Rattle.proof_check.proofs.Found.{none_there, row_there, only_there}
-use Rattle.proof_check.proofs.Answered.{first_wrong, right_more}
 
 module _ (board : PlainBoard) (rows : List AdversaryRow) (are : AreRequesting board rows) (configuration : List ℕ) (is : IsConfiguration board configuration) (number : ℕ) (number_is : number ≡ rank_of board configuration) where
   pub not_listed : (d : AdversaryRow) → HasNone (λ row. row.at) rows number → HasRequest (request_rows board rows) configuration → ⊥
@@ -67,22 +64,6 @@ wrong_request board rows row label faults.Memory before h = absurd h
 -- all labels are met where those of the board are
 pub all_labels : (board : PlainBoard) (rows : List RequestRow) (row : RequestRow) (count : ℕ) → board.labels ≤ count → ((label : ℕ) → label < count → MeetsAnswer board rows row label) → MeetsAnswers board rows row
 all_labels board rows row count whole each label = λ legal. let low : label < board.labels = legal.is_label in each label (omega (arith, low, whole)) legal
-
-pub adversary_fault_at : (board : PlainBoard) (rows all : List AdversaryRow) (k : ℕ) (d : AdversaryRow) (fault : CheckFault) → all ≡ rows → k < length rows
-    → All (MeetsAnswers board (request_rows board rows)) (map (request_row board) (take k rows)) → IsWrongRequest board (request_rows board all) (request_row board (get_or rows k d)) fault
-    → AdversaryFault board (request_rows board rows) fault
-adversary_fault_at board rows all k d fault same inside right wrong = record {
-  row = request_row board (get_or rows k d);
-  first = first_wrong (request_row board) (MeetsAnswers board (request_rows board rows)) rows k (get_or rows k d) inside (get_or_default rows k d (get_or rows k d) inside) right;
-  wrong = subst (λ (l : List AdversaryRow). IsWrongRequest board (request_rows board l) (request_row board (get_or rows k d)) fault) same wrong;
-}
-
-pub adversary_right_more : (board : PlainBoard) (rows all : List AdversaryRow) (k : ℕ) (d : AdversaryRow) → all ≡ rows → k < length rows
-    → All (MeetsAnswers board (request_rows board rows)) (map (request_row board) (take k rows)) → MeetsAnswers board (request_rows board all) (request_row board (get_or rows k d))
-    → All (MeetsAnswers board (request_rows board rows)) (map (request_row board) (take (k + 1) rows))
-adversary_right_more board rows all k d same inside right more =
-    right_more (request_row board) (MeetsAnswers board (request_rows board rows)) rows k (get_or rows k d) inside (get_or_default rows k d (get_or rows k d) inside) right
-    (subst (λ (l : List AdversaryRow). MeetsAnswers board (request_rows board l) (request_row board (get_or rows k d))) same more)
 
 -- a row, where one is wanted for the end of a list
 pub some_row : AdversaryRow

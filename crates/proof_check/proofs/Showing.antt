@@ -1,11 +1,9 @@
 -- A document that breaks no rule shows its claim.
-use Rattle.std.proofs.Common.{◌≡◌, ℕ, zero, suc, ◌/◌, ◌%◌, ◌^◌, ◌<◌, ◌≤◌, List, length, get_or, take, refl, sym, ap, ◌∙◌, subst, arith, div-lt_iff_lt-mul}
+use Rattle.std.proofs.Common.{◌≡◌, ℕ, ◌<◌, List, length, get_or, take, refl, ap, ◌∙◌, subst, arith}
 use Rattle.std.specs.List.{All}
-use Rattle.std.proofs.Math.Nat.{one-le-pow, pow-succ'}
 use Rattle.std.proofs.lemmas.List.{length-map, get_or-map, get_or-take}
-use Rattle.std.proofs.lemmas.List.Elements.{All-head}
-use Rattle.board_text.specs.PlainBoard.{PlainBoard, IsBoard, IsConfiguration}
-use Rattle.positions.specs.Ranks.{digits_of, rank_of, configuration_at, configurations}
+use Rattle.board_text.specs.PlainBoard.{PlainBoard, IsBoard}
+use Rattle.positions.specs.Ranks.{rank_of}
 use Rattle.positions.specs.Table.{AnswerRow, RequestRow, IsListed}
 use Rattle.positions.specs.Claim.{Shows}
 use Rattle.positions.specs.declared.claim.Claim.{Claim}
@@ -15,7 +13,7 @@ use Rattle.positions.specs.declared.turns.Turns.TheVariants.{Count, Always}
 use Rattle.positions.proofs.Ranks.{rank_of-configuration_at}
 use Rattle.proof_text.specs.declared.proof.LabellerRow.{LabellerRow}
 use Rattle.proof_text.specs.declared.proof.AdversaryRow.{AdversaryRow}
-use Rattle.proof_text.specs.Proof.{PlainProof, IsProof, IsAnswerRow, IsRequestRow, AreAnswerRows, AreRequestRows, AreTurns, answer_row, request_row, answer_rows, request_rows}
+use Rattle.proof_text.specs.Proof.{PlainProof, IsProof, IsAnswerRow, AreAnswerRows, AreRequestRows, AreTurns, answer_row, request_row, answer_rows, request_rows}
 use Rattle.proof_text.proofs.RankedRows.{rank_small, answer_each, request_each}
 use Rattle.proof_text.specs.Rules.{BreaksNoRule, Serves, wanted_of, StartIsBelow}
 use Rattle.proof_check.specs.Steps.{IsAnswering, AreAnswering, IsRequesting, AreRequesting}

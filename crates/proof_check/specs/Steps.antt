@@ -11,7 +11,8 @@ use Rattle.proof_text.specs.declared.proof.AdversaryRow.{AdversaryRow}
 use Rattle.proof_text.specs.Rules.{IsListedFor, IsWanted, one_less, IsListedBelow}
 use Rattle.proof_check.specs.RowIndex.{AreRanked}
 use Rattle.positions.specs.declared.claim.Claim.{Claim}
-use Rattle.proof_check.specs.CheckFaults.{HasAnswers, HasRequest, bound_of}
+use Rattle.proof_text.specs.Proof.{PlainProof, answer_rows, request_rows}
+use Rattle.proof_check.specs.CheckFaults.{HasAnswers, HasRequest, IsWrongAnswer, IsWrongRequest, bound_of}
 use Rattle.proof_check.specs.declared.fault.Side.TheVariants.{Labeller, Adversary}
 use Rattle.proof_check.specs.declared.fault.CheckFault.{CheckFault}
 use Rattle.proof_check.specs.declared.fault.CheckFault.TheVariants as faults
@@ -53,6 +54,18 @@ AnswerFaultAt board rows row pebble (faults.TooSmall at turn) = (rank_of board r
     × ((label : ℕ) × (slice_get row.answers pebble ≡ Some label) × Legal board row.at pebble label × IsWanted (one_less row.turns)
     × HasAnswers rows (moved row.at pebble label) × ¬ IsListedFor rows (moved row.at pebble label) (one_less row.turns))
 AnswerFaultAt board rows row pebble fault = ⊥
+
+-- the labeller's row has a fault
+abbrev pub HasWrongAnswer : PlainBoard → List AnswerRow → AnswerRow → Type 0
+HasWrongAnswer board rows row = (fault : CheckFault) × IsWrongAnswer board rows row fault
+
+-- the adversary's row has a fault
+abbrev pub HasWrongRequest : PlainBoard → List RequestRow → RequestRow → Type 0
+HasWrongRequest board rows row = (fault : CheckFault) × IsWrongRequest board rows row fault
+
+-- the proof with this claim and these rows
+abbrev pub proof_of : PlainBoard → Claim → List LabellerRow → List AdversaryRow → PlainProof
+proof_of board claim labeller adversary = record { claim = claim; labeller = answer_rows board labeller; adversary = request_rows board adversary }
 
 -- what is wrong with a legal answer to the row's request
 abbrev pub RequestFaultAt : PlainBoard → List RequestRow → RequestRow → ℕ → CheckFault → Type 0

@@ -1,16 +1,18 @@
 //! The adversary's rows of a document, checked.
 
-ghost use Rattle.std.specs.Prelude.{◌≡◌, ◌<◌, suc, MatchOption};
+ghost use Rattle.std.specs.Prelude.{◌≡◌, ◌<◌, suc, MatchBool, MatchOption};
 ghost use Rattle.proof_text.specs.Proof.{request_row, request_rows};
 ghost use Rattle.proof_text.specs.Rules.{MeetsAnswer, MeetsAnswers, AdversaryObeys, IsListedBelow};
 ghost use Rattle.proof_check.specs.CheckFaults.{IsWrongRequest, AdversaryFault};
-ghost use Rattle.proof_check.specs.Steps.{IsRequesting, AreRequesting, RequestFaultAt, IsWrongBoundFor};
+ghost use Rattle.proof_check.specs.Steps.{IsRequesting, AreRequesting, RequestFaultAt, HasWrongRequest, IsWrongBoundFor};
 
 use crate::fault::{CheckFault, Side};
 use crate::row_index::RowIndex;
 use board_text::Board;
 use positions::Space;
 use proof_text::AdversaryRow;
+use rayon::prelude::*;
+use std::thread::Threads;
 
 /// What is wrong with the label as an answer to the row's request, if anything is.
 fn answer_fault(
@@ -70,26 +72,34 @@ fn row_fault(
     None
 }
 
-/// The fault of the first faulty row, if there is one.
+/// The fault of the first faulty row, if there is one. The rows are looked at in parallel.
 pub(crate) fn adversary_fault(
+    rt: &(impl Threads + Sync),
     board: &Board,
     space: &Space,
-    rows: &[AdversaryRow],
-    index: &RowIndex<'_, AdversaryRow>,
+    rows: &RowIndex<'_, AdversaryRow>,
 ) -> Option<CheckFault>
     requires same_board { space.now ≡ board.now }
-    requires same_rows { index.now ≡ rows.now }
     requires rows { AreRequesting board.now rows.now }
     ensures { MatchOption result
         (AdversaryObeys board.now (request_rows board.now rows.now))
         (AdversaryFault board.now (request_rows board.now rows.now)) }
 {
-    for row in rows {
-        if let Some(fault) = row_fault(board, space, index, row) {
-            return Some(fault);
-        }
+    let faulty = rows.rows().par_iter().find_first(
+        rt,
+        |row: &&AdversaryRow| -> bool
+            requires same_board { space.now ≡ board.now }
+            requires rows { AreRequesting board.now rows.now }
+            requires row { IsRequesting board.now row.now.now }
+            ensures { MatchBool result
+                (HasWrongRequest board.entry.now (request_rows board.entry.now rows.entry.now) (request_row board.entry.now row.now.now))
+                (MeetsAnswers board.entry.now (request_rows board.entry.now rows.entry.now) (request_row board.entry.now row.now.now)) }
+        { row_fault(board, space, rows, row).is_some() },
+    );
+    match faulty {
+        Some(row) => row_fault(board, space, rows, row),
+        None => None,
     }
-    None
 }
 
 /// What is wrong with the start's number in the adversary's rows, where the value is to be at most this number.

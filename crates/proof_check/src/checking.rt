@@ -7,7 +7,7 @@ ghost use Rattle.proof_text.specs.Proof.{IsDocument, plain_proof, answer_rows, r
 ghost use Rattle.proof_text.specs.Rules as rules;
 ghost use Rattle.proof_text.specs.Rules.{BreaksNoRule, StartIsBelow};
 ghost use Rattle.proof_check.specs.CheckFaults.{IsCheckFault, NamesRanks};
-ghost use Rattle.proof_check.specs.Steps.{AreAnswering, AreRequesting, IsWrongBoundOf};
+ghost use Rattle.proof_check.specs.Steps.{AreAnswering, AreRequesting, IsWrongBoundOf, proof_of};
 ghost use Rattle.proof_check.specs.declared.fault.CheckFault.TheVariants.{Memory as OutOfMemory};
 
 use crate::adversary::{self, adversary_fault};
@@ -28,7 +28,7 @@ pub struct Shown {
 
 /// The claim of the document, if its rows show it, or the first fault in the order of checking.
 pub fn check(
-    _rt: &(impl Threads + Sync),
+    rt: &(impl Threads + Sync),
     alloc: Global,
     board: &Board,
     proof: &Proof,
@@ -58,7 +58,7 @@ pub fn check(
     let Ok(adversary) = RowIndex::new(alloc, size, &proof.adversary) else {
         return Err(CheckFault::Memory);
     };
-    match first_fault(board, &space, proof, &labeller, &adversary) {
+    match first_fault(rt, board, &space, proof.claim, &labeller, &adversary) {
         Some(fault) => Err(fault),
         None => Ok(Shown { claim: proof.claim }),
     }
@@ -66,31 +66,30 @@ pub fn check(
 
 /// The first fault of the document in the order of checking, if there is one.
 fn first_fault(
+    rt: &(impl Threads + Sync),
     board: &Board,
     space: &Space,
-    proof: &Proof,
+    claim: Claim,
     labeller: &RowIndex<'_, LabellerRow>,
     adversary: &RowIndex<'_, AdversaryRow>,
 ) -> Option<CheckFault>
     requires same_board { space.now ≡ board.now }
-    requires labeller { labeller.now ≡ proof.now.labeller.items }
-    requires adversary { adversary.now ≡ proof.now.adversary.items }
-    requires answering { AreAnswering board.now proof.now.labeller.items }
-    requires requesting { AreRequesting board.now proof.now.adversary.items }
+    requires answering { AreAnswering board.now labeller.now }
+    requires requesting { AreRequesting board.now adversary.now }
     ensures { MatchOption result
-        (BreaksNoRule board.now (plain_proof board.now proof.now))
-        (λ fault. IsCheckFault board.now (plain_proof board.now proof.now) fault) }
+        (BreaksNoRule board.now (proof_of board.now claim labeller.now adversary.now))
+        (λ fault. IsCheckFault board.now (proof_of board.now claim labeller.now adversary.now) fault) }
 {
-    if let Some(fault) = labeller::start_fault(board, space, labeller, wanted_of(proof.claim)) {
+    if let Some(fault) = labeller::start_fault(board, space, labeller, wanted_of(claim)) {
         return Some(fault);
     }
-    if let Some(fault) = bound_fault(board, space, adversary, proof.claim) {
+    if let Some(fault) = bound_fault(board, space, adversary, claim) {
         return Some(fault);
     }
-    if let Some(fault) = labeller_fault(board, space, &proof.labeller, labeller) {
+    if let Some(fault) = labeller_fault(rt, board, space, labeller) {
         return Some(fault);
     }
-    adversary_fault(board, space, &proof.adversary, adversary)
+    adversary_fault(rt, board, space, adversary)
 }
 
 /// The turns that a claim wants of the start.

@@ -1,16 +1,18 @@
 //! The labeller's rows of a document, checked.
 
-ghost use Rattle.std.specs.Prelude.{◌≡◌, ◌↔◌, ◌<◌, ◌≤◌, IsTrue, MatchOption};
+ghost use Rattle.std.specs.Prelude.{◌≡◌, ◌↔◌, ◌<◌, ◌≤◌, IsTrue, MatchBool, MatchOption};
 ghost use Rattle.proof_text.specs.Proof.{answer_row, answer_rows};
 ghost use Rattle.proof_text.specs.Rules.{IsEnough, IsWanted, one_less, Serves, MeetsRequest, MeetsRequests, LabellerObeys};
 ghost use Rattle.proof_check.specs.CheckFaults.{IsWrongAnswer, LabellerFault};
-ghost use Rattle.proof_check.specs.Steps.{IsAnswering, AreAnswering, AnswerFaultAt, IsWrongStartFor};
+ghost use Rattle.proof_check.specs.Steps.{IsAnswering, AreAnswering, AnswerFaultAt, HasWrongAnswer, IsWrongStartFor};
 
 use crate::fault::{CheckFault, Side};
 use crate::row_index::RowIndex;
 use board_text::Board;
 use positions::{Space, Turns};
 use proof_text::LabellerRow;
+use rayon::prelude::*;
+use std::thread::Threads;
 
 /// Whether so many turns are enough where these are wanted.
 fn is_enough(wanted: Turns, turns: Turns) -> bool
@@ -103,26 +105,34 @@ fn row_fault(
     None
 }
 
-/// The fault of the first faulty row, if there is one.
+/// The fault of the first faulty row, if there is one. The rows are looked at in parallel.
 pub(crate) fn labeller_fault(
+    rt: &(impl Threads + Sync),
     board: &Board,
     space: &Space,
-    rows: &[LabellerRow],
-    index: &RowIndex<'_, LabellerRow>,
+    rows: &RowIndex<'_, LabellerRow>,
 ) -> Option<CheckFault>
     requires same_board { space.now ≡ board.now }
-    requires same_rows { index.now ≡ rows.now }
     requires rows { AreAnswering board.now rows.now }
     ensures { MatchOption result
         (LabellerObeys board.now (answer_rows board.now rows.now))
         (LabellerFault board.now (answer_rows board.now rows.now)) }
 {
-    for row in rows {
-        if let Some(fault) = row_fault(board, space, index, row) {
-            return Some(fault);
-        }
+    let faulty = rows.rows().par_iter().find_first(
+        rt,
+        |row: &&LabellerRow| -> bool
+            requires same_board { space.now ≡ board.now }
+            requires rows { AreAnswering board.now rows.now }
+            requires row { IsAnswering board.now row.now.now }
+            ensures { MatchBool result
+                (HasWrongAnswer board.entry.now (answer_rows board.entry.now rows.entry.now) (answer_row board.entry.now row.now.now))
+                (MeetsRequests board.entry.now (answer_rows board.entry.now rows.entry.now) (answer_row board.entry.now row.now.now)) }
+        { row_fault(board, space, rows, row).is_some() },
+    );
+    match faulty {
+        Some(row) => row_fault(board, space, rows, row),
+        None => None,
     }
-    None
 }
 
 /// What is wrong with the start's number in the labeller's rows, if anything is.

@@ -67,6 +67,13 @@ impl<'a, R: Ranked> RowIndex<'a, R> {
         })
     }
 
+    /// All rows.
+    pub(crate) fn rows(&self) -> &'a [R]
+        ensures { result.now ≡ self.now }
+    {
+        self.rows
+    }
+
     /// The row of this rank.
     pub(crate) fn find(&self, rank: u32) -> Option<&'a R>
         ensures { MatchOption result (HasNone R.rank self.now rank) (λ row. IsRowOf R.rank self.now rank row.now) }

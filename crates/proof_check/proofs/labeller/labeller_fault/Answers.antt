@@ -1,16 +1,30 @@
+use Rattle.std.proofs.Common.{◌∙◌, Some, None}
+use Rattle.std.proofs.lemmas.List.Elements.{All-contains}
 use Rattle.proof_text.specs.Proof.{answer_row, answer_rows}
 use Rattle.proof_text.specs.Rules.{MeetsRequests}
-use Rattle.proof_check.proofs.Answered.{labeller_fault_at, labeller_right_more, all_right}
+use Rattle.proof_check.specs.Steps.{IsAnswering, HasWrongAnswer}
+use Rattle.proof_check.proofs.FirstRow.{first_of_slice, labeller_fault_is}
 use Rattle.proof_check.proofs.labeller.labeller_fault.Goals as goal
 
+pub row_fault-requires-clause-row : goal.row_fault-requires-clause-row
+row_fault-requires-clause-row g c =
+    let board = c.args.board.now in
+    let rows = c.args.rows.now in
+    let found = c.in-Some.ensures in
+    let first = first_of_slice (answer_row board) (MeetsRequests board (answer_rows board rows)) (λ r. HasWrongAnswer board (answer_rows board rows) (answer_row board r)) rows found.0 found.1 (Some c.in-Some.row) (found.2 ∙ c.par_iter.ensures ∙ c.rows.ensures) found.3 found.4 in
+    All-contains (IsAnswering board) rows c.in-Some.row.now c.requires.rows.each first.among
+
 pub returns-in-Some : goal.returns-in-Some
-returns-in-Some c =
-    labeller_fault_at c.args.board.now c.args.rows.now c.args.index.now c.loop-row.row-index _ c.in-Some.fault c.requires.same_rows c.loop-row-test.true c.loop-row.invariant c.in-Some.ensures
+returns-in-Some g c =
+    let board = c.args.board.now in
+    let rows = c.args.rows.now in
+    let found = c.in-Some.ensures in
+    let first = first_of_slice (answer_row board) (MeetsRequests board (answer_rows board rows)) (λ r. HasWrongAnswer board (answer_rows board rows) (answer_row board r)) rows found.0 found.1 (Some c.in-Some.row) (found.2 ∙ c.par_iter.ensures ∙ c.rows.ensures) found.3 found.4 in
+    labeller_fault_is board rows c.in-Some.row.now c.row_fault.result first c.row_fault.ensures
 
-pub loop-row-preserved : goal.loop-row-preserved
-loop-row-preserved c =
-    labeller_right_more c.args.board.now c.args.rows.now c.args.index.now c.loop-row.row-index _ c.requires.same_rows c.loop-row-test.true c.loop-row.invariant c.in_default.ensures
-
-pub returns : goal.returns
-returns c =
-    all_right (answer_row c.args.board.now) (MeetsRequests c.args.board.now (answer_rows c.args.board.now c.args.rows.now)) c.args.rows.now c.loop-row.row-index c.loop-row-test.false c.loop-row.invariant
+pub returns-in-None : goal.returns-in-None
+returns-in-None g c =
+    let board = c.args.board.now in
+    let rows = c.args.rows.now in
+    let found = c.in-None.ensures in
+    first_of_slice (answer_row board) (MeetsRequests board (answer_rows board rows)) (λ r. HasWrongAnswer board (answer_rows board rows) (answer_row board r)) rows found.0 found.1 None (found.2 ∙ c.par_iter.ensures ∙ c.rows.ensures) found.3 found.4
