@@ -1,0 +1,174 @@
+-- Where `clap` takes the words, the job can be read from its matches.
+use Rattle.std.proofs.Common.{◌≡◌, ◌∙◌, ◌&&◌, ◌||◌, not, Bool, ℕ, List, [], ◌∷◌, Option, Some, None, is_some, true, false, true≢false, refl, sym, inl, inr, cond, codes, drop, arith}
+use Rattle.std.specs.Prelude.{⊤, fold, option_map}
+use Rattle.std.specs.List.{list_all}
+use Rattle.std.specs.Option.{option_map_or}
+use Rattle.std.specs.Str.{bytes_eq}
+use Rattle.std.proofs.lemmas.Slice.Eq.{bytes_eq-Decides}
+use Rattle.clap.specs.Walk.{Held, Names, Rule, Step, Text, Waiting, Walk, after_step, answers_to, arg_by_index, finished, long_or_other, next, nothing_held, rows_after, subcommand, subcommand_met, subcommand_or_other, to_positional, trailing, value, walk, walk_from, walked, walked_from, word_met}
+use Rattle.clap.specs.Lexer.{long_of}
+use Rattle.clap.specs.Simple.{Shape, built, built_leaf, entered, help_shape, inherited, is_simple, label_of, names_of, rows_at, subcommand_of}
+use Rattle.clap.specs.Takes.{built_takes, default_passes, entered_passes, is_given, is_valid, level_passes, other_passes, settle_passes, step_passes, takes, turn_passes, walk_passes, word_passes}
+use Rattle.clap.proofs.OnLiterals.{clap_on_literals}
+use Rattle.clap.proofs.WalkLemmas.{both}
+use Rattle.command_line.specs.Commands.{check, nested, program}
+use Rattle.command_line.specs.Reading.{is_read}
+use Rattle.command_line.proofs.RowFacts.{either}
+use Rattle.command_line.proofs.WalkFits.{Good, IsNoCommand, long_no_command}
+use Rattle.command_line.proofs.LevelFits.{level_fits, number_there, text_there}
+
+pub simple : is_simple program ≡ true
+unfolding clap_on_literals
+simple = refl
+
+-- ---- each command
+
+abbrev built_check : Shape
+built_check = built_leaf (inherited program.top check)
+
+abbrev built_nested : Shape
+built_nested = built_leaf (inherited program.top nested)
+
+check_good : Good built_check.rules
+check_good = ((refl, inl (refl, omega arith)), ((refl, inl (refl, omega arith)), ((refl, inr refl), tt)))
+
+nested_good : Good built_nested.rules
+nested_good = ((refl, inl (refl, omega arith)), ((refl, inl (refl, omega arith)), ((refl, inr refl), tt)))
+
+check_read : (words : List Text) → level_passes built_check [] nothing_held words false ≡ true
+    → is_read (Some (rows_at built_check words)) ≡ true
+check_read words pass =
+    let rows = rows_after built_check.rules [] words in
+    let level = level_fits built_check words check_good pass in
+    let parts = both (is_given (codes "board") rows) (is_given (codes "proof") rows && true) level.1 in
+    let board = parts.0 in
+    let proof = (both (is_given (codes "proof") rows) true parts.1).0 in
+    let has_board = text_there built_check.rules _ (codes "board") rows level.0 refl board in
+    let has_proof = text_there built_check.rules _ (codes "proof") rows level.0 refl proof in
+    rw (has_board, has_proof) refl
+
+nested_read : (words : List Text) → level_passes built_nested [] nothing_held words false ≡ true
+    → is_read (Some (rows_at built_nested words)) ≡ true
+nested_read words pass =
+    let rows = rows_after built_nested.rules [] words in
+    let level = level_fits built_nested words nested_good pass in
+    let parts = both (is_given (codes "levels") rows) (is_given (codes "pebbles") rows && true) level.1 in
+    let levels = parts.0 in
+    let pebbles = (both (is_given (codes "pebbles") rows) true parts.1).0 in
+    let has_levels = number_there built_nested.rules _ (codes "levels") 6 rows level.0 refl refl (λ t e. e) levels in
+    let has_pebbles = number_there built_nested.rules _ (codes "pebbles") 6 rows level.0 refl refl (λ t e. e) pebbles in
+    rw (has_levels, has_pebbles) refl
+
+-- ---- a walk that passes stops at no `help`
+
+abbrev IsNoHelp : Option (Text × List Text) → Type 0
+IsNoHelp None = ⊤
+IsNoHelp (Some p) = bytes_eq p.0 (codes "help") ≡ false
+
+abbrev StepsPastHelp : Step → Type 0
+StepsPastHelp (subcommand name) = bytes_eq name (codes "help") ≡ false
+StepsPastHelp _ = ⊤
+
+past : (step : Step) → IsNoCommand step → StepsPastHelp step
+past (next waiting) fine = tt
+past (trailing position) fine = tt
+past (subcommand name) fine = absurd fine
+past value fine = tt
+
+no_help : (name : Text) (disabled : Bool) → disabled ≡ false → (not (bytes_eq name (codes "help")) || disabled) ≡ true → bytes_eq name (codes "help") ≡ false
+no_help name disabled off pass = go (bytes_eq name (codes "help")) disabled off pass
+  where
+    go : (b d : Bool) → d ≡ false → (not b || d) ≡ true → b ≡ false
+    go true d off e = absurd (true≢false (sym e ∙ off))
+    go false d off e = refl
+
+other_past : (s : Shape) (o : Option Text) (waiting : Waiting) (position : ℕ) (word : Text) (h : Held) → s.disable_help_subcommand ≡ false
+    → other_passes s o word h ≡ true → StepsPastHelp (subcommand_or_other s.rules o waiting position word h).1
+other_past s (Some name) waiting position word h off pass = no_help name s.disable_help_subcommand off pass
+other_past s None waiting position word h off pass = go (bytes_eq word (45 ∷ 45 ∷ []))
+  where
+    go : (b : Bool) → StepsPastHelp (cond b (h, trailing position) (long_or_other s.rules waiting word (long_of word) h)).1
+    go true = tt
+    go false = past _ (long_no_command s.rules waiting word (long_of word) h)
+
+met_past : (s : Shape) (names : Names) (is_trailing : Bool) (waiting : Waiting) (position : ℕ) (word : Text) (h : Held) → s.disable_help_subcommand ≡ false
+    → word_passes s names is_trailing waiting word h ≡ true → StepsPastHelp (word_met s.rules names is_trailing waiting position word h).1
+met_past s names true waiting position word h off pass = tt
+met_past s names false waiting position word h off pass = other_past s (subcommand_met names waiting word) waiting position word h off pass
+
+value_past : (c : List Rule) (o : Option Rule) (word : Text) (w : Walk) (h : Held) → IsNoHelp w.stopped → IsNoHelp (to_positional c o word w h).stopped
+value_past c None word w h none = none
+value_past c (Some a) word w h none = tt
+
+step_past : (c : List Rule) (word : Text) (w : Walk) (h : Held) (step : Step) → StepsPastHelp step → IsNoHelp w.stopped → IsNoHelp (after_step c word w h step).stopped
+step_past c word w h (next waiting) fine none = none
+step_past c word w h (trailing position) fine none = none
+step_past c word w h (subcommand name) fine none = fine
+step_past c word w h value fine none = value_past c (arg_by_index c w.position) word w h none
+
+turn_past : (s : Shape) (names : Names) (w : Walk) (word : Text) (o : Option (Text × List Text)) → s.disable_help_subcommand ≡ false → IsNoHelp o → IsNoHelp w.stopped
+    → (is_some o || (word_passes s names w.is_trailing w.waiting word w.held
+    && step_passes s w.position (word_met s.rules names w.is_trailing w.waiting w.position word w.held).0
+    (word_met s.rules names w.is_trailing w.waiting w.position word w.held).1)) ≡ true
+    → IsNoHelp (walked_from s.rules names o w word).stopped
+turn_past s names w word (Some p) off fine none pass = fine
+turn_past s names w word None off fine none pass =
+    let met = word_met s.rules names w.is_trailing w.waiting w.position word w.held in
+    let parts = both (word_passes s names w.is_trailing w.waiting word w.held) (step_passes s w.position met.0 met.1) pass in
+    step_past s.rules word w met.0 met.1 (met_past s names w.is_trailing w.waiting w.position word w.held off parts.0) none
+
+walk_past : (s : Shape) (names : Names) (w : Walk) (words : List Text) → s.disable_help_subcommand ≡ false → IsNoHelp w.stopped
+    → walk_passes s names w words ≡ true → IsNoHelp (fold (walked s.rules names) w words).stopped
+unfolding walk_passes walked
+walk_past s names w [] off none pass = none
+walk_past s names w (word ∷ rest) off none pass =
+    let parts = both (turn_passes s names w word) (walk_passes s names (walked s.rules names w word) rest) pass in
+    walk_past s names (walked s.rules names w word) rest off (turn_past s names w word w.stopped off none none parts.0) parts.1
+
+-- ---- the whole command line
+
+stop_read : (stop : Option (Text × List Text)) → IsNoHelp stop → entered_passes (built program) stop ≡ true
+    → is_some (entered (built program) stop) ≡ true → is_read (entered (built program) stop) ≡ true
+stop_read None fine pass some = absurd (true≢false (sym some))
+stop_read (Some p) fine pass some =
+    go (answers_to p.0 (label_of built_check)) (answers_to p.0 (label_of built_nested)) (answers_to p.0 (codes "help", [])) refl pass some
+  where
+    help : Shape
+    help = built_leaf help_shape
+
+    shape : Bool → Bool → Bool → Option Shape
+    shape a b d = cond a (Some built_check) (cond b (Some built_nested) (cond d (Some help) None))
+
+    go : (a b d : Bool) → answers_to p.0 (codes "help", []) ≡ d
+        → option_map_or (λ s. level_passes s [] nothing_held p.1 false) (shape a b d) true ≡ true
+        → is_some (option_map (λ s. rows_at s p.1) (shape a b d)) ≡ true
+        → is_read (option_map (λ s. rows_at s p.1) (shape a b d)) ≡ true
+    go true b d e pass some = check_read p.1 pass
+    go false true d e pass some = nested_read p.1 pass
+    go false false true e pass some =
+        elim (either (bytes_eq (codes "help") p.0) false e) [
+          | inl same ↦
+              let is : codes "help" ≡ p.0 = (bytes_eq-Decides (codes "help") p.0).0 same in
+              let again : bytes_eq p.0 (codes "help") ≡ true = (bytes_eq-Decides p.0 (codes "help")).1 (sym is) in
+              absurd (true≢false (sym again ∙ fine))
+          | inr bad ↦ absurd (true≢false (sym bad))
+        ]
+    go false false false e pass some = absurd (true≢false (sym some))
+
+pub taken : (words : List Text) → takes program words ≡ true → is_read (subcommand_of program words) ≡ true
+taken words e =
+    let top = (built program).top in
+    let names = names_of (built program) in
+    let rest = drop 1 words in
+    let end = walk top.rules names nothing_held rest in
+    let rows = finished top.rules end.held in
+    let has = is_some (entered (built program) end.stopped) in
+    let whole = (both (is_simple program) (built_takes (built program) nothing_held rest) e).1 in
+    let parts = both (entered_passes (built program) end.stopped) (level_passes top names nothing_held rest has) whole in
+    let level = both (walk_passes top names (walk_from nothing_held) rest)
+    (settle_passes top.rules top.args_override_self end.held && (list_all default_passes top.rules && is_valid top rows has)) parts.1 in
+    let last = both (settle_passes top.rules top.args_override_self end.held) (list_all default_passes top.rules && is_valid top rows has) level.1 in
+    let valid = both (list_all default_passes top.rules) (is_valid top rows has) last.1 in
+    let some = both has (list_all (λ a. a.is_free) top.rules
+    && ((top.subcommand_negates_reqs && has) || list_all (λ a. not a.required || is_given a.id rows) top.rules)) valid.1 in
+    stop_read end.stopped (walk_past top names (walk_from nothing_held) rest refl tt level.0) parts.0 some.0

@@ -1,0 +1,32 @@
+-- The commands of the program, as `clap` reads them.
+use Rattle.std.specs.Prelude.{ℕ, [], ◌∷◌, List, Some, true, false, codes, pos}
+use Rattle.clap.specs.Walk.{Rule, Text}
+use Rattle.clap.specs.Simple.{App, Shape, new_rule, new_shape}
+use Rattle.clap.specs.declared.builder.value_parser.ValueParser.TheVariants as vp
+
+-- a word that has to be there, and one that has to be a number from 1 to `most`
+abbrev pub path : Text → Rule
+path id = record (new_rule id) { required = true; value_names = 1 }
+
+abbrev pub number : Text → ℕ → Rule
+number id most = record (new_rule id) {
+  required = true;
+  value_names = 1;
+  parser = Some (vp.Signed (pos 1) (pos most));
+}
+
+abbrev pub command : Text → List Rule → Shape
+command name rules = record (new_shape name) { rules = rules }
+
+abbrev pub check : Shape
+check = command (codes "check") (path (codes "board") ∷ path (codes "proof") ∷ [])
+
+abbrev pub nested : Shape
+nested = command (codes "nested") (number (codes "levels") 6 ∷ number (codes "pebbles") 6 ∷ [])
+
+-- the program: one of its commands has to be named
+abbrev pub program : App
+program = record {
+  top = record (new_shape (codes "pebbles")) { is_leaf = false; subcommand_required = true };
+  subs = check ∷ nested ∷ [];
+}

@@ -1,0 +1,45 @@
+-- The job that a command line asks for.
+use Rattle.std.specs.Prelude.{◌≡◌, ◌≤◌, ℕ, Bool, ◌&&◌, ◌||◌, false, List, Option, Some, None, is_some}
+use Rattle.std.specs.Prelude.{codes, option_map}
+use Rattle.std.specs.Str.{bytes_eq}
+use Rattle.std.specs.Option.{option_map_or}
+use Rattle.std.specs.Str.Parse.{digits_value, without_leading_plus}
+use Rattle.clap.specs.ValueTests.{is_unsigned_in}
+use Rattle.clap.specs.Walk.{Row, Text, first_of, one_of}
+use Rattle.command_line.specs.declared.asked.Job.{Job}
+use Rattle.command_line.specs.declared.asked.Job.TheVariants.{Joined, Check, Nested}
+
+-- the matches of the command that was named give n for the id, from 1 to `most`
+abbrev pub HasNumber : List Row → Text → ℕ → ℕ → Type 0
+HasNumber rows id most n =
+    (option_map (λ t. digits_value 10 (without_leading_plus t)) (one_of id rows) ≡ Some n)
+    × (1 ≤ n) × (n ≤ most)
+
+-- the command that was named, with its matches, asks for the job
+abbrev pub AsksFor : Text → List Row → Job → Type 0
+AsksFor name rows Joined = ⊥
+AsksFor name rows (Check board proof) = (name ≡ codes "check")
+    × (first_of (codes "board") rows ≡ Some board.now)
+    × (first_of (codes "proof") rows ≡ Some proof.now)
+AsksFor name rows (Nested levels pebbles) = (name ≡ codes "nested")
+    × HasNumber rows (codes "levels") 6 levels × HasNumber rows (codes "pebbles") 6 pebbles
+
+-- what `clap` finds on the words asks for the job
+abbrev pub IsReadAs : Option (Text × List Row) → Job → Type 0
+IsReadAs None job = ⊥
+IsReadAs (Some found) job = AsksFor found.0 found.1 job
+
+-- the same as a test, of some job
+abbrev pub has_number : List Row → Text → ℕ → Bool
+has_number rows id most = option_map_or (is_unsigned_in 1 most) (one_of id rows) false
+
+abbrev pub asks : Text → List Row → Bool
+asks name rows =
+    (bytes_eq name (codes "check")
+    && (is_some (first_of (codes "board") rows) && is_some (first_of (codes "proof") rows)))
+    || (bytes_eq name (codes "nested")
+    && (has_number rows (codes "levels") 6 && has_number rows (codes "pebbles") 6))
+
+abbrev pub is_read : Option (Text × List Row) → Bool
+is_read None = false
+is_read (Some found) = asks found.0 found.1

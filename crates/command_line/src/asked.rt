@@ -1,0 +1,36 @@
+//! What the program can be asked to do, and why it is asked for nothing.
+
+ghost use Rattle.std.specs.Prelude.{◌≡◌};
+ghost use Rattle.command_line.specs.declared.asked.JobFault.TheVariants as fault;
+
+use std::alloc::AllocError;
+
+/// What the program is asked to do.
+#[derive(Clone, Copy, Debug, PartialEq, Eq)]
+pub enum Job<'a> {
+    /// Check the strategy document that stands behind a board on standard input.
+    Joined,
+    /// Check the strategy document for the board. Both are paths.
+    Check { board: &'a str, proof: &'a str },
+    /// Write the nested board with so many levels and pebbles, each 1 to 6.
+    Nested { levels: u8, pebbles: u8 },
+}
+
+/// Why the words ask for nothing that can be done.
+#[derive(Debug, Drop)]
+pub enum JobFault {
+    /// Help was asked for.
+    Help { text: String },
+    /// The words are none of the program's.
+    Usage { text: String },
+    /// A growth of memory was refused.
+    Memory,
+}
+
+impl From<AllocError> for JobFault {
+    ghost from_gives = { λ _ f. f ≡ fault.Memory };
+
+    fn from(_error: AllocError) -> JobFault {
+        JobFault::Memory
+    }
+}

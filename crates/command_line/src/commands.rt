@@ -1,0 +1,98 @@
+//! The program's commands, with the texts of their help.
+
+ghost use Rattle.std.specs.Prelude.{◌≡◌, IfOk, false};
+ghost use Rattle.clap.specs.Words.{app_of, rule_of, shape_of};
+ghost use Rattle.clap.specs.declared.builder.command.Command.TheViews.{out-Command};
+ghost use Rattle.command_line.specs.Commands as commands;
+
+use clap::{Arg, Command, value_parser};
+use std::alloc::{AllocError, Global};
+
+/// What the program is for.
+const ABOUT: &str =
+    "Checks strategies for the pebble game, whose boards are bounded timestamp systems.\n\n\
+    Without a command it reads a board and behind it a strategy document from standard input, and writes what `check` writes.";
+
+/// What the statuses mean, with an example.
+const AFTER_HELP: &str = "Exit statuses:\n  \
+    0  done, or help was asked for\n  \
+    1  a fault in the text of a board or a document, or a board that is too large\n  \
+    2  wrong words on the command line\n  \
+    3  the document was refused\n  \
+    4  no memory\n  \
+    5  a failed read or write, or an input that is too long\n\n\
+    Example:\n  pebbles nested 2 2 > cycle.board\n  pebbles check cycle.board cycle.proof";
+
+/// All commands.
+pub(crate) fn program<'a>(alloc: Global) -> Result<Command<'a>, AllocError>
+    ensures { IfOk result (λ c. app_of c ≡ commands.program) }
+{
+    Command::new(alloc, "pebbles")
+        .about(ABOUT)
+        .after_help(AFTER_HELP)
+        .subcommand_required(true)
+        .subcommand(check(alloc)?)?
+        .subcommand(nested(alloc)?)
+}
+
+fn check<'a>(alloc: Global) -> Result<Command<'a>, AllocError>
+    ensures shape { IfOk result (λ c. shape_of c ≡ commands.check) }
+    ensures local { IfOk result (λ c. (out-Command c).has_globals ≡ false) }
+{
+    let board = path(alloc, "board", "BOARD", "The path of a board");
+    let proof = path(
+        alloc,
+        "proof",
+        "PROOF",
+        "The path of a strategy document for the board",
+    );
+    Command::new(alloc, "check")
+        .about(
+            "Reads a board and a strategy document for it, and writes whether the document shows its claim",
+        )
+        .after_help(
+            "Writes one line: `accepted` and the claim, or `refused` and the first fault.\n\n\
+            Example:\n  pebbles check chain.board chain.proof",
+        )
+        .arg(board)?
+        .arg(proof)
+}
+
+fn nested<'a>(alloc: Global) -> Result<Command<'a>, AllocError>
+    ensures shape { IfOk result (λ c. shape_of c ≡ commands.nested) }
+    ensures local { IfOk result (λ c. (out-Command c).has_globals ≡ false) }
+{
+    let levels = count(alloc, "levels", "LEVELS", 6, "How many levels, 1 to 6");
+    let pebbles = count(alloc, "pebbles", "PEBBLES", 6, "How many pebbles, 1 to 6");
+    Command::new(alloc, "nested")
+        .about("Writes the board of the nested three-cycle, with all pebbles on label 0")
+        .after_help(
+            "Level 1 is one label. Each further level is the three-cycle with a copy of the level before in place of each label.\n\n\
+            Example:\n  pebbles nested 3 3",
+        )
+        .arg(levels)?
+        .arg(pebbles)
+}
+
+/// A path that has to be there.
+fn path<'a>(alloc: Global, id: &'a str, name: &'a str, help: &'a str) -> Arg<'a>
+    ensures rule { rule_of result ≡ commands.path id.entry.now }
+    ensures local { result.global ≡ false }
+{
+    Arg::new(alloc, id)
+        .value_name(name)
+        .required(true)
+        .help(help)
+}
+
+/// A number from 1 to `most` that has to be there.
+fn count<'a>(alloc: Global, id: &'a str, name: &'a str, most: u8, help: &'a str) -> Arg<'a>
+    ensures rule { rule_of result ≡ commands.number id.entry.now most }
+    ensures local { result.global ≡ false }
+{
+    Arg::new(alloc, id)
+        .value_name(name)
+        .required(true)
+        .value_parser(value_parser!(u8).range(1..=most as i64))
+        .help(help)
+}

@@ -1,0 +1,9 @@
+//! What the words of the command line ask the program for.
+#![tactic(auto)]
+
+mod asked;
+mod commands;
+mod words;
+
+pub use asked::{Job, JobFault};
+pub use words::job;

@@ -1,0 +1,118 @@
+//! The job that the words of the command line ask for.
+
+ghost use Rattle.std.specs.Prelude.{◌≡◌, ◌≤◌, ◌↔◌, ◌⊎◌, IfOk, IfErr, IfSome, MatchOption, Ok, None, true, false, length, codes, option_map};
+ghost use Rattle.clap.specs.Words.{first_of, found_of, kind_of, rows_of, subcommand_of, subcommand_rows_of, takes};
+ghost use Rattle.clap.specs.Walk.{texts};
+ghost use Rattle.command_line.specs.Commands as commands;
+ghost use Rattle.command_line.specs.Reading.{AsksFor, HasNumber, IsReadAs, asks, has_number, is_read};
+
+use crate::asked::{Job, JobFault};
+use crate::commands::program;
+use clap::error::ErrorKind;
+use clap::{ArgMatches, Error};
+use std::alloc::Global;
+
+/// The job that the words ask for, the program's name first.
+///
+/// Without a word behind the name it is `Job::Joined`. All other words are read by `clap`, exactly; what it takes is refused for want of memory alone.
+pub fn job<'a, 'w>(alloc: Global, words: &'a [&'w str]) -> Result<Job<'a>, JobFault>
+    ensures joined { (result ≡ Ok Job.Joined) ↔ (length words.now ≤ 1) }
+    ensures job { IfOk result (λ j. (j ≡ Job.Joined)
+        ⊎ IsReadAs (subcommand_of commands.program (texts words.now)) j) }
+    ensures takes { takes commands.program (texts words.now) ≡ true
+        → IfErr result (λ f. f ≡ JobFault.Memory) }
+{
+    if words.len() <= 1 {
+        return Ok(Job::Joined);
+    }
+    named_job(alloc, words)
+}
+
+/// The job of the command that the words name.
+fn named_job<'a, 'w>(alloc: Global, words: &'a [&'w str]) -> Result<Job<'a>, JobFault>
+    ensures job { IfOk result (IsReadAs (subcommand_of commands.program (texts words.now))) }
+    ensures takes { takes commands.program (texts words.now) ≡ true
+        → IfErr result (λ f. f ≡ JobFault.Memory) }
+{
+    let mut command = program(alloc)?;
+    let matches = match command.try_get_matches_from_mut(words) {
+        Ok(matches) => matches,
+        Err(error) => return Err(fault(alloc, &error)),
+    };
+    match chosen(&matches) {
+        Some(job) => Ok(job),
+        None => {
+            let error = command.error(ErrorKind::InvalidSubcommand, "no such command")?;
+            Err(fault(alloc, &error))
+        }
+    }
+}
+
+/// The fault with the text of the error, for the reader of help or of the usage.
+fn fault(alloc: Global, error: &Error) -> JobFault
+    ensures memory { kind_of error.now ≡ ErrorKind.OutOfMemory → result ≡ JobFault.Memory }
+{
+    if matches!(error.kind(), ErrorKind::OutOfMemory) {
+        return JobFault::Memory;
+    }
+    match format!(in alloc; "{error}") {
+        Ok(text) if error.use_stderr() => JobFault::Usage { text },
+        Ok(text) => JobFault::Help { text },
+        Err(_) => JobFault::Memory,
+    }
+}
+
+//// The job of the command that the words named.
+fn chosen<'a>(matches: &ArgMatches<'a>) -> Option<Job<'a>>
+    ensures some { IfSome result (λ j. IsReadAs (subcommand_rows_of matches.now) j) }
+    ensures none { result ≡ None → is_read (subcommand_rows_of matches.now) ≡ false }
+{
+    let (name, values) = named(matches)?;
+    match name {
+        "check" => check_job(values),
+        "nested" => nested_job(values),
+        _ => None,
+    }
+}
+
+/// The command that was named, with its matches.
+fn named<'m, 'a>(matches: &'m ArgMatches<'a>) -> Option<(&'a str, &'m ArgMatches<'a>)>
+    ensures { subcommand_rows_of matches.now
+        ≡ option_map (λ p. (p.0.now, rows_of (found_of p.1.now))) result }
+{
+    matches.subcommand()
+}
+
+fn check_job<'a>(values: &ArgMatches<'a>) -> Option<Job<'a>>
+    ensures { MatchOption result (asks (codes "check") (rows_of (found_of values.now)) ≡ false)
+        (AsksFor (codes "check") (rows_of (found_of values.now))) }
+{
+    let board = text(values, "board")?;
+    let proof = text(values, "proof")?;
+    Some(Job::Check { board, proof })
+}
+
+fn nested_job<'a>(values: &ArgMatches<'a>) -> Option<Job<'a>>
+    ensures { MatchOption result (asks (codes "nested") (rows_of (found_of values.now)) ≡ false)
+        (AsksFor (codes "nested") (rows_of (found_of values.now))) }
+{
+    let levels = number(values, "levels", 6)?;
+    let pebbles = number(values, "pebbles", 6)?;
+    Some(Job::Nested { levels, pebbles })
+}
+
+fn text<'a>(matches: &ArgMatches<'a>, id: &str) -> Option<&'a str>
+    ensures { option_map (λ s. s.now) result ≡ first_of id.now (rows_of (found_of matches.now)) }
+{
+    matches.get_str(id)
+}
+
+fn number(matches: &ArgMatches<'_>, id: &str, most: u8) -> Option<u8>
+    ensures { MatchOption result (has_number (rows_of (found_of matches.now)) id.now most ≡ false)
+        (HasNumber (rows_of (found_of matches.now)) id.now most) }
+{
+    match matches.get_one::<u8>(id) {
+        Some(n) if 1 <= n && n <= most => Some(n),
+        _ => None,
+    }
+}
