@@ -2,3 +2,4 @@ pub mod EndLines
 pub mod Pushing
 pub mod Unanswered
 pub mod Meanings
+pub mod Unread

@@ -2,3 +2,4 @@ pub mod Joined
 pub mod Output
 pub mod Run
 pub mod Meaning
+pub mod CheckRun

@@ -7,12 +7,13 @@ ghost use Rattle.proof_text.specs.Proof.{IsDocument, plain_proof};
 ghost use Rattle.proof_text.specs.ProofText.{proof_text as text_of_proof};
 ghost use Rattle.positions.specs.Ranks.{configurations};
 ghost use Rattle.proof_check.specs.CheckFaults.{NamesRanks};
+ghost use Rattle.pebbles.specs.Output.{line_of};
 ghost use Rattle.pebbles.specs.Run.{IsAnswered, IsVerdict, CannotAnswer, CannotReadBoard, CannotReadProof, NamesRanksOf, IsMemory, most_configurations};
 
 use crate::joined::front_len;
 use crate::output::line;
 use crate::running::{RunFault, Verdict};
-use board_text::{Board, BoardKind};
+use board_text::{Board, BoardKind, Memory};
 use positions::Space;
 use proof_check::{CheckFault, check};
 use proof_text::{Proof, ProofKind};
@@ -41,15 +42,33 @@ pub(crate) fn answer_to(
         return Err(RunFault::TooLarge);
     };
     let proof = proof_of(alloc, &space, rest)?;
-    let verdict = verdict_on(rt, alloc, &board, &proof)?;
-    let Ok(line) = line(alloc, &space, verdict) else {
-        return Err(RunFault::Memory);
-    };
-    Ok(Answer { verdict, line })
+    answer_on(rt, alloc, &board, &space, &proof)
+}
+
+/// The verdict on the board's document, and its line.
+pub(crate) fn answer_on(
+    rt: &(impl Threads + Sync),
+    alloc: Global,
+    board: &Board,
+    space: &Space,
+    proof: &Proof,
+) -> Result<Answer, RunFault>
+    requires same_board { space.now ≡ board.now }
+    requires few { configurations board.now ≤ most_configurations }
+    requires document { IsDocument board.now proof.now }
+    ensures verdict { IfOk result (λ answer. IsVerdict board.now (plain_proof board.now proof.now) answer.verdict) }
+    ensures line { IfOk result (λ answer. string_bytes answer.line ≡ line_of board.now answer.verdict) }
+    ensures memory { IfErr result IsMemory }
+{
+    let verdict = verdict_on(rt, alloc, board, proof)?;
+    match line(alloc, space, verdict) {
+        Ok(line) => Ok(Answer { verdict, line }),
+        Err(Memory) => Err(RunFault::Memory),
+    }
 }
 
 /// The board that the bytes are the text of.
-fn board_of(alloc: Global, text: &[u8]) -> Result<Board, RunFault>
+pub(crate) fn board_of(alloc: Global, text: &[u8]) -> Result<Board, RunFault>
     ensures found { IfOk result (λ board. IsBoard board × (text.now ≡ text_of_board board)) }
     ensures fault { IfErr result (CannotReadBoard text.now) }
 {
@@ -64,7 +83,7 @@ fn board_of(alloc: Global, text: &[u8]) -> Result<Board, RunFault>
 }
 
 /// The document for the board that the bytes are the text of.
-fn proof_of(alloc: Global, space: &Space, text: &[u8]) -> Result<Proof, RunFault>
+pub(crate) fn proof_of(alloc: Global, space: &Space, text: &[u8]) -> Result<Proof, RunFault>
     ensures found { IfOk result (λ proof. IsDocument space.now proof × (text.now ≡ text_of_proof (plain_proof space.now proof))) }
     ensures fault { IfErr result (CannotReadProof space.now text.now) }
 {

@@ -6,11 +6,13 @@
 #![tactic(auto)]
 
 mod answering;
+mod checking;
 #[cfg(test)]
 mod fakes;
 mod joined;
 mod laws;
 mod output;
+mod reading;
 mod running;
 #[cfg(test)]
 mod tests;

@@ -1,0 +1,80 @@
+//! A check of a board and a document in two texts.
+
+ghost use Rattle.std.specs.Prelude.{◌≡◌, ◌≢◌, ◌↔◌, ◌⊎◌, true, false, Err, IfOk, IfErr};
+ghost use Rattle.proof_text.specs.Proof.{IsDocument, plain_proof};
+ghost use Rattle.pebbles.specs.CheckRun.{GaveBoard, GaveProof, GaveNoBoard, GaveNoProof, RanCheck, CheckFails};
+ghost use Rattle.pebbles.specs.declared.running.RunFault.TheVariants.{Read, Write};
+
+use crate::answering::{answer_on, board_of, proof_of};
+use crate::reading::read_text;
+use crate::running::{RunFault, Verdict};
+use board_text::{Board, Failed, Sink, Source, write_all};
+use positions::Space;
+use proof_text::Proof;
+use std::alloc::Global;
+use std::thread::Threads;
+
+/// The most bytes of a board.
+pub const MAX_BOARD_BYTES: usize = 1_048_576;
+
+/// The most bytes of a strategy document.
+pub const MAX_PROOF_BYTES: usize = 134_217_728;
+
+/// Reads a board and then a strategy document for it, checks the document and writes one line.
+///
+/// The board is read, parsed and measured before anything of the document is read.
+/// No reader or writer must have failed before. After a fault nothing was written, but for `Write`, after which a front of the line was.
+pub fn run_check<B: Source, P: Source, W: Sink>(
+    rt: &(impl Threads + Sync),
+    alloc: Global,
+    board: &mut B,
+    proof: &mut P,
+    writer: &mut W,
+) -> Result<Verdict, RunFault>
+    requires board_ready { B.has_failed board.old ≡ false }
+    requires proof_ready { P.has_failed proof.old ≡ false }
+    requires writer_ready { W.has_failed writer.old ≡ false }
+    ensures ok { IfOk result (RanCheck (B.left board.old) (B.left board.new) (P.left proof.old) (P.left proof.new) (W.taken writer.old) (W.taken writer.new)) }
+    ensures fault { IfErr result (CheckFails (B.left board.old) (B.left board.new) MAX_BOARD_BYTES (proof.new ≡ proof.old)
+        (P.left proof.old) (P.left proof.new) MAX_PROOF_BYTES (W.taken writer.old) (W.taken writer.new)) }
+    ensures read { ((B.has_failed board.new ≡ true) ⊎ (P.has_failed proof.new ≡ true)) ↔ (result ≡ Err Read) }
+    ensures write { (W.has_failed writer.new ≡ true) ↔ (result ≡ Err Write) }
+    ensures unwritten { IfErr result (λ fault. fault ≢ Write → writer.new ≡ writer.old) }
+{
+    let (board, space) = read_board(alloc, board)?;
+    let proof = read_proof(alloc, &space, proof)?;
+    let answer = answer_on(rt, alloc, &board, &space, &proof)?;
+    match write_all(writer, answer.line.as_bytes()) {
+        Ok(()) => Ok(answer.verdict),
+        Err(Failed) => Err(RunFault::Write),
+    }
+}
+
+/// The small board whose text the reader gives, with its space.
+fn read_board<R: Source>(alloc: Global, reader: &mut R) -> Result<(Board, Space), RunFault>
+    requires { R.has_failed reader.old ≡ false }
+    ensures found { IfOk result (λ p. GaveBoard (R.left reader.old) (R.left reader.new) p.0 × (p.1 ≡ p.0)) }
+    ensures fault { IfErr result (GaveNoBoard (R.left reader.old) (R.left reader.new) MAX_BOARD_BYTES) }
+    ensures read { (R.has_failed reader.new ≡ true) ↔ (result ≡ Err Read) }
+    ensures unwritten { result ≢ Err Write }
+{
+    let text = read_text(alloc, reader, MAX_BOARD_BYTES)?;
+    let board = board_of(alloc, text.as_slice())?;
+    let Ok(space) = Space::of(&board) else {
+        return Err(RunFault::TooLarge);
+    };
+    Ok((board, space))
+}
+
+/// The document for the board of the space whose text the reader gives.
+fn read_proof<R: Source>(alloc: Global, space: &Space, reader: &mut R) -> Result<Proof, RunFault>
+    requires { R.has_failed reader.old ≡ false }
+    ensures document { IfOk result (IsDocument space.now) }
+    ensures found { IfOk result (λ proof. GaveProof space.now (R.left reader.old) (R.left reader.new) (plain_proof space.now proof)) }
+    ensures fault { IfErr result (GaveNoProof space.now (R.left reader.old) (R.left reader.new) MAX_PROOF_BYTES) }
+    ensures read { (R.has_failed reader.new ≡ true) ↔ (result ≡ Err Read) }
+    ensures unwritten { result ≢ Err Write }
+{
+    let text = read_text(alloc, reader, MAX_PROOF_BYTES)?;
+    proof_of(alloc, space, text.as_slice())
+}
