@@ -1,7 +1,7 @@
 -- Which word dominates which, digit by digit.
-use Rattle.std.proofs.Common.{◌≡◌, ◌≢◌, ℕ, zero, suc, ◌+◌, ◌%◌, ◌^◌, ◌/◌, ◌<◌, ◌≤◌, ◌↔◌, ◌⊎◌, List, [], ◌∷◌, ◌++◌, length, take, get_or, refl, sym, ap, ◌∙◌, subst, arith, inl, inr}
-use Rattle.std.proofs.lemmas.Bool.{cases_eq, cases_lt}
-use Rattle.std.proofs.lemmas.List.{length-append, get_or_at, get_or_append_left}
+use Rattle.std.proofs.Common.{◌≡◌, ◌≢◌, ℕ, zero, suc, ◌+◌, ◌%◌, ◌^◌, ◌/◌, ◌<◌, ◌↔◌, ◌⊎◌, List, [], ◌∷◌, ◌++◌, length, take, get_or, refl, sym, ap, ◌∙◌, subst, arith, inl, inr}
+use Rattle.std.proofs.lemmas.Bool.{cases_eq, cases_lt, cases_order}
+use Rattle.std.proofs.lemmas.List.{length-append, get_or_at, get_or_append_left, get_or-take}
 use Rattle.std.proofs.lemmas.List.Elements.{All-head, All-tail}
 use lib.Seq.{take-append-le, take-append_seam}
 use Rattle.nested_cycles.specs.Words.{IsWord, number_of, word_of}
@@ -60,16 +60,16 @@ pub off_push : (word other : List ℕ) (digit other_digit : ℕ) → length word
 off_push word other digit other_digit same differ d =
     elim (cases_lt d.place (length word)) [
       | inl before ↦ record {
-          place = d.place;
-          inside = before;
-          same_before = sym (take-append-le d.place word (digit ∷ []) (omega arith)) ∙ d.same_before ∙ take-append-le d.place other (other_digit ∷ []) (omega arith);
-          next_there = rw (get_or_append_left word (digit ∷ []) 0 d.place before, get_or_append_left other (other_digit ∷ []) 0 d.place (omega arith)) at d.next_there;
-        }
+        place = d.place;
+        inside = before;
+        same_before = sym (take-append-le d.place word (digit ∷ []) (omega arith)) ∙ d.same_before ∙ take-append-le d.place other (other_digit ∷ []) (omega arith);
+        next_there = rw (get_or_append_left word (digit ∷ []) 0 d.place before, get_or_append_left other (other_digit ∷ []) 0 d.place (omega arith)) at d.next_there;
+      }
       | inr behind ↦
           let last : d.place ≡ length word = omega (arith, d.inside, length-append word (digit ∷ [])) in
           absurd (differ (
-            sym (take-append_seam word (digit ∷ [])) ∙ ap (λ (n : ℕ). take n (word ++ digit ∷ [])) (sym last) ∙ d.same_before
-            ∙ ap (λ (n : ℕ). take n (other ++ other_digit ∷ [])) (last ∙ same) ∙ take-append_seam other (other_digit ∷ [])
+          sym (take-append_seam word (digit ∷ [])) ∙ ap (λ (n : ℕ). take n (word ++ digit ∷ [])) (sym last) ∙ d.same_before
+          ∙ ap (λ (n : ℕ). take n (other ++ other_digit ∷ [])) (last ∙ same) ∙ take-append_seam other (other_digit ∷ [])
           ))
     ]
 
@@ -105,7 +105,7 @@ without_last count more a b e below_a below_b differ =
     let other = word_of count (b / 3) in
     let long : length word ≡ length other = length-word_of count (a / 3) ∙ sym (length-word_of count (b / 3)) in
     let apart : word ≢ other = λ same. differ (
-      sym (number_of-word_of count (a / 3) (third_below count a small_a)) ∙ ap number_of same ∙ number_of-word_of count (b / 3) (third_below count b small_b)
+    sym (number_of-word_of count (a / 3) (third_below count a small_a)) ∙ ap number_of same ∙ number_of-word_of count (b / 3) (third_below count b small_b)
     ) in
     rw (e, word_of-push count a small_a, word_of-push count b small_b) (on_push word other (a % 3) (b % 3) long, off_push word other (a % 3) (b % 3) long apart)
 
@@ -116,3 +116,21 @@ by_last count more a b e below_a below_b same =
     let small_a : a < 3 ^ suc count = rw e at below_a in
     let small_b : b < 3 ^ suc count = rw e at below_b in
     rw (e, word_of-push count a small_a, word_of-push count b small_b, same) (by_push (word_of count (b / 3)) (a % 3) (b % 3), from_push (word_of count (b / 3)) (a % 3) (b % 3))
+
+-- ---- one way only
+
+-- fronts that agree have the same digits
+same_digit : (word other : List ℕ) (i n : ℕ) → i < n → take n word ≡ take n other → get_or word i 0 ≡ get_or other i 0
+same_digit word other i n lt same = sym (get_or-take n word i 0 lt) ∙ ap (λ (w : List ℕ). get_or w i 0) same ∙ get_or-take n other i 0 lt
+
+pub each_other : (word other : List ℕ) → Dominates word other → Dominates other word → ⊥
+each_other word other d e =
+    elim (cases_order d.place e.place) [
+      | inl same ↦
+          let back : get_or other d.place 0 ≡ (get_or word d.place 0 + 1) % 3 = rw same e.next_there in
+          omega (arith, d.next_there, back)
+      | inr differ ↦ elim differ [
+        | inl before ↦ let digit = same_digit other word d.place e.place before e.same_before in omega (arith, d.next_there, digit)
+        | inr behind ↦ let digit = same_digit word other e.place d.place behind d.same_before in omega (arith, e.next_there, digit)
+      ]
+    ]

@@ -1,2 +1,4 @@
 pub mod WordNumbers
 pub mod Dominations
+pub mod NestedPairs
+pub mod NestedBoards

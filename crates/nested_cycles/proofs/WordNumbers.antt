@@ -1,7 +1,7 @@
 -- Words and their numbers belong to each other.
-use Rattle.std.proofs.Common.{◌≡◌, ℕ, zero, suc, ◌+◌, ◌*◌, ◌/◌, ◌%◌, ◌^◌, ◌<◌, ◌≤◌, List, [], ◌∷◌, ◌++◌, length, refl, sym, ap, ◌∙◌, subst, arith, mod-lt, div-add-mod', mul-le-mul_right, suc-mul, mul_assoc, add-mul}
+use Rattle.std.proofs.Common.{◌≡◌, ℕ, zero, suc, ◌+◌, ◌*◌, ◌/◌, ◌%◌, ◌^◌, ◌<◌, ◌≤◌, List, [], ◌∷◌, ◌++◌, length, refl, sym, ap, ◌∙◌, subst, arith, mod-lt, div-add-mod', mul-le-mul_right, suc-mul, mul_assoc}
 use Rattle.std.proofs.Math.Nat.{one-le-pow, pow-zero, pow-succ', div-lt_iff_lt-mul}
-use Rattle.std.proofs.lemmas.Nat.{div-mul-add, mod-mul-add, pow-add, mod_below}
+use Rattle.std.proofs.lemmas.Nat.{div-mul-add, mod-mul-add, mod_below}
 use Rattle.std.specs.List.{All}
 use Rattle.std.proofs.lemmas.List.{length-append}
 use Rattle.std.proofs.lemmas.List.Elements.{All-head, All-tail, All-nil, All-cons, All-push}

@@ -1,5 +1,5 @@
 -- The nested board of a level.
-use Rattle.std.specs.Prelude.{◌≡◌, ℕ, ◌<◌, ◌↔◌, replicate}
+use Rattle.std.specs.Prelude.{◌≡◌, ℕ, ◌↔◌, replicate}
 use Rattle.board_text.specs.PlainBoard.{PlainBoard, IsBoard, AreLabels, Beats}
 use Rattle.nested_cycles.specs.Domination.{labels_of, NestedBeats}
 

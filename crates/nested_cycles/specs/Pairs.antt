@@ -1,5 +1,5 @@
 -- The pairs of labels of which the first dominates the second.
-use Rattle.std.specs.Prelude.{◌≡◌, ℕ, ◌+◌, ◌*◌, ◌<◌, List, All, AllPairs, Contains}
+use Rattle.std.specs.Prelude.{ℕ, ◌+◌, ◌*◌, ◌<◌, List, All, AllPairs, Contains}
 use Rattle.board_text.specs.PlainBoard.{AreLabels, Precedes}
 use Rattle.nested_cycles.specs.Domination.{labels_of, NestedBeats}
 

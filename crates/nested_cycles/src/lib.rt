@@ -6,7 +6,5 @@ mod laws;
 mod making;
 
 pub use beating::nested_beats;
-pub use laws::{
-    copies_in_a_cycle, no_two_ways, one_of_two, one_nested_board, words_and_numbers,
-};
+pub use laws::{copies_in_a_cycle, no_two_ways, one_nested_board, one_of_two, words_and_numbers};
 pub use making::nested_board;

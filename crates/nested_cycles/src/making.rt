@@ -19,7 +19,13 @@ pub fn nested_board(alloc: Global, levels: u8, pebbles: u8) -> Result<Board, Mem
     let labels = 3_u16.pow(u32::from(levels) - 1);
     let pairs = nested_pairs(alloc, levels, labels)?;
     let start = [0; 6];
-    match Board::build(alloc, labels, pebbles, &start[..usize::from(pebbles)], &pairs) {
+    match Board::build(
+        alloc,
+        labels,
+        pebbles,
+        &start[..usize::from(pebbles)],
+        &pairs,
+    ) {
         Ok(board) => Ok(board),
         Err(fault) => {
             prove!(matches!(&fault.kind, BoardKind::Memory));
@@ -34,11 +40,11 @@ fn nested_pairs(alloc: Global, levels: u8, labels: u16) -> Result<Vec<(u16, u16)
     requires labels { labels ≡ labels_of levels }
     ensures { IfOk result (λ pairs. AreNestedPairs levels (labels * labels) pairs.items) }
 {
-    let labels = u32::from(labels);
-    let mut pairs = Vec::with_capacity(alloc, (labels * labels / 2) as usize)?;
-    for place in 0..labels * labels {
-        let x = place / labels;
-        let y = place % labels;
+    let count = u32::from(labels);
+    let mut pairs = Vec::with_capacity(alloc, (count * count / 2) as usize)?;
+    for place in 0..count * count {
+        let x = place / count;
+        let y = place % count;
         if nested_beats(levels, u64::from(x), u64::from(y)) {
             pairs.push((x as u16, y as u16))?;
         }

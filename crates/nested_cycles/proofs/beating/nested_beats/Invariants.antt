@@ -1,4 +1,4 @@
-use Rattle.std.proofs.Common.{ℕ, ◌-◌, ◌^◌, ◌<◌, ◌↔◌}
+use Rattle.std.proofs.Common.{◌-◌, ◌^◌, ◌<◌, ◌↔◌}
 use Rattle.nested_cycles.specs.Words.{word_of}
 use Rattle.nested_cycles.specs.Domination.{Dominates, NestedBeats}
 use Rattle.nested_cycles.proofs.beating.nested_beats.Given as goal
