@@ -6,7 +6,7 @@ use Rattle.std.proofs.lemmas.List.Elements.{All-head, All-tail}
 use lib.Seq.{take-append-le, take-append_seam}
 use Rattle.nested_cycles.specs.Words.{IsWord, number_of, word_of}
 use Rattle.nested_cycles.specs.Domination.{Dominates}
-use Rattle.nested_cycles.proofs.WordNumbers.{word_of-push, number_of-word_of, third_below, length-word_of}
+use Rattle.nested_cycles.proofs.WordNumbers.{word_of_is_word, word_of-push, number_of-word_of, third_below, length-word_of}
 
 -- ---- the first digit
 
@@ -45,6 +45,11 @@ one_of_two count (d ∷ word) (e ∷ other) is is_other differ =
             | inr not_next ↦ inr (of_two_copies e d other word (omega arith))
           ]
     ]
+
+pub one_of_two_labels : (count x y : ℕ) → x < 3 ^ count → y < 3 ^ count → x ≢ y → Dominates (word_of count x) (word_of count y) ⊎ Dominates (word_of count y) (word_of count x)
+one_of_two_labels count x y below_x below_y differ =
+    one_of_two count (word_of count x) (word_of count y) (word_of_is_word count x below_x) (word_of_is_word count y below_y)
+    (λ same. differ (sym (number_of-word_of count x below_x) ∙ ap number_of same ∙ number_of-word_of count y below_y))
 
 -- ---- the last digit
 

@@ -10,6 +10,10 @@ use Rattle.nested_cycles.specs.Pairs.{AreNestedPairs}
 use Rattle.nested_cycles.specs.NestedBoard.{IsNestedBoard}
 use Rattle.nested_cycles.proofs.NestedPairs.{are_pairs, beats_exactly}
 
+-- the words of so few digits have numbers of 16 bits
+pub few_words : (count : ℕ) → count ≤ 6 → 3 ^ count < 65536
+few_words count few = let most : 3 ^ count ≤ 3 ^ 6 = pow-le-pow_right {n = 3} (omega arith) {i = count} {j = 6} few in omega arith
+
 pub few_labels : (levels : ℕ) → levels ≤ 6 → labels_of levels ≤ 243
 few_labels levels few = pow-le-pow_right {n = 3} (omega arith) {i = levels - 1} {j = 5} (omega arith)
 

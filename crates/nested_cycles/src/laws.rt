@@ -1,9 +1,9 @@
 //! Laws of nested boards, each the contract of a function without a body.
 
 ghost use Rattle.std.specs.Prelude.{◌≡◌, ◌≢◌, ℕ, ◌+◌, ◌%◌, ◌^◌, ◌<◌, ◌↔◌, ◌⊎◌, List, ◌∷◌};
-ghost use Rattle.board_text.specs.PlainBoard.{PlainBoard};
+ghost use Rattle.board_text.specs.PlainBoard.{PlainBoard, AreLabels, IsAntisymmetric};
 ghost use Rattle.nested_cycles.specs.Words.{IsWord, number_of, word_of};
-ghost use Rattle.nested_cycles.specs.Domination.{Dominates};
+ghost use Rattle.nested_cycles.specs.Domination.{Dominates, labels_of, NestedBeats};
 ghost use Rattle.nested_cycles.specs.NestedBoard.{IsNestedBoard};
 
 /// Words and numbers belong to each other, one to one.
@@ -25,12 +25,15 @@ pub fn copies_in_a_cycle()
 pub fn no_two_ways()
     ensures itself { (word : List ℕ) → Dominates word word → ⊥ }
     ensures each_other { (word : List ℕ) → (other : List ℕ) → Dominates word other → Dominates other word → ⊥ }
+    ensures board { (levels : ℕ) → (pebbles : ℕ) → (board : PlainBoard) → IsNestedBoard levels pebbles board → IsAntisymmetric board }
 {}
 
 /// Of two labels one dominates the other, at any level.
 pub fn one_of_two()
-    ensures { (count : ℕ) → (word : List ℕ) → (other : List ℕ) → IsWord count word → IsWord count other → word ≢ other
+    ensures words { (count : ℕ) → (word : List ℕ) → (other : List ℕ) → IsWord count word → IsWord count other → word ≢ other
         → Dominates word other ⊎ Dominates other word }
+    ensures labels { (levels : ℕ) → (x : ℕ) → (y : ℕ) → AreLabels (labels_of levels) (x, y) → x ≢ y
+        → NestedBeats levels x y ⊎ NestedBeats levels y x }
 {}
 
 /// There is one nested board of a level and so many pebbles.

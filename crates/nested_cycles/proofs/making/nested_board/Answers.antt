@@ -2,12 +2,12 @@ use Rattle.std.proofs.Common.{take, sym, subst, ◌∙◌, arith}
 use Rattle.std.proofs.lemmas.Bool.{false≢true}
 use Rattle.board_text.specs.PlainBoard.{PlainBoard}
 use Rattle.nested_cycles.specs.NestedBoard.{IsNestedBoard}
-use Rattle.nested_cycles.proofs.NestedBoards.{six_zeros, parts_from, parts_are, is_nested, few_labels}
+use Rattle.nested_cycles.proofs.NestedBoards.{six_zeros, parts_from, parts_are, is_nested, few_words}
 use Rattle.nested_cycles.proofs.making.nested_board.Goals as goal
 use Rattle.nested_cycles.proofs.making.nested_board.Goals.{in-Memory, in_default}
 
 pub pow-labels-requires : goal.pow-labels-requires
-pow-labels-requires c = omega (arith, few_labels c.from.result (omega arith))
+pow-labels-requires c = few_words _ (omega arith)
 
 pub returns-in-Ok : goal.returns-in-Ok
 returns-in-Ok c =
