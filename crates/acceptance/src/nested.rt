@@ -1,9 +1,11 @@
 //! Nested boards, as they are made and as they are printed.
 
+ghost use Rattle.std.specs.Prelude.{◌≡◌, IfOk, IfSome, string_bytes};
 ghost use Rattle.board_text.specs.Ranges.{InRange};
+ghost use Rattle.nested_cycles.specs.NestedBoard.{IsNestedBoard};
 
 use crate::texts::{LONE_LABEL, THREE_CYCLE, THREE_PEBBLES, board_of, print_board};
-use board_text::{Board, Memory};
+use board_text::{Board, Memory, parse, print};
 use nested_cycles::{nested_beats, nested_board};
 use std::alloc::Global;
 use std::process::Abort;
@@ -12,6 +14,7 @@ use std::process::Abort;
 fn make_board(alloc: Global, levels: u8, pebbles: u8) -> Result<Board, Memory>
     requires levels { InRange 1 6 levels }
     requires pebbles { InRange 1 6 pebbles }
+    ensures { IfOk result (λ board. IsNestedBoard levels pebbles board) }
 {
     match nested_board(alloc, levels, pebbles) {
         Err(Memory) => nested_board(alloc, levels, pebbles),
@@ -26,6 +29,23 @@ fn nested_text(rt: &impl Abort, alloc: Global, levels: u8, pebbles: u8) -> Strin
 {
     let board = make_board(alloc, levels, pebbles).expect(rt, "a nested board");
     print_board(alloc, &board).expect(rt, "the text of a board")
+}
+
+/// A board, printed and read again: the same board, by what the two calls promise.
+fn read_again(alloc: Global, board: &Board) -> Option<Board>
+    ensures { IfSome result (λ again. again ≡ board.now) }
+{
+    let _ = board.labels();
+    let text = print(alloc, board).ok()?;
+    parse(alloc, text.as_bytes()).ok()
+}
+
+/// A text, read and printed again: the same text, by what the two calls promise.
+fn print_again(alloc: Global, text: &str) -> Option<String>
+    ensures { IfSome result (λ again. string_bytes again ≡ text.now) }
+{
+    let board = parse(alloc, text.as_bytes()).ok()?;
+    print(alloc, &board).ok()
 }
 
 #[test]
@@ -60,8 +80,10 @@ fn numbers_of_lines(rt: HostRuntime) {
 
 #[test]
 fn what_is_printed_is_read_again(rt: HostRuntime) {
-    let text = nested_text(&rt, rt.alloc(), 4, 4);
-    let board = board_of(&rt, rt.alloc(), text.as_str());
+    let made = make_board(rt.alloc(), 4, 4).expect(&rt, "a nested board");
+    let board = read_again(rt.alloc(), &made)
+        .or_else(|| read_again(rt.alloc(), &made))
+        .expect(&rt, "a board of a text");
     assert_eq!(rt; board.labels(), 27);
     assert_eq!(rt; board.start(), [0, 0, 0, 0].as_slice());
     let mut pairs = 0_u32;
@@ -73,6 +95,11 @@ fn what_is_printed_is_read_again(rt: HostRuntime) {
         }
     }
     assert_eq!(rt; pairs, 351);
+    let text = nested_text(&rt, rt.alloc(), 4, 4);
+    let again = print_again(rt.alloc(), text.as_str())
+        .or_else(|| { print_again(rt.alloc(), text.as_str()) })
+        .expect(&rt, "the text of a board");
+    assert_eq!(rt; again.as_str(), text.as_str());
 }
 
 #[test]
