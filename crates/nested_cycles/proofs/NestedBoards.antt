@@ -72,10 +72,10 @@ is_nested levels pebbles labels start pairs parts = record {
 -- ---- there is one
 
 -- the first of ascending pairs comes before the others
-first_before : (p : ℕ × ℕ) (pairs : List (ℕ × ℕ)) (q : ℕ × ℕ) → AllPairs Precedes (p ∷ pairs) → Contains pairs q → Precedes p q
+pub first_before : (p : ℕ × ℕ) (pairs : List (ℕ × ℕ)) (q : ℕ × ℕ) → AllPairs Precedes (p ∷ pairs) → Contains pairs q → Precedes p q
 first_before p pairs q ascending c = rw c.2 at (ascending 0 (suc c.0) q (omega arith) (omega (arith, c.1)))
 
-rest_ascends : (p : ℕ × ℕ) (pairs : List (ℕ × ℕ)) → AllPairs Precedes (p ∷ pairs) → AllPairs Precedes pairs
+pub rest_ascends : (p : ℕ × ℕ) (pairs : List (ℕ × ℕ)) → AllPairs Precedes (p ∷ pairs) → AllPairs Precedes pairs
 rest_ascends p pairs ascending i j d lt in_list = ascending (suc i) (suc j) d (omega arith) (omega arith)
 
 not_both : (p q : ℕ × ℕ) → Precedes p q → Precedes q p → ⊥
@@ -84,10 +84,10 @@ not_both p q (inl a) (inr b) = omega (arith, b.0)
 not_both p q (inr a) (inl b) = omega (arith, a.0)
 not_both p q (inr a) (inr b) = omega (arith, a.1, b.1)
 
-not_itself : (p : ℕ × ℕ) → Precedes p p → ⊥
+pub not_itself : (p : ℕ × ℕ) → Precedes p p → ⊥
 not_itself p before = not_both p p before before
 
-in_cons : (p : ℕ × ℕ) (pairs : List (ℕ × ℕ)) (q : ℕ × ℕ) → Contains (p ∷ pairs) q → (p ≡ q) ⊎ Contains pairs q
+pub in_cons : (p : ℕ × ℕ) (pairs : List (ℕ × ℕ)) (q : ℕ × ℕ) → Contains (p ∷ pairs) q → (p ≡ q) ⊎ Contains pairs q
 in_cons p pairs q (zero, lt, is) = inl is
 in_cons p pairs q (suc k, lt, is) = inr (k, omega arith, is)
 

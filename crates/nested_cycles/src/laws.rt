@@ -1,6 +1,6 @@
 //! Laws of nested boards, each the contract of a function without a body.
 
-ghost use Rattle.std.specs.Prelude.{◌≡◌, ◌≢◌, ℕ, ◌+◌, ◌%◌, ◌^◌, ◌<◌, ◌↔◌, ◌⊎◌, List, ◌∷◌};
+ghost use Rattle.std.specs.Prelude.{◌≡◌, ◌≢◌, ℕ, ◌+◌, ◌*◌, ◌%◌, ◌^◌, ◌<◌, ◌↔◌, ◌⊎◌, List, ◌∷◌, length};
 ghost use Rattle.board_text.specs.PlainBoard.{PlainBoard, AreLabels, IsAntisymmetric};
 ghost use Rattle.nested_cycles.specs.Words.{IsWord, number_of, word_of};
 ghost use Rattle.nested_cycles.specs.Domination.{Dominates, labels_of, NestedBeats};
@@ -34,6 +34,12 @@ pub fn one_of_two()
         → Dominates word other ⊎ Dominates other word }
     ensures labels { (levels : ℕ) → (x : ℕ) → (y : ℕ) → AreLabels (labels_of levels) (x, y) → x ≢ y
         → NestedBeats levels x y ⊎ NestedBeats levels y x }
+{}
+
+/// A nested board of n labels has n * (n - 1) / 2 pairs: half of all pairs of different labels.
+pub fn half_of_all_pairs()
+    ensures { (levels : ℕ) → (pebbles : ℕ) → (board : PlainBoard) → IsNestedBoard levels pebbles board
+        → 2 * length board.pairs + board.labels ≡ board.labels * board.labels }
 {}
 
 /// There is one nested board of a level and so many pebbles.

@@ -6,5 +6,8 @@ mod laws;
 mod making;
 
 pub use beating::nested_beats;
-pub use laws::{copies_in_a_cycle, no_two_ways, one_nested_board, one_of_two, words_and_numbers};
+pub use laws::{
+    copies_in_a_cycle, half_of_all_pairs, no_two_ways, one_nested_board, one_of_two,
+    words_and_numbers,
+};
 pub use making::nested_board;
