@@ -18,6 +18,8 @@ mod fakes;
 #[cfg(test)]
 mod long_documents;
 #[cfg(test)]
+mod nested;
+#[cfg(test)]
 mod printing;
 #[cfg(test)]
 mod spaces;

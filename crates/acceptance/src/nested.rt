@@ -1,0 +1,117 @@
+//! Nested boards, as they are made and as they are printed.
+
+ghost use Rattle.std.specs.Prelude.{◌≡◌, IfOk, IfSome, string_bytes};
+ghost use Rattle.board_text.specs.Ranges.{InRange};
+ghost use Rattle.nested_cycles.specs.NestedBoard.{IsNestedBoard};
+
+use crate::texts::{LONE_LABEL, THREE_CYCLE, THREE_PEBBLES, board_of, print_board};
+use board_text::{Board, Memory, parse, print};
+use nested_cycles::{nested_beats, nested_board};
+use std::alloc::Global;
+use std::process::Abort;
+
+/// What `nested_board` answers where it is refused no growth.
+fn make_board(alloc: Global, levels: u8, pebbles: u8) -> Result<Board, Memory>
+    requires levels { InRange 1 6 levels }
+    requires pebbles { InRange 1 6 pebbles }
+    ensures { IfOk result (λ board. IsNestedBoard levels pebbles board) }
+{
+    match nested_board(alloc, levels, pebbles) {
+        Err(Memory) => nested_board(alloc, levels, pebbles),
+        answer => answer,
+    }
+}
+
+/// The text of the nested board of a level.
+fn nested_text(rt: &impl Abort, alloc: Global, levels: u8, pebbles: u8) -> String
+    requires levels { InRange 1 6 levels }
+    requires pebbles { InRange 1 6 pebbles }
+{
+    let board = make_board(alloc, levels, pebbles).expect(rt, "a nested board");
+    print_board(alloc, &board).expect(rt, "the text of a board")
+}
+
+/// A board, printed and read again: the same board, by what the two calls promise.
+fn read_again(alloc: Global, board: &Board) -> Option<Board>
+    ensures { IfSome result (λ again. again ≡ board.now) }
+{
+    let _ = board.labels();
+    let text = print(alloc, board).ok()?;
+    parse(alloc, text.as_bytes()).ok()
+}
+
+/// A text, read and printed again: the same text, by what the two calls promise.
+fn print_again(alloc: Global, text: &str) -> Option<String>
+    ensures { IfSome result (λ again. string_bytes again ≡ text.now) }
+{
+    let board = parse(alloc, text.as_bytes()).ok()?;
+    print(alloc, &board).ok()
+}
+
+#[test]
+fn the_smallest_levels(rt: HostRuntime) {
+    let alloc = rt.alloc();
+    assert_eq!(rt; nested_text(&rt, alloc, 1, 1).as_str(), LONE_LABEL);
+    assert_eq!(rt; nested_text(&rt, alloc, 2, 2).as_str(), THREE_CYCLE);
+    assert_eq!(rt; nested_text(&rt, alloc, 2, 3).as_str(), THREE_PEBBLES);
+}
+
+#[test]
+fn labels_that_the_first_dominates(rt: HostRuntime) {
+    let board = make_board(rt.alloc(), 3, 3).expect(&rt, "a nested board");
+    assert!(rt; board.labels() == 9);
+    for label in 0..9 {
+        let dominated = [2, 6, 7, 8].contains(&label);
+        assert_eq!(rt; board.beats(0, label), dominated, "{label}");
+        assert_eq!(rt; nested_beats(3, 0, u64::from(label)), dominated, "{label}");
+    }
+}
+
+#[test]
+fn numbers_of_lines(rt: HostRuntime) {
+    for (levels, labels, lines) in [(5, 81, 3_245), (6, 243, 29_408)] {
+        let text = nested_text(&rt, rt.alloc(), levels, levels);
+        assert_eq!(rt; text.as_str().lines().count(), lines, "{levels}");
+        let board = board_of(&rt, rt.alloc(), text.as_str());
+        assert_eq!(rt; board.labels(), labels);
+        assert_eq!(rt; board.pebbles(), levels);
+    }
+}
+
+#[test]
+fn what_is_printed_is_read_again(rt: HostRuntime) {
+    let made = make_board(rt.alloc(), 4, 4).expect(&rt, "a nested board");
+    let board = read_again(rt.alloc(), &made)
+        .or_else(|| read_again(rt.alloc(), &made))
+        .expect(&rt, "a board of a text");
+    assert_eq!(rt; board.labels(), 27);
+    assert_eq!(rt; board.start(), [0, 0, 0, 0].as_slice());
+    let mut pairs = 0_u32;
+    for x in 0..board.labels() {
+        for y in 0..board.labels() {
+            if board.beats(x, y) {
+                pairs = pairs.saturating_add(1);
+            }
+        }
+    }
+    assert_eq!(rt; pairs, 351);
+    let text = nested_text(&rt, rt.alloc(), 4, 4);
+    let again = print_again(rt.alloc(), text.as_str())
+        .or_else(|| { print_again(rt.alloc(), text.as_str()) })
+        .expect(&rt, "the text of a board");
+    assert_eq!(rt; again.as_str(), text.as_str());
+}
+
+#[test]
+fn labels_of_the_highest_level(rt: HostRuntime) {
+    // The words 1 0 .. 0, 2 0 .. 0 and 2 .. 2 of 23 digits.
+    let second_copy = 31_381_059_609;
+    let third_copy = 62_762_119_218;
+    let last = 94_143_178_826;
+    assert!(rt; nested_beats(24, second_copy, 0) && !nested_beats(24, 0, second_copy));
+    assert!(rt; nested_beats(24, 0, third_copy) && !nested_beats(24, third_copy, 0));
+    assert!(rt; nested_beats(24, third_copy, second_copy));
+    assert!(rt; nested_beats(24, 0, last) && nested_beats(24, last, second_copy));
+    assert!(rt; nested_beats(24, last, last - 1) && !nested_beats(24, last, last));
+    assert!(rt; !nested_beats(1, 0, 0));
+}

@@ -1,0 +1,5 @@
+pub mod WordNumbers
+pub mod Dominations
+pub mod NestedPairs
+pub mod NestedBoards
+pub mod PairCounts

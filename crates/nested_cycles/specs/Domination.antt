@@ -1,0 +1,22 @@
+-- Which label of a nested board dominates which.
+use Rattle.std.specs.Prelude.{◌≡◌, ℕ, ◌+◌, ◌-◌, ◌%◌, ◌^◌, ◌<◌, List, length, take, slice_index}
+use Rattle.nested_cycles.specs.Words.{word_of}
+
+-- At the first place where two words of one length differ, the digit of the first comes next after that of the second round the three-cycle.
+pub record Dominates (word other : List ℕ) : Type 0 where
+  pub place : ℕ
+  pub inside : place < length word
+  pub same_before : take place word ≡ take place other
+  pub next_there : slice_index word place ≡ (slice_index other place + 1) % 3
+
+-- how many labels the nested board of a level has
+abbrev pub labels_of : ℕ → ℕ
+labels_of levels = 3 ^ (levels - 1)
+
+-- the word of a label of the nested board of a level
+abbrev pub label_word : ℕ → ℕ → List ℕ
+label_word levels label = word_of (levels - 1) label
+
+-- the label x dominates the label y on the nested board of a level
+abbrev pub NestedBeats : ℕ → ℕ → ℕ → Type 0
+NestedBeats levels x y = Dominates (label_word levels x) (label_word levels y)

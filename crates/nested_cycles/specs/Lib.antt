@@ -1,0 +1,4 @@
+pub mod Words
+pub mod Domination
+pub mod Pairs
+pub mod NestedBoard
