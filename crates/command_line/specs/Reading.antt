@@ -29,6 +29,12 @@ abbrev pub IsReadAs : Option (Text × List Row) → Job → Type 0
 IsReadAs None job = ⊥
 IsReadAs (Some found) job = AsksFor found.0 found.1 job
 
+-- the numbers of the job are those of boards that can be made
+abbrev pub IsInRange : Job → Type 0
+IsInRange Joined = Unit {0}
+IsInRange (Check board proof) = Unit {0}
+IsInRange (Nested levels pebbles) = (1 ≤ levels) × (levels ≤ 6) × (1 ≤ pebbles) × (pebbles ≤ 6)
+
 -- the same as a test, of some job
 abbrev pub has_number : List Row → Text → ℕ → Bool
 has_number rows id most = option_map_or (is_unsigned_in 1 most) (one_of id rows) false

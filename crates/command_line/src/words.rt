@@ -4,7 +4,7 @@ ghost use Rattle.std.specs.Prelude.{◌≡◌, ◌≤◌, ◌↔◌, ◌⊎◌, 
 ghost use Rattle.clap.specs.Words.{first_of, found_of, kind_of, rows_of, subcommand_of, subcommand_rows_of, takes};
 ghost use Rattle.clap.specs.Walk.{texts};
 ghost use Rattle.command_line.specs.Commands as commands;
-ghost use Rattle.command_line.specs.Reading.{AsksFor, HasNumber, IsReadAs, asks, has_number, is_read};
+ghost use Rattle.command_line.specs.Reading.{AsksFor, HasNumber, IsInRange, IsReadAs, asks, has_number, is_read};
 
 use crate::asked::{Job, JobFault};
 use crate::commands::program;
@@ -19,6 +19,7 @@ pub fn job<'a, 'w>(alloc: Global, words: &'a [&'w str]) -> Result<Job<'a>, JobFa
     ensures joined { (result ≡ Ok Job.Joined) ↔ (length words.now ≤ 1) }
     ensures job { IfOk result (λ j. (j ≡ Job.Joined)
         ⊎ IsReadAs (subcommand_of commands.program (texts words.now)) j) }
+    ensures numbers { IfOk result IsInRange }
     ensures takes { takes commands.program (texts words.now) ≡ true
         → IfErr result (λ f. f ≡ JobFault.Memory) }
 {
@@ -31,6 +32,7 @@ pub fn job<'a, 'w>(alloc: Global, words: &'a [&'w str]) -> Result<Job<'a>, JobFa
 /// The job of the command that the words name.
 fn named_job<'a, 'w>(alloc: Global, words: &'a [&'w str]) -> Result<Job<'a>, JobFault>
     ensures job { IfOk result (IsReadAs (subcommand_of commands.program (texts words.now))) }
+    ensures numbers { IfOk result IsInRange }
     ensures takes { takes commands.program (texts words.now) ≡ true
         → IfErr result (λ f. f ≡ JobFault.Memory) }
 {
@@ -65,6 +67,7 @@ fn fault(alloc: Global, error: &Error) -> JobFault
 //// The job of the command that the words named.
 fn chosen<'a>(matches: &ArgMatches<'a>) -> Option<Job<'a>>
     ensures some { IfSome result (λ j. IsReadAs (subcommand_rows_of matches.now) j) }
+    ensures numbers { IfSome result IsInRange }
     ensures none { result ≡ None → is_read (subcommand_rows_of matches.now) ≡ false }
 {
     let (name, values) = named(matches)?;
@@ -84,8 +87,9 @@ fn named<'m, 'a>(matches: &'m ArgMatches<'a>) -> Option<(&'a str, &'m ArgMatches
 }
 
 fn check_job<'a>(values: &ArgMatches<'a>) -> Option<Job<'a>>
-    ensures { MatchOption result (asks (codes "check") (rows_of (found_of values.now)) ≡ false)
+    ensures asked { MatchOption result (asks (codes "check") (rows_of (found_of values.now)) ≡ false)
         (AsksFor (codes "check") (rows_of (found_of values.now))) }
+    ensures numbers { IfSome result IsInRange }
 {
     let board = text(values, "board")?;
     let proof = text(values, "proof")?;
@@ -93,8 +97,9 @@ fn check_job<'a>(values: &ArgMatches<'a>) -> Option<Job<'a>>
 }
 
 fn nested_job<'a>(values: &ArgMatches<'a>) -> Option<Job<'a>>
-    ensures { MatchOption result (asks (codes "nested") (rows_of (found_of values.now)) ≡ false)
+    ensures asked { MatchOption result (asks (codes "nested") (rows_of (found_of values.now)) ≡ false)
         (AsksFor (codes "nested") (rows_of (found_of values.now))) }
+    ensures numbers { IfSome result IsInRange }
 {
     let levels = number(values, "levels", 6)?;
     let pebbles = number(values, "pebbles", 6)?;

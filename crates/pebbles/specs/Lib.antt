@@ -3,3 +3,4 @@ pub mod Output
 pub mod Run
 pub mod Meaning
 pub mod CheckRun
+pub mod NestedRun

@@ -1,7 +1,9 @@
-//! Checks a strategy document for a board of the pebble game: the board and the document are read
-//! from standard input, one behind the other, and one line is written to standard output.
+//! Checks strategies for the pebble game and writes nested boards.
 //!
-//! Exit statuses: 0 accepted, 1 a fault of a text or a board that is too large, 2 wrong use,
+//! Without a command a board and a strategy document behind it are read from standard input, and one
+//! line is written to standard output. `pebbles --help` lists the commands.
+//!
+//! Exit statuses: 0 done, 1 a fault of a text or a board that is too large, 2 wrong words,
 //! 3 refused, 4 no memory, 5 a failed read or write, or an input that is too long.
 #![tactic(auto)]
 
@@ -11,6 +13,7 @@ mod checking;
 mod fakes;
 mod joined;
 mod laws;
+mod nesting;
 mod output;
 mod reading;
 mod running;
@@ -18,36 +21,94 @@ mod running;
 mod tests;
 
 use board_text::Through;
+use checking::run_check;
+use command_line::{Job, JobFault, job};
+use nesting::run_nested;
 use running::{RunFault, Verdict, run_joined};
-use std::env;
 use std::process::ExitCode;
-
-const USAGE: &str =
-    "usage: pebbles < INPUT\nINPUT is the text of a board and behind it a strategy document for it.";
+use std::{env, fs, io};
 
 fn main(rt: HostRuntime) -> ExitCode {
-    if has_words(&rt) {
-        let _ = eprintln!(rt; "{USAGE}");
-        return ExitCode::from(2);
-    }
-    let mut reader = Through::new(rt.stdin());
+    let alloc = rt.alloc();
+    let given = match env::args(&rt) {
+        Ok(given) => given,
+        Err(error) => return without_words(&rt, error.kind()),
+    };
+    let Ok(owned) = given.collect::<Vec<String>>(alloc) else {
+        return failed(&rt, RunFault::Memory);
+    };
+    let Ok(words) = owned
+        .iter()
+        .map(|word| word.as_str())
+        .collect::<Vec<&str>>(alloc)
+    else {
+        return failed(&rt, RunFault::Memory);
+    };
     let mut writer = Through::new(rt.stdout());
-    match run_joined(&rt, rt.alloc(), &mut reader, &mut writer) {
-        Ok(Verdict::Accepted(_)) => ExitCode::SUCCESS,
-        Ok(Verdict::Refused(_)) => ExitCode::from(3),
-        Err(fault) => {
-            let _ = eprintln!(rt; "{fault}");
-            ExitCode::from(status_of(fault))
+    match job(alloc, words.as_slice()) {
+        Ok(Job::Joined) => {
+            let mut reader = Through::new(rt.stdin());
+            answered(&rt, run_joined(&rt, alloc, &mut reader, &mut writer))
         }
+        Ok(Job::Check { board, proof }) => match (fs::open(&rt, board), fs::open(&rt, proof)) {
+            (Ok(board), Ok(proof)) => {
+                let mut board = Through::new(board);
+                let mut proof = Through::new(proof);
+                let answer = run_check(&rt, alloc, &mut board, &mut proof, &mut writer);
+                answered(&rt, answer)
+            }
+            _ => failed(&rt, RunFault::Read),
+        },
+        Ok(Job::Nested { levels, pebbles }) => {
+            done(&rt, run_nested(alloc, levels, pebbles, &mut writer))
+        }
+        Err(JobFault::Help { text }) => helped(&rt, &text),
+        Err(JobFault::Usage { text }) => {
+            let _ = eprint!(rt; "{text}");
+            ExitCode::from(2)
+        }
+        Err(JobFault::Memory) => failed(&rt, RunFault::Memory),
     }
 }
 
-/// Whether the command line has a word besides the program's name, or can't be read.
-fn has_words(rt: &HostRuntime) -> bool {
-    match env::args(rt) {
-        Ok(words) => words.count() > 1,
-        Err(_) => true,
+/// The status of a check.
+fn answered(rt: &HostRuntime, answer: Result<Verdict, RunFault>) -> ExitCode {
+    match answer {
+        Ok(Verdict::Accepted(_)) => ExitCode::SUCCESS,
+        Ok(Verdict::Refused(_)) => ExitCode::from(3),
+        Err(fault) => failed(rt, fault),
     }
+}
+
+/// The status of a run that has nothing to say but what it wrote.
+fn done(rt: &HostRuntime, answer: Result<(), RunFault>) -> ExitCode {
+    match answer {
+        Ok(()) => ExitCode::SUCCESS,
+        Err(fault) => failed(rt, fault),
+    }
+}
+
+/// The status of a fault, whose line is written to standard error.
+fn failed(rt: &HostRuntime, fault: RunFault) -> ExitCode {
+    let _ = eprintln!(rt; "{fault}");
+    ExitCode::from(status_of(fault))
+}
+
+/// The status of help, which is written to standard output.
+fn helped(rt: &HostRuntime, text: &str) -> ExitCode {
+    match print!(rt; "{text}") {
+        Ok(()) => ExitCode::SUCCESS,
+        Err(_) => failed(rt, RunFault::Write),
+    }
+}
+
+/// The status where the words of the command line can't be had: one of them isn't text, or memory was refused.
+fn without_words(rt: &HostRuntime, kind: io::ErrorKind) -> ExitCode {
+    if kind == io::ErrorKind::OutOfMemory {
+        return failed(rt, RunFault::Memory);
+    }
+    let _ = eprintln!(rt; "error: a word on the command line is not text");
+    ExitCode::from(2)
 }
 
 /// The exit status of a fault.
