@@ -10,11 +10,11 @@ mod building;
 #[cfg(test)]
 mod checks;
 #[cfg(test)]
+mod command_lines;
+#[cfg(test)]
 mod document_texts;
 #[cfg(test)]
 mod documents;
-#[cfg(test)]
-mod fakes;
 #[cfg(test)]
 mod long_documents;
 #[cfg(test)]

@@ -4,8 +4,8 @@
 
 ghost use Rattle.std.specs.Prelude.{◌≡◌, ◌<◌, false};
 
-use crate::fakes::{Broken, Drip, Failing, Trickle};
 use board_text::{Failed, ReadFault, Sink, Source, Through, read_all, write_all};
+use fakes::{Broken, Drip, Failing, Trickle};
 use std::alloc::{AllocError, Global};
 use std::io::Cursor;
 

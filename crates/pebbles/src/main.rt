@@ -9,8 +9,6 @@
 
 mod answering;
 mod checking;
-#[cfg(test)]
-mod fakes;
 mod joined;
 mod laws;
 mod nesting;

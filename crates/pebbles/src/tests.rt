@@ -1,9 +1,11 @@
 //! Runs over readers and writers that are slow, that fail, and that are refused memory.
 
-use crate::fakes::{Drip, Failing, Trickle};
+use crate::checking::run_check;
 use crate::joined::front_len;
+use crate::nesting::run_nested;
 use crate::running::{RunFault, Verdict, run_joined};
 use board_text::{BoardFault, BoardKind, Sink, Source};
+use fakes::{Drip, Failing, Trickle};
 use proof_check::{CheckFault, Shown, Side};
 use proof_text::{Claim, ProofFault, ProofKind};
 use std::alloc::Global;
@@ -304,5 +306,130 @@ fn inputs_and_their_lines(rt: HostRuntime) {
             ),
             "{wanted:?}"
         );
+    }
+}
+
+/// The board of `LEAST_TWO`.
+const CHAIN: &[u8] =
+    b"board 1\nlabels 3\npebbles 2\nstart 0 0\nbeats 1 0\nbeats 2 0\nbeats 2 1\nend\n";
+
+/// The document of `LEAST_TWO`.
+const CHAIN_DOCUMENT: &[u8] =
+    b"proof 1\nleast 2\nlabeller 3\nat 0 0 for 2 take 1 1\nat 0 1 for 1 take 2 1\nat 1 0 for 1 take 1 2\nend\n";
+
+/// The nested board of level 2 with one pebble.
+const CYCLE: &[u8] =
+    b"board 1\nlabels 3\npebbles 1\nstart 0\nbeats 0 2\nbeats 1 0\nbeats 2 1\nend\n";
+
+/// Two texts, and how many calls of each end go well.
+#[derive(Clone, Copy)]
+struct Ends {
+    board: &'static [u8],
+    board_reads: usize,
+    proof: &'static [u8],
+    proof_reads: usize,
+    writes: usize,
+}
+
+/// Whether a check of two readers answers and writes what it should, or was refused memory and wrote nothing;
+/// whether the ends failed where it says so; and whether so much of the document is left.
+fn checks(
+    rt: &(impl Threads + Sync),
+    alloc: Global,
+    ends: Ends,
+    wanted: Answer,
+    written: &[u8],
+    left: &[u8],
+) -> bool {
+    let mut board = Drip::new(ends.board, ends.board_reads);
+    let mut proof = Drip::new(ends.proof, ends.proof_reads);
+    let mut writer = Trickle::<ROOM>::new(ends.writes, Failing::Refuses);
+    let answer = run_check(rt, alloc, &mut board, &mut proof, &mut writer);
+    let told = (board.failed() || proof.failed()) == (answer == Err(RunFault::Read))
+        && writer.failed() == (answer == Err(RunFault::Write));
+    if answer == Err(RunFault::Memory) {
+        return told && writer.taken().is_empty();
+    }
+    told && answer == wanted && writer.taken() == written && proof.rest() == left
+}
+
+const READY: Ends = Ends {
+    board: CHAIN,
+    board_reads: PLENTY,
+    proof: CHAIN_DOCUMENT,
+    proof_reads: PLENTY,
+    writes: PLENTY,
+};
+
+#[test]
+fn two_readers(rt: HostRuntime) {
+    let alloc = rt.alloc();
+    assert!(rt; checks(&rt, alloc, READY, SHOWN, ACCEPTED, NOTHING));
+    let cut = Ends {
+        board: CHAIN_DOCUMENT,
+        ..READY
+    };
+    let fault = Err(RunFault::Board(BoardFault {
+        line: 1,
+        kind: BoardKind::Version,
+    }));
+    assert!(rt; checks(&rt, alloc, cut, fault, NOTHING, CHAIN_DOCUMENT));
+    let board_twice = Ends {
+        proof: CHAIN,
+        ..READY
+    };
+    let fault = Err(RunFault::Proof(ProofFault {
+        line: 1,
+        kind: ProofKind::Version,
+    }));
+    assert!(rt; checks(&rt, alloc, board_twice, fault, NOTHING, NOTHING));
+}
+
+#[test]
+fn two_readers_that_fail_at_each_call(rt: HostRuntime) {
+    let alloc = rt.alloc();
+    for board_reads in 0..CHAIN.len() + 1 {
+        let ends = Ends {
+            board_reads,
+            ..READY
+        };
+        assert!(rt;
+            checks(
+                &rt,
+                alloc,
+                ends,
+                Err(RunFault::Read),
+                NOTHING,
+                CHAIN_DOCUMENT
+            )
+        );
+    }
+    for proof_reads in 0..CHAIN_DOCUMENT.len() + 1 {
+        let ends = Ends {
+            proof_reads,
+            ..READY
+        };
+        let left = CHAIN_DOCUMENT.get(proof_reads..).unwrap_or(NOTHING);
+        assert!(rt; checks(&rt, alloc, ends, Err(RunFault::Read), NOTHING, left));
+    }
+    for writes in 0..ACCEPTED.len() {
+        let ends = Ends { writes, ..READY };
+        let front = ACCEPTED.get(..writes).unwrap_or(NOTHING);
+        assert!(rt; checks(&rt, alloc, ends, Err(RunFault::Write), front, NOTHING));
+    }
+}
+
+#[test]
+fn a_nested_board(rt: HostRuntime) {
+    for writes in 0..CYCLE.len() + 1 {
+        let mut writer = Trickle::<ROOM>::new(writes, Failing::Refuses);
+        match run_nested(rt.alloc(), 2, 1, &mut writer) {
+            Ok(()) => assert!(rt; writer.taken() == CYCLE),
+            Err(RunFault::Write) => {
+                assert!(rt; writes < CYCLE.len() && writer.failed());
+                assert!(rt; CYCLE.starts_with(writer.taken()) && writer.taken().len() == writes);
+            }
+            Err(fault) => assert!(rt; fault == RunFault::Memory && writer.taken().is_empty()),
+        }
     }
 }

@@ -1,0 +1,109 @@
+//! What the words of command lines ask for.
+
+use command_line::{Job, JobFault, job};
+use std::alloc::Global;
+use std::process::Abort;
+
+/// What `job` answers where it is refused no growth.
+fn job_of<'a>(alloc: Global, words: &'a [&'a str]) -> Result<Job<'a>, JobFault> {
+    match job(alloc, words) {
+        Err(JobFault::Memory) => job(alloc, words),
+        answer => answer,
+    }
+}
+
+/// Asserts that the words ask for this job.
+fn assert_asks(rt: &impl Abort, alloc: Global, words: &[&str], wanted: Job<'_>) {
+    match job_of(alloc, words) {
+        Ok(job) => assert_eq!(rt; job, wanted),
+        Err(_) => panic!(rt; "the words are none of the program's"),
+    }
+}
+
+/// Asserts that the words ask for nothing that can be done.
+fn assert_usage(rt: &impl Abort, alloc: Global, words: &[&str]) {
+    match job_of(alloc, words) {
+        Err(JobFault::Usage { text }) => assert!(rt; text.starts_with("error: ")),
+        _ => panic!(rt; "the words are taken"),
+    }
+}
+
+/// Asserts that the words ask for help, in which the other word stands.
+fn assert_help(rt: &impl Abort, alloc: Global, words: &[&str], within: &str) {
+    match job_of(alloc, words) {
+        Err(JobFault::Help { text }) => assert!(rt; text.contains(within)),
+        _ => panic!(rt; "no help is given"),
+    }
+}
+
+#[test]
+fn no_words(rt: HostRuntime) {
+    assert_asks(&rt, rt.alloc(), &[], Job::Joined);
+    assert_asks(&rt, rt.alloc(), &["pebbles"], Job::Joined);
+}
+
+#[test]
+fn checks(rt: HostRuntime) {
+    for (words, board, proof) in [
+        (["pebbles", "check", "a", "b"].as_slice(), "a", "b"),
+        (["pebbles", "check", "", ""].as_slice(), "", ""),
+        (["pebbles", "check", "-", "b"].as_slice(), "-", "b"),
+        (
+            ["pebbles", "check", "--", "--help", "-x"].as_slice(),
+            "--help",
+            "-x",
+        ),
+    ] {
+        assert_asks(&rt, rt.alloc(), words, Job::Check { board, proof });
+    }
+}
+
+#[test]
+fn nested_boards(rt: HostRuntime) {
+    for (words, levels, pebbles) in [
+        (["pebbles", "nested", "1", "6"].as_slice(), 1, 6),
+        (["pebbles", "nested", "6", "1"].as_slice(), 6, 1),
+        (["pebbles", "nested", "02", "+3"].as_slice(), 2, 3),
+        (["pebbles", "nested", "--", "4", "5"].as_slice(), 4, 5),
+    ] {
+        assert_asks(&rt, rt.alloc(), words, Job::Nested { levels, pebbles });
+    }
+}
+
+#[test]
+fn wrong_words(rt: HostRuntime) {
+    for words in [
+        ["pebbles", ""].as_slice(),
+        ["pebbles", "--"].as_slice(),
+        ["pebbles", "chek", "a", "b"].as_slice(),
+        ["pebbles", "check"].as_slice(),
+        ["pebbles", "check", "a"].as_slice(),
+        ["pebbles", "check", "a", "b", "c"].as_slice(),
+        ["pebbles", "check", "-x", "b"].as_slice(),
+        ["pebbles", "nested", "3"].as_slice(),
+        ["pebbles", "nested", "0", "1"].as_slice(),
+        ["pebbles", "nested", "7", "1"].as_slice(),
+        ["pebbles", "nested", "1", "0"].as_slice(),
+        ["pebbles", "nested", "1", "7"].as_slice(),
+        ["pebbles", "nested", "-1", "2"].as_slice(),
+        ["pebbles", "nested", "1 ", "2"].as_slice(),
+        ["pebbles", "nested", "99999999999999999999", "2"].as_slice(),
+        ["pebbles", "--version"].as_slice(),
+    ] {
+        assert_usage(&rt, rt.alloc(), words);
+    }
+}
+
+#[test]
+fn help(rt: HostRuntime) {
+    for (words, within) in [
+        (["pebbles", "--help"].as_slice(), "Exit statuses:"),
+        (["pebbles", "-h"].as_slice(), "Exit statuses:"),
+        (["pebbles", "help"].as_slice(), "nested"),
+        (["pebbles", "help", "check"].as_slice(), "<BOARD> <PROOF>"),
+        (["pebbles", "check", "--help"].as_slice(), "<BOARD> <PROOF>"),
+        (["pebbles", "nested", "-h"].as_slice(), "<LEVELS> <PEBBLES>"),
+    ] {
+        assert_help(&rt, rt.alloc(), words, within);
+    }
+}
