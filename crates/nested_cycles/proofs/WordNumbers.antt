@@ -11,10 +11,12 @@ some_words : (count : ℕ) → 1 ≤ 3 ^ count
 some_words count = one-le-pow count 3 (omega arith)
 
 pub length-word_of : (count number : ℕ) → length (word_of count number) ≡ count
+unfolding number_of word_of
 length-word_of zero number = refl
 length-word_of (suc count) number = ap suc (length-word_of count (number % 3 ^ count))
 
 pub number_of-word_of : (count number : ℕ) → number < 3 ^ count → number_of (word_of count number) ≡ number
+unfolding number_of word_of
 number_of-word_of zero number below = let one : 3 ^ 0 ≡ 1 = pow-zero 3 in omega arith
 number_of-word_of (suc count) number below =
     let rest : number_of (word_of count (number % 3 ^ count)) ≡ number % 3 ^ count = number_of-word_of count (number % 3 ^ count) (mod-lt number (some_words count)) in
@@ -24,6 +26,7 @@ number_of-word_of (suc count) number below =
 
 -- the number of digits
 number_below : (word : List ℕ) → All (λ digit. digit < 3) word → number_of word < 3 ^ length word
+unfolding number_of word_of
 number_below [] each = let one : 3 ^ 0 ≡ 1 = pow-zero 3 in omega arith
 number_below (digit ∷ word) each =
     let low : digit < 3 = All-head (λ d. d < 3) digit word each in
@@ -37,6 +40,7 @@ pub number_of_word : (count : ℕ) (word : List ℕ) → IsWord count word → n
 number_of_word count word is = subst (λ (n : ℕ). number_of word < 3 ^ n) is.0 (number_below word is.1)
 
 digits_again : (word : List ℕ) → All (λ digit. digit < 3) word → word_of (length word) (number_of word) ≡ word
+unfolding number_of word_of
 digits_again [] each = refl
 digits_again (digit ∷ word) each =
     let rest : number_of word < 3 ^ length word = number_below word (All-tail (λ d. d < 3) digit word each) in
@@ -50,6 +54,7 @@ pub word_of-number_of : (count : ℕ) (word : List ℕ) → IsWord count word �
 word_of-number_of count word is = subst (λ (n : ℕ). word_of n (number_of word) ≡ word) is.0 (digits_again word is.1)
 
 digits_below : (count number : ℕ) → number < 3 ^ count → All (λ digit. digit < 3) (word_of count number)
+unfolding number_of word_of
 digits_below zero number below = All-nil (λ digit. digit < 3)
 digits_below (suc count) number below =
     All-cons (λ digit. digit < 3) (number / 3 ^ count) (word_of count (number % 3 ^ count))
@@ -62,6 +67,7 @@ word_of_is_word count number below = (length-word_of count number, digits_below 
 -- ---- the last digit
 
 number_of-push : (word : List ℕ) (digit : ℕ) → number_of (word ++ digit ∷ []) ≡ number_of word * 3 + digit
+unfolding number_of word_of
 number_of-push [] digit = let one : 3 ^ 0 ≡ 1 = pow-zero 3 in rw one (omega arith)
 number_of-push (first ∷ word) digit =
     let rest : number_of (word ++ digit ∷ []) ≡ number_of word * 3 + digit = number_of-push word digit in

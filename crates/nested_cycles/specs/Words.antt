@@ -7,11 +7,11 @@ abbrev pub IsWord : ℕ → List ℕ → Type 0
 IsWord count word = AreNumbers count 3 word
 
 -- the number of a word: it is read in base 3, its first digit most significant
-abbrev pub number_of : List ℕ → ℕ
+unfoldable pub number_of : List ℕ → ℕ
 number_of [] = 0
 number_of (digit ∷ others) = digit * 3 ^ length others + number_of others
 
 -- the word of so many digits that has this number
-abbrev pub word_of : ℕ → ℕ → List ℕ
+unfoldable pub word_of : ℕ → ℕ → List ℕ
 word_of zero number = []
 word_of (suc count) number = number / 3 ^ count ∷ word_of count (number % 3 ^ count)
