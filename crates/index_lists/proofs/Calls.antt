@@ -1,13 +1,13 @@
 -- Each call of the links, in the code's own shape.
-use Rattle.std.proofs.Common.{◌≡◌, ℕ, ◌+◌, ◌-◌, ◌<◌, ◌≤◌, ◌==◌, inl, inr, cond, zero, suc, List, [], ◌∷◌, ◌++◌, length, take, refl, sym, ap, subst, ◌∙◌, arith, slice_index, slice_set, get_or-set_same, get_or-set_other, length-set, Some, None}
+use Rattle.std.proofs.Common.{◌≡◌, ℕ, ◌+◌, ◌-◌, ◌<◌, ◌≤◌, ◌==◌, inl, inr, cond, zero, suc, List, [], ◌∷◌, ◌++◌, length, take, refl, sym, ap, subst, ◌∙◌, arith, slice_index, slice_set, get_or-set_same, get_or-set_other, length-set, Option, Some, None, IfSome, slice_get}
 use Rattle.std.proofs.Math.Seq.{take-append_seam}
 use Rattle.std.proofs.lemmas.Bool.{cases_eq, cases_lt}
-use Rattle.index_lists.specs.Lists.{times, without_node, after, before_from, last_from, IsFree, IsHome}
+use Rattle.index_lists.specs.Lists.{times, without_node, IsFree, IsIn, AreLists}
 use Rattle.index_lists.specs.Links.{follow, IsLinked, IsStore, IsLinks, Chains, listed, unless_none}
 use Rattle.index_lists.proofs.Times.{same_is, differ_is, cond_same, cond_other, length-without}
-use Rattle.index_lists.proofs.Together.{home-of_held, home-of_free, room, seen, settle, push-store, unlink-store, from_back, from_forth, at-home-once}
+use Rattle.index_lists.proofs.Together.{store-are, home-of_free, room, at-home, seen, settle, push-store, unlink-store, from_back, from_forth, at-home-once}
 use Rattle.index_lists.proofs.Links.{tail}
-use Rattle.index_lists.proofs.Shown.{last-read, after-read, before-read}
+use Rattle.index_lists.proofs.Shown.{first-read, last-read, after-read, before-read, front-read, unless-below}
 
 pub written : (new rest : List ℕ) (n : ℕ) → length new ≡ n → take n (new ++ rest) ≡ new
 written new rest n e = rw (← e) (take-append_seam new rest)
@@ -107,15 +107,17 @@ module _ (nodes lists : ℕ) (next prev home first last len : List ℕ) (v : Cha
       push-seen = seen nodes lists (slice_index next') (slice_index (slice_set prev node at)) (slice_index (slice_set home node to)) (slice_index first') (slice_index (slice_set last to node)) (slice_index (slice_set len to (n + 1))) (λ l. cond (l == to) (listed v l ++ node ∷ []) (listed v l)) push-all len-past
 
   -- an unlink
-  module _ (node h p z : ℕ) (node_in : node < v.nodes) (held : (l : ℕ) × IsHome v.lists (listed v) node l) (h_is : h ≡ slice_index home node) (p_is : p ≡ slice_index prev node) (z_is : z ≡ slice_index next node) where
+  module _ (node h p z : ℕ) (node_in : node < v.nodes) (stands : IsIn (listed v) node) (h_is : h ≡ slice_index home node) (p_is : p ≡ slice_index prev node) (z_is : z ≡ slice_index next node) where
     node_here : node < nodes
     node_here = let e = nodes-are in omega arith
 
     pub home-in : h < lists
     home-in =
-        let e = lists-are in
-        let b = home-of_held nodes lists (slice_index next) (slice_index prev) (slice_index home) (slice_index first) (slice_index last) (slice_index len) (listed v) store_here held.0 node node_here (rw e held.1) in
-        let c = held.1.home_in in
+        let in_one : stands.0 < lists = elim (cases_lt stands.0 lists) [
+          | inl lt ↦ lt
+          | inr ge ↦ absurd (let e = ap (times node) (store_here.beyond stands.0 ge) in let some = stands.1 in omega arith)
+        ] in
+        let b = at-home nodes lists (slice_index next) (slice_index prev) (slice_index home) (slice_index first) (slice_index last) (slice_index len) (listed v) store_here stands.0 node in_one node_here stands.1 in
         omega arith
 
     home_below : slice_index home node < lists
@@ -187,22 +189,63 @@ module _ (nodes lists : ℕ) (next prev home first last len : List ℕ) (v : Cha
   nothing : unless_none nodes nodes ≡ None
   nothing = cond_same nodes nodes None (Some nodes) refl
 
-  pub last-seen : (to at : ℕ) → to < v.lists → at ≡ slice_index last to → last_from None (listed v to) ≡ unless_none nodes at
+  pub lists-kept : AreLists v.nodes v.lists (listed v)
+  lists-kept = rw (← nodes-are, ← lists-are) (store-are nodes lists (slice_index next) (slice_index prev) (slice_index home) (slice_index first) (slice_index last) (slice_index len) (listed v) store_here)
+
+  in-one : (l place node : ℕ) → slice_get (listed v l) place ≡ Some node → l < lists
+  in-one l place node e = elim (cases_lt l lists) [
+    | inl i ↦ i
+    | inr g ↦ absurd (let none : None ≡ Some node = sym (ap (λ xs. slice_get xs place) (store_here.beyond l g)) ∙ e in cc)
+  ]
+
+  pub first-seen : (to at : ℕ) → to < v.lists → at ≡ slice_index first to → slice_get (listed v to) 0 ≡ unless_none nodes at
+  first-seen to at h e =
+      let i : to < lists = (let d = lists-are in omega arith) in
+      first-read nodes (slice_index next) (slice_index prev) (slice_index last to) nodes (slice_index first to) (listed v to) (store_here.linked to i) ∙ ap (unless_none nodes) (sym e)
+
+  pub last-seen : (to at : ℕ) → to < v.lists → at ≡ slice_index last to → slice_get (listed v to) (length (listed v to) - 1) ≡ unless_none nodes at
   last-seen to at h e =
       let i : to < lists = (let d = lists-are in omega arith) in
-      ap (λ o. last_from o (listed v to)) (sym nothing) ∙ last-read nodes (slice_index next) (slice_index prev) (slice_index last to) nodes (slice_index first to) (listed v to) (store_here.linked to i) ∙ ap (unless_none nodes) (sym e)
+      last-read nodes (slice_index next) (slice_index prev) (slice_index last to) (slice_index first to) (listed v to) (store_here.linked to i) ∙ ap (unless_none nodes) (sym e)
 
-  pub next-seen : (node at : ℕ) → at ≡ slice_index next node → (l : ℕ) → 0 < times node (listed v l) → after node (listed v l) ≡ unless_none nodes at
-  next-seen node at e l some = elim (cases_lt l lists) [
-    | inl i ↦ after-read nodes (slice_index next) (slice_index prev) (slice_index last l) nodes (slice_index first l) node (listed v l) (store_here.linked l i) some ∙ ap (unless_none nodes) (sym e)
-    | inr g ↦ absurd (let b = ap (times node) (store_here.beyond l g) in omega arith)
-  ]
+  pub next-seen : (node at : ℕ) → at ≡ slice_index next node → (l place : ℕ) → slice_get (listed v l) place ≡ Some node → slice_get (listed v l) (place + 1) ≡ unless_none nodes at
+  next-seen node at e l place stands =
+      after-read nodes (slice_index next) (slice_index prev) (slice_index last l) nodes (slice_index first l) place node (listed v l) (store_here.linked l (in-one l place node stands)) stands ∙ ap (unless_none nodes) (sym e)
 
-  pub prev-seen : (node at : ℕ) → at ≡ slice_index prev node → (l : ℕ) → 0 < times node (listed v l) → before_from None node (listed v l) ≡ unless_none nodes at
-  prev-seen node at e l some = elim (cases_lt l lists) [
-    | inl i ↦ ap (λ o. before_from o node (listed v l)) (sym nothing) ∙ before-read nodes (slice_index next) (slice_index prev) (slice_index last l) nodes (slice_index first l) node (listed v l) (store_here.linked l i) some ∙ ap (unless_none nodes) (sym e)
-    | inr g ↦ absurd (let b = ap (times node) (store_here.beyond l g) in omega arith)
-  ]
+  pub prev-seen : (node at : ℕ) → at ≡ slice_index prev node → (l place : ℕ) → slice_get (listed v l) (place + 1) ≡ Some node → slice_get (listed v l) place ≡ unless_none nodes at
+  prev-seen node at e l place stands =
+      before-read nodes (slice_index next) (slice_index prev) (slice_index last l) nodes (slice_index first l) place node (listed v l) (store_here.linked l (in-one l (place + 1) node stands)) stands ∙ ap (unless_none nodes) (sym e)
+
+  pub prev-front : (node at : ℕ) → at ≡ slice_index prev node → (l : ℕ) → slice_get (listed v l) 0 ≡ Some node → unless_none nodes at ≡ None
+  prev-front node at e l stands =
+      cond_same at nodes None (Some at) (e ∙ front-read nodes (slice_index next) (slice_index prev) (slice_index last l) nodes (slice_index first l) node (listed v l) (store_here.linked l (in-one l 0 node stands)) stands)
+
+  -- a link is the number of a node, or none
+  pub next-below : (node : ℕ) → node < v.nodes → slice_index next node ≤ nodes
+  next-below node h =
+      let i : node < nodes = (let d = nodes-are in omega arith) in
+      elim (cases_lt (slice_index home node) lists) [
+        | inl lt ↦ elim (from_forth nodes lists (slice_index next) (slice_index prev) (slice_index home) (slice_index first) (slice_index last) (slice_index len) (listed v) store_here node i lt) [
+          | inl q ↦ (let d = q.0 in omega arith)
+          | inr q ↦ (let d = q.0 in omega arith)
+        ]
+        | inr ge ↦ (let b = store_here.homes node i in let d = (store_here.loose node i (omega arith)).0 in omega arith)
+      ]
+
+  pub prev-below : (node : ℕ) → node < v.nodes → slice_index prev node ≤ nodes
+  prev-below node h =
+      let i : node < nodes = (let d = nodes-are in omega arith) in
+      elim (cases_lt (slice_index home node) lists) [
+        | inl lt ↦ elim (from_back nodes lists (slice_index next) (slice_index prev) (slice_index home) (slice_index first) (slice_index last) (slice_index len) (listed v) store_here node i lt) [
+          | inl q ↦ (let d = q.1 in omega arith)
+          | inr q ↦ (let d = q.0 in omega arith)
+        ]
+        | inr ge ↦ (let b = store_here.homes node i in let d = (store_here.loose node i (omega arith)).1 in omega arith)
+      ]
+
+  -- what is read of them is below the number of nodes
+  pub link-below : (at link : ℕ) (o : Option ℕ) → link ≤ nodes → at ≡ link → o ≡ unless_none nodes at → IfSome o (λ node. node < v.nodes)
+  link-below at link o h e f = rw (f, e, ← nodes-are) (unless-below nodes link h)
 
   loose-here : (node : ℕ) → node < v.nodes → IsFree (listed v) node → (slice_index next node ≡ nodes) × (slice_index prev node ≡ nodes)
   loose-here node h free =

@@ -4,7 +4,8 @@ use Rattle.std.proofs.lemmas.Bool.{cases_eq, cases_lt}
 use Rattle.std.specs.List.{filter, count_by}
 use Rattle.std.proofs.lemmas.List.{length-map}
 use Rattle.std.proofs.lemmas.List.Sums.{length-filter}
-use Rattle.index_lists.specs.Lists.{times, without_node, nodes_of, all_nodes, home_in, IsFree, IsHome, IsPlain}
+use Rattle.index_lists.specs.Lists.{times, without_node, IsFree, IsHome, AreLists}
+use Rattle.index_lists.specs.Pairs.{Pairs, nodes_of, all_nodes, home_in, IsPlain}
 use Rattle.index_lists.proofs.Times.{same_is, differ_is, cond_same, cond_other, times-here, times-later, times-append, times-without_same, times-without_other, distinct-length}
 
 -- the first entry is of the list
@@ -204,6 +205,26 @@ module _ (nodes lists capacity : ℕ) (entries : List (ℕ × ℕ)) (s : IsPlain
 
   pub in-none : (x l : ℕ) → home_in x entries ≡ None → 0 < times x (nodes_of entries l) → ⊥
   in-none x l e some = let z = (at-lost x e).free l in omega arith
+
+  -- each node in at most one list and once
+  pub plain-are : AreLists nodes lists (nodes_of entries)
+  plain-are = record {
+    below = λ l x h. elim (cases_lt x nodes) [
+      | inl lt ↦ lt
+      | inr ge ↦ absurd (let f = fewer x l entries in let z = s.below x ge in omega arith)
+    ];
+    once = λ l x. (let f = fewer x l entries in let o = s.once x in omega arith);
+    apart = λ l m x h k. one-home l m x h k (home_in x entries) refl;
+    beyond = s.beyond;
+  }
+    where
+      one-home : (l m x : ℕ) → 0 < times x (nodes_of entries l) → 0 < times x (nodes_of entries m) → (o : Option ℕ) → home_in x entries ≡ o → l ≡ m
+      one-home l m x h k None e = absurd (in-none x l e h)
+      one-home l m x h k (Some p) e = sym (only-home x p l e h) ∙ only-home x p m e k
+
+-- the same of what a caller sees
+pub plain-kept : (nodes lists capacity : ℕ) (entries : List (ℕ × ℕ)) (v : Pairs) → ◌≡◌ {A = Pairs} (record { nodes = nodes; lists = lists; entries = entries }) v → IsPlain nodes lists capacity entries → AreLists v.nodes v.lists (nodes_of v.entries)
+plain-kept nodes lists capacity entries v view s = subst (λ w. AreLists w.nodes w.lists (nodes_of w.entries)) view (plain-are nodes lists capacity entries s)
 
 -- what a push that was seen to succeed did
 pub ok-of : {A B : Type 0} (r : Result A B) (b : Bool) → b ≡ is_ok r → b ≡ false → IsOk r → ⊥

@@ -1,7 +1,7 @@
 -- All lists of a store under a push and an unlink.
 use Rattle.std.proofs.Common.{◌≡◌, ◌≢◌, ℕ, ◌+◌, ◌-◌, ◌<◌, ◌≤◌, ◌==◌, ◌⊎◌, inl, inr, cond, List, [], ◌∷◌, ◌++◌, length, refl, sym, ap, ◌∙◌, arith, length-append}
 use Rattle.std.proofs.lemmas.Bool.{cases_eq, cases_lt}
-use Rattle.index_lists.specs.Lists.{times, without_node, IsFree, IsHome}
+use Rattle.index_lists.specs.Lists.{times, without_node, IsFree, IsHome, AreLists}
 use Rattle.index_lists.specs.Links.{follow, IsLinked, IsStore, skip}
 use Rattle.index_lists.proofs.Times.{same_is, differ_is, cond_same, cond_other, times-append, times-without_same, times-without_other, length-without, distinct-length, times-later}
 use Rattle.index_lists.proofs.Links.{linked-follow, length-follow, back, forth, head, tail, frame, linked-push, linked-unlink}
@@ -66,6 +66,37 @@ module _ (none nowhere : ℕ) (next prev home first last len : ℕ → ℕ) (lis
       let p = head none next prev (last l) none (first l) (list l) (s.linked l h) i in
       (at-home l (first l) h i p.1, p.0)
 
+  beyond_none : (l x : ℕ) (before at : ℕ) (ys : List ℕ) → none ≤ x → IsLinked none next prev (last l) before at ys → times x ys ≡ 0
+  beyond_none l x before at [] ge c = refl
+  beyond_none l x before at (y ∷ ys) ge c = times-later y x ys (λ e. (let b = c.1 in omega arith)) ∙ beyond_none l x y (next y) ys ge c.3
+
+  -- each node in at most one list and once
+  pub store-are : AreLists none nowhere list
+  store-are = record {
+    below = held-below;
+    once = λ l x. elim (cases_lt 0 (times x (list l))) [
+      | inl h ↦ (let b = held-below l x h in elim (cases_eq (home x) l) [
+        | inl e ↦ (let t = at-home-once l x (in-one l x h) b e in omega arith)
+        | inr d ↦ (let t = away l x (in-one l x h) b d in omega arith)
+      ])
+      | inr z ↦ omega arith
+    ];
+    apart = λ l m x h k. sym (at-home l x (in-one l x h) (held-below l x h) h) ∙ at-home m x (in-one m x k) (held-below m x k) k;
+    beyond = s.beyond;
+  }
+    where
+      in-one : (l x : ℕ) → 0 < times x (list l) → l < nowhere
+      in-one l x h = elim (cases_lt l nowhere) [
+        | inl lt ↦ lt
+        | inr ge ↦ absurd (let e = ap (times x) (s.beyond l ge) in omega arith)
+      ]
+
+      held-below : (l x : ℕ) → 0 < times x (list l) → x < none
+      held-below l x h = elim (cases_lt x none) [
+        | inl lt ↦ lt
+        | inr ge ↦ absurd (let z = beyond_none l x none (first l) (list l) ge (s.linked l (in-one l x h)) in omega arith)
+      ]
+
   -- there is room for one more
   pub room : (l node : ℕ) → l < nowhere → node < none → home node ≡ nowhere → len l < none
   room l node h i e =
@@ -86,10 +117,6 @@ module _ (none nowhere : ℕ) (next prev home first last len : ℕ → ℕ) (lis
       let sized = s.sized l h in
       omega arith
     where
-      beyond_none : (l x : ℕ) (before at : ℕ) (ys : List ℕ) → none ≤ x → IsLinked none next prev (last l) before at ys → times x ys ≡ 0
-      beyond_none l x before at [] ge c = refl
-      beyond_none l x before at (y ∷ ys) ge c = times-later y x ys (λ e. (let b = c.1 in omega arith)) ∙ beyond_none l x y (next y) ys ge c.3
-
       out : (x : ℕ) → none ≤ x → times x (list l ++ node ∷ []) ≡ 0
       out x ge = times-append x (list l) (node ∷ []) ∙ rw (beyond_none l x none (first l) (list l) ge (s.linked l h), differ_is node x (λ e. omega arith)) refl
 

@@ -1,7 +1,8 @@
 //! Lists as one vector of pairs.
 
 ghost use Rattle.std.specs.Prelude.{◌≡◌, ℕ, ◌+◌, ◌<◌, ◌≤◌, ◌==◌, ◌++◌, ◌∷◌, [], List, length, slice_get, not, filter, count_by, vec_capacity};
-ghost use Rattle.index_lists.specs.Lists.{Pairs, nodes_of, all_nodes, home_in, after, before_from, last_from, without_node};
+ghost use Rattle.index_lists.specs.Lists.{without_node};
+ghost use Rattle.index_lists.specs.Pairs.{Pairs, nodes_of, all_nodes, home_in, after, before_from, last_from};
 
 use crate::store::ListStore;
 use board_text::Memory;
@@ -18,7 +19,7 @@ pub struct PlainLists {
 
 impl Model for PlainLists {
     ghost use Rattle.std.specs.Prelude.{vec_capacity};
-    ghost use Rattle.index_lists.specs.Lists.{Pairs, IsPlain};
+    ghost use Rattle.index_lists.specs.Pairs.{Pairs, IsPlain};
 
     ghost Value = { Pairs };
 

@@ -1,5 +1,5 @@
 use Rattle.std.proofs.Common.{◌≡◌, drop, None}
-use Rattle.index_lists.specs.Lists.{nodes_of, last_from}
+use Rattle.index_lists.specs.Pairs.{nodes_of, last_from}
 use Rattle.index_lists.proofs.plain_lists.last_of.Given as goal
 
 abbrev pub invariant-loop-entry : goal.invariant-loop-entry

@@ -1,5 +1,5 @@
 use Rattle.std.proofs.Common.{◌≡◌, drop}
-use Rattle.index_lists.specs.Lists.{nodes_of, behind, after}
+use Rattle.index_lists.specs.Pairs.{nodes_of, behind, after}
 use Rattle.index_lists.proofs.plain_lists.next_of.Given as goal
 
 abbrev pub invariant-loop-entry : goal.invariant-loop-entry

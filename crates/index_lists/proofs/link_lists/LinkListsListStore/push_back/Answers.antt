@@ -1,6 +1,7 @@
 use Rattle.std.proofs.Common.{◌∙◌, ◌≡◌, ap, arith, length, slice_index, slice_set, cond, ◌==◌}
 use Rattle.std.proofs.lemmas.List.{get_or_read}
-use Rattle.index_lists.proofs.Calls.{written, last-in, push-room, push-links, push-seen}
+use Rattle.index_lists.proofs.Kept.{renumbered, pushed-are}
+use Rattle.index_lists.proofs.Calls.{lists-kept, written, last-in, push-room, push-links, push-seen}
 use Rattle.index_lists.proofs.link_lists.LinkListsListStore.push_back.Goals as goal
 
 pub point-requires-clause-node_in : goal.point-requires-clause-node_in
@@ -45,3 +46,7 @@ returns-clause-pushed c =
     c.point.ensures.end ∙ ap (λ xs. cond (c.index-last.result.now == length xs) (slice_set c.deref_mut-2.result.now c.args.to c.args.node) c.deref_mut-2.result.now) c.deref_mut.ensures.value ∙ ap (λ xs. cond (c.index-last.result.now == length i.next.items) (slice_set xs c.args.to c.args.node) xs) c.deref_mut-2.ensures.value in
     rw (written c.point.new.links _ _ (c.point.auto.links ∙ c.deref_mut.ensures.len), written c.point.new.ends _ _ (c.point.auto.ends ∙ c.deref_mut-2.ensures.len))
     (push-seen _ _ _ _ _ _ _ _ _ c.self.view_is c.self.invariant c.args.to c.args.node c.index-last.result.now c.index_mut-4.result.now c.requires.to_in c.requires.node_in c.requires.free e n c.point.new.links c.point.new.ends nexts firsts)
+
+pub returns-clause-kept : goal.returns-clause-kept
+returns-clause-kept c =
+    renumbered _ _ _ _ _ (ap (λ w. w.nodes) c.self.view_is) (ap (λ w. w.lists) c.self.view_is) (pushed-are _ _ _ (lists-kept _ _ _ _ _ _ _ _ _ c.self.view_is c.self.invariant) _ c.args.to c.args.node c.requires.to_in c.requires.node_in c.requires.free (returns-clause-pushed c))
