@@ -10,6 +10,8 @@ mod building;
 #[cfg(test)]
 mod fakes;
 #[cfg(test)]
+mod lists;
+#[cfg(test)]
 mod printing;
 #[cfg(test)]
 mod spaces;
