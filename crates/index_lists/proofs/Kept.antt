@@ -42,6 +42,13 @@ module _ (nodes lists : ℕ) (list : ℕ → List ℕ) (are : AreLists nodes lis
     ];
   }
 
+  -- a node that is in a list is taken out of no other
+  pub elsewhere-same : (l m node : ℕ) → 0 < times node (list l) → m ≢ l → without_node node (list m) ≡ list m
+  elsewhere-same l m node h d = without-absent node (list m) (elim (cases_lt 0 (times node (list m))) [
+    | inl k ↦ absurd (d (are.apart m l node k h))
+    | inr k ↦ omega arith
+  ])
+
   -- a push
   module _ (list' : ℕ → List ℕ) (to node : ℕ) (to_in : to < lists) (node_in : node < nodes) (free : IsFree list node)
       (pushed : (l : ℕ) → list' l ≡ cond (l == to) (list l ++ node ∷ []) (list l)) where

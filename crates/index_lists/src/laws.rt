@@ -12,11 +12,14 @@ pub fn nodes_at_places()
         → slice_get xs place ≡ Some node → slice_get xs other ≡ Some node → place ≡ other }
 {}
 
-/// A list has no more nodes than there are, and a node that is in a list has that list as its home.
+/// A list has no more nodes than there are. A node that is in a list has that list as its home, and taking it out
+/// leaves each other list as it is.
 pub fn nodes_in_lists()
     ensures fit { (nodes : ℕ) → (lists : ℕ) → (list : ℕ → List ℕ) → AreLists nodes lists list → (l : ℕ) → length (list l) ≤ nodes }
     ensures home { (nodes : ℕ) → (lists : ℕ) → (list : ℕ → List ℕ) → AreLists nodes lists list → (l : ℕ) → (node : ℕ)
         → 0 < times node (list l) → IsHome lists list node l }
+    ensures elsewhere { (nodes : ℕ) → (lists : ℕ) → (list : ℕ → List ℕ) → AreLists nodes lists list → (l : ℕ) → (m : ℕ) → (node : ℕ)
+        → 0 < times node (list l) → m ≢ l → without_node node (list m) ≡ list m }
 {}
 
 /// What is left of a list without a node.

@@ -47,20 +47,23 @@ pub trait ListStore {
     fn first(&self, of: u32) -> Option<u32>
         requires { of < lists self.now }
         ensures first { result ≡ slice_get (list self.now of) 0 }
-        ensures below { IfSome result (λ node. node < nodes self.now) };
+        ensures below { IfSome result (λ node. node < nodes self.now) }
+        ensures kept { AreLists (nodes self.now) (lists self.now) (list self.now) };
 
     /// The last node of a list.
     fn last(&self, of: u32) -> Option<u32>
         requires { of < lists self.now }
         ensures last { result ≡ slice_get (list self.now of) (length (list self.now of) - 1) }
-        ensures below { IfSome result (λ node. node < nodes self.now) };
+        ensures below { IfSome result (λ node. node < nodes self.now) }
+        ensures kept { AreLists (nodes self.now) (lists self.now) (list self.now) };
 
     /// The node behind a node in its list. The last node has none, nor has a node in no list.
     fn next(&self, node: u32) -> Option<u32>
         requires { node < nodes self.now }
         ensures behind { (l : ℕ) → (place : ℕ) → slice_get (list self.now l) place ≡ Some node → result ≡ slice_get (list self.now l) (place + 1) }
         ensures free { IsFree (list self.now) node → result ≡ None }
-        ensures below { IfSome result (λ other. other < nodes self.now) };
+        ensures below { IfSome result (λ other. other < nodes self.now) }
+        ensures kept { AreLists (nodes self.now) (lists self.now) (list self.now) };
 
     /// The node before a node in its list. The first node has none, nor has a node in no list.
     fn prev(&self, node: u32) -> Option<u32>
@@ -68,7 +71,8 @@ pub trait ListStore {
         ensures before { (l : ℕ) → (place : ℕ) → slice_get (list self.now l) (place + 1) ≡ Some node → result ≡ slice_get (list self.now l) place }
         ensures first { (l : ℕ) → slice_get (list self.now l) 0 ≡ Some node → result ≡ None }
         ensures free { IsFree (list self.now) node → result ≡ None }
-        ensures below { IfSome result (λ other. other < nodes self.now) };
+        ensures below { IfSome result (λ other. other < nodes self.now) }
+        ensures kept { AreLists (nodes self.now) (lists self.now) (list self.now) };
 
     /// The list that a node is in, if it is in one.
     fn home(&self, node: u32) -> Option<u32>

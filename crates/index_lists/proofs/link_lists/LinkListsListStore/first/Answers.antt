@@ -13,4 +13,5 @@ returns c =
     record {
       first = shows;
       below = read-below _ _ _ c.args.of 0 _ (lists-kept _ _ _ _ _ _ _ _ _ c.self.view_is c.self.invariant) shows;
+      kept = lists-kept _ _ _ _ _ _ _ _ _ c.self.view_is c.self.invariant;
     }

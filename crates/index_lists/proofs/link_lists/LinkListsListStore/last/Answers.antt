@@ -1,6 +1,6 @@
 use Rattle.std.proofs.Common.{◌∙◌, ◌≡◌, ap, sym, arith, slice_index}
 use Rattle.std.proofs.lemmas.List.{get_or_read}
-use Rattle.index_lists.proofs.Calls.{last-seen, last-in, link-below}
+use Rattle.index_lists.proofs.Calls.{lists-kept, last-seen, last-in, link-below}
 use Rattle.index_lists.proofs.link_lists.LinkListsListStore.last.Goals as goal
 
 pub returns : goal.returns
@@ -11,4 +11,5 @@ returns c =
     record {
       last = c.known.ensures ∙ sym (last-seen _ _ _ _ _ _ _ _ _ c.self.view_is c.self.invariant c.args.of c.index.result.now c.requires e);
       below = link-below _ _ _ _ _ _ _ _ _ c.self.view_is c.self.invariant c.index.result.now _ _ (last-in _ _ _ _ _ _ _ _ _ c.self.view_is c.self.invariant c.args.of c.requires) e c.known.ensures;
+      kept = lists-kept _ _ _ _ _ _ _ _ _ c.self.view_is c.self.invariant;
     }

@@ -1,6 +1,6 @@
 use Rattle.std.proofs.Common.{◌∙◌, ◌≡◌, ap, sym, arith, slice_index}
 use Rattle.std.proofs.lemmas.List.{get_or_read}
-use Rattle.index_lists.proofs.Calls.{next-seen, next-none, next-below, link-below}
+use Rattle.index_lists.proofs.Calls.{lists-kept, next-seen, next-none, next-below, link-below}
 use Rattle.index_lists.proofs.link_lists.LinkListsListStore.next.Goals as goal
 
 pub returns : goal.returns
@@ -12,4 +12,5 @@ returns c =
       behind = λ l place stands. c.known.ensures ∙ sym (next-seen _ _ _ _ _ _ _ _ _ c.self.view_is c.self.invariant c.args.node c.index.result.now e l place stands);
       free = λ free. c.known.ensures ∙ next-none _ _ _ _ _ _ _ _ _ c.self.view_is c.self.invariant c.args.node c.index.result.now c.requires e free;
       below = link-below _ _ _ _ _ _ _ _ _ c.self.view_is c.self.invariant c.index.result.now _ _ (next-below _ _ _ _ _ _ _ _ _ c.self.view_is c.self.invariant c.args.node c.requires) e c.known.ensures;
+      kept = lists-kept _ _ _ _ _ _ _ _ _ c.self.view_is c.self.invariant;
     }

@@ -1,6 +1,6 @@
 use Rattle.std.proofs.Common.{◌∙◌, ◌≡◌, ap, sym, arith, slice_index}
 use Rattle.std.proofs.lemmas.List.{get_or_read}
-use Rattle.index_lists.proofs.Calls.{prev-seen, prev-front, prev-none, prev-below, link-below}
+use Rattle.index_lists.proofs.Calls.{lists-kept, prev-seen, prev-front, prev-none, prev-below, link-below}
 use Rattle.index_lists.proofs.link_lists.LinkListsListStore.prev.Goals as goal
 
 pub returns : goal.returns
@@ -13,4 +13,5 @@ returns c =
       first = λ l stands. c.known.ensures ∙ prev-front _ _ _ _ _ _ _ _ _ c.self.view_is c.self.invariant c.args.node c.index.result.now e l stands;
       free = λ free. c.known.ensures ∙ prev-none _ _ _ _ _ _ _ _ _ c.self.view_is c.self.invariant c.args.node c.index.result.now c.requires e free;
       below = link-below _ _ _ _ _ _ _ _ _ c.self.view_is c.self.invariant c.index.result.now _ _ (prev-below _ _ _ _ _ _ _ _ _ c.self.view_is c.self.invariant c.args.node c.requires) e c.known.ensures;
+      kept = lists-kept _ _ _ _ _ _ _ _ _ c.self.view_is c.self.invariant;
     }

@@ -11,4 +11,5 @@ returns c =
     record {
       first = shows;
       below = read-below _ _ (nodes_of c.args.self.now.entries) c.args.of 0 _ (plain-kept _ _ _ _ _ c.self.view_is c.self.invariant) shows;
+      kept = plain-kept _ _ _ _ _ c.self.view_is c.self.invariant;
     }

@@ -17,6 +17,7 @@ returns-in-Some c =
       behind = λ l place stands. shows ∙ here l (stands-at place c.args.node _ stands) ∙ after-place place c.args.node (nodes_of c.args.self.now.entries l) (kept.once l c.args.node) stands;
       free = λ free. absurd (not-free _ _ _ _ c.self.invariant c.args.node c.in-Some.home found (subst (λ es. IsFree (nodes_of es) c.args.node) (sym view) free));
       below = after-below _ _ (nodes_of c.args.self.now.entries) c.in-Some.home c.args.node _ kept shows;
+      kept = kept;
     }
 
 pub returns-in-None-clause-behind : goal.returns-in-None-clause-behind
@@ -24,3 +25,6 @@ returns-in-None-clause-behind c = λ l place stands.
     let view = ap (λ w. w.entries) c.self.view_is in
     let lost : home_in c.args.node c.self.inside.entries.items ≡ None = sym (c.home_of.ensures ∙ ap (home_in c.args.node) c.deref.ensures.value) ∙ c.in-None.is in
     absurd (in-none _ _ _ _ c.self.invariant c.args.node l lost (subst (λ es. 0 < times c.args.node (nodes_of es l)) (sym view) (stands-at place c.args.node _ stands)))
+
+pub returns-in-None-clause-kept : goal.returns-in-None-clause-kept
+returns-in-None-clause-kept c = plain-kept _ _ _ _ _ c.self.view_is c.self.invariant
