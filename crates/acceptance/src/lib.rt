@@ -20,6 +20,8 @@ mod long_documents;
 #[cfg(test)]
 mod nested;
 #[cfg(test)]
+mod lists;
+#[cfg(test)]
 mod printing;
 #[cfg(test)]
 mod spaces;

@@ -1,0 +1,260 @@
+//! Worked lists at both stores, and both stores under the same operations.
+//!
+//! A run of the tests may refuse one growth of memory, whichever. So a call that was refused one is made once more.
+
+ghost use Rattle.std.specs.Prelude.{◌≡◌, ◌<◌};
+
+use board_text::Memory;
+use index_lists::{LinkLists, ListStore, PlainLists};
+use std::alloc::Global;
+use std::process::Abort;
+
+/// How many nodes there are where operations are drawn.
+const NODES: u32 = 24;
+
+/// How many lists there are where operations are drawn.
+const LISTS: u32 = 5;
+
+/// How many operations are drawn.
+const OPERATIONS: u32 = 10_000;
+
+/// Numbers that look random and are the same at each run.
+#[derive(Drop)]
+struct Draws {
+    state: u64,
+}
+
+impl Draws {
+    /// A number below the bound.
+    fn below(&mut self, bound: u32) -> u32
+        requires { 0 < bound }
+        ensures { result < bound }
+    {
+        self.state = self
+            .state
+            .wrapping_mul(6_364_136_223_846_793_005)
+            .wrapping_add(1);
+        let high = (self.state >> 32) as u32;
+        high % bound
+    }
+}
+
+/// What `new` answers where it is refused no growth.
+fn make<S: ListStore>(rt: &impl Abort, alloc: Global, nodes: u32, lists: u32) -> S
+    ensures nodes { S.nodes result ≡ nodes }
+    ensures lists { S.lists result ≡ lists }
+{
+    let made: Result<S, Memory> = match S::new(alloc, nodes, lists) {
+        Err(Memory) => S::new(alloc, nodes, lists),
+        made => made,
+    };
+    made.expect(rt, "a store")
+}
+
+/// Appends a node, if it is in no list. Whether it was in none.
+fn push<S: ListStore>(store: &mut S, to: u32, node: u32) -> bool
+    requires to_in { to < S.lists store.old }
+    requires node_in { node < S.nodes store.old }
+    ensures nodes_same { S.nodes store.new ≡ S.nodes store.old }
+    ensures lists_same { S.lists store.new ≡ S.lists store.old }
+{
+    match store.home(node) {
+        Some(_) => false,
+        None => {
+            store.push_back(to, node);
+            true
+        }
+    }
+}
+
+/// Takes a node out of its list, if it is in one. Whether it was in one.
+fn unlink<S: ListStore>(store: &mut S, node: u32) -> bool
+    requires node_in { node < S.nodes store.old }
+    ensures nodes_same { S.nodes store.new ≡ S.nodes store.old }
+    ensures lists_same { S.lists store.new ≡ S.lists store.old }
+{
+    match store.home(node) {
+        Some(_) => {
+            store.unlink(node);
+            true
+        }
+        None => false,
+    }
+}
+
+/// Whether a list is read as these nodes, from its front and from its back.
+fn reads_as<S: ListStore>(store: &S, of: u32, nodes: &[u32]) -> bool
+    requires { of < S.lists store.now }
+{
+    let mut at = store.first(of);
+    for wanted in nodes {
+        match at {
+            Some(node) if node == *wanted && store.home(node) == Some(of) => at = store.next(node),
+            _ => return false,
+        }
+    }
+    if at.is_some() || store.len(of) as usize != nodes.len() {
+        return false;
+    }
+    at = store.last(of);
+    for wanted in nodes.iter().rev() {
+        match at {
+            Some(node) if node == *wanted => at = store.prev(node),
+            _ => return false,
+        }
+    }
+    at.is_none()
+}
+
+/// Whether a node is read as being in no list.
+fn is_loose<S: ListStore>(store: &S, node: u32) -> bool
+    requires { node < S.nodes store.now }
+{
+    store.home(node).is_none() && store.next(node).is_none() && store.prev(node).is_none()
+}
+
+/// Pushes, unlinks and moves of four nodes in two lists.
+fn four_nodes<S: ListStore>(rt: &impl Abort, store: &mut S)
+    requires nodes { S.nodes store.old ≡ 4 }
+    requires lists { S.lists store.old ≡ 2 }
+{
+    assert!(rt; reads_as(store, 0, &[]) && reads_as(store, 1, &[]));
+    assert!(rt; push(store, 0, 3) && push(store, 0, 1) && push(store, 0, 2));
+    assert!(rt; reads_as(store, 0, &[3, 1, 2]));
+    assert!(rt; unlink(store, 1));
+    assert!(rt; reads_as(store, 0, &[3, 2]) && is_loose(store, 1));
+    assert_eq!(rt; store.next(3), Some(2));
+    assert_eq!(rt; store.prev(2), Some(3));
+    assert_eq!(rt; store.home(1), None);
+    store.move_to(3, 1);
+    assert!(rt; reads_as(store, 0, &[2]) && reads_as(store, 1, &[3]));
+    store.move_to(2, 0);
+    assert!(rt; reads_as(store, 0, &[2]) && reads_as(store, 1, &[3]));
+    store.move_to(1, 1);
+    store.move_to(3, 1);
+    assert!(rt; reads_as(store, 0, &[2]) && reads_as(store, 1, &[1, 3]) && is_loose(store, 0));
+}
+
+/// Both ends of a list of three nodes are unlinked, and one comes back.
+fn three_nodes<S: ListStore>(rt: &impl Abort, store: &mut S)
+    requires nodes { S.nodes store.old ≡ 3 }
+    requires lists { S.lists store.old ≡ 1 }
+{
+    assert!(rt; push(store, 0, 0) && push(store, 0, 1) && push(store, 0, 2));
+    assert!(rt; unlink(store, 0) && unlink(store, 2));
+    assert_eq!(rt; (store.first(0), store.last(0)), (Some(1), Some(1)));
+    assert_eq!(rt; (store.next(1), store.prev(1)), (None, None));
+    assert_eq!(rt; store.len(0), 1);
+    assert!(rt; push(store, 0, 0));
+    assert!(rt; reads_as(store, 0, &[1, 0]));
+    assert_eq!(rt; store.prev(0), Some(1));
+}
+
+/// Stores of no node or no list, and of one of each.
+fn small_stores<S: ListStore + Drop>(rt: &impl Abort, alloc: Global) {
+    let _nothing: S = make(rt, alloc, 0, 0);
+    let no_node: S = make(rt, alloc, 0, 1);
+    assert!(rt; reads_as(&no_node, 0, &[]));
+    let no_list: S = make(rt, alloc, 1, 0);
+    assert!(rt; is_loose(&no_list, 0));
+    let mut one: S = make(rt, alloc, 1, 1);
+    assert!(rt; push(&mut one, 0, 0) && reads_as(&one, 0, &[0]));
+    one.move_to(0, 0);
+    assert!(rt; reads_as(&one, 0, &[0]));
+    assert!(rt; unlink(&mut one, 0) && reads_as(&one, 0, &[]) && is_loose(&one, 0));
+}
+
+/// Makes one of the three operations, where it may be made.
+fn operate<S: ListStore>(store: &mut S, operation: u32, node: u32, list: u32)
+    requires node_in { node < S.nodes store.old }
+    requires list_in { list < S.lists store.old }
+    ensures nodes_same { S.nodes store.new ≡ S.nodes store.old }
+    ensures lists_same { S.lists store.new ≡ S.lists store.old }
+{
+    match operation {
+        0 => {
+            push(store, list, node);
+        }
+        1 => {
+            unlink(store, node);
+        }
+        _ => store.move_to(node, list),
+    }
+}
+
+/// Whether a list is read alike from both stores.
+fn same_list<S: ListStore, T: ListStore>(store: &S, other: &T, of: u32) -> bool
+    requires in_store { of < S.lists store.now }
+    requires in_other { of < T.lists other.now }
+{
+    store.first(of) == other.first(of)
+        && store.last(of) == other.last(of)
+        && store.len(of) == other.len(of)
+}
+
+/// Whether a node is read alike from both stores.
+fn same_node<S: ListStore, T: ListStore>(store: &S, other: &T, node: u32) -> bool
+    requires in_store { node < S.nodes store.now }
+    requires in_other { node < T.nodes other.now }
+{
+    store.next(node) == other.next(node)
+        && store.prev(node) == other.prev(node)
+        && store.home(node) == other.home(node)
+}
+
+/// Whether all is read alike from both stores.
+fn same_readings<S: ListStore, T: ListStore>(store: &S, other: &T) -> bool
+    requires store_nodes { S.nodes store.now ≡ NODES }
+    requires store_lists { S.lists store.now ≡ LISTS }
+    requires other_nodes { T.nodes other.now ≡ NODES }
+    requires other_lists { T.lists other.now ≡ LISTS }
+{
+    for of in 0..LISTS {
+        if !same_list(store, other, of) {
+            return false;
+        }
+    }
+    for node in 0..NODES {
+        if !same_node(store, other, node) {
+            return false;
+        }
+    }
+    true
+}
+
+#[test]
+fn worked_lists(rt: HostRuntime) {
+    let mut plain: PlainLists = make(&rt, rt.alloc(), 4, 2);
+    four_nodes(&rt, &mut plain);
+    let mut linked: LinkLists = make(&rt, rt.alloc(), 4, 2);
+    four_nodes(&rt, &mut linked);
+}
+
+#[test]
+fn ends_of_a_list(rt: HostRuntime) {
+    let mut plain: PlainLists = make(&rt, rt.alloc(), 3, 1);
+    three_nodes(&rt, &mut plain);
+    let mut linked: LinkLists = make(&rt, rt.alloc(), 3, 1);
+    three_nodes(&rt, &mut linked);
+}
+
+#[test]
+fn smallest_sizes(rt: HostRuntime) {
+    small_stores::<PlainLists>(&rt, rt.alloc());
+    small_stores::<LinkLists>(&rt, rt.alloc());
+}
+
+#[test]
+fn stores_agree(rt: HostRuntime) {
+    let mut plain: PlainLists = make(&rt, rt.alloc(), NODES, LISTS);
+    let mut linked: LinkLists = make(&rt, rt.alloc(), NODES, LISTS);
+    let mut draws = Draws { state: 1 };
+    for turn in 0..OPERATIONS {
+        let operation = draws.below(3);
+        let node = draws.below(NODES);
+        let list = draws.below(LISTS);
+        operate(&mut plain, operation, node, list);
+        operate(&mut linked, operation, node, list);
+        assert!(rt; same_readings(&plain, &linked), "after operation {turn}");
+    }
+}

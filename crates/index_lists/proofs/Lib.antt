@@ -1,0 +1,10 @@
+pub mod Times
+pub mod Places
+pub mod Kept
+pub mod Links
+pub mod Together
+pub mod Shown
+pub mod Calls
+pub mod Moves
+pub mod Scans
+pub mod Entries

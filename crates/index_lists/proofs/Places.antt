@@ -1,0 +1,61 @@
+-- Nodes at places of a list.
+use Rattle.std.proofs.Common.{◌≡◌, ℕ, ◌+◌, ◌<◌, ◌≤◌, inl, inr, zero, suc, List, [], ◌∷◌, length, refl, sym, ap, arith, Option, Some, None, IfSome, slice_get, Bool, true, false, cond, ◌==◌}
+use Rattle.std.proofs.lemmas.Bool.{cases_eq}
+use Rattle.std.specs.List.{count_by}
+use Rattle.std.proofs.lemmas.List.Recursion.{is_count_by}
+use Rattle.index_lists.specs.Lists.{times, AreLists}
+use Rattle.index_lists.proofs.Times.{same_is, times-here, times-more, times-rest}
+
+pub some_is : (x y : ℕ) → Some x ≡ Some y → x ≡ y
+some_is x y e = cc
+
+one_more : (x node : ℕ) (xs : List ℕ) → x ≡ node → times node (x ∷ xs) ≡ 1 + times node xs
+one_more x node xs e = rw (same_is x node e) refl
+
+-- how often a node stands in a list is a count of std
+pub counted : (node : ℕ) (xs : List ℕ) → times node xs ≡ count_by (λ x. x == node) xs
+counted node xs = is_count_by (times node) (λ x. x == node) refl (λ x ys. one_of (x == node) (times node ys)) xs
+  where
+    one_of : (b : Bool) (n : ℕ) → cond b 1 0 + n ≡ cond b (1 + n) n
+    one_of true n = refl
+    one_of false n = omega arith
+
+-- what stands at a place is in the list
+pub stands-at : (place node : ℕ) (xs : List ℕ) → slice_get xs place ≡ Some node → 0 < times node xs
+stands-at place node [] e = absurd (cc e)
+stands-at zero node (x ∷ xs) e = times-here x node xs (some_is x node e)
+stands-at (suc place) node (x ∷ xs) e = times-more x node xs (stands-at place node xs e)
+
+-- what is in the list stands at a place
+pub place-of : (node : ℕ) (xs : List ℕ) → 0 < times node xs → (place : ℕ) × (slice_get xs place ≡ Some node)
+place-of node [] h = absurd (omega arith)
+place-of node (x ∷ xs) h = elim (cases_eq x node) [
+  | inl e ↦ (0, ap Some e)
+  | inr d ↦ (let rest = place-of node xs (times-rest x node xs d h) in (suc rest.0, rest.1))
+]
+
+-- a node that stands once stands at one place
+pub one-place : (place other node : ℕ) (xs : List ℕ) → times node xs ≤ 1 → slice_get xs place ≡ Some node → slice_get xs other ≡ Some node → place ≡ other
+one-place place other node [] once e f = absurd (cc e)
+one-place zero zero node (x ∷ xs) once e f = refl
+one-place zero (suc other) node (x ∷ xs) once e f = absurd (let here = one_more x node xs (some_is x node e) in let later = stands-at other node xs f in omega arith)
+one-place (suc place) zero node (x ∷ xs) once e f = absurd (let here = one_more x node xs (some_is x node f) in let later = stands-at place node xs e in omega arith)
+one-place (suc place) (suc other) node (x ∷ xs) once e f = ap suc (one-place place other node xs (omega arith) e f)
+
+-- a place at which a node stands is below the length
+pub place-below : (place node : ℕ) (xs : List ℕ) → slice_get xs place ≡ Some node → place < length xs
+place-below place node [] e = absurd (cc e)
+place-below zero node (x ∷ xs) e = omega arith
+place-below (suc place) node (x ∷ xs) e = let rest = place-below place node xs e in omega arith
+
+-- a walk that finds no more nodes has met them all
+pub past-end : (place : ℕ) (xs : List ℕ) → place ≤ length xs → slice_get xs place ≡ None → place ≡ length xs
+past-end zero [] h e = refl
+past-end zero (x ∷ xs) h e = absurd (cc e)
+past-end (suc place) [] h e = absurd (omega arith)
+past-end (suc place) (x ∷ xs) h e = let rest = past-end place xs (omega arith) e in omega arith
+
+-- what is read off a list is below the number of nodes
+pub read-below : (nodes lists : ℕ) (list : ℕ → List ℕ) (l place : ℕ) (o : Option ℕ) → AreLists nodes lists list → o ≡ slice_get (list l) place → IfSome o (λ node. node < nodes)
+read-below nodes lists list l place None are e = tt
+read-below nodes lists list l place (Some node) are e = are.below l node (stands-at place node (list l) (sym e))

@@ -1,0 +1,32 @@
+//! Laws of lists of nodes, each the contract of a function without a body.
+
+ghost use Rattle.std.specs.Prelude.{◌≡◌, ◌≢◌, ℕ, ◌+◌, ◌<◌, ◌≤◌, ◌==◌, List, ◌∷◌, length, slice_get, count_by};
+ghost use Rattle.index_lists.specs.Lists.{times, without_node, IsHome, AreLists};
+
+/// A node stands in a list as often as there are places at which it stands.
+pub fn nodes_at_places()
+    ensures counted { (node : ℕ) → (xs : List ℕ) → times node xs ≡ count_by (λ x. x == node) xs }
+    ensures stands { (node : ℕ) → (xs : List ℕ) → (place : ℕ) → slice_get xs place ≡ Some node → 0 < times node xs }
+    ensures has_place { (node : ℕ) → (xs : List ℕ) → 0 < times node xs → (place : ℕ) × (slice_get xs place ≡ Some node) }
+    ensures one_place { (node : ℕ) → (xs : List ℕ) → (place : ℕ) → (other : ℕ) → times node xs ≤ 1
+        → slice_get xs place ≡ Some node → slice_get xs other ≡ Some node → place ≡ other }
+{}
+
+/// A list has no more nodes than there are. A node that is in a list has that list as its home, and taking it out
+/// leaves each other list as it is.
+pub fn nodes_in_lists()
+    ensures fit { (nodes : ℕ) → (lists : ℕ) → (list : ℕ → List ℕ) → AreLists nodes lists list → (l : ℕ) → length (list l) ≤ nodes }
+    ensures home { (nodes : ℕ) → (lists : ℕ) → (list : ℕ → List ℕ) → AreLists nodes lists list → (l : ℕ) → (node : ℕ)
+        → 0 < times node (list l) → IsHome lists list node l }
+    ensures elsewhere { (nodes : ℕ) → (lists : ℕ) → (list : ℕ → List ℕ) → AreLists nodes lists list → (l : ℕ) → (m : ℕ) → (node : ℕ)
+        → 0 < times node (list l) → m ≢ l → without_node node (list m) ≡ list m }
+{}
+
+/// What is left of a list without a node.
+pub fn lists_without_a_node()
+    ensures gone { (node : ℕ) → (xs : List ℕ) → times node (without_node node xs) ≡ 0 }
+    ensures others { (node : ℕ) → (other : ℕ) → (xs : List ℕ) → other ≢ node → times other (without_node node xs) ≡ times other xs }
+    ensures shorter { (node : ℕ) → (xs : List ℕ) → length (without_node node xs) + times node xs ≡ length xs }
+    ensures absent { (node : ℕ) → (xs : List ℕ) → times node xs ≡ 0 → without_node node xs ≡ xs }
+    ensures first { (node : ℕ) → (xs : List ℕ) → times node (node ∷ xs) ≤ 1 → without_node node (node ∷ xs) ≡ xs }
+{}

@@ -1,0 +1,12 @@
+//! Lists of nodes, plain and linked by index, behind one contract.
+#![tactic(auto)]
+
+mod laws;
+mod link_lists;
+mod plain_lists;
+mod store;
+
+pub use laws::{lists_without_a_node, nodes_at_places, nodes_in_lists};
+pub use link_lists::LinkLists;
+pub use plain_lists::PlainLists;
+pub use store::ListStore;
