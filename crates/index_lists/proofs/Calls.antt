@@ -52,9 +52,6 @@ module _ (nodes lists : ℕ) (next prev home first last len : List ℕ) (v : Cha
   nodes-are : nodes ≡ v.nodes
   nodes-are = ap (λ w. w.nodes) view
 
-  list-is : (l : ℕ) → follow (slice_index next) (slice_index first l) (slice_index len l) ≡ listed v l
-  list-is l = ap (λ w. listed w l) view
-
   store_here : IsStore nodes lists (slice_index next) (slice_index prev) (slice_index home) (slice_index first) (slice_index last) (slice_index len) (listed v)
   store_here = subst (λ w. IsStore nodes lists (slice_index next) (slice_index prev) (slice_index home) (slice_index first) (slice_index last) (slice_index len) (listed w)) view s.store
 
@@ -134,9 +131,6 @@ module _ (nodes lists : ℕ) (next prev home first last len : List ℕ) (v : Cha
       | inl q ↦ (let e = q.0 in omega arith)
       | inr q ↦ (let e = q.0 in omega arith)
     ]
-
-    home-of_node : slice_index home node < lists
-    home-of_node = home_below
 
     module _ (n : ℕ) (n_is : n ≡ slice_index len h) where
       pub some-left : 0 < n
@@ -257,6 +251,10 @@ module _ (nodes lists : ℕ) (next prev home first last len : List ℕ) (v : Cha
 
   pub prev-none : (node at : ℕ) → node < v.nodes → at ≡ slice_index prev node → IsFree (listed v) node → unless_none nodes at ≡ None
   prev-none node at h e free = cond_same at nodes None (Some at) (e ∙ (loose-here node h free).1)
+
+-- the ends of lists that a call was lent and wrote
+pub ends-written : (links given-links ends given-ends new : List ℕ) (node list to : ℕ) → given-links ≡ links → given-ends ≡ ends → new ≡ cond (node == length given-links) (slice_set given-ends list to) given-ends → new ≡ cond (node == length links) (slice_set ends list to) ends
+ends-written links given-links ends given-ends new node list to e f w = rw (← e, ← f) w
 
 -- the vectors that two calls lent and wrote
 pub links-written : (nodes lists node : ℕ) (home len next first prev last next' first' prev' last' : List ℕ) → next' ≡ next → first' ≡ first → prev' ≡ prev → last' ≡ last → IsLinks nodes lists (slice_set next node nodes) (slice_set prev node nodes) home first last len → IsLinks nodes lists (slice_set next' node nodes) (slice_set prev' node nodes) home first' last' len

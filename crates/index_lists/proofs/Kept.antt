@@ -4,17 +4,6 @@ use Rattle.std.proofs.lemmas.Bool.{cases_eq, cases_lt}
 use Rattle.index_lists.specs.Lists.{times, without_node, IsFree, IsHome, AreLists}
 use Rattle.index_lists.proofs.Times.{same_is, differ_is, cond_same, cond_other, times-later, times-append, times-without_same, times-without_other, without-absent, distinct-length}
 
-pub none-are : (nodes lists : ℕ) (list : ℕ → List ℕ) → ((l : ℕ) → list l ≡ []) → AreLists nodes lists list
-none-are nodes lists list empty = record {
-  below = λ l node h. absurd (nothing l node h);
-  once = λ l node. rw (empty l) (omega arith);
-  apart = λ l m node h k. absurd (nothing l node h);
-  beyond = λ l h. empty l;
-}
-  where
-    nothing : (l node : ℕ) → 0 < times node (list l) → ⊥
-    nothing l node h = let e = ap (times node) (empty l) in omega arith
-
 pub renumbered : (nodes nodes' lists lists' : ℕ) (list : ℕ → List ℕ) → nodes' ≡ nodes → lists' ≡ lists → AreLists nodes lists list → AreLists nodes' lists' list
 renumbered nodes nodes' lists lists' list e f are = rw (e, f) are
 

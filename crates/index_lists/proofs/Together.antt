@@ -1,7 +1,7 @@
 -- All lists of a store under a push and an unlink.
 use Rattle.std.proofs.Common.{◌≡◌, ◌≢◌, ℕ, ◌+◌, ◌-◌, ◌<◌, ◌≤◌, ◌==◌, ◌⊎◌, inl, inr, cond, List, [], ◌∷◌, ◌++◌, length, refl, sym, ap, ◌∙◌, arith, length-append}
 use Rattle.std.proofs.lemmas.Bool.{cases_eq, cases_lt}
-use Rattle.index_lists.specs.Lists.{times, without_node, IsFree, IsHome, AreLists}
+use Rattle.index_lists.specs.Lists.{times, without_node, IsFree, AreLists}
 use Rattle.index_lists.specs.Links.{follow, IsLinked, IsStore, skip}
 use Rattle.index_lists.proofs.Times.{same_is, differ_is, cond_same, cond_other, times-append, times-without_same, times-without_other, length-without, distinct-length, times-later}
 use Rattle.index_lists.proofs.Links.{linked-follow, length-follow, back, forth, head, tail, frame, linked-push, linked-unlink}
@@ -28,31 +28,11 @@ module _ (none nowhere : ℕ) (next prev home first last len : ℕ → ℕ) (lis
   pub away : (l x : ℕ) → l < nowhere → x < none → home x ≢ l → times x (list l) ≡ 0
   away l x h i ne = s.held l x h i ∙ cond_other (home x) l 1 0 ne
 
-  pub home-of_held : (h x : ℕ) → x < none → IsHome nowhere list x h → home x ≡ h
-  home-of_held h x i held = at-home h x held.home_in i (let t = held.times_is h ∙ cond_same h h 1 0 refl in omega arith)
-
-  pub held-of_home : (x : ℕ) → x < none → home x < nowhere → IsHome nowhere list x (home x)
-  held-of_home x i h = record {
-    home_in = h;
-    times_is = λ l. elim (cases_lt l nowhere) [
-      | inl lt ↦ s.held l x lt i
-      | inr ge ↦ rw (s.beyond l ge) (sym (cond_other (home x) l 1 0 (λ e. omega arith)))
-    ];
-  }
-
   pub home-of_free : (x : ℕ) → x < none → IsFree list x → home x ≡ nowhere
   home-of_free x i f = elim (cases_lt (home x) nowhere) [
     | inl lt ↦ absurd (let t = at-home-once (home x) x lt i refl in let z = f.free (home x) in omega arith)
     | inr ge ↦ (let b = s.homes x i in omega arith)
   ]
-
-  pub free-of_home : (x : ℕ) → x < none → home x ≡ nowhere → IsFree list x
-  free-of_home x i e = record {
-    free = λ l. elim (cases_lt l nowhere) [
-      | inl lt ↦ away l x lt i (λ d. omega arith)
-      | inr ge ↦ rw (s.beyond l ge) refl
-    ];
-  }
 
   -- the last node of a list, where there is one
   pub last-home : (l : ℕ) → l < nowhere → last l < none → (home (last l) ≡ l) × (next (last l) ≡ none)

@@ -8,18 +8,24 @@ use board_text::Memory;
 use std::alloc::Global;
 use std::marker::Model;
 
-/// Per node the next and the previous node and the list; per list the first and the last node and the length.
+/// Lists linked both ways by index, in flat vectors. No call but `new` takes memory, and none has a loop.
 #[derive(Drop)]
 pub struct LinkLists {
     /// How many nodes there are; as a node it stands for none.
     none: u32,
     /// How many lists there are; as a list it stands for none.
     nowhere: u32,
+    /// The node behind each node.
     next: Vec<u32>,
+    /// The node before each node.
     prev: Vec<u32>,
+    /// The list of each node.
     home: Vec<u32>,
+    /// The first node of each list.
     first: Vec<u32>,
+    /// The last node of each list.
     last: Vec<u32>,
+    /// How many nodes each list has.
     len: Vec<u32>,
 }
 

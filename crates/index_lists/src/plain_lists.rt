@@ -9,7 +9,8 @@ use board_text::Memory;
 use std::alloc::Global;
 use std::marker::Model;
 
-/// One vector of pairs (list, node), in the order of pushing, with room for each node once.
+/// One vector of pairs (list, node), in the order of pushing, with room for each node once. Each call but `new` may go
+/// through all of them: this is the store that others are compared with.
 #[derive(Drop)]
 pub struct PlainLists {
     entries: Vec<(u32, u32)>,
@@ -85,6 +86,7 @@ impl ListStore for PlainLists {
     }
 }
 
+/// Takes out the pair of a node.
 fn take_out(entries: &mut Vec<(u32, u32)>, node: u32)
     ensures kept { entries.new.items ≡ filter (λ e. not (e.1 == node)) entries.old.items }
     ensures capacity { vec_capacity entries.new ≡ vec_capacity entries.old }
@@ -96,6 +98,7 @@ fn take_out(entries: &mut Vec<(u32, u32)>, node: u32)
     );
 }
 
+/// The first node of a list.
 fn first_of(entries: &[(u32, u32)], of: u32) -> Option<u32>
     ensures { result ≡ slice_get (nodes_of entries.now of) 0 }
 {
@@ -107,6 +110,7 @@ fn first_of(entries: &[(u32, u32)], of: u32) -> Option<u32>
     None
 }
 
+/// The last node of a list.
 fn last_of(entries: &[(u32, u32)], of: u32) -> Option<u32>
     ensures { result ≡ last_from None (nodes_of entries.now of) }
 {
@@ -119,6 +123,7 @@ fn last_of(entries: &[(u32, u32)], of: u32) -> Option<u32>
     last
 }
 
+/// The node behind a node in a list.
 fn next_of(entries: &[(u32, u32)], home: u32, node: u32) -> Option<u32>
     ensures { result ≡ after node (nodes_of entries.now home) }
 {
@@ -134,6 +139,7 @@ fn next_of(entries: &[(u32, u32)], home: u32, node: u32) -> Option<u32>
     None
 }
 
+/// The node before a node in a list.
 fn prev_of(entries: &[(u32, u32)], home: u32, node: u32) -> Option<u32>
     ensures { result ≡ before_from None node (nodes_of entries.now home) }
 {
@@ -149,6 +155,7 @@ fn prev_of(entries: &[(u32, u32)], home: u32, node: u32) -> Option<u32>
     None
 }
 
+/// The list of a node's pair.
 fn home_of(entries: &[(u32, u32)], node: u32) -> Option<u32>
     ensures { result ≡ home_in node entries.now }
 {
@@ -160,6 +167,7 @@ fn home_of(entries: &[(u32, u32)], node: u32) -> Option<u32>
     None
 }
 
+/// How many pairs are of a list.
 #[tactic(auto, using(crate::proofs::Entries::count_nodes))]
 fn count_of(entries: &[(u32, u32)], of: u32) -> usize
     ensures count { result ≡ count_by (λ e. e.0 == of) entries.now }
