@@ -1,5 +1,5 @@
 -- What an accepted line says of the board.
-use Rattle.std.proofs.Common.{◌≤◌, arith, get_or, ◌≡◌, ℕ, List, [], ◌∷◌, ◌++◌, codes, refl, sym, ap, ◌∙◌, subst}
+use Rattle.std.proofs.Common.{◌≤◌, arith, get_or, ◌≡◌, ℕ, List, [], ◌∷◌, ◌++◌, codes, sym, ap, ◌∙◌, subst}
 use Rattle.std.specs.Fmt.{decimal}
 use Rattle.board_text.specs.LineForms.{closed}
 use Rattle.board_text.specs.PlainBoard.{PlainBoard, IsBoard}
@@ -14,7 +14,7 @@ use Rattle.proof_text.specs.ProofText.{claim_words, proof_text}
 use Rattle.proof_text.specs.Proof.{PlainProof, IsClaim, greatest_number}
 use Rattle.proof_check.specs.declared.checking.Shown.{Shown}
 use Rattle.proof_check.specs.declared.fault.CheckFault.{CheckFault}
-use Rattle.pebbles.specs.Output.{fault_words, line_of}
+use Rattle.pebbles.specs.Output.{fault_words}
 use Rattle.pebbles.specs.Run.{IsVerdict, IsAnswered}
 use Rattle.pebbles.specs.Meaning.{AcceptsLeast, CanAnswer}
 use Rattle.pebbles.specs.declared.running.Verdict.{Verdict}

@@ -1,8 +1,7 @@
 -- Why a reader gave no text that is wanted.
-use Rattle.std.proofs.Common.{◌≡◌, ◌≢◌, ◌⊎◌, ℕ, List, Option, Result, Ok, Err, IfErr, inl, inr, refl}
+use Rattle.std.proofs.Common.{◌≢◌, ℕ, List, Option, Result, Ok, Err, IfErr, inl, inr, refl}
 use Rattle.board_text.specs.Ends.{GaveAll}
 use Rattle.board_text.specs.PlainBoard.{PlainBoard}
-use Rattle.proof_text.specs.Proof.{PlainProof}
 use Rattle.pebbles.specs.Run.{CannotReadBoard, CannotReadProof}
 use Rattle.pebbles.specs.CheckRun.{GaveNoBoard, GaveNoProof, GaveBoard, CheckFails}
 use Rattle.pebbles.specs.declared.running.RunFault.{RunFault}

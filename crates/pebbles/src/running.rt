@@ -5,7 +5,8 @@ ghost use Rattle.pebbles.specs.Run.{RanWell, RunFails};
 ghost use Rattle.pebbles.specs.declared.running.RunFault.TheVariants.{Read, Write};
 
 use crate::answering::answer_to;
-use board_text::{BoardFault, Failed, ReadFault, Sink, Source, read_all, write_all};
+use crate::reading::read_text;
+use board_text::{BoardFault, Failed, Sink, Source, write_all};
 use proof_check::{CheckFault, Shown};
 use proof_text::ProofFault;
 use std::alloc::Global;
@@ -70,12 +71,7 @@ pub fn run_joined<R: Source, W: Sink>(
     ensures write { (W.has_failed writer.new ≡ true) ↔ (result ≡ Err Write) }
     ensures unwritten { IfErr result (λ fault. fault ≢ Write → writer.new ≡ writer.old) }
 {
-    let text = match read_all(alloc, reader, MAX_JOINED_BYTES) {
-        Ok(text) => text,
-        Err(ReadFault::Memory) => return Err(RunFault::Memory),
-        Err(ReadFault::Read) => return Err(RunFault::Read),
-        Err(ReadFault::Limit) => return Err(RunFault::Limit),
-    };
+    let text = read_text(alloc, reader, MAX_JOINED_BYTES)?;
     let answer = answer_to(rt, alloc, text.as_slice())?;
     match write_all(writer, answer.line.as_bytes()) {
         Ok(()) => Ok(answer.verdict),
