@@ -16,11 +16,11 @@ mod document_texts;
 #[cfg(test)]
 mod documents;
 #[cfg(test)]
+mod lists;
+#[cfg(test)]
 mod long_documents;
 #[cfg(test)]
 mod nested;
-#[cfg(test)]
-mod lists;
 #[cfg(test)]
 mod printing;
 #[cfg(test)]

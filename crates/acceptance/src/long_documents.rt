@@ -125,8 +125,12 @@ fn assert_checked(
     adversary: Change,
     wanted: Result<Shown, CheckFault>,
 ) -> Result<(), AllocError> {
-    let board = board(alloc)?.expect(rt, "a board");
-    let text = document(alloc, labeller, adversary)?;
+    let board = board(alloc)
+        .or_else(|_| board(alloc))?
+        .expect(rt, "a board");
+    let text = document(alloc, labeller, adversary).or_else(|_| document(
+        alloc, labeller, adversary,
+    ))?;
     let answer = check_text(rt, alloc, &board, text.as_bytes()).expect(rt, "a document");
     assert_eq!(rt; answer, wanted);
     Ok(())
