@@ -9,7 +9,7 @@ use Rattle.positions.proofs.BoundedSearch.{dominates_or_not}
 use Rattle.positions.proofs.Configurations.{moved_is_configuration}
 use Rattle.positions.proofs.Finiteness.{some_value}
 use Rattle.positions.proofs.Values.{same_value}
-use Rattle.strategies.specs.Best.{IsLess, HasAtMost, IsGreatest, IsBestAnswer}
+use Rattle.strategies.specs.Best.{IsLess, HasGreatestResult, IsBestAnswer}
 use Rattle.strategies.proofs.Comparing.{cases_value, IsLess-irrefl, IsLess-trans, lasts_too}
 
 -- the legal label with the greatest result among those below a bound, the first of them
@@ -121,7 +121,7 @@ module _ (board : PlainBoard) (configuration : List ℕ) (pebble : ℕ) (found :
   not_less v (inl less) more = IsLess-irrefl v (IsLess-trans v found.value v less more)
   not_less v (inr same) more = IsLess-irrefl v (subst (λ (u : Value). IsLess u v) (sym same) more)
 
-  is_greatest : IsGreatest board configuration pebble found.label
+  is_greatest : HasGreatestResult board configuration pebble found.label
   is_greatest = record {
     legal = found.legal;
     greatest = λ other legal.
@@ -135,7 +135,7 @@ module _ (board : PlainBoard) (configuration : List ℕ) (pebble : ℕ) (found :
         };
   }
 
-  is_smallest : (other : ℕ) → IsGreatest board configuration pebble other → found.label ≤ other
+  is_smallest : (other : ℕ) → HasGreatestResult board configuration pebble other → found.label ≤ other
   is_smallest other also =
       let known = found.best other also.legal.is_label also.legal in
       elim known.2 [

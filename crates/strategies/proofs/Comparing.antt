@@ -1,5 +1,5 @@
 -- What the order of values says of trees.
-use Rattle.std.proofs.Common.{◌≡◌, ℕ, zero, suc, ◌<◌, ◌≤◌, ◌⊎◌, List, inl, inr, refl, sym, ap, arith}
+use Rattle.std.proofs.Common.{◌≡◌, ℕ, zero, suc, ◌<◌, ◌≤◌, ◌⊎◌, List, inl, inr, refl, ap, arith}
 use Rattle.std.proofs.lemmas.Bool.{cases_lt, cases_order}
 use Rattle.board_text.specs.PlainBoard.{PlainBoard}
 use Rattle.positions.specs.declared.value.Value.{Value}
@@ -8,7 +8,7 @@ use Rattle.positions.specs.Game.{LabellerTree, AdversaryTree}
 use Rattle.positions.specs.Value.{HasValue}
 use Rattle.positions.proofs.Trees.{not_both_trees, lasts_at_most}
 use Rattle.positions.proofs.Values.{at_most_from_tree, same_value}
-use Rattle.strategies.specs.Best.{IsLess, HasLess, HasAtMost}
+use Rattle.strategies.specs.Best.{IsLess, HasSmallerValue, HasNoGreaterValue}
 
 -- a labeller who lasts so many requests doesn't have a smaller value
 pub at_least : (board : PlainBoard) (number depth : ℕ) (configuration : List ℕ)
@@ -27,7 +27,7 @@ same_number board configuration first second one other =
 
 -- a value that an adversary's tree bounds is below a number
 pub less_from_tree : (board : PlainBoard) (number : ℕ) (first second : List ℕ)
-    → AdversaryTree board number first → HasValue board second (Finite number) → HasLess board first second
+    → AdversaryTree board number first → HasValue board second (Finite number) → HasSmallerValue board first second
 less_from_tree board zero first second stops has = absurd stops
 less_from_tree board (suc number) first second stops has =
     let value = at_most_from_tree board number first stops in
@@ -35,7 +35,7 @@ less_from_tree board (suc number) first second stops has =
     record { smaller = Finite value.0; greater = Finite (suc number); of_first = value.2; of_second = has; less = omega arith }
 
 -- a configuration with a smaller value than a finite one has a finite value below that
-pub less_than_finite : (board : PlainBoard) (number : ℕ) (first second : List ℕ) → HasValue board second (Finite number) → HasLess board first second
+pub less_than_finite : (board : PlainBoard) (number : ℕ) (first second : List ℕ) → HasValue board second (Finite number) → HasSmallerValue board first second
     → (depth : ℕ) × (depth < number) × HasValue board first (Finite depth)
 less_than_finite board number first second has less = by less.smaller less.greater less.of_first less.of_second less.less
   where
@@ -51,7 +51,7 @@ less_than_finite board number first second has less = by less.smaller less.great
 
 -- and so no labeller's tree of that number
 pub not_less : (board : PlainBoard) (number : ℕ) (first second : List ℕ)
-    → LabellerTree board number first → HasValue board second (Finite number) → HasLess board first second → ⊥
+    → LabellerTree board number first → HasValue board second (Finite number) → HasSmallerValue board first second → ⊥
 not_less board number first second lasts has less =
     let found = less_than_finite board number first second has less in
     let below : found.0 < number = found.1 in
@@ -59,7 +59,7 @@ not_less board number first second lasts has less =
     omega arith
 
 -- a labeller lasts as long where the value is not smaller
-pub lasts_too : (board : PlainBoard) (number : ℕ) (first second : List ℕ) → HasAtMost board first second
+pub lasts_too : (board : PlainBoard) (number : ℕ) (first second : List ℕ) → HasNoGreaterValue board first second
     → LabellerTree board number first → LabellerTree board number second
 lasts_too board number first second most lasts = by most.value most.bound most.of_first most.of_second most.not_greater
   where

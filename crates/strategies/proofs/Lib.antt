@@ -1,3 +1,9 @@
 pub mod Comparing
 pub mod Answers
 pub mod Requests
+pub mod Reaching
+pub mod Turns
+pub mod Rows
+pub mod Obeying
+pub mod Formed
+pub mod OneList

@@ -1,17 +1,17 @@
 -- Where best requests exist, and that there is one.
-use Rattle.std.proofs.Common.{◌≡◌, ℕ, zero, suc, ◌+◌, ◌^◌, ◌<◌, ◌≤◌, ◌⊎◌, List, inl, inr, arith}
+use Rattle.std.proofs.Common.{◌≡◌, ℕ, zero, suc, ◌^◌, ◌<◌, ◌≤◌, ◌⊎◌, List, inl, inr, arith}
 use Rattle.std.proofs.lemmas.Bool.{cases_lt}
 use Rattle.board_text.specs.PlainBoard.{PlainBoard, IsConfiguration}
 use Rattle.positions.specs.declared.value.Value.{Value}
 use Rattle.positions.specs.declared.value.Value.TheVariants.{Finite, Forever}
-use Rattle.positions.specs.Game.{Legal, Dominates, LabellerTree, AdversaryTree, moved}
+use Rattle.positions.specs.Game.{Dominates, LabellerTree, AdversaryTree, moved}
 use Rattle.positions.specs.Value.{HasValue}
 use Rattle.positions.proofs.BoundedSearch.{each_or_some, dominates_or_not}
 use Rattle.positions.proofs.Trees.{some_tree}
 use Rattle.positions.proofs.Configurations.{moved_is_configuration}
 use Rattle.positions.proofs.Finiteness.{some_value, forever_from_count}
 use Rattle.positions.proofs.Values.{same_value}
-use Rattle.strategies.specs.Best.{IsLess, HasLess, IsLowering, IsBestRequest}
+use Rattle.strategies.specs.Best.{IsLess, LowersValue, IsBestRequest}
 use Rattle.strategies.proofs.Comparing.{less_from_tree, not_less}
 
 -- the least number at which P holds, from one at which it does
@@ -29,7 +29,7 @@ least P decided (suc fuel) n bound here =
 
 -- a request lowers a finite value, or doesn't
 lowers_or_not : (board : PlainBoard) (number : ℕ) (configuration : List ℕ) → HasValue board configuration (Finite number) → (pebble : ℕ)
-    → IsLowering board configuration pebble ⊎ ¬ IsLowering board configuration pebble
+    → LowersValue board configuration pebble ⊎ ¬ LowersValue board configuration pebble
 lowers_or_not board number configuration has pebble =
     elim (cases_lt pebble board.pebbles) [
       | inr beyond ↦ inr (λ lowering. let is_pebble : pebble < board.pebbles = lowering.is_pebble in absurd (omega arith))
@@ -52,12 +52,12 @@ pub best_request : (board : PlainBoard) (number : ℕ) (configuration : List ℕ
     → (pebble : ℕ) × IsBestRequest board configuration pebble
 best_request board number configuration has =
     let asked = has.1 in
-    let lowering : IsLowering board configuration asked.0 = record {
+    let lowering : LowersValue board configuration asked.0 = record {
       is_pebble = asked.1;
       lowers = λ label legal. less_from_tree board number (moved configuration asked.0 label) configuration (asked.2 label legal) has;
     } in
-    let first = least (IsLowering board configuration) (lowers_or_not board number configuration has) asked.0 asked.0 (omega arith) lowering in
-    let smallest : (other : ℕ) → IsLowering board configuration other → first.0 ≤ other = λ other lowers. elim (cases_lt other first.0) [
+    let first = least (LowersValue board configuration) (lowers_or_not board number configuration has) asked.0 asked.0 (omega arith) lowering in
+    let smallest : (other : ℕ) → LowersValue board configuration other → first.0 ≤ other = λ other lowers. elim (cases_lt other first.0) [
       | inl before ↦ absurd (first.3 other before lowers)
       | inr behind ↦ behind
     ] in
@@ -65,7 +65,7 @@ best_request board number configuration has =
 
 -- no request lowers the value of a configuration that lasts forever
 not_lowered : (board : PlainBoard) (configuration : List ℕ) (pebble : ℕ) → IsConfiguration board configuration
-    → HasValue board configuration Forever → IsLowering board configuration pebble → ⊥
+    → HasValue board configuration Forever → LowersValue board configuration pebble → ⊥
 not_lowered board configuration pebble is has lowering =
     let answer = has (suc (board.labels ^ board.pebbles)) pebble lowering.is_pebble in
     let forever = forever_from_count board (moved configuration pebble answer.0) (moved_is_configuration board configuration pebble answer.0 answer.1.is_label is) answer.2 in

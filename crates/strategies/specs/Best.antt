@@ -14,7 +14,7 @@ IsLess (Finite first) Forever = Unit {0}
 IsLess Forever second = ⊥
 
 -- the first configuration's value is smaller than the second's
-pub record HasLess (board : PlainBoard) (first second : List ℕ) : Type 0 where
+pub record HasSmallerValue (board : PlainBoard) (first second : List ℕ) : Type 0 where
   pub smaller : Value
   pub greater : Value
   pub of_first : HasValue board first smaller
@@ -22,7 +22,7 @@ pub record HasLess (board : PlainBoard) (first second : List ℕ) : Type 0 where
   pub less : IsLess smaller greater
 
 -- the first configuration's value is not greater than the second's
-pub record HasAtMost (board : PlainBoard) (first second : List ℕ) : Type 0 where
+pub record HasNoGreaterValue (board : PlainBoard) (first second : List ℕ) : Type 0 where
   pub value : Value
   pub bound : Value
   pub of_first : HasValue board first value
@@ -30,20 +30,20 @@ pub record HasAtMost (board : PlainBoard) (first second : List ℕ) : Type 0 whe
   pub not_greater : ¬ IsLess bound value
 
 -- the label is legal for the pebble, and no legal label has a result of a greater value
-pub record IsGreatest (board : PlainBoard) (configuration : List ℕ) (pebble label : ℕ) : Type 0 where
+pub record HasGreatestResult (board : PlainBoard) (configuration : List ℕ) (pebble label : ℕ) : Type 0 where
   pub legal : Legal board configuration pebble label
   pub greatest : (other : ℕ) → Legal board configuration pebble other
-      → HasAtMost board (moved configuration pebble other) (moved configuration pebble label)
+      → HasNoGreaterValue board (moved configuration pebble other) (moved configuration pebble label)
 
 -- the smallest legal label whose result has the greatest value
 abbrev pub IsBestAnswer : PlainBoard → List ℕ → ℕ → ℕ → Type 0
-IsBestAnswer board configuration pebble label = IsSmallest (IsGreatest board configuration pebble) (Some label)
+IsBestAnswer board configuration pebble label = IsSmallest (HasGreatestResult board configuration pebble) (Some label)
 
 -- all legal results of a request of the pebble have a smaller value than the configuration
-pub record IsLowering (board : PlainBoard) (configuration : List ℕ) (pebble : ℕ) : Type 0 where
+pub record LowersValue (board : PlainBoard) (configuration : List ℕ) (pebble : ℕ) : Type 0 where
   pub is_pebble : pebble < board.pebbles
-  pub lowers : (label : ℕ) → Legal board configuration pebble label → HasLess board (moved configuration pebble label) configuration
+  pub lowers : (label : ℕ) → Legal board configuration pebble label → HasSmallerValue board (moved configuration pebble label) configuration
 
 -- the smallest pebble all of whose legal results have a smaller value
 abbrev pub IsBestRequest : PlainBoard → List ℕ → ℕ → Type 0
-IsBestRequest board configuration pebble = IsSmallest (IsLowering board configuration) (Some pebble)
+IsBestRequest board configuration pebble = IsSmallest (LowersValue board configuration) (Some pebble)

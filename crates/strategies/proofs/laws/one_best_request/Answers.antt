@@ -1,5 +1,5 @@
 use Rattle.strategies.proofs.Requests.{best_request, finite_from_request, same_request}
-use Rattle.strategies.proofs.laws.best_requests_exist.Goals as goal
+use Rattle.strategies.proofs.laws.one_best_request.Goals as goal
 
 pub returns-clause-exists : goal.returns-clause-exists
 returns-clause-exists c = λ board configuration is. (

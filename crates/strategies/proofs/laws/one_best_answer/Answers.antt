@@ -1,5 +1,5 @@
 use Rattle.strategies.proofs.Answers.{best_answer, same_answer}
-use Rattle.strategies.proofs.laws.best_answers_exist.Goals as goal
+use Rattle.strategies.proofs.laws.one_best_answer.Goals as goal
 
 pub returns-clause-exists : goal.returns-clause-exists
 returns-clause-exists c = λ board configuration pebble is. (
