@@ -72,11 +72,11 @@ turns_formed (Finite (suc number)) (Finite value) low some here = (omega (arith,
 turns_formed (Finite (suc number)) Forever low some here = (omega arith, omega (arith, low))
 
 -- best answers lead on from a start of value 1 or more alone
-start_answerable : (board : PlainBoard) (from requests to : List ℕ) → LeadsByAnswers board from requests to → IsAnswerable board to → IsAnswerable board from
+pub start_answerable : (board : PlainBoard) (from requests to : List ℕ) → LeadsByAnswers board from requests to → IsAnswerable board to → IsAnswerable board from
 start_answerable board from [] to leads some = subst (IsAnswerable board) (sym leads) some
 start_answerable board from (request ∷ requests) to leads some = leads.2
 
-not_answerable : (board : PlainBoard) (configuration : List ℕ) → IsAnswerable board configuration → HasValue board configuration (Finite 0) → ⊥
+pub not_answerable : (board : PlainBoard) (configuration : List ℕ) → IsAnswerable board configuration → HasValue board configuration (Finite 0) → ⊥
 not_answerable board configuration is has =
     let same : is.value ≡ Finite 0 = same_value board configuration is.value (Finite 0) is.has_value has in
     let none : 0 < 0 = subst (IsLess (Finite 0)) same is.some in

@@ -7,3 +7,4 @@ pub mod Rows
 pub mod Obeying
 pub mod Formed
 pub mod OneList
+pub mod Small

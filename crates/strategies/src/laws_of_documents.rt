@@ -1,13 +1,14 @@
 //! Laws of the documents of boards, each the contract of a function without a body.
 
 ghost use Rattle.std.specs.Prelude.{◌≡◌, ℕ, ◌≤◌};
-ghost use Rattle.board_text.specs.PlainBoard.{PlainBoard, IsConfiguration};
+ghost use Rattle.board_text.specs.PlainBoard.{PlainBoard, IsBoard, IsConfiguration};
 ghost use Rattle.positions.specs.Ranks.{configurations};
 ghost use Rattle.positions.specs.Table.{AnswerRow, RequestRow};
 ghost use Rattle.positions.specs.declared.value.Value.{Value as Worth};
 ghost use Rattle.proof_text.specs.Proof.{PlainProof, IsProof};
 ghost use Rattle.proof_text.specs.Rules.{BreaksNoRule};
 ghost use Rattle.strategies.specs.Document.{IsLabellerRow, IsAdversaryRow, IsDocumentOf};
+ghost use Rattle.strategies.specs.Example.{small_board, small_document};
 
 /// The document of a board breaks no rule of checking.
 pub fn documents_break_no_rule()
@@ -28,4 +29,10 @@ pub fn one_document_of_a_board()
         → IsLabellerRow board start first → IsLabellerRow board start second → first.at ≡ second.at → first ≡ second }
     ensures adversary { (board : PlainBoard) → (first : RequestRow) → (second : RequestRow)
         → IsAdversaryRow board first → IsAdversaryRow board second → first.at ≡ second.at → first ≡ second }
+{}
+
+/// A document as it stands: that of a small board.
+pub fn document_of_a_small_board()
+    ensures board { IsBoard small_board }
+    ensures document { IsDocumentOf small_board small_document }
 {}
