@@ -1,5 +1,5 @@
 -- Where best answers exist, and that there is one.
-use Rattle.std.proofs.Common.{◌≡◌, ℕ, zero, suc, ◌+◌, ◌<◌, ◌≤◌, ◌⊎◌, List, inl, inr, refl, sym, subst, arith}
+use Rattle.std.proofs.Common.{◌≡◌, ℕ, zero, suc, ◌+◌, ◌<◌, ◌≤◌, ◌⊎◌, List, inl, inr, refl, sym, ◌∙◌, subst, arith}
 use Rattle.std.proofs.lemmas.Bool.{cases_lt}
 use Rattle.board_text.specs.PlainBoard.{PlainBoard, IsConfiguration}
 use Rattle.positions.specs.declared.value.Value.{Value}
@@ -9,7 +9,7 @@ use Rattle.positions.proofs.BoundedSearch.{dominates_or_not}
 use Rattle.positions.proofs.Configurations.{moved_is_configuration}
 use Rattle.positions.proofs.Finiteness.{some_value}
 use Rattle.positions.proofs.Values.{same_value}
-use Rattle.strategies.specs.Best.{IsLess, HasGreatestResult, IsBestAnswer}
+use Rattle.strategies.specs.Best.{IsLess, HasSmallerValue, HasNoGreaterValue, HasGreatestResult, IsBestAnswer}
 use Rattle.strategies.proofs.Comparing.{cases_value, IsLess-irrefl, IsLess-trans, lasts_too}
 
 -- the legal label with the greatest result among those below a bound, the first of them
@@ -169,3 +169,33 @@ pub lasts_after : (board : PlainBoard) (number : ℕ) (configuration : List ℕ)
 lasts_after board number configuration pebble label is_pebble best lasts =
     let answer = lasts pebble is_pebble in
     lasts_too board number (moved configuration pebble answer.0) (moved configuration pebble label) (best.0.greatest answer.0 answer.1) answer.2
+
+-- each smaller legal label has a result of a smaller value
+pub smaller_before : (board : PlainBoard) (configuration : List ℕ) (pebble label other : ℕ) → IsBestAnswer board configuration pebble label
+    → other < label → Legal board configuration pebble other
+    → HasSmallerValue board (moved configuration pebble other) (moved configuration pebble label)
+smaller_before board configuration pebble label other best before legal =
+    elim (cases_value most.value most.bound) [
+      | inl less ↦ record { smaller = most.value; greater = most.bound; of_first = most.of_first; of_second = most.of_second; less = less }
+      | inr (inl same) ↦ let behind : label ≤ other = best.1 other (as_great same) in absurd (omega arith)
+      | inr (inr more) ↦ absurd (most.not_greater more)
+    ]
+  where
+    most : HasNoGreaterValue board (moved configuration pebble other) (moved configuration pebble label)
+    most = best.0.greatest other legal
+
+    as_great : most.value ≡ most.bound → HasGreatestResult board configuration pebble other
+    as_great same = record {
+      legal = legal;
+      greatest = λ third is_legal.
+          let least = best.0.greatest third is_legal in
+          let bound : least.bound ≡ most.value =
+          same_value board (moved configuration pebble label) least.bound most.bound least.of_second most.of_second ∙ sym same in
+          record {
+            value = least.value;
+            bound = most.value;
+            of_first = least.of_first;
+            of_second = most.of_first;
+            not_greater = subst (λ (v : Value). ¬ IsLess v least.value) bound least.not_greater;
+          };
+    }

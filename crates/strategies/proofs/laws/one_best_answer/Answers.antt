@@ -1,4 +1,4 @@
-use Rattle.strategies.proofs.Answers.{best_answer, same_answer}
+use Rattle.strategies.proofs.Answers.{best_answer, same_answer, smaller_before}
 use Rattle.strategies.proofs.laws.one_best_answer.Goals as goal
 
 pub returns-clause-exists : goal.returns-clause-exists
@@ -9,3 +9,6 @@ returns-clause-exists c = λ board configuration pebble is. (
 
 pub returns-clause-one : goal.returns-clause-one
 returns-clause-one c = same_answer
+
+pub returns-clause-before : goal.returns-clause-before
+returns-clause-before c = smaller_before

@@ -1,4 +1,4 @@
-use Rattle.strategies.proofs.Requests.{best_request, finite_from_request, same_request}
+use Rattle.strategies.proofs.Requests.{best_request, finite_from_request, same_request, not_lowered_before}
 use Rattle.strategies.proofs.laws.one_best_request.Goals as goal
 
 pub returns-clause-exists : goal.returns-clause-exists
@@ -9,3 +9,6 @@ returns-clause-exists c = λ board configuration is. (
 
 pub returns-clause-one : goal.returns-clause-one
 returns-clause-one c = same_request
+
+pub returns-clause-before : goal.returns-clause-before
+returns-clause-before c = not_lowered_before
