@@ -8,3 +8,4 @@ pub mod Obeying
 pub mod Formed
 pub mod OneList
 pub mod Small
+pub mod Building

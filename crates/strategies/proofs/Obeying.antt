@@ -9,6 +9,7 @@ use Rattle.positions.specs.declared.turns.Turns.{Turns}
 use Rattle.positions.specs.declared.turns.Turns.TheVariants.{Count, Always}
 use Rattle.positions.specs.Game.{LabellerTree, moved}
 use Rattle.positions.specs.Value.{HasValue}
+use Rattle.positions.specs.Claim.{Holds}
 use Rattle.positions.specs.Table.{AnswerRow, RequestRow}
 use Rattle.positions.proofs.Configurations.{moved_is_configuration}
 use Rattle.positions.proofs.Finiteness.{some_value}
@@ -124,6 +125,15 @@ start_below : (board : PlainBoard) (start : Value) (has_start : HasValue board b
 start_below board (Finite number) has_start rows exactly =
     listed_below board (Finite number) rows exactly tt [] board.start refl number (suc number) has_start (omega arith)
 start_below board Forever has_start rows exactly = tt
+
+-- ---- the document
+
+pub claims_what_holds : (board : PlainBoard) (proof : PlainProof) → IsDocumentOf board proof → Holds board proof.claim
+claims_what_holds board proof is = subst (Holds board) (sym is.claim) (by is.value is.has_value)
+  where
+    by : (start : Value) → HasValue board board.start start → Holds board (claim_of start)
+    by (Finite number) has = has
+    by Forever has = has
 
 pub breaks_no_rule : (board : PlainBoard) (proof : PlainProof) → IsConfiguration board board.start → IsDocumentOf board proof → BreaksNoRule board proof
 breaks_no_rule board proof is_start is = record {

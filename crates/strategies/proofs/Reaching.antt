@@ -66,3 +66,21 @@ requests_lead_to board from [] to is leads = subst (IsConfiguration board) leads
 requests_lead_to board from (first ∷ labels) to is leads =
     requests_lead_to board (moved from leads.0 first) labels to
     (moved_is_configuration board from leads.0 first leads.2.is_label is) leads.3
+
+-- ---- closed sets
+
+-- what holds of a start of value 1 or more, and after each best answer that leaves such a value, holds of all configurations of such a value that best answers lead to
+pub answers_stay : (board : PlainBoard) (P : List ℕ → Type 0)
+    → ((c : List ℕ) (pebble label : ℕ) → P c → pebble < board.pebbles → IsBestAnswer board c pebble label → IsAnswerable board (moved c pebble label) → P (moved c pebble label))
+    → (from requests to : List ℕ) → (IsAnswerable board from → P from) → LeadsByAnswers board from requests to → IsAnswerable board to → P to
+answers_stay board P step from [] to here leads some = subst P leads (here (subst (IsAnswerable board) (sym leads) some))
+answers_stay board P step from (request ∷ requests) to here leads some =
+    answers_stay board P step (moved from request leads.0) requests to (step from request leads.0 (here leads.2) leads.1 leads.3) leads.4 some
+
+-- what holds of the start and after each legal answer to a best request holds of all configurations that best requests lead to
+pub requests_stay : (board : PlainBoard) (P : List ℕ → Type 0)
+    → ((c : List ℕ) (pebble label : ℕ) → P c → IsBestRequest board c pebble → Legal board c pebble label → P (moved c pebble label))
+    → (from labels to : List ℕ) → P from → LeadsByRequests board from labels to → P to
+requests_stay board P step from [] to here leads = subst P leads here
+requests_stay board P step from (label ∷ labels) to here leads =
+    requests_stay board P step (moved from leads.0 label) labels to (step from leads.0 label here leads.1 leads.2) leads.3
