@@ -9,3 +9,5 @@ pub mod Formed
 pub mod OneList
 pub mod Small
 pub mod Building
+pub mod Finding
+pub mod Showing

@@ -25,7 +25,7 @@ use Rattle.strategies.proofs.Turns.{Keeps, enough_left}
 use Rattle.strategies.proofs.Rows.{answer_row_for, request_row_for}
 
 -- what a place in range holds
-held : (ns : List ℕ) (k : ℕ) → k < length ns → slice_get ns k ≡ Some (slice_index ns k)
+pub held : (ns : List ℕ) (k : ℕ) → k < length ns → slice_get ns k ≡ Some (slice_index ns k)
 held [] k below = absurd (omega arith)
 held (n ∷ ns) zero below = refl
 held (n ∷ ns) (suc k) below = held ns k (omega arith)

@@ -3,7 +3,7 @@
 ghost use Rattle.std.specs.Prelude.{◌≡◌, ℕ, ◌≤◌};
 ghost use Rattle.board_text.specs.PlainBoard.{PlainBoard, IsBoard, IsConfiguration};
 ghost use Rattle.positions.specs.Ranks.{configurations};
-ghost use Rattle.positions.specs.Claim.{Holds};
+ghost use Rattle.positions.specs.Claim.{Shows, Holds};
 ghost use Rattle.positions.specs.Table.{AnswerRow, RequestRow};
 ghost use Rattle.positions.specs.declared.value.Value.{Value as Worth};
 ghost use Rattle.proof_text.specs.Proof.{PlainProof, IsProof};
@@ -14,6 +14,12 @@ ghost use Rattle.strategies.specs.Example.{small_board, small_document};
 /// What the document of a board claims of the start holds.
 pub fn documents_claim_what_holds()
     ensures { (board : PlainBoard) → (proof : PlainProof) → IsDocumentOf board proof → Holds board proof.claim }
+{}
+
+/// The rows of the document of a board show its claim.
+pub fn documents_show_their_claim()
+    ensures { (board : PlainBoard) → (proof : PlainProof) → IsConfiguration board board.start → IsDocumentOf board proof
+        → Shows board proof.labeller proof.adversary proof.claim }
 {}
 
 /// The document of a board breaks no rule of checking.
