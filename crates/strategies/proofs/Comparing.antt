@@ -1,5 +1,5 @@
 -- What the order of values says of trees.
-use Rattle.std.proofs.Common.{◌≡◌, ℕ, zero, suc, ◌<◌, ◌≤◌, ◌⊎◌, List, inl, inr, refl, ap, arith}
+use Rattle.std.proofs.Common.{◌≡◌, ℕ, zero, suc, ◌<◌, ◌≤◌, ◌⊎◌, List, inl, inr, refl, ap, subst, arith}
 use Rattle.std.proofs.lemmas.Bool.{cases_lt, cases_order}
 use Rattle.board_text.specs.PlainBoard.{PlainBoard}
 use Rattle.positions.specs.declared.value.Value.{Value}
@@ -90,3 +90,8 @@ IsLess-trans (Finite l) (Finite m) (Finite n) p q = omega (arith, p, q)
 IsLess-trans (Finite l) (Finite m) Forever p q = tt
 IsLess-trans (Finite l) Forever w p q = absurd q
 IsLess-trans Forever v w p q = absurd p
+
+-- what is equal or greater isn't smaller
+pub not_above : (v w : Value) → (v ≡ w) ⊎ IsLess w v → ¬ IsLess v w
+not_above v w (inl same) less = IsLess-irrefl w (subst (λ (u : Value). IsLess u w) same less)
+not_above v w (inr more) less = IsLess-irrefl v (IsLess-trans v w v less more)

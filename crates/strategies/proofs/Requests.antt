@@ -27,6 +27,13 @@ least P decided (suc fuel) n bound here =
           (found.0, omega arith, found.2, found.3)
     ]
 
+-- where P holds of no smaller number, each number at which it holds is as large
+pub first_is_smallest : (P : ℕ → Type 0) (first : ℕ) → ((i : ℕ) → i < first → ¬ P i) → (other : ℕ) → P other → first ≤ other
+first_is_smallest P first before other here = elim (cases_lt other first) [
+  | inl less ↦ absurd (before other less here)
+  | inr behind ↦ behind
+]
+
 -- a request lowers a finite value, or has a legal answer after which the labeller lasts as long
 lowers_or_some : (board : PlainBoard) (number : ℕ) (configuration : List ℕ) → HasValue board configuration (Finite number) → (pebble : ℕ) → pebble < board.pebbles
     → LowersValue board configuration pebble
@@ -66,11 +73,7 @@ best_request board number configuration has =
       lowers = λ label legal. less_from_tree board number (moved configuration asked.0 label) configuration (asked.2 label legal) has;
     } in
     let first = least (LowersValue board configuration) (lowers_or_not board number configuration has) asked.0 asked.0 (omega arith) lowering in
-    let smallest : (other : ℕ) → LowersValue board configuration other → first.0 ≤ other = λ other lowers. elim (cases_lt other first.0) [
-      | inl before ↦ absurd (first.3 other before lowers)
-      | inr behind ↦ behind
-    ] in
-    (first.0, (first.2, smallest))
+    (first.0, (first.2, first_is_smallest (LowersValue board configuration) first.0 first.3))
 
 -- no request lowers the value of a configuration that lasts forever
 not_lowered : (board : PlainBoard) (configuration : List ℕ) (pebble : ℕ) → IsConfiguration board configuration
