@@ -11,3 +11,4 @@ pub mod Small
 pub mod Building
 pub mod Finding
 pub mod Showing
+pub mod Lone

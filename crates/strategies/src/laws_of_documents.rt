@@ -9,7 +9,7 @@ ghost use Rattle.positions.specs.declared.value.Value.{Value as Worth};
 ghost use Rattle.proof_text.specs.Proof.{PlainProof, IsProof};
 ghost use Rattle.proof_text.specs.Rules.{BreaksNoRule};
 ghost use Rattle.strategies.specs.Document.{IsLabellerRow, IsAdversaryRow, IsDocumentOf};
-ghost use Rattle.strategies.specs.Example.{small_board, small_document};
+ghost use Rattle.strategies.specs.Example.{small_board, small_document, lone_board, lone_document};
 
 /// What the document of a board claims of the start holds.
 pub fn documents_claim_what_holds()
@@ -43,8 +43,9 @@ pub fn one_document_of_a_board()
         → IsAdversaryRow board first → IsAdversaryRow board second → first.at ≡ second.at → first ≡ second }
 {}
 
-/// A document as it stands: that of a small board.
-pub fn document_of_a_small_board()
-    ensures board { IsBoard small_board }
-    ensures document { IsDocumentOf small_board small_document }
+/// Documents as they stand: one of a start with a finite value, and one of a start that lasts forever.
+pub fn documents_of_small_boards()
+    ensures finite { IsDocumentOf small_board small_document }
+    ensures forever { IsDocumentOf lone_board lone_document }
+    ensures boards { IsBoard small_board × IsBoard lone_board }
 {}

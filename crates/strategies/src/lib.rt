@@ -6,6 +6,6 @@ mod laws_of_documents;
 
 pub use laws::{best_answers_last, best_requests_end, one_best_answer, one_best_request};
 pub use laws_of_documents::{
-    document_of_a_small_board, documents_break_no_rule, documents_claim_what_holds,
-    documents_have_their_form, documents_show_their_claim, one_document_of_a_board,
+    documents_break_no_rule, documents_claim_what_holds, documents_have_their_form,
+    documents_of_small_boards, documents_show_their_claim, one_document_of_a_board,
 };
