@@ -1,0 +1,97 @@
+-- What the order of values says of trees.
+use Rattle.std.proofs.Common.{◌≡◌, ℕ, zero, suc, ◌<◌, ◌≤◌, ◌⊎◌, List, inl, inr, refl, ap, subst, arith}
+use Rattle.std.proofs.lemmas.Bool.{cases_lt, cases_order}
+use Rattle.board_text.specs.PlainBoard.{PlainBoard}
+use Rattle.positions.specs.declared.value.Value.{Value}
+use Rattle.positions.specs.declared.value.Value.TheVariants.{Finite, Forever}
+use Rattle.positions.specs.Game.{LabellerTree, AdversaryTree}
+use Rattle.positions.specs.Value.{HasValue}
+use Rattle.positions.proofs.Trees.{not_both_trees, lasts_at_most}
+use Rattle.positions.proofs.Values.{at_most_from_tree, same_value}
+use Rattle.strategies.specs.Best.{IsLess, HasSmallerValue, HasNoGreaterValue}
+
+-- a labeller who lasts so many requests doesn't have a smaller value
+pub at_least : (board : PlainBoard) (number depth : ℕ) (configuration : List ℕ)
+    → LabellerTree board number configuration → HasValue board configuration (Finite depth) → number ≤ depth
+at_least board number depth configuration lasts has =
+    elim (cases_lt depth number) [
+      | inl less ↦ absurd (not_both_trees board (suc depth) configuration (lasts_at_most board configuration (suc depth) number (omega arith) lasts) has.1)
+      | inr enough ↦ enough
+    ]
+
+same_number : (board : PlainBoard) (configuration : List ℕ) (first second : ℕ)
+    → HasValue board configuration (Finite first) → HasValue board configuration (Finite second) → first ≡ second
+same_number board configuration first second one other =
+    let same : Finite first ≡ Finite second = same_value board configuration (Finite first) (Finite second) one other in
+    cc
+
+-- a value that an adversary's tree bounds is below a number
+pub less_from_tree : (board : PlainBoard) (number : ℕ) (first second : List ℕ)
+    → AdversaryTree board number first → HasValue board second (Finite number) → HasSmallerValue board first second
+less_from_tree board zero first second stops has = absurd stops
+less_from_tree board (suc number) first second stops has =
+    let value = at_most_from_tree board number first stops in
+    let bound : value.0 ≤ number = value.1 in
+    record { smaller = Finite value.0; greater = Finite (suc number); of_first = value.2; of_second = has; less = omega arith }
+
+-- a configuration with a smaller value than a finite one has a finite value below that
+pub less_than_finite : (board : PlainBoard) (number : ℕ) (first second : List ℕ) → HasValue board second (Finite number) → HasSmallerValue board first second
+    → (depth : ℕ) × (depth < number) × HasValue board first (Finite depth)
+less_than_finite board number first second has less = by less.smaller less.greater less.of_first less.of_second less.less
+  where
+    by : (low high : Value) → HasValue board first low → HasValue board second high → IsLess low high
+        → (depth : ℕ) × (depth < number) × HasValue board first (Finite depth)
+    by (Finite low) (Finite high) one other below =
+        let same : high ≡ number = same_number board second high number other has in
+        let less : low < high = below in
+        (low, omega arith, one)
+    by (Finite low) Forever one other below =
+        let same : Forever ≡ Finite number = same_value board second Forever (Finite number) other has in absurd cc
+    by Forever high one other below = absurd below
+
+-- and so no labeller's tree of that number
+pub not_less : (board : PlainBoard) (number : ℕ) (first second : List ℕ)
+    → LabellerTree board number first → HasValue board second (Finite number) → HasSmallerValue board first second → ⊥
+not_less board number first second lasts has less =
+    let found = less_than_finite board number first second has less in
+    let below : found.0 < number = found.1 in
+    let enough : number ≤ found.0 = at_least board number found.0 first lasts found.2 in
+    omega arith
+
+-- a labeller lasts as long where the value is not smaller
+pub lasts_too : (board : PlainBoard) (number : ℕ) (first second : List ℕ) → HasNoGreaterValue board first second
+    → LabellerTree board number first → LabellerTree board number second
+lasts_too board number first second most lasts = by most.value most.bound most.of_first most.of_second most.not_greater
+  where
+    by : (value bound : Value) → HasValue board first value → HasValue board second bound → ¬ IsLess bound value → LabellerTree board number second
+    by value Forever one other not = other number
+    by Forever (Finite bound) one other not = absurd (not tt)
+    by (Finite value) (Finite bound) one other not =
+        elim (cases_lt bound value) [
+          | inl less ↦ absurd (not less)
+          | inr enough ↦
+              let most : number ≤ value = at_least board number value first lasts one in
+              lasts_at_most board second number bound (omega arith) other.0
+        ]
+
+-- two values are in order or equal
+pub cases_value : (v w : Value) → IsLess v w ⊎ ((v ≡ w) ⊎ IsLess w v)
+cases_value (Finite m) (Finite n) = elim (cases_order m n) [ inl same ↦ inr (inl (ap Finite same)) | inr (inl less) ↦ inl less | inr (inr more) ↦ inr (inr more) ]
+cases_value (Finite m) Forever = inl tt
+cases_value Forever (Finite n) = inr (inr tt)
+cases_value Forever Forever = inr (inl refl)
+
+pub IsLess-irrefl : (v : Value) → IsLess v v → ⊥
+IsLess-irrefl (Finite n) less = omega (arith, less)
+IsLess-irrefl Forever less = less
+
+pub IsLess-trans : (u v w : Value) → IsLess u v → IsLess v w → IsLess u w
+IsLess-trans (Finite l) (Finite m) (Finite n) p q = omega (arith, p, q)
+IsLess-trans (Finite l) (Finite m) Forever p q = tt
+IsLess-trans (Finite l) Forever w p q = absurd q
+IsLess-trans Forever v w p q = absurd p
+
+-- what is equal or greater isn't smaller
+pub not_above : (v w : Value) → (v ≡ w) ⊎ IsLess w v → ¬ IsLess v w
+not_above v w (inl same) less = IsLess-irrefl w (subst (λ (u : Value). IsLess u w) same less)
+not_above v w (inr more) less = IsLess-irrefl v (IsLess-trans v w v less more)

@@ -1,0 +1,14 @@
+pub mod Comparing
+pub mod Answers
+pub mod Requests
+pub mod Reaching
+pub mod Turns
+pub mod Rows
+pub mod Obeying
+pub mod Formed
+pub mod OneList
+pub mod Small
+pub mod Building
+pub mod Finding
+pub mod Showing
+pub mod Lone

@@ -1,0 +1,104 @@
+-- The document of the board with a lone pebble.
+use Rattle.std.proofs.Common.{◌≡◌, ℕ, zero, suc, ◌<◌, List, [], ◌∷◌, get_or, slice_index, refl, sym, subst, arith}
+use Rattle.std.specs.List.{Contains}
+use Rattle.board_text.specs.PlainBoard.{IsBoard}
+use Rattle.positions.specs.declared.value.Value.TheVariants.{Forever}
+use Rattle.positions.specs.declared.turns.Turns.TheVariants.{Always}
+use Rattle.positions.specs.Game.{Legal, LabellerTree, HasAnswer, moved}
+use Rattle.positions.specs.Table.{AnswerRow, RequestRow}
+use Rattle.strategies.specs.Best.{HasNoGreaterValue, IsBestAnswer}
+use Rattle.strategies.specs.Document.{LeadsByAnswers, IsLabellerRow, IsAdversaryRow, AsksAdversary, AreExactly, IsDocumentOf}
+use Rattle.strategies.specs.Example.{lone_board, lone_document}
+use Rattle.strategies.proofs.OneList.{one_answer_row}
+
+pub is_board : IsBoard lone_board
+is_board = record {
+  labels = (omega arith, omega arith);
+  pebbles = (omega arith, omega arith);
+  start = record { each_pebble = refl; each_label = labels };
+  pairs = record {
+    of_labels = λ k d inside. absurd (omega arith);
+    ascending = λ i j d less inside. absurd (omega arith);
+    one_way = λ x y one other. absurd (let inside : one.0 < 0 = one.1 in omega arith);
+  };
+}
+  where
+    labels : (k d : ℕ) → k < 1 → get_or (0 ∷ []) k d < 1
+    labels zero d inside = omega arith
+    labels (suc k) d inside = absurd (omega arith)
+
+abbrev start : List ℕ
+start = 0 ∷ []
+
+-- nothing bounds the pebble
+stays : Legal lone_board start 0 0
+stays = record { is_label = omega arith; dominates = λ other below differs. absurd (differs (omega arith)) }
+
+answer : (depth pebble : ℕ) → pebble < 1 → LabellerTree lone_board depth start → HasAnswer lone_board depth start pebble
+answer depth zero below lasts = (0, stays, lasts)
+answer depth (suc pebble) below lasts = absurd (omega arith)
+
+lasts : (depth : ℕ) → LabellerTree lone_board depth start
+lasts zero = tt
+lasts (suc depth) = λ pebble below. answer depth pebble below (lasts depth)
+
+only_label : (label : ℕ) → Legal lone_board start 0 label → label ≡ 0
+only_label label legal = let is_label : label < 1 = legal.is_label in omega arith
+
+best_answer : IsBestAnswer lone_board start 0 0
+best_answer = (
+  record {
+    legal = stays;
+    greatest = λ other legal.
+        subst (λ (l : ℕ). HasNoGreaterValue lone_board (moved start 0 l) start) (sym (only_label other legal))
+        (record { value = Forever; bound = Forever; of_first = lasts; of_second = lasts; not_greater = λ less. less });
+  },
+  λ other best. omega arith,
+)
+
+abbrev answers : AnswerRow
+answers = record { at = start; turns = Always; answers = 0 ∷ [] }
+
+is_row : IsLabellerRow lone_board Forever answers
+is_row = record {
+  requests = [];
+  reached = refl;
+  value = Forever;
+  has_value = lasts;
+  some = tt;
+  turns = refl;
+  one_each = refl;
+  best = best;
+}
+  where
+    best : (pebble : ℕ) → pebble < 1 → IsBestAnswer lone_board start pebble (slice_index (0 ∷ []) pebble)
+    best zero below = best_answer
+    best (suc pebble) below = absurd (omega arith)
+
+only_start : (requests to : List ℕ) → LeadsByAnswers lone_board start requests to → start ≡ to
+only_start [] to leads = leads
+only_start (zero ∷ requests) to leads =
+    only_start requests to (subst (λ (l : ℕ). LeadsByAnswers lone_board (moved start 0 l) requests to) (only_label leads.0 leads.3.0.legal) leads.4)
+only_start (suc pebble ∷ requests) to leads = absurd (let below : suc pebble < 1 = leads.1 in omega arith)
+
+the_one : (row : AnswerRow) → Contains (answers ∷ []) row → answers ≡ row
+the_one row (zero, inside, same) = same
+the_one row (suc place, inside, same) = absurd (omega arith)
+
+labeller_rows : AreExactly lone_board (IsLabellerRow lone_board Forever) (λ (row : AnswerRow). row.at) lone_document.labeller
+labeller_rows = record {
+  each = λ row. (
+    λ among. subst (IsLabellerRow lone_board Forever) (the_one row among) is_row,
+    λ is. (0, omega arith, one_answer_row lone_board Forever answers row is_row is (only_start is.requests row.at is.reached)),
+  );
+  ascending = λ i j d less inside. absurd (omega arith);
+}
+
+adversary_rows : AreExactly lone_board (λ (row : RequestRow). AsksAdversary Forever × IsAdversaryRow lone_board row) (λ (row : RequestRow). row.at) lone_document.adversary
+adversary_rows = record {
+  each = λ row. (λ among. absurd (let inside : among.0 < 0 = among.1 in omega arith), λ is. absurd is.0);
+  ascending = λ i j d less inside. absurd (omega arith);
+}
+
+pub is_document : IsDocumentOf lone_board lone_document
+is_document = record { value = Forever; has_value = lasts; claim = refl; labeller = labeller_rows; adversary = adversary_rows }

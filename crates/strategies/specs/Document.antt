@@ -1,0 +1,83 @@
+-- The strategy document of a board: the value of the start, and the rows that show it.
+use Rattle.std.specs.Prelude.{◌≡◌, ℕ, ◌<◌, ◌↔◌, min, List, [], ◌∷◌, length, slice_index, AllPairs, Contains}
+use Rattle.board_text.specs.PlainBoard.{PlainBoard}
+use Rattle.positions.specs.declared.value.Value.{Value}
+use Rattle.positions.specs.declared.value.Value.TheVariants.{Finite, Forever}
+use Rattle.positions.specs.declared.claim.Claim.{Claim}
+use Rattle.positions.specs.declared.claim.Claim.TheVariants as claims
+use Rattle.positions.specs.declared.turns.Turns.{Turns}
+use Rattle.positions.specs.declared.turns.Turns.TheVariants.{Count, Always}
+use Rattle.positions.specs.Game.{Legal, moved}
+use Rattle.positions.specs.Value.{HasValue}
+use Rattle.positions.specs.Table.{AnswerRow, RequestRow}
+use Rattle.proof_text.specs.Proof.{PlainProof, IsBefore}
+use Rattle.strategies.specs.Best.{IsLess, IsBestAnswer, IsBestRequest}
+
+-- the configuration's value is 1 or more
+pub record IsAnswerable (board : PlainBoard) (configuration : List ℕ) : Type 0 where
+  pub value : Value
+  pub has_value : HasValue board configuration value
+  pub some : IsLess (Finite 0) value
+
+-- these requests, each asked where the value is 1 or more, lead by best answers from one configuration to another
+abbrev pub LeadsByAnswers : PlainBoard → List ℕ → List ℕ → List ℕ → Type 0
+LeadsByAnswers board from [] to = from ≡ to
+LeadsByAnswers board from (pebble ∷ requests) to =
+    (label : ℕ) × (pebble < board.pebbles) × IsAnswerable board from × IsBestAnswer board from pebble label
+    × LeadsByAnswers board (moved from pebble label) requests to
+
+-- these labels, each a legal answer to the best request, lead from one configuration to another
+abbrev pub LeadsByRequests : PlainBoard → List ℕ → List ℕ → List ℕ → Type 0
+LeadsByRequests board from [] to = from ≡ to
+LeadsByRequests board from (label ∷ labels) to =
+    (pebble : ℕ) × IsBestRequest board from pebble × Legal board from pebble label × LeadsByRequests board (moved from pebble label) labels to
+
+-- what the document says of the start, which has the value
+abbrev pub claim_of : Value → Claim
+claim_of (Finite number) = claims.Exactly number
+claim_of Forever = claims.Forever
+
+-- for how many turns a configuration of the second value is listed, where the start has the first:
+-- always if the start lasts forever, and else the smaller of the two values
+abbrev pub turns_of : Value → Value → Turns
+turns_of Forever value = Always
+turns_of (Finite number) (Finite value) = Count (min value number)
+turns_of (Finite number) Forever = Count number
+
+-- a row that the document has for the labeller: a configuration of value 1 or more that some list of requests reaches from the start,
+-- its turns, and the best answer to each request
+pub record IsLabellerRow (board : PlainBoard) (start : Value) (row : AnswerRow) : Type 0 where
+  pub requests : List ℕ
+  pub reached : LeadsByAnswers board board.start requests row.at
+  pub value : Value
+  pub has_value : HasValue board row.at value
+  pub some : IsLess (Finite 0) value
+  pub turns : row.turns ≡ turns_of start value
+  pub one_each : length row.answers ≡ board.pebbles
+  pub best : (pebble : ℕ) → pebble < board.pebbles → IsBestAnswer board row.at pebble (slice_index row.answers pebble)
+
+-- a row that the document of a start with a finite value has for the adversary: a configuration that some play of best requests reaches,
+-- its value, and the best request
+pub record IsAdversaryRow (board : PlainBoard) (row : RequestRow) : Type 0 where
+  pub labels : List ℕ
+  pub reached : LeadsByRequests board board.start labels row.at
+  pub has_value : HasValue board row.at (Finite row.left)
+  pub best : IsBestRequest board row.at row.request
+
+-- whether a document of a start with the value has rows for the adversary
+abbrev pub AsksAdversary : Value → Type 0
+AsksAdversary (Finite number) = Unit {0}
+AsksAdversary Forever = ⊥
+
+-- exactly these rows, in ascending order of the ranks of their configurations
+pub record AreExactly {X : Type 0} (board : PlainBoard) (IsRow : X → Type 0) (at : X → List ℕ) (rows : List X) : Type 0 where
+  pub each : (row : X) → Contains rows row ↔ IsRow row
+  pub ascending : AllPairs (λ first second. IsBefore board (at first) (at second)) rows
+
+-- the document of the board
+pub record IsDocumentOf (board : PlainBoard) (proof : PlainProof) : Type 0 where
+  pub value : Value
+  pub has_value : HasValue board board.start value
+  pub claim : proof.claim ≡ claim_of value
+  pub labeller : AreExactly board (IsLabellerRow board value) (λ row. row.at) proof.labeller
+  pub adversary : AreExactly board (λ row. AsksAdversary value × IsAdversaryRow board row) (λ row. row.at) proof.adversary

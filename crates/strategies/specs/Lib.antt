@@ -1,0 +1,3 @@
+pub mod Best
+pub mod Document
+pub mod Example

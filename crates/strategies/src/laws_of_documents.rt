@@ -1,0 +1,51 @@
+//! Laws of the documents of boards, each the contract of a function without a body.
+
+ghost use Rattle.std.specs.Prelude.{◌≡◌, ℕ, ◌≤◌};
+ghost use Rattle.board_text.specs.PlainBoard.{PlainBoard, IsBoard, IsConfiguration};
+ghost use Rattle.positions.specs.Ranks.{configurations};
+ghost use Rattle.positions.specs.Claim.{Shows, Holds};
+ghost use Rattle.positions.specs.Table.{AnswerRow, RequestRow};
+ghost use Rattle.positions.specs.declared.value.Value.{Value as Worth};
+ghost use Rattle.proof_text.specs.Proof.{PlainProof, IsProof};
+ghost use Rattle.proof_text.specs.Rules.{BreaksNoRule};
+ghost use Rattle.strategies.specs.Document.{IsLabellerRow, IsAdversaryRow, IsDocumentOf};
+ghost use Rattle.strategies.specs.Example.{small_board, small_document, lone_board, lone_document};
+
+/// What the document of a board claims of the start holds.
+pub fn documents_claim_what_holds()
+    ensures { (board : PlainBoard) → (proof : PlainProof) → IsDocumentOf board proof → Holds board proof.claim }
+{}
+
+/// The rows of the document of a board show its claim.
+pub fn documents_show_their_claim()
+    ensures { (board : PlainBoard) → (proof : PlainProof) → IsConfiguration board board.start → IsDocumentOf board proof
+        → Shows board proof.labeller proof.adversary proof.claim }
+{}
+
+/// The document of a board breaks no rule of checking.
+pub fn documents_break_no_rule()
+    ensures { (board : PlainBoard) → (proof : PlainProof) → IsConfiguration board board.start → IsDocumentOf board proof → BreaksNoRule board proof }
+{}
+
+/// The document of a board with few configurations is one as the format has it.
+pub fn documents_have_their_form()
+    ensures { (board : PlainBoard) → (proof : PlainProof) → IsConfiguration board board.start → configurations board ≤ 1048576
+        → IsDocumentOf board proof → IsProof board proof }
+{}
+
+/// A board has one document at most, and for each configuration there is one row at most that its document may have.
+pub fn one_document_of_a_board()
+    ensures document { (board : PlainBoard) → (first : PlainProof) → (second : PlainProof)
+        → IsDocumentOf board first → IsDocumentOf board second → first ≡ second }
+    ensures labeller { (board : PlainBoard) → (start : Worth) → (first : AnswerRow) → (second : AnswerRow)
+        → IsLabellerRow board start first → IsLabellerRow board start second → first.at ≡ second.at → first ≡ second }
+    ensures adversary { (board : PlainBoard) → (first : RequestRow) → (second : RequestRow)
+        → IsAdversaryRow board first → IsAdversaryRow board second → first.at ≡ second.at → first ≡ second }
+{}
+
+/// Documents as they stand: one of a start with a finite value, and one of a start that lasts forever.
+pub fn documents_of_small_boards()
+    ensures finite { IsDocumentOf small_board small_document }
+    ensures forever { IsDocumentOf lone_board lone_document }
+    ensures boards { IsBoard small_board × IsBoard lone_board }
+{}
