@@ -1,0 +1,5 @@
+pub mod Counts
+pub mod Lasting
+pub mod Strikes
+pub mod Closing
+pub mod BoardArenas

@@ -1,0 +1,90 @@
+-- What a solver's tables and lists say of the game.
+use Rattle.std.specs.Prelude.{◌≡◌, ℕ, ◌+◌, ◌*◌, ◌<◌, ◌≤◌, ◌≢◌, ◌==◌, ◌&&◌, not, Bool, true, false, cond, zero, suc, List, [], ◌∷◌, length, AllPairs, Option, Some, slice_get, slice_index}
+use Rattle.index_lists.specs.Lists.{times, AreLists}
+use Rattle.board_text.specs.PlainBoard.{PlainBoard}
+use Rattle.positions.specs.Ranks.{configurations, configuration_at}
+use Rattle.positions.specs.Gaps.{IsDominator}
+use Rattle.positions.specs.Counts.{IsSmallest}
+use Rattle.retro_core.specs.Arena.{Arena, count_below, live, next, lasts, IsLast}
+
+-- the word of a configuration that has no value yet
+abbrev pub is_open : List ℕ → ℕ → Bool
+is_open values x = slice_index values x == 4294967295
+
+-- each gap's count is the number of its answers that lead to where the test holds
+pub record IsCounted (a : Arena) (above : ℕ → Bool) (counts : List ℕ) : Type 0 where
+  pub counts_length : length counts ≡ a.gaps
+  pub counted : (g : ℕ) → g < a.gaps → slice_index counts g ≡ live a above g
+
+-- a configuration is open exactly where each pebble has an answer that leads to where the test holds, and any other word is a value
+pub record AreWords (a : Arena) (above : ℕ → Bool) (values : List ℕ) : Type 0 where
+  pub values_length : length values ≡ a.configurations
+  pub opened : (x : ℕ) → x < a.configurations → is_open values x ≡ next a above x
+  pub lasting : (x : ℕ) → x < a.configurations → is_open values x ≡ false → lasts a (slice_index values x) x ≡ true
+  pub stopping : (x : ℕ) → x < a.configurations → is_open values x ≡ false → lasts a (suc (slice_index values x)) x ≡ false
+
+-- the test holds of what lasts r + 1 requests, and of nothing that doesn't last r
+pub record IsBetween (a : Arena) (r : ℕ) (above : ℕ → Bool) : Type 0 where
+  pub lower : (y : ℕ) → y < a.configurations → lasts a (suc r) y ≡ true → above y ≡ true
+  pub upper : (y : ℕ) → y < a.configurations → above y ≡ true → lasts a r y ≡ true
+
+-- it lasts more than r requests, or stands in the list of what is to strike
+abbrev pub alive : Arena → ℕ → List ℕ → ℕ → Bool
+alive a r todo x = cond (lasts a (suc r) x) true (not (times x todo == 0))
+
+-- the open members of a gap are filed at a value, and nothing else changes
+pub record IsClosed (a : Arena) (g value : ℕ) (values values' : List ℕ) : Type 0 where
+  pub same_length : length values' ≡ length values
+  pub filed : (x : ℕ) → x < a.configurations → a.gap x (a.pebble g) ≡ g → is_open values x ≡ true → slice_index values' x ≡ value
+  pub outside : (x : ℕ) → x < a.configurations → a.gap x (a.pebble g) ≢ g → slice_index values' x ≡ slice_index values x
+  pub kept : (x : ℕ) → x < a.configurations → is_open values x ≡ false → slice_index values' x ≡ slice_index values x
+
+-- some open members of a gap are filed at a value, and nothing else changes
+pub record IsClosing (a : Arena) (g value : ℕ) (values values' : List ℕ) : Type 0 where
+  pub same_length : length values' ≡ length values
+  pub filed : (x : ℕ) → x < a.configurations → is_open values x ≡ true → is_open values' x ≡ false → (slice_index values' x ≡ value) × (a.gap x (a.pebble g) ≡ g)
+  pub waiting : (x : ℕ) → x < a.configurations → is_open values' x ≡ true → is_open values x ≡ true
+  pub kept : (x : ℕ) → x < a.configurations → is_open values x ≡ false → slice_index values' x ≡ slice_index values x
+
+-- the list of each value has the configurations of that word, each once
+pub record AreFiled (n : ℕ) (values : List ℕ) (nodes lists : ℕ) (bucket : ℕ → List ℕ) : Type 0 where
+  pub nodes_is : nodes ≡ n
+  pub lists_is : lists ≡ n + 1
+  pub are_lists : AreLists nodes lists bucket
+  pub once : (v x : ℕ) → v ≤ n → x < n → times x (bucket v) ≡ cond (slice_index values x == v) 1 0
+
+-- the list of each gap has its open members, each once, as nodes of its pebble
+pub record AreSources (a : Arena) (values : List ℕ) (nodes lists : ℕ) (source : ℕ → List ℕ) : Type 0 where
+  pub nodes_is : nodes ≡ a.pebbles * a.configurations
+  pub lists_is : lists ≡ a.gaps
+  pub are_lists : AreLists nodes lists source
+  pub once : (g p x : ℕ) → g < a.gaps → p < a.pebbles → x < a.configurations
+      → times (p * a.configurations + x) (source g) ≡ cond (is_open values x && (a.gap x p == g)) 1 0
+
+-- the list of each gap has, ascending, the configurations that its answers lead to and where the test holds
+pub record AreLive (a : Arena) (above : ℕ → Bool) (nodes lists : ℕ) (living : ℕ → List ℕ) : Type 0 where
+  pub nodes_is : nodes ≡ a.configurations
+  pub lists_is : lists ≡ a.gaps
+  pub are_lists : AreLists nodes lists living
+  pub once : (g x : ℕ) → g < a.gaps → x < a.configurations
+      → times x (living g) ≡ cond (above x && (a.gap x (a.pebble g) == g && a.is_answer g (a.label x (a.pebble g)))) 1 0
+  pub ascending : (g : ℕ) → AllPairs (λ first second. first < second) (living g)
+
+-- the dominator of each configuration
+pub record AreDominators (board : PlainBoard) (dominators : List (Option ℕ)) : Type 0 where
+  pub dominators_length : length dominators ≡ configurations board
+  pub each : (c : ℕ) (found : Option ℕ) → slice_get dominators c ≡ Some found → IsSmallest (IsDominator board (configuration_at board c)) found
+
+-- all tables and lists together, where the test holds of what is not struck yet
+pub record IsStage (a : Arena) (above : ℕ → Bool) (values counts : List ℕ) (bn bl : ℕ) (bucket : ℕ → List ℕ) (sn sl : ℕ) (source : ℕ → List ℕ) (ln ll : ℕ) (living : ℕ → List ℕ) : Type 0 where
+  pub counts_are : IsCounted a above counts
+  pub words_are : AreWords a above values
+  pub filed_are : AreFiled a.configurations values bn bl bucket
+  pub sources_are : AreSources a values sn sl source
+  pub live_are : AreLive a above ln ll living
+
+-- the configuration is to be struck in round r
+pub record IsToStrike (a : Arena) (r : ℕ) (above : ℕ → Bool) (rank : ℕ) : Type 0 where
+  pub between : IsBetween a r above
+  pub is_above : above rank ≡ true
+  pub stops : lasts a (suc r) rank ≡ false

@@ -1,0 +1,6 @@
+//! Values of configurations, found backwards in rounds.
+#![tactic(auto)]
+
+mod progress;
+
+pub use progress::Progress;
