@@ -3,3 +3,4 @@ pub mod Lasting
 pub mod Strikes
 pub mod Closing
 pub mod BoardArenas
+pub mod Listed

@@ -1,5 +1,5 @@
 -- What a solver's tables and lists say of the game.
-use Rattle.std.specs.Prelude.{◌≡◌, ℕ, ◌+◌, ◌*◌, ◌<◌, ◌≤◌, ◌≢◌, ◌==◌, ◌&&◌, not, Bool, true, false, cond, zero, suc, List, [], ◌∷◌, length, AllPairs, Option, Some, slice_get, slice_index}
+use Rattle.std.specs.Prelude.{◌≡◌, ℕ, ◌+◌, ◌*◌, ◌<◌, ◌≤◌, ◌≢◌, ◌==◌, ◌&&◌, not, Bool, true, false, cond, zero, suc, List, [], ◌∷◌, length, AllPairs, Option, None, Some, slice_get, slice_index}
 use Rattle.index_lists.specs.Lists.{times, AreLists}
 use Rattle.board_text.specs.PlainBoard.{PlainBoard}
 use Rattle.positions.specs.Ranks.{configurations, configuration_at}
@@ -28,6 +28,12 @@ pub record IsBetween (a : Arena) (r : ℕ) (above : ℕ → Bool) : Type 0 where
   pub lower : (y : ℕ) → y < a.configurations → lasts a (suc r) y ≡ true → above y ≡ true
   pub upper : (y : ℕ) → y < a.configurations → above y ≡ true → lasts a r y ≡ true
 
+-- what stands in a list from a node on
+abbrev pub rest_from : Option ℕ → List ℕ → List ℕ
+rest_from None xs = []
+rest_from (Some node) [] = []
+rest_from (Some node) (x ∷ xs) = cond (x == node) (x ∷ xs) (rest_from (Some node) xs)
+
 -- it lasts more than r requests, or stands in the list of what is to strike
 abbrev pub alive : Arena → ℕ → List ℕ → ℕ → Bool
 alive a r todo x = cond (lasts a (suc r) x) true (not (times x todo == 0))
@@ -53,13 +59,13 @@ pub record AreFiled (n : ℕ) (values : List ℕ) (nodes lists : ℕ) (bucket : 
   pub are_lists : AreLists nodes lists bucket
   pub once : (v x : ℕ) → v ≤ n → x < n → times x (bucket v) ≡ cond (slice_index values x == v) 1 0
 
--- the list of each gap has its open members, each once, as nodes of its pebble
-pub record AreSources (a : Arena) (values : List ℕ) (nodes lists : ℕ) (source : ℕ → List ℕ) : Type 0 where
+-- the list of each gap has its members that wait for a value, each once, as nodes of its pebble
+pub record AreSources (a : Arena) (waits : ℕ → Bool) (nodes lists : ℕ) (source : ℕ → List ℕ) : Type 0 where
   pub nodes_is : nodes ≡ a.pebbles * a.configurations
   pub lists_is : lists ≡ a.gaps
   pub are_lists : AreLists nodes lists source
   pub once : (g p x : ℕ) → g < a.gaps → p < a.pebbles → x < a.configurations
-      → times (p * a.configurations + x) (source g) ≡ cond (is_open values x && (a.gap x p == g)) 1 0
+      → times (p * a.configurations + x) (source g) ≡ cond (waits x && (a.gap x p == g)) 1 0
 
 -- the list of each gap has, ascending, the configurations that its answers lead to and where the test holds
 pub record AreLive (a : Arena) (above : ℕ → Bool) (nodes lists : ℕ) (living : ℕ → List ℕ) : Type 0 where
@@ -80,7 +86,7 @@ pub record IsStage (a : Arena) (above : ℕ → Bool) (values counts : List ℕ)
   pub counts_are : IsCounted a above counts
   pub words_are : AreWords a above values
   pub filed_are : AreFiled a.configurations values bn bl bucket
-  pub sources_are : AreSources a values sn sl source
+  pub sources_are : AreSources a (is_open values) sn sl source
   pub live_are : AreLive a above ln ll living
 
 -- the configuration is to be struck in round r

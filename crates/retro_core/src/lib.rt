@@ -2,5 +2,6 @@
 #![tactic(auto)]
 
 mod progress;
+mod tables;
 
 pub use progress::Progress;
