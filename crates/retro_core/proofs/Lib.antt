@@ -4,3 +4,5 @@ pub mod Strikes
 pub mod Closing
 pub mod BoardArenas
 pub mod Listed
+pub mod Struck
+pub mod Walking

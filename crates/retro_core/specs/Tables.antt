@@ -1,5 +1,5 @@
 -- What a solver's tables and lists say of the game.
-use Rattle.std.specs.Prelude.{◌≡◌, ℕ, ◌+◌, ◌*◌, ◌<◌, ◌≤◌, ◌≢◌, ◌==◌, ◌&&◌, not, Bool, true, false, cond, zero, suc, List, [], ◌∷◌, length, AllPairs, Option, None, Some, slice_get, slice_index}
+use Rattle.std.specs.Prelude.{◌≡◌, ℕ, ◌+◌, ◌*◌, ◌<◌, ◌≤◌, ◌≢◌, ◌==◌, ◌&&◌, not, Bool, true, false, cond, zero, suc, List, [], ◌∷◌, length, AllPairs, Option, None, Some, slice_index, slice_index_or}
 use Rattle.index_lists.specs.Lists.{times, AreLists}
 use Rattle.board_text.specs.PlainBoard.{PlainBoard}
 use Rattle.positions.specs.Ranks.{configurations, configuration_at}
@@ -79,7 +79,7 @@ pub record AreLive (a : Arena) (above : ℕ → Bool) (nodes lists : ℕ) (livin
 -- the dominator of each configuration
 pub record AreDominators (board : PlainBoard) (dominators : List (Option ℕ)) : Type 0 where
   pub dominators_length : length dominators ≡ configurations board
-  pub each : (c : ℕ) (found : Option ℕ) → slice_get dominators c ≡ Some found → IsSmallest (IsDominator board (configuration_at board c)) found
+  pub each : (c : ℕ) → c < configurations board → IsSmallest (IsDominator board (configuration_at board c)) (slice_index_or dominators c None)
 
 -- all tables and lists together, where the test holds of what is not struck yet
 pub record IsStage (a : Arena) (above : ℕ → Bool) (values counts : List ℕ) (bn bl : ℕ) (bucket : ℕ → List ℕ) (sn sl : ℕ) (source : ℕ → List ℕ) (ln ll : ℕ) (living : ℕ → List ℕ) : Type 0 where
