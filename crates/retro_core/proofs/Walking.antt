@@ -1,5 +1,5 @@
 -- A round's walk along the list of its value: what is left to strike.
-use Rattle.std.proofs.Common.{◌≡◌, ◌≢◌, ℕ, ◌+◌, ◌<◌, ◌≤◌, ◌==◌, not, inl, inr, Bool, true, false, cond, zero, suc, refl, arith, sym, ap, ◌∙◌, subst, List, [], ◌∷◌, length, Option, Some, None, IfSome, slice_get, slice_index}
+use Rattle.std.proofs.Common.{◌≡◌, ◌≢◌, ℕ, ◌+◌, ◌<◌, ◌≤◌, ◌==◌, not, inl, inr, Bool, true, false, cond, zero, suc, refl, arith, sym, ap, ◌∙◌, subst, List, [], ◌∷◌, length, Option, Some, None, IfSome, add-one, slice_get, slice_index}
 use Rattle.std.proofs.lemmas.Bool.Decides.{nat_tests}
 use Rattle.index_lists.specs.Lists.{times, AreLists}
 use Rattle.index_lists.proofs.Times.{times-here, times-later}
@@ -159,3 +159,26 @@ alive-next a r node place xs once e fails x = elim (same_or_not x node) [
 
 pub rest-shorter : (xs : List ℕ) (place node : ℕ) → ((x : ℕ) → times x xs ≤ 1) → slice_get xs place ≡ Some node → length (rest_from (slice_get xs (suc place)) xs) < length (rest_from (Some node) xs)
 rest-shorter xs place node once e = let step = ap length (rest-step xs place node once e) in omega arith
+
+-- ---- the walk as the code has it: what stands next, in the list after the strike
+
+next_is : (xs xs' : List ℕ) (place : ℕ) (at : Option ℕ) → xs' ≡ xs → at ≡ slice_get xs' (place + 1) → at ≡ slice_get xs (suc place)
+next_is xs xs' place at same e = e ∙ ap (λ (ys : List ℕ). slice_get ys (place + 1)) same ∙ ap (slice_get xs) (add-one place)
+
+pub alive-on : (a : Arena) (r node place : ℕ) (xs xs' : List ℕ) (at : Option ℕ) → ((x : ℕ) → times x xs ≤ 1) → slice_get xs place ≡ Some node → lasts a (suc r) node ≡ false
+    → xs' ≡ xs → at ≡ slice_get xs' (place + 1) → (x : ℕ) → without (alive a r (rest_from (Some node) xs)) node x ≡ alive a r (rest_from at xs') x
+alive-on a r node place xs xs' at once e fails same next x =
+    alive-next a r node place xs once e fails x
+    ∙ ap (λ o. alive a r (rest_from o xs) x) (sym (next_is xs xs' place at same next))
+    ∙ ap (λ (ys : List ℕ). alive a r (rest_from at ys) x) (sym same)
+
+pub shorter-on : (xs xs' : List ℕ) (node place : ℕ) (at at' : Option ℕ) → ((x : ℕ) → times x xs ≤ 1) → slice_get xs place ≡ Some node → at ≡ Some node
+    → xs' ≡ xs → at' ≡ slice_get xs' (place + 1) → length (rest_from at' xs') < length (rest_from at xs)
+shorter-on xs xs' node place at at' once e is same next =
+    rw (is, same, next_is xs xs' place at' same next) (rest-shorter xs place node once e)
+
+pub inside-on : (xs xs' : List ℕ) (place : ℕ) (at : Option ℕ) → at ≡ slice_get xs' (place + 1) → IfSome at (λ node. 0 < times node xs')
+inside-on xs xs' place at next = place_in xs' (place + 1) at next
+
+pub inside_some : (at : Option ℕ) (node : ℕ) (xs : List ℕ) → at ≡ Some node → IfSome at (λ n. 0 < times n xs) → 0 < times node xs
+inside_some at node xs e h = subst (λ o. IfSome o (λ n. 0 < times n xs)) e h

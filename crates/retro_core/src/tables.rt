@@ -111,6 +111,7 @@ impl<S: ListStore> Tables<S> {
             (S.nodes self.new.sources) (S.lists self.new.sources) (S.list self.new.sources) (S.nodes self.new.living) (S.lists self.new.living) (S.list self.new.living) }
         ensures other_buckets { (v : ℕ) → v ≢ round + 1 → S.list self.new.buckets v ≡ S.list self.old.buckets v }
     {
+        let _ = space.configurations();
         let mut at = self.buckets.first(round);
         while let Some(rank) = at {
             self.strike(space, dominators, rank, round);
