@@ -78,7 +78,7 @@ arena_is b is = record {
       let one = (answers_is b (gap_of b at p) (get_or at p 0) (gap_below b at p ok j) (label_below b at p ok j)).0 e in
       let other = (answers_is b (gap_of b at q) (get_or at q 0) (gap_below b at q ok k) (label_below b at q ok k)).0 f in
       let same = one_gap b (gap_of b at p) (gap_of b at q) (get_or at p 0) (get_or at q 0) is.pairs.one_way (gap_below b at p ok j) (gap_below b at q ok k) one other
-          (own_member b at p ok j ∙ sym (own_member b at q ok k)) in
+      (own_member b at p ok j ∙ sym (own_member b at q ok k)) in
       sym (pebble_of-gap_of b at p ok j) ∙ ap (pebble_of b) same ∙ pebble_of-gap_of b at q ok k;
 }
 

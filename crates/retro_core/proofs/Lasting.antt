@@ -88,7 +88,6 @@ pub true_or_false : (b : Bool) → (b ≡ true) ⊎ (b ≡ false)
 true_or_false true = inl refl
 true_or_false false = inr refl
 
-
 pub true_not_false : (b : Bool) → b ≡ true → b ≡ false → ⊥
 true_not_false b e f = cc
 

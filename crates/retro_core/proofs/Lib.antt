@@ -6,3 +6,5 @@ pub mod BoardArenas
 pub mod Listed
 pub mod Struck
 pub mod Walking
+pub mod Entering
+pub mod Entered

@@ -1,5 +1,5 @@
 -- What a solver's tables and lists say of the game.
-use Rattle.std.specs.Prelude.{◌≡◌, ℕ, ◌+◌, ◌*◌, ◌<◌, ◌≤◌, ◌≢◌, ◌==◌, ◌&&◌, not, Bool, true, false, cond, zero, suc, List, [], ◌∷◌, length, AllPairs, Option, None, Some, slice_index, slice_index_or}
+use Rattle.std.specs.Prelude.{◌≡◌, ℕ, ◌+◌, ◌*◌, ◌<◌, ◌≤◌, ◌≢◌, ◌==◌, ◌&&◌, not, nat_lt, Bool, true, false, cond, zero, suc, List, [], ◌∷◌, length, AllPairs, Option, None, Some, slice_index, slice_index_or}
 use Rattle.index_lists.specs.Lists.{times, AreLists}
 use Rattle.board_text.specs.PlainBoard.{PlainBoard}
 use Rattle.positions.specs.Ranks.{configurations, configuration_at}
@@ -94,3 +94,19 @@ pub record IsToStrike (a : Arena) (r : ℕ) (above : ℕ → Bool) (rank : ℕ) 
   pub between : IsBetween a r above
   pub is_above : above rank ≡ true
   pub stops : lasts a (suc r) rank ≡ false
+
+-- the test of the numbers below a bound
+abbrev pub below : ℕ → ℕ → Bool
+below n x = nat_lt x n
+
+-- the configurations below n are entered: those with a request that has no answer are filed at 0, the others wait
+pub record IsEntered (a : Arena) (n : ℕ) (values counts : List ℕ) (bn bl : ℕ) (bucket : ℕ → List ℕ) (sn sl : ℕ) (source : ℕ → List ℕ) (ln ll : ℕ) (living : ℕ → List ℕ) : Type 0 where
+  pub counts_are : IsCounted a (lasts a 0) counts
+  pub values_length : length values ≡ a.configurations
+  pub entered : (x : ℕ) → x < n → is_open values x ≡ next a (lasts a 0) x
+  pub zeros : (x : ℕ) → x < a.configurations → is_open values x ≡ false → slice_index values x ≡ 0
+  pub to_come : (x : ℕ) → x < a.configurations → n ≤ x → is_open values x ≡ true
+  pub filed_are : AreFiled a.configurations values bn bl bucket
+  pub ascending : AllPairs (λ first second. first < second) (bucket 0)
+  pub sources_are : AreSources a (λ x. is_open values x && below n x) sn sl source
+  pub live_are : AreLive a (below n) ln ll living

@@ -1,6 +1,7 @@
 //! Values of configurations, found backwards in rounds.
 #![tactic(auto)]
 
+mod opening;
 mod progress;
 mod tables;
 

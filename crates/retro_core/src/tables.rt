@@ -46,8 +46,7 @@ impl<S: ListStore> Tables<S> {
         self.values[rank as usize] = value;
         self.buckets.push_back(value, rank);
         for pebble in 0..space.pebbles() {
-            self.sources
-                .unlink(pebble as u32 * configurations + rank);
+            self.sources.unlink(pebble as u32 * configurations + rank);
         }
     }
 

@@ -30,7 +30,7 @@ overflow_sub-left g c =
     let d = dominator-some b _ _ _ c.requires.dominators c.requires.rank_in c.in-Some.is in
     let t = c.requires.to_strike in
     let some : 0 < slice_index c.args.self.now.counts.items c.gap-gap.result =
-        count-left (arena_of b) is _ _ _ _ _ c.requires.rank_in d t.1.is_above c.gap-gap.ensures.gap t.2.counts_are in
+    count-left (arena_of b) is _ _ _ _ _ c.requires.rank_in d t.1.is_above c.gap-gap.ensures.gap t.2.counts_are in
     let within : c.gap-gap.result < length c.args.self.now.counts.items = (let size = t.2.counts_are.counts_length in let below = c.gap-gap.ensures.below in omega arith) in
     let read = get_or_read c.args.self.now.counts.items c.gap-gap.result c.index.result.now within c.index.ensures 0 in
     omega arith
@@ -49,7 +49,7 @@ returns-else-left-eq0-clause-struck g c =
     let u = c.unlink.ensures in
     λ above todo stage.
     let some : 0 < slice_index c.args.self.now.counts.items c.gap-gap.result =
-        count-left (arena_of b) is above _ _ _ _ c.requires.rank_in d todo.is_above c.gap-gap.ensures.gap stage.counts_are in
+    count-left (arena_of b) is above _ _ _ _ c.requires.rank_in d todo.is_above c.gap-gap.ensures.gap stage.counts_are in
     let within : c.gap-gap.result < length c.args.self.now.counts.items = (let size = stage.counts_are.counts_length in let below = c.gap-gap.ensures.below in omega arith) in
     let read = get_or_read c.args.self.now.counts.items c.gap-gap.result c.index.result.now within c.index.ensures 0 in
     let other = c.if-left-eq0.false in
@@ -67,7 +67,7 @@ returns-then-left-eq0-clause-struck g c =
     let f = c.close_gap.ensures in
     λ above todo stage.
     let some : 0 < slice_index c.args.self.now.counts.items c.gap-gap.result =
-        count-left (arena_of b) is above _ _ _ _ c.requires.rank_in d todo.is_above c.gap-gap.ensures.gap stage.counts_are in
+    count-left (arena_of b) is above _ _ _ _ c.requires.rank_in d todo.is_above c.gap-gap.ensures.gap stage.counts_are in
     let within : c.gap-gap.result < length c.args.self.now.counts.items = (let size = stage.counts_are.counts_length in let below = c.gap-gap.ensures.below in omega arith) in
     let read = get_or_read c.args.self.now.counts.items c.gap-gap.result c.index.result.now within c.index.ensures 0 in
     let none = c.if-left-eq0.true in
