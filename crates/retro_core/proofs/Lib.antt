@@ -8,3 +8,5 @@ pub mod Struck
 pub mod Walking
 pub mod Entering
 pub mod Entered
+pub mod Solved
+pub mod Rounds

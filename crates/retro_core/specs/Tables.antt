@@ -6,6 +6,7 @@ use Rattle.positions.specs.Ranks.{configurations, configuration_at}
 use Rattle.positions.specs.Gaps.{IsDominator}
 use Rattle.positions.specs.Counts.{IsSmallest}
 use Rattle.retro_core.specs.Arena.{Arena, count_below, live, next, lasts, IsLast}
+use Rattle.retro_core.specs.BoardArena.{arena_of}
 
 -- the word of a configuration that has no value yet
 abbrev pub is_open : List ℕ → ℕ → Bool
@@ -110,3 +111,16 @@ pub record IsEntered (a : Arena) (n : ℕ) (values counts : List ℕ) (bn bl : �
   pub ascending : AllPairs (λ first second. first < second) (bucket 0)
   pub sources_are : AreSources a (λ x. is_open values x && below n x) sn sl source
   pub live_are : AreLive a (below n) ln ll living
+
+-- how many rounds have struck their value
+abbrev pub struck_rounds : Bool → ℕ → ℕ
+struck_rounds is_done round = cond is_done (suc round) round
+
+-- a solver between its calls
+pub record IsState (board : PlainBoard) (dominators : List (Option ℕ)) (values counts : List ℕ) (bn bl : ℕ) (bucket : ℕ → List ℕ) (sn sl : ℕ) (source : ℕ → List ℕ) (ln ll : ℕ) (living : ℕ → List ℕ) (round : ℕ) (is_done : Bool) : Type 0 where
+  pub dominators_are : AreDominators board dominators
+  pub stage : IsStage (arena_of board) (lasts (arena_of board) (struck_rounds is_done round)) values counts bn bl bucket sn sl source ln ll living
+  pub some : 0 < count_below (configurations board) (lasts (arena_of board) round)
+  pub bound : count_below (configurations board) (lasts (arena_of board) round) + round ≤ configurations board
+  pub last : is_done ≡ true → IsLast (arena_of board) (suc round)
+  pub ascending : AllPairs (λ first second. first < second) (bucket 0)

@@ -1,8 +1,13 @@
 //! Values of configurations, found backwards in rounds.
 #![tactic(auto)]
 
+mod fault;
 mod opening;
 mod progress;
+mod solver;
 mod tables;
 
+pub use fault::SolveFault;
+pub use positions::Value;
 pub use progress::Progress;
+pub use solver::Solver;

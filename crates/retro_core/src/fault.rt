@@ -1,0 +1,37 @@
+//! Why values were not found.
+
+ghost use Rattle.std.specs.Prelude.{◌≡◌};
+
+use board_text::Memory;
+use positions::TooLarge;
+use thiserror::Error;
+
+/// Why a board was not solved.
+#[derive(Clone, Copy, Debug, Error, PartialEq, Eq)]
+pub enum SolveFault {
+    /// The board has more than 1,048,576 configurations.
+    #[error("board too large")]
+    TooLarge,
+    /// A growth of memory was refused.
+    #[error("out of memory")]
+    Memory,
+    /// A thread couldn't be started. `Solver::open` starts none.
+    #[error("worker not started")]
+    Worker,
+}
+
+impl From<TooLarge> for SolveFault {
+    fn from(_fault: TooLarge) -> SolveFault
+        ensures { result ≡ SolveFault.TooLarge }
+    {
+        SolveFault::TooLarge
+    }
+}
+
+impl From<Memory> for SolveFault {
+    fn from(_fault: Memory) -> SolveFault
+        ensures { result ≡ SolveFault.Memory }
+    {
+        SolveFault::Memory
+    }
+}
