@@ -67,9 +67,9 @@ round-starts a is values counts bn bl list sn sl source ln ll living r few i s =
         | inl one ↦ (let word = word-at a is (lasts a r) values r x j s.words_are (s.words_are.opened x j ∙ fails) one fails in
             one ∙ sym (alive-fails a r (list r) x fails ∙ some_there (times x (list r)) (filed-at a values bn bl list r x s.filed_are (omega arith) j word)))
         | inr none ↦ none ∙ sym (alive-fails a r (list r) x fails ∙ none_there (times x (list r)) (elim (cases_lt 0 (times x (list r))) [
-            | inr nothing ↦ omega arith
-            | inl some ↦ absurd (true_not_false (lasts a r x) (filed-word a (lasts a r) values bn bl list r x few s.words_are s.filed_are (omega arith) j some).lasting none)
-          ]))
+          | inr nothing ↦ omega arith
+          | inl some ↦ absurd (true_not_false (lasts a r x) (filed-word a (lasts a r) values bn bl list r x few s.words_are s.filed_are (omega arith) j some).lasting none)
+        ]))
       ]
     ]) s
   where

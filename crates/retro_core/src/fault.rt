@@ -1,9 +1,5 @@
 //! Why values were not found.
 
-ghost use Rattle.std.specs.Prelude.{◌≡◌};
-
-use board_text::Memory;
-use positions::TooLarge;
 use thiserror::Error;
 
 /// Why a board was not solved.
@@ -18,20 +14,4 @@ pub enum SolveFault {
     /// A thread couldn't be started. `Solver::open` starts none.
     #[error("worker not started")]
     Worker,
-}
-
-impl From<TooLarge> for SolveFault {
-    fn from(_fault: TooLarge) -> SolveFault
-        ensures { result ≡ SolveFault.TooLarge }
-    {
-        SolveFault::TooLarge
-    }
-}
-
-impl From<Memory> for SolveFault {
-    fn from(_fault: Memory) -> SolveFault
-        ensures { result ≡ SolveFault.Memory }
-    {
-        SolveFault::Memory
-    }
 }

@@ -12,9 +12,9 @@ use crate::fault::SolveFault;
 use crate::opening::{counts_of, dominators_of};
 use crate::progress::Progress;
 use crate::tables::{OPEN, Tables};
-use board_text::Board;
+use board_text::{Board, Memory};
 use index_lists::ListStore;
-use positions::Space;
+use positions::{Space, TooLarge};
 use std::alloc::Global;
 use std::marker::Model;
 
@@ -53,7 +53,23 @@ impl<S: ListStore + Drop> Solver<S> {
         ensures too_large { (result ≡ Err SolveFault.TooLarge) ↔ (1048576 < configurations board.now) }
         ensures no_worker { result ≡ Err SolveFault.Worker → ⊥ }
     {
-        let space = Space::of(board)?;
+        match Space::of(board) {
+            Ok(space) => match Solver::start(alloc, space, board) {
+                Ok(solver) => Ok(solver),
+                Err(Memory) => Err(SolveFault::Memory),
+            },
+            Err(TooLarge) => Err(SolveFault::TooLarge),
+        }
+    }
+
+    /// A solver of a board of this space.
+    fn start(alloc: Global, space: Space, board: &Board) -> Result<Solver<S>, Memory>
+        requires { space ≡ board.now }
+        ensures board { IfOk result (λ solver. solver.board ≡ board.now) }
+        ensures start { IfOk result (λ solver. (solver.rounds ≡ 0) × (solver.is_done ≡ false)) }
+        ensures kept { IfOk result (λ solver. IsSolving solver) }
+    {
+        let _ = space.configurations();
         let dominators = dominators_of(alloc, &space, board)?;
         let counts = counts_of(alloc, &space, board)?;
         let mut tables = Tables::new(alloc, &space, counts)?;
