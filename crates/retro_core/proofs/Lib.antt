@@ -10,3 +10,6 @@ pub mod Entering
 pub mod Entered
 pub mod Solved
 pub mod Rounds
+pub mod Safest
+pub mod Finished
+pub mod Sources

@@ -1,10 +1,13 @@
 -- What a solver's tables and lists say of the game.
-use Rattle.std.specs.Prelude.{◌≡◌, ℕ, ◌+◌, ◌*◌, ◌<◌, ◌≤◌, ◌≢◌, ◌==◌, ◌&&◌, not, nat_lt, Bool, true, false, cond, zero, suc, List, [], ◌∷◌, length, AllPairs, Option, None, Some, slice_index, slice_index_or}
+use Rattle.std.specs.Prelude.{◌≡◌, ℕ, ◌+◌, ◌*◌, ◌<◌, ◌≤◌, ◌≢◌, ◌↔◌, ◌==◌, ◌&&◌, not, nat_lt, Bool, true, false, cond, zero, suc, List, [], ◌∷◌, length, AllPairs, Option, None, Some, slice_index, slice_index_or}
 use Rattle.index_lists.specs.Lists.{times, AreLists}
-use Rattle.board_text.specs.PlainBoard.{PlainBoard}
+use Rattle.board_text.specs.PlainBoard.{PlainBoard, IsBoard}
 use Rattle.positions.specs.Ranks.{configurations, configuration_at}
-use Rattle.positions.specs.Gaps.{IsDominator}
+use Rattle.positions.specs.declared.value.Value.TheVariants.{Finite, Forever}
+use Rattle.positions.specs.Value.{HasValue}
+use Rattle.positions.specs.Gaps.{gaps, IsDominator}
 use Rattle.positions.specs.Counts.{IsSmallest}
+use Rattle.retro_core.specs.Solving.{AnswerForever}
 use Rattle.retro_core.specs.Arena.{Arena, count_below, live, next, lasts, IsLast}
 use Rattle.retro_core.specs.BoardArena.{arena_of}
 
@@ -124,3 +127,22 @@ pub record IsState (board : PlainBoard) (dominators : List (Option ℕ)) (values
   pub bound : count_below (configurations board) (lasts (arena_of board) round) + round ≤ configurations board
   pub last : is_done ≡ true → IsLast (arena_of board) (suc round)
   pub ascending : AllPairs (λ first second. first < second) (bucket 0)
+
+-- the number that a word stands for, if it isn't the word for none
+abbrev pub known_word : ℕ → Option ℕ
+known_word word = cond (word == 4294967295) None (Some word)
+
+-- the lists have what is worth forever
+pub record AreForever (board : PlainBoard) (nodes lists : ℕ) (living : ℕ → List ℕ) : Type 0 where
+  pub is_board : IsBoard board
+  pub above : ℕ → Bool
+  pub live_are : AreLive (arena_of board) above nodes lists living
+  pub means : (x : ℕ) → x < configurations board → (above x ≡ true) ↔ HasValue board (configuration_at board x) Forever
+
+-- each word is a value or the word of what is worth forever, and each gap has the word of its smallest answer of that value
+pub record AreValues (board : PlainBoard) (values safe : List ℕ) : Type 0 where
+  pub values_length : length values ≡ configurations board
+  pub safe_length : length safe ≡ gaps board
+  pub finite : (x : ℕ) → x < configurations board → is_open values x ≡ false → HasValue board (configuration_at board x) (Finite (slice_index values x))
+  pub forever : (x : ℕ) → x < configurations board → is_open values x ≡ true → HasValue board (configuration_at board x) Forever
+  pub safest : (g : ℕ) → g < gaps board → IsSmallest (AnswerForever board g) (known_word (slice_index safe g))

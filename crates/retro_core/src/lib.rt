@@ -6,8 +6,10 @@ mod opening;
 mod progress;
 mod solver;
 mod tables;
+mod values;
 
 pub use fault::SolveFault;
 pub use positions::Value;
 pub use progress::Progress;
-pub use solver::Solver;
+pub use solver::{Solver, Unfinished};
+pub use values::Values;

@@ -1,17 +1,18 @@
 //! The solver.
 
-ghost use Rattle.std.specs.Prelude.{◌≡◌, ℕ, ◌+◌, ◌<◌, ◌≤◌, ◌↔◌, true, false, suc, length, slice_get, IfOk, Err, Some, None};
+ghost use Rattle.std.specs.Prelude.{◌≡◌, ℕ, ◌+◌, ◌<◌, ◌≤◌, ◌↔◌, true, false, suc, length, slice_get, IfOk, IfErr, Err, Some, None};
 ghost use Rattle.positions.specs.declared.value.Value.TheVariants.{Finite};
 ghost use Rattle.positions.specs.Value.{HasValue};
 ghost use Rattle.positions.specs.Ranks.{configurations, configuration_at};
 ghost use Rattle.positions.specs.Gaps.{gaps, IsDominator};
 ghost use Rattle.positions.specs.Counts.{HasSize, IsSmallest};
-ghost use Rattle.retro_core.specs.Solving.{IsSolving, bucket, NoneHas, AnswerLasts, AnswerForever};
+ghost use Rattle.retro_core.specs.Solving.{IsSolving, bucket, source, NoneHas, AnswerLasts, AnswerForever};
 
 use crate::fault::SolveFault;
 use crate::opening::{counts_of, dominators_of};
 use crate::progress::Progress;
 use crate::tables::{OPEN, Tables};
+use crate::values::{Values, write_safe};
 use board_text::{Board, Memory};
 use index_lists::ListStore;
 use positions::{Space, TooLarge};
@@ -180,5 +181,45 @@ impl<S: ListStore> Solver<S> {
     {
         let _ = self.space.configurations();
         self.tables.buckets.next(rank)
+    }
+
+    /// The first configuration of a gap that has no value of at most the number of rounds.
+    pub fn first_source(&self, gap: u32) -> Option<u32>
+        requires { gap < gaps self.now.board }
+        ensures first { result ≡ slice_get (source self.now gap) 0 }
+    {
+        let configurations = self.space.configurations();
+        match self.tables.sources.first(gap) {
+            Some(node) => Some(node % configurations),
+            None => None,
+        }
+    }
+}
+
+/// A solver that isn't done.
+pub struct Unfinished<S: ListStore> {
+    /// The solver, as it was.
+    pub solver: Solver<S>,
+}
+
+impl<S: ListStore + Drop> Solver<S> {
+    /// The values of the board, once a round has found that no configuration has the next one.
+    pub fn finish(self) -> Result<Values, Unfinished<S>>
+        ensures values { IfOk result (λ values. (self.is_done ≡ true) × (values ≡ self.board)) }
+        ensures unfinished { IfErr result (λ unfinished. (self.is_done ≡ false) × (unfinished.solver ≡ self)) }
+    {
+        let _ = self.space.configurations();
+        if !self.done {
+            return Err(Unfinished { solver: self });
+        }
+        let Solver { space, tables, .. } = self;
+        let Tables {
+            values,
+            mut counts,
+            living,
+            ..
+        } = tables;
+        write_safe(&mut counts, &space, &living);
+        Ok(Values::new(space, values, counts))
     }
 }
