@@ -8,8 +8,8 @@ pub mod Struck
 pub mod Walking
 pub mod Entering
 pub mod Entered
+pub mod Sources
 pub mod Solved
 pub mod Rounds
 pub mod Safest
 pub mod Finished
-pub mod Sources

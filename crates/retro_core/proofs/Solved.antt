@@ -1,5 +1,5 @@
 -- What a solver knows between its calls.
-use Rattle.std.proofs.Common.{◌≡◌, ◌≢◌, ℕ, ◌+◌, ◌<◌, ◌≤◌, ◌↔◌, ◌==◌, not, inl, inr, Bool, true, false, cond, zero, suc, refl, arith, sym, ap, ◌∙◌, subst, List, [], ◌∷◌, length, map, get_or, slice_index, Option, Some, None, add-one}
+use Rattle.std.proofs.Common.{◌≡◌, ◌≢◌, ℕ, ◌+◌, ◌-◌, ◌*◌, ◌&&◌, ◌<◌, ◌≤◌, ◌↔◌, ◌==◌, not, inl, inr, Bool, true, false, cond, zero, suc, refl, arith, sym, ap, ◌∙◌, subst, List, [], ◌∷◌, length, map, get_or, slice_index, Option, Some, None, add-one}
 use Rattle.std.specs.List.{AllPairs, range_with_len}
 use Rattle.std.proofs.lemmas.Bool.{cases_lt}
 use Rattle.std.proofs.lemmas.Bool.Decides.{nat_tests}
@@ -11,16 +11,18 @@ use Rattle.positions.specs.declared.value.Value.TheVariants.{Finite, Forever}
 use Rattle.positions.specs.Game.{LabellerTree}
 use Rattle.positions.specs.Value.{HasValue}
 use Rattle.positions.specs.Ranks.{configurations, rank_of, configuration_at}
+use Rattle.positions.specs.Gaps.{member_of}
 use Rattle.positions.proofs.Ranks.{rank_below, configuration_at-rank_of}
 use Rattle.retro_core.specs.Arena.{Arena, IsArena, count_below, next, lasts, IsLast}
 use Rattle.retro_core.specs.BoardArena.{arena_of}
 use Rattle.retro_core.specs.Tables.{is_open, alive, struck_rounds, AreWords, AreFiled, IsStage, IsState}
-use Rattle.retro_core.specs.Solving.{Solving, AreBuckets, IsSolving, NoneHas, bucket, first_lists}
+use Rattle.retro_core.specs.Solving.{Solving, AreBuckets, AreOpenMembers, IsSolving, NoneHas, bucket, first_lists, rank_in}
 use Rattle.retro_core.proofs.Counts.{count_below-some, count_below-less}
-use Rattle.retro_core.proofs.Lasting.{true_or_false, true_not_false, same_or_not, same_is, lasts-less, lasts-at-most}
+use Rattle.retro_core.proofs.Lasting.{both_true, true_or_false, true_not_false, same_or_not, same_is, lasts-less, lasts-at-most}
 use Rattle.retro_core.proofs.Strikes.{lasts-forever}
-use Rattle.retro_core.proofs.BoardArenas.{arena_is, tree_of_lasts, lasts_of_tree, value_of_lasts, lasts_of_value}
-use Rattle.retro_core.proofs.Listed.{shut_word}
+use Rattle.retro_core.proofs.BoardArenas.{at_member, arena_is, tree_of_lasts, lasts_of_tree, value_of_lasts, lasts_of_value}
+use Rattle.retro_core.proofs.Listed.{shut_word, times_true}
+use Rattle.retro_core.proofs.Sources.{waits-times, listed-member}
 use Rattle.retro_core.proofs.Walking.{HasWord, filed-word, alive-lasts, alive-fails, IsStage-same}
 
 -- ---- the lists as callers see them
@@ -217,8 +219,47 @@ module _ (b : PlainBoard) (board_is : IsBoard b) (few : configurations b ≤ 104
         | inr d ↦ absurd (let once = f.once v x low i in let none = cond_other {A = ℕ} (slice_index values x) v 1 0 d in omega arith)
       ]
 
-  pub solving_of : (sources : List (List ℕ)) → IsSolving (record { board = b; rounds = round; is_done = is_done; buckets = first_lists bl list; sources = sources })
-  solving_of sources = record {
+  -- the lists of members that wait, as callers see them
+  pub source-shown : (g : ℕ) → get_or (first_lists sl (λ gap. map (rank_in b) (source gap))) g [] ≡ map (rank_in b) (source g)
+  source-shown g = list-shown sl (λ gap. map (rank_in b) (source gap)) (λ m h. ap (map (rank_in b)) (s.stage.sources_are.are_lists.beyond m h)) g
+
+  cond_some : (c d : Bool) → c ≡ true → d ≡ true → 0 < cond {A = ℕ} (c && d) 1 0
+  cond_some c d e f = rw (e, f) (omega arith)
+
+  cond_few : (c : Bool) → cond {A = ℕ} c 1 0 ≤ 1
+  cond_few true = omega arith
+  cond_few false = omega arith
+
+  open-members : AreOpenMembers (record { board = b; rounds = round; is_done = is_done; buckets = first_lists bl list; sources = first_lists sl (λ gap. map (rank_in b) (source gap)) })
+  open-members = record {
+    listed = λ g v i j.
+        let x = rank_of b (member_of b g v) in
+        let x_in = is.member_in g v i j in
+        let count = waits-times a is (is_open values) sn sl source s.stage.sources_are g i x x_in in
+        rw (source-shown g) (
+          λ h. subst (LabellerTree b (suc round)) (at_member b g v i j)
+              (tree_of_lasts b board_is (suc round) x x_in (open-lasts x x_in (both_true (is_open values x) (a.gap x (a.pebble g) == g) (times_true _ _ h count)).0)),
+          λ tree. let still = lasts-open x x_in (lasts_of_tree b board_is (suc round) x x_in (subst (LabellerTree b (suc round)) (sym (at_member b g v i j)) tree)) in
+              let some = cond_some (is_open values x) (a.gap x (a.pebble g) == g) still (same_is (a.gap x (a.pebble g)) g (is.gap_of_member g v i j)) in
+              omega arith,
+        );
+    once = λ g x i j. rw (source-shown g)
+        (let count = waits-times a is (is_open values) sn sl source s.stage.sources_are g i x j in
+        let few = cond_few (is_open values x && (a.gap x (a.pebble g) == g)) in omega arith);
+    members = λ g x i. rw (source-shown g) (λ h.
+        let m = listed-member a is (is_open values) sn sl source s.stage.sources_are g i x h in
+        let same : a.pebble g * a.configurations + x - a.pebble g * a.configurations ≡ x = omega arith in
+        let low : x < a.configurations = subst (λ y. y < a.configurations) same m.rank_in in
+        let gap_is : a.gap x (a.pebble g) ≡ g = ap (λ y. a.gap y (a.pebble g)) (sym same) ∙ m.member in
+        let label = a.label x (a.pebble g) in (
+          label,
+          is.label_in x (a.pebble g) low (is.pebble_in g i),
+          sym (ap (λ h'. a.member h' label) (sym gap_is) ∙ is.member_of_gap x (a.pebble g) low (is.pebble_in g i)),
+        ));
+  }
+
+  pub solving_of : IsSolving (record { board = b; rounds = round; is_done = is_done; buckets = first_lists bl list; sources = first_lists sl (λ gap. map (rank_in b) (source gap)) })
+  solving_of = record {
     is_board = board_is;
     few = few;
     buckets = record {
@@ -227,6 +268,7 @@ module _ (b : PlainBoard) (board_is : IsBoard b) (few : configurations b ≤ 104
       ranks = λ v x. rw (shown v) (λ h. let below = s.stage.filed_are.are_lists.below v x h in let e = s.stage.filed_are.nodes_is in omega arith);
       ascending = rw (shown 0) s.ascending;
     };
+    sources = open-members;
     forever = λ done x i tree. forever-of done x i (lasts_of_tree b board_is (suc round) x i tree);
   }
 

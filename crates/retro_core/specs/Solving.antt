@@ -51,6 +51,7 @@ pub record IsSolving (s : Solving) : Type 0 where
   pub is_board : IsBoard s.board
   pub few : configurations s.board ≤ 1048576
   pub buckets : AreBuckets s
+  pub sources : AreOpenMembers s
   pub forever : s.is_done ≡ true → (rank : ℕ) → rank < configurations s.board
       → LabellerTree s.board (suc s.rounds) (configuration_at s.board rank) → HasValue s.board (configuration_at s.board rank) Forever
 

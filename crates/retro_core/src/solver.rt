@@ -194,6 +194,21 @@ impl<S: ListStore> Solver<S> {
             None => None,
         }
     }
+
+    /// The member behind one of a gap, among those that have no value of at most the number of rounds. One that has such a value has none.
+    pub fn next_source(&self, gap: u32, rank: u32) -> Option<u32>
+        requires gap { gap < gaps self.now.board }
+        requires rank { rank < configurations self.now.board }
+        ensures behind { (place : ℕ) → slice_get (source self.now gap) place ≡ Some rank → result ≡ slice_get (source self.now gap) (place + 1) }
+        ensures not_listed { ((other : ℕ) → (place : ℕ) → slice_get (source self.now other) place ≡ Some rank → ⊥) → result ≡ None }
+    {
+        let configurations = self.space.configurations();
+        let node = self.space.gap_pebble(gap) as u32 * configurations + rank;
+        match self.tables.sources.next(node) {
+            Some(next) => Some(next % configurations),
+            None => None,
+        }
+    }
 }
 
 /// A solver that isn't done.

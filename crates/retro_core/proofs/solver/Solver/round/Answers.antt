@@ -14,7 +14,7 @@ returns-then-self-clause-none g c =
 pub returns-then-self-clause-kept : goal.returns-then-self-clause-kept
 returns-then-self-clause-kept g c =
     let e = c.configurations.ensures in
-    rw (← c.self.view_is) (solving_of _ e.is_board e.few _ _ _ _ _ _ _ _ _ _ _ _ _ _ c.self.invariant _)
+    rw (← c.self.view_is) (solving_of _ e.is_board e.few _ _ _ _ _ _ _ _ _ _ _ _ _ _ c.self.invariant)
 
 pub strike_bucket-requires-clause-round_in : goal.strike_bucket-requires-clause-round_in
 strike_bucket-requires-clause-round_in g c =
@@ -51,7 +51,7 @@ returns-then-filed-eq0-clause-kept g c =
     let e = c.configurations.ensures in
     let t = c.strike_bucket.ensures in
     solving_of _ e.is_board e.few _ _ _ _ _ _ _ _ _ _ _ _ _ _
-    (last-state _ e.is_board e.few _ _ _ _ _ _ _ _ _ _ _ _ _ _ c.self.invariant _ _ _ _ _ _ _ _ _ _ _ t.stage t.other_buckets (sym c.len-filed.ensures.len ∙ c.if-filed-eq0.true)) _
+    (last-state _ e.is_board e.few _ _ _ _ _ _ _ _ _ _ _ _ _ _ c.self.invariant _ _ _ _ _ _ _ _ _ _ _ t.stage t.other_buckets (sym c.len-filed.ensures.len ∙ c.if-filed-eq0.true))
 
 pub invariant_of-self-2 : goal.invariant_of-self-2
 invariant_of-self-2 g c =
@@ -86,4 +86,4 @@ returns-clause-kept g c =
     let e = c.configurations.ensures in
     let t = c.strike_bucket.ensures in
     solving_of _ e.is_board e.few _ _ _ _ _ _ _ _ _ _ _ _ _ _
-    (further-state _ e.is_board e.few _ _ _ _ _ _ _ _ _ _ _ _ _ _ c.self.invariant _ _ _ _ _ _ _ _ _ _ _ t.stage t.other_buckets c.if-self.false (λ z. c.if-filed-eq0.false (c.len-filed.ensures.len ∙ z))) _
+    (further-state _ e.is_board e.few _ _ _ _ _ _ _ _ _ _ _ _ _ _ c.self.invariant _ _ _ _ _ _ _ _ _ _ _ t.stage t.other_buckets c.if-self.false (λ z. c.if-filed-eq0.false (c.len-filed.ensures.len ∙ z)))

@@ -16,4 +16,4 @@ returns-clause-kept g c =
     let b = c.args.space in
     let e = c.configurations.ensures in
     solving_of b e.is_board e.few _ _ _ _ _ _ _ _ _ _ _ _ _ _
-    (start-state b e.is_board _ _ _ _ _ _ _ _ _ _ _ _ (one-le-pow b.pebbles (places b) e.is_board.labels.0) c.in_ok-dominators.ensures c.enter_all.ensures.entered) _
+    (start-state b e.is_board _ _ _ _ _ _ _ _ _ _ _ _ (one-le-pow b.pebbles (places b) e.is_board.labels.0) c.in_ok-dominators.ensures c.enter_all.ensures.entered)
