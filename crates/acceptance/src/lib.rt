@@ -16,13 +16,15 @@ mod document_texts;
 #[cfg(test)]
 mod documents;
 #[cfg(test)]
+mod lists;
+#[cfg(test)]
 mod long_documents;
 #[cfg(test)]
 mod nested;
 #[cfg(test)]
-mod lists;
-#[cfg(test)]
 mod printing;
+#[cfg(test)]
+mod solving;
 #[cfg(test)]
 mod spaces;
 #[cfg(test)]

@@ -1,13 +1,12 @@
 -- The game of a board on ranks is the game on lists of labels.
-use Rattle.std.proofs.Common.{◌≡◌, ℕ, ◌<◌, ◌↔◌, ◌==◌, ◌&&◌, inl, inr, Bool, true, false, zero, suc, refl, sym, ap, ◌∙◌, subst, arith, List, length, get_or, Contains}
-use Rattle.std.specs.List.{All, list_any, list_all}
+use Rattle.std.proofs.Common.{◌≡◌, ℕ, ◌<◌, ◌↔◌, ◌==◌, ◌&&◌, inl, inr, true, false, zero, suc, refl, sym, ap, ◌∙◌, subst, arith, List, get_or}
 use Rattle.std.proofs.lemmas.Bool.Decides.{nat_tests}
 use Rattle.std.proofs.lemmas.List.Elements.{All-from_get_or, All-get_or, All-weaker}
 use Rattle.std.proofs.lemmas.List.Folds.{list_any_at, list_any_none}
 use Rattle.std.proofs.lemmas.List.Sums.{AllPass-from_list_all, list_all-from_AllPass}
 use Rattle.board_text.specs.PlainBoard.{PlainBoard, IsBoard, IsConfiguration, Beats, places}
-use Rattle.positions.specs.declared.value.Value.TheVariants.{Finite, Forever}
-use Rattle.positions.specs.Game.{Legal, LabellerTree, AdversaryTree, moved}
+use Rattle.positions.specs.declared.value.Value.TheVariants.{Finite}
+use Rattle.positions.specs.Game.{LabellerTree, AdversaryTree, moved}
 use Rattle.positions.specs.Value.{HasValue}
 use Rattle.positions.specs.Ranks.{configurations, rank_of, configuration_at}
 use Rattle.positions.specs.Gaps.{gaps, gap_of, pebble_of, others_of, member_of, IsAnswer, IsDominator}
@@ -15,7 +14,7 @@ use Rattle.positions.proofs.Trees.{some_tree, not_both_trees}
 use Rattle.positions.proofs.BoundedSearch.{beats_or_not}
 use Rattle.positions.proofs.Ranks.{rank_below, rank_of-configuration_at, configuration_at-rank_of, configuration_at_is}
 use Rattle.positions.proofs.GapLaws.{gap_below, pebble_of-gap_of, member_of-gap_of, own_member, pebble_below, member_is, label_of_member, gap_of-member_of, legal_is_answer, answer_beats_others, one_gap}
-use Rattle.retro_core.specs.Arena.{Arena, IsArena, live, next, lasts, Dominant}
+use Rattle.retro_core.specs.Arena.{IsArena, lasts, Dominant}
 use Rattle.retro_core.specs.BoardArena.{beats, answers, arena_of}
 use Rattle.retro_core.proofs.Counts.{some_below, count_below-some}
 use Rattle.retro_core.proofs.Lasting.{both_true, and_true, true_or_false, true_not_false, next-gives, next-from, same_is}

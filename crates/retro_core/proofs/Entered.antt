@@ -1,19 +1,19 @@
 -- A configuration entered, and all of them.
-use Rattle.std.proofs.Common.{◌≡◌, ◌≢◌, ℕ, ◌+◌, ◌<◌, ◌≤◌, ◌==◌, ◌&&◌, ◌||◌, ◌↔◌, not, inl, inr, Bool, true, false, cond, zero, suc, refl, arith, sym, ap, ◌∙◌, subst, List, [], ◌∷◌, Contains, length, slice_index, slice_set, get_or-set_other, get_or-set_same}
+use Rattle.std.proofs.Common.{◌≡◌, ℕ, ◌+◌, ◌<◌, ◌≤◌, ◌==◌, ◌&&◌, ◌||◌, ◌↔◌, not, inl, inr, Bool, true, false, cond, zero, suc, refl, arith, sym, ap, ◌∙◌, subst, List, [], ◌∷◌, Contains, length, slice_index, slice_set, get_or-set_other, get_or-set_same}
 use Rattle.std.proofs.Math.ListN.{length-set}
 use Rattle.std.proofs.lemmas.Bool.{cases_lt}
 use Rattle.index_lists.specs.Lists.{times, AreLists}
-use Rattle.board_text.specs.PlainBoard.{PlainBoard, IsBoard}
+use Rattle.board_text.specs.PlainBoard.{PlainBoard}
 use Rattle.positions.specs.Gaps.{gaps, IsAnswer}
 use Rattle.positions.specs.Counts.{HasSize}
 use Rattle.positions.proofs.Counting.{size_of, count_below as count_to, count_below-zero as count_to-zero, count_below-add as count_to-add}
 use Rattle.positions.proofs.Sizes.{same_size, size_zero}
 use Rattle.retro_core.specs.Arena.{Arena, IsArena, count_below, live, next, lasts}
 use Rattle.retro_core.specs.BoardArena.{answers, arena_of}
-use Rattle.retro_core.specs.Tables.{is_open, below, IsCounted, AreFiled, AreSources, AreLive, IsEntered, IsStage}
+use Rattle.retro_core.specs.Tables.{is_open, below, IsCounted, AreSources, AreLive, IsEntered, IsStage}
 use Rattle.retro_core.proofs.BoardArenas.{answers_is}
 use Rattle.retro_core.proofs.Lasting.{both_true, and_true, same_or_not, same_is, differ_is, next-from, true_not_false}
-use Rattle.retro_core.proofs.Listed.{filed-pushed, open-after, open-elsewhere, open_word, times_true}
+use Rattle.retro_core.proofs.Listed.{filed-pushed, open-after, open-elsewhere, open_word}
 use Rattle.retro_core.proofs.Struck.{AreLive-same}
 use Rattle.retro_core.proofs.Entering.{IsPush, below_is, not_below, below_other, push-ascends, AreSources-same}
 

@@ -1,24 +1,16 @@
 -- Entering the configurations one after the other, before the first round.
-use Rattle.std.proofs.Common.{◌≡◌, ◌≢◌, ℕ, ◌+◌, ◌*◌, ◌<◌, ◌≤◌, ◌==◌, ◌&&◌, ◌||◌, ◌↔◌, not, nat_lt, inl, inr, Bool, true, false, cond, zero, suc, refl, arith, sym, ap, ◌∙◌, subst, List, [], ◌∷◌, ◌++◌, length, get_or, slice_get, slice_index, slice_set, get_or-set_other, get_or-set_same, add-one, Some}
-use Rattle.std.proofs.Math.ListN.{length-set}
+use Rattle.std.proofs.Common.{◌≡◌, ◌≢◌, ℕ, ◌+◌, ◌*◌, ◌<◌, ◌≤◌, ◌==◌, ◌&&◌, ◌||◌, inl, inr, Bool, true, false, cond, zero, suc, refl, arith, sym, ap, ◌∙◌, subst, List, [], ◌∷◌, ◌++◌, length, get_or}
 use Rattle.std.specs.List.{AllPairs}
 use Rattle.std.proofs.lemmas.Bool.{cases_lt}
 use Rattle.std.proofs.lemmas.Bool.Decides.{nat_tests}
 use Rattle.std.proofs.lemmas.List.Quantifiers.{all_pairs_push}
 use Rattle.index_lists.specs.Lists.{times, IsFree, AreLists}
 use Rattle.index_lists.proofs.Times.{cond_same, cond_other, times-here, times-append, times-more}
-use Rattle.board_text.specs.PlainBoard.{PlainBoard, IsBoard}
-use Rattle.positions.specs.Gaps.{gaps, member_of, IsAnswer}
-use Rattle.positions.specs.Counts.{HasSize}
-use Rattle.positions.proofs.Counting.{size_of, count_below as count_to}
-use Rattle.positions.proofs.Sizes.{same_size}
-use Rattle.retro_core.specs.Arena.{Arena, IsArena, count_below, live, next, lasts, Dominant}
-use Rattle.retro_core.specs.BoardArena.{answers, arena_of}
-use Rattle.retro_core.specs.Tables.{is_open, below, IsCounted, AreWords, AreFiled, AreSources, AreLive, IsEntered, IsStage}
-use Rattle.retro_core.proofs.BoardArenas.{answers_is}
-use Rattle.retro_core.proofs.Lasting.{both_true, and_true, true_or_false, true_not_false, same_or_not, same_is, differ_is, next-from, next-closed}
-use Rattle.retro_core.proofs.Listed.{filed-free, filed-pushed, times_one, times_none, node_parts, node_below, open-after, open-elsewhere, open_word}
-use Rattle.retro_core.proofs.Struck.{leads-dominant, dominant-leads, AreLive-same}
+use Rattle.retro_core.specs.Arena.{Arena, IsArena, Dominant}
+use Rattle.retro_core.specs.Tables.{below, AreSources, AreLive}
+use Rattle.retro_core.proofs.Lasting.{both_true, true_or_false, same_or_not, same_is, differ_is}
+use Rattle.retro_core.proofs.Listed.{times_one, times_none, node_parts}
+use Rattle.retro_core.proofs.Struck.{leads-dominant, dominant-leads}
 
 -- ---- numbers below a bound
 

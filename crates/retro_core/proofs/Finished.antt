@@ -1,8 +1,7 @@
 -- The values of a solver that is done.
-use Rattle.std.proofs.Common.{◌≡◌, ℕ, ◌<◌, ◌≤◌, ◌↔◌, Bool, true, suc, ap, ◌∙◌, subst, sym, List, Option, length, slice_index}
+use Rattle.std.proofs.Common.{◌≡◌, ℕ, ◌<◌, ◌≤◌, Bool, true, suc, subst, List, Option, length, slice_index}
 use Rattle.board_text.specs.PlainBoard.{PlainBoard, IsBoard}
-use Rattle.positions.specs.declared.value.Value.TheVariants.{Forever}
-use Rattle.positions.specs.Ranks.{configurations, configuration_at}
+use Rattle.positions.specs.Ranks.{configurations}
 use Rattle.positions.specs.Gaps.{gaps}
 use Rattle.positions.specs.Counts.{IsSmallest}
 use Rattle.retro_core.specs.Arena.{lasts}

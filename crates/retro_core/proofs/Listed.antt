@@ -1,10 +1,10 @@
 -- Lists of filed configurations, of members that wait, and of live answers, after a push and after an unlink.
-use Rattle.std.proofs.Common.{◌≡◌, ◌≢◌, ℕ, ◌+◌, ◌-◌, ◌*◌, ◌/◌, ◌%◌, ◌<◌, ◌≤◌, ◌⊎◌, ◌==◌, ◌&&◌, not, inl, inr, Bool, true, false, cond, zero, suc, refl, arith, sym, ap, ◌∙◌, subst, List, [], ◌∷◌, ◌++◌, length, Option, Some, None, slice_get, slice_index, slice_set, get_or-set_other, get_or-set_same, mod-lt, div-add-mod'}
+use Rattle.std.proofs.Common.{◌≡◌, ◌≢◌, ℕ, ◌+◌, ◌-◌, ◌*◌, ◌/◌, ◌%◌, ◌<◌, ◌≤◌, ◌==◌, ◌&&◌, inl, inr, Bool, true, false, cond, zero, suc, refl, arith, sym, ap, ◌∙◌, subst, List, [], ◌∷◌, ◌++◌, length, Some, None, slice_get, slice_index, slice_set, get_or-set_other, get_or-set_same, mod-lt, div-add-mod'}
 use Rattle.std.proofs.Math.ListN.{length-set}
 use Rattle.std.proofs.lemmas.Nat.{div-mul-add, mod-mul-add, div_below}
-use Rattle.std.proofs.lemmas.Bool.{cases_eq, cases_lt}
+use Rattle.std.proofs.lemmas.Bool.{cases_lt}
 use Rattle.index_lists.specs.Lists.{times, without_node, IsFree, IsIn, AreLists}
-use Rattle.index_lists.proofs.Times.{same_is, differ_is, cond_same, cond_other, times-here, times-later, times-append, times-without_same, times-without_other}
+use Rattle.index_lists.proofs.Times.{same_is, differ_is, cond_same, cond_other, times-later, times-append, times-without_same, times-without_other}
 use Rattle.index_lists.proofs.Places.{stands-at}
 use Rattle.retro_core.specs.Arena.{Arena, IsArena, count_below}
 use Rattle.retro_core.specs.Tables.{is_open, AreFiled, AreSources, IsClosing, IsClosed}

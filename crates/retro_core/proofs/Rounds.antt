@@ -1,18 +1,17 @@
 -- A whole round, from the state before it to the state after it.
-use Rattle.std.proofs.Common.{◌≡◌, ◌≢◌, ℕ, ◌+◌, ◌<◌, ◌≤◌, ◌↔◌, inl, inr, Bool, true, false, suc, refl, arith, sym, ap, ◌∙◌, subst, List, [], ◌∷◌, length, get_or, slice_index, Option, add-one}
+use Rattle.std.proofs.Common.{◌≡◌, ◌≢◌, ℕ, ◌+◌, ◌<◌, ◌≤◌, Bool, true, false, suc, refl, arith, sym, ap, ◌∙◌, subst, List, [], ◌∷◌, length, get_or, slice_index, Option, add-one}
 use Rattle.std.specs.List.{AllPairs}
-use Rattle.index_lists.specs.Lists.{times, AreLists}
 use Rattle.board_text.specs.PlainBoard.{PlainBoard, IsBoard}
-use Rattle.positions.specs.declared.value.Value.TheVariants.{Finite, Forever}
+use Rattle.positions.specs.declared.value.Value.TheVariants.{Forever}
 use Rattle.positions.specs.Game.{LabellerTree}
 use Rattle.positions.specs.Value.{HasValue}
-use Rattle.positions.specs.Ranks.{configurations, rank_of, configuration_at}
+use Rattle.positions.specs.Ranks.{configurations, rank_of}
 use Rattle.positions.specs.Gaps.{gaps, member_of}
 use Rattle.positions.specs.Counts.{HasSize}
-use Rattle.retro_core.specs.Arena.{Arena, IsArena, count_below, lasts, live, IsLast}
+use Rattle.retro_core.specs.Arena.{lasts, live}
 use Rattle.retro_core.specs.BoardArena.{arena_of}
-use Rattle.retro_core.specs.Tables.{is_open, alive, struck_rounds, IsStage, IsState, IsEntered, AreDominators}
-use Rattle.retro_core.specs.Solving.{bucket, first_lists, AnswerLasts, AnswerForever}
+use Rattle.retro_core.specs.Tables.{alive, struck_rounds, IsStage, IsState, IsEntered, AreDominators}
+use Rattle.retro_core.specs.Solving.{first_lists, AnswerLasts, AnswerForever}
 use Rattle.retro_core.proofs.Counts.{count_below-some, count_below-bound}
 use Rattle.retro_core.proofs.BoardArenas.{arena_is, tree_of_lasts, lasts_of_tree, at_member}
 use Rattle.retro_core.proofs.Entered.{live-size, entered-all}

@@ -1,27 +1,26 @@
 -- The first live answer of a gap is its smallest that lasts forever.
-use Rattle.std.proofs.Common.{◌≡◌, ◌≢◌, ℕ, ◌+◌, ◌<◌, ◌≤◌, ◌↔◌, ◌==◌, ◌&&◌, inl, inr, Bool, true, false, cond, suc, zero, refl, arith, sym, ap, ◌∙◌, subst, List, [], ◌∷◌, ◌++◌, length, get_or, take, drop, Option, Some, None, IfSome, slice_get, slice_index}
-use Rattle.std.specs.List.{AllPairs, insert}
+use Rattle.std.proofs.Common.{◌≡◌, ◌≢◌, ℕ, ◌<◌, ◌≤◌, ◌==◌, ◌&&◌, inl, inr, true, cond, suc, zero, refl, arith, sym, ap, ◌∙◌, subst, List, [], ◌∷◌, length, get_or, take, drop, Some, None, slice_get, slice_index}
+use Rattle.std.specs.List.{AllPairs}
 use Rattle.std.proofs.lemmas.Bool.{cases_lt}
 use Rattle.std.proofs.lemmas.Bool.Decides.{nat_tests}
 use Rattle.std.proofs.lemmas.List.{take_at, length-take-le}
 use Rattle.index_lists.specs.Lists.{times}
 use Rattle.index_lists.proofs.Places.{place-of, stands-at}
-use Rattle.board_text.specs.PlainBoard.{PlainBoard, IsBoard}
+use Rattle.board_text.specs.PlainBoard.{PlainBoard}
 use Rattle.positions.specs.declared.value.Value.TheVariants.{Forever}
 use Rattle.positions.specs.Value.{HasValue}
-use Rattle.positions.specs.Ranks.{configurations, rank_of, configuration_at, ComesBefore}
-use Rattle.positions.specs.Gaps.{gaps, pebble_of, others_of, member_of, IsAnswer}
+use Rattle.positions.specs.Ranks.{configurations, rank_of, configuration_at}
+use Rattle.positions.specs.Gaps.{gaps, pebble_of, others_of, member_of}
 use Rattle.positions.specs.Counts.{IsSmallest}
 use Rattle.positions.proofs.Ranks.{in_order}
 use Rattle.positions.proofs.GapLaws.{member_is, label_of_member, others_of_gap, pebble_below}
-use Rattle.retro_core.specs.Arena.{Arena, IsArena}
-use Rattle.retro_core.specs.BoardArena.{answers, arena_of}
+use Rattle.retro_core.specs.Arena.{Arena}
+use Rattle.retro_core.specs.BoardArena.{arena_of}
 use Rattle.retro_core.specs.Solving.{AnswerForever}
-use Rattle.retro_core.specs.Tables.{known_word, AreLive, AreForever}
+use Rattle.retro_core.specs.Tables.{known_word, AreForever}
 use Rattle.retro_core.proofs.BoardArenas.{arena_is, answers_is, at_member}
 use Rattle.retro_core.proofs.Lasting.{both_true, and_true, same_is, differ_is}
 use Rattle.retro_core.proofs.Listed.{times_true}
-use Rattle.retro_core.proofs.Struck.{leads-dominant}
 
 -- a smaller label has a smaller member
 smaller-member : (b : PlainBoard) (g v w : ℕ) → g < gaps b → v < b.labels → w < b.labels → v < w → rank_of b (member_of b g v) < rank_of b (member_of b g w)

@@ -1,29 +1,28 @@
 -- What a solver knows between its calls.
-use Rattle.std.proofs.Common.{◌≡◌, ◌≢◌, ℕ, ◌+◌, ◌-◌, ◌*◌, ◌&&◌, ◌<◌, ◌≤◌, ◌↔◌, ◌==◌, not, inl, inr, Bool, true, false, cond, zero, suc, refl, arith, sym, ap, ◌∙◌, subst, List, [], ◌∷◌, length, map, get_or, slice_index, Option, Some, None, add-one}
-use Rattle.std.specs.List.{AllPairs, range_with_len}
+use Rattle.std.proofs.Common.{◌≡◌, ◌≢◌, ℕ, ◌+◌, ◌-◌, ◌*◌, ◌&&◌, ◌<◌, ◌≤◌, ◌↔◌, ◌==◌, not, inl, inr, Bool, true, false, cond, zero, suc, refl, arith, sym, ap, ◌∙◌, subst, List, [], ◌∷◌, length, map, get_or, slice_index, Option, Some, None}
 use Rattle.std.proofs.lemmas.Bool.{cases_lt}
 use Rattle.std.proofs.lemmas.Bool.Decides.{nat_tests}
 use Rattle.std.proofs.lemmas.List.FromFn.{length-map-range_with_len, get_or-map-range_with_len}
-use Rattle.index_lists.specs.Lists.{times, AreLists}
+use Rattle.index_lists.specs.Lists.{times}
 use Rattle.index_lists.proofs.Times.{cond_same, cond_other, times-here}
-use Rattle.board_text.specs.PlainBoard.{PlainBoard, IsBoard, IsConfiguration}
+use Rattle.board_text.specs.PlainBoard.{PlainBoard, IsBoard}
 use Rattle.positions.specs.declared.value.Value.TheVariants.{Finite, Forever}
 use Rattle.positions.specs.Game.{LabellerTree}
 use Rattle.positions.specs.Value.{HasValue}
 use Rattle.positions.specs.Ranks.{configurations, rank_of, configuration_at}
 use Rattle.positions.specs.Gaps.{member_of}
 use Rattle.positions.proofs.Ranks.{rank_below, configuration_at-rank_of}
-use Rattle.retro_core.specs.Arena.{Arena, IsArena, count_below, next, lasts, IsLast}
+use Rattle.retro_core.specs.Arena.{Arena, IsArena, count_below, lasts, IsLast}
 use Rattle.retro_core.specs.BoardArena.{arena_of}
 use Rattle.retro_core.specs.Tables.{is_open, alive, struck_rounds, AreWords, AreFiled, IsStage, IsState}
-use Rattle.retro_core.specs.Solving.{Solving, AreBuckets, AreOpenMembers, IsSolving, NoneHas, bucket, first_lists, rank_in}
+use Rattle.retro_core.specs.Solving.{AreOpenMembers, IsSolving, NoneHas, first_lists, rank_in}
 use Rattle.retro_core.proofs.Counts.{count_below-some, count_below-less}
 use Rattle.retro_core.proofs.Lasting.{both_true, true_or_false, true_not_false, same_or_not, same_is, lasts-less, lasts-at-most}
 use Rattle.retro_core.proofs.Strikes.{lasts-forever}
 use Rattle.retro_core.proofs.BoardArenas.{at_member, arena_is, tree_of_lasts, lasts_of_tree, value_of_lasts, lasts_of_value}
 use Rattle.retro_core.proofs.Listed.{shut_word, times_true}
 use Rattle.retro_core.proofs.Sources.{waits-times, listed-member}
-use Rattle.retro_core.proofs.Walking.{HasWord, filed-word, alive-lasts, alive-fails, IsStage-same}
+use Rattle.retro_core.proofs.Walking.{filed-word, alive-lasts, alive-fails, IsStage-same}
 
 -- ---- the lists as callers see them
 

@@ -1,14 +1,14 @@
 -- What callers see of the members that wait.
-use Rattle.std.proofs.Common.{◌≡◌, ◌≢◌, ℕ, zero, suc, ◌+◌, ◌-◌, ◌*◌, ◌%◌, ◌<◌, ◌≤◌, ◌==◌, ◌&&◌, Bool, true, false, cond, inl, inr, refl, sym, ap, ◌∙◌, subst, arith, List, [], ◌∷◌, map, get_or, Option, Some, None, slice_get}
+use Rattle.std.proofs.Common.{◌≡◌, ℕ, zero, suc, ◌+◌, ◌-◌, ◌*◌, ◌%◌, ◌<◌, ◌==◌, ◌&&◌, Bool, cond, inl, inr, refl, sym, ap, ◌∙◌, subst, arith, List, [], ◌∷◌, map, Option, Some, None, slice_get}
 use Rattle.std.proofs.lemmas.Bool.{cases_lt}
 use Rattle.std.proofs.lemmas.Nat.{mod-mul-add}
 use Rattle.index_lists.specs.Lists.{times, IsFree}
-use Rattle.index_lists.proofs.Times.{cond_same, times-more}
+use Rattle.index_lists.proofs.Times.{times-more}
 use Rattle.index_lists.proofs.Places.{place-of, stands-at}
 use Rattle.retro_core.specs.Arena.{Arena, IsArena}
 use Rattle.retro_core.specs.Tables.{AreSources}
-use Rattle.retro_core.proofs.Lasting.{and_true, both_true, same_or_not, same_is, differ_is}
-use Rattle.retro_core.proofs.Listed.{IsMemberNode, source-node, times_true}
+use Rattle.retro_core.proofs.Lasting.{same_or_not, same_is, differ_is}
+use Rattle.retro_core.proofs.Listed.{IsMemberNode, source-node}
 
 pub first-some : (f : ℕ → ℕ) (xs : List ℕ) (node : ℕ) → slice_get xs 0 ≡ Some node → slice_get (map f xs) 0 ≡ Some (f node)
 first-some f [] node e = absurd (cc e)

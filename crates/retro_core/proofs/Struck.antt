@@ -1,18 +1,18 @@
 -- A strike, by its three ends: on tables and lists together.
-use Rattle.std.proofs.Common.{◌≡◌, ◌≢◌, ℕ, ◌+◌, ◌<◌, ◌≤◌, ◌==◌, ◌&&◌, not, inl, inr, Bool, true, false, cond, zero, suc, refl, arith, sym, ap, ◌∙◌, subst, List, [], ◌∷◌, length, Option, Some, None, get_or, slice_index, slice_set}
+use Rattle.std.proofs.Common.{◌≡◌, ◌≢◌, ℕ, ◌+◌, ◌<◌, ◌==◌, ◌&&◌, not, inl, inr, Bool, true, false, cond, suc, refl, arith, sym, ap, ◌∙◌, subst, List, Option, Some, None, get_or, slice_index, slice_set}
 use Rattle.std.proofs.lemmas.Bool.Decides.{nat_tests}
 use Rattle.std.proofs.lemmas.List.Kept.{AllPairs-filter}
 use Rattle.index_lists.specs.Lists.{times, without_node, IsIn, AreLists}
 use Rattle.index_lists.proofs.Times.{times-without_same, times-without_other}
-use Rattle.board_text.specs.PlainBoard.{PlainBoard, IsBoard}
+use Rattle.board_text.specs.PlainBoard.{PlainBoard}
 use Rattle.positions.specs.Ranks.{configurations, configuration_at}
 use Rattle.positions.specs.Gaps.{IsDominator}
 use Rattle.positions.specs.Counts.{IsSmallest}
-use Rattle.retro_core.specs.Arena.{Arena, IsArena, live, lasts, without, Dominant}
+use Rattle.retro_core.specs.Arena.{Arena, IsArena, without, Dominant}
 use Rattle.retro_core.specs.BoardArena.{arena_of}
 use Rattle.retro_core.specs.Tables.{is_open, IsCounted, AreFiled, AreSources, AreLive, AreDominators, IsClosed, IsStage, IsToStrike}
 use Rattle.retro_core.proofs.BoardArenas.{dominant_is}
-use Rattle.retro_core.proofs.Lasting.{both_true, and_true, true_or_false, true_not_false, same_or_not, same_is, differ_is}
+use Rattle.retro_core.proofs.Lasting.{both_true, and_true, true_or_false, same_or_not, same_is}
 use Rattle.retro_core.proofs.Strikes.{strike-home}
 use Rattle.retro_core.proofs.Closing.{counted-alone, counted-struck, words-alone, words-some, words-closed, home-now}
 

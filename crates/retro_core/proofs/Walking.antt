@@ -1,12 +1,12 @@
 -- A round's walk along the list of its value: what is left to strike.
 use Rattle.std.proofs.Common.{◌≡◌, ◌≢◌, ℕ, ◌+◌, ◌<◌, ◌≤◌, ◌==◌, not, inl, inr, Bool, true, false, cond, zero, suc, refl, arith, sym, ap, ◌∙◌, subst, List, [], ◌∷◌, length, Option, Some, None, IfSome, add-one, slice_get, slice_index}
 use Rattle.std.proofs.lemmas.Bool.Decides.{nat_tests}
-use Rattle.index_lists.specs.Lists.{times, AreLists}
+use Rattle.index_lists.specs.Lists.{times}
 use Rattle.index_lists.proofs.Times.{times-here, times-later}
 use Rattle.index_lists.proofs.Places.{some_is, stands-at, place-of}
 use Rattle.retro_core.specs.Arena.{Arena, IsArena, lasts, without}
-use Rattle.retro_core.specs.Tables.{is_open, alive, rest_from, AreWords, AreFiled, IsBetween, IsStage, IsToStrike}
-use Rattle.retro_core.proofs.Lasting.{true_or_false, true_not_false, same_or_not, same_is, differ_is, lasts-less}
+use Rattle.retro_core.specs.Tables.{alive, rest_from, AreWords, AreFiled, IsStage, IsToStrike}
+use Rattle.retro_core.proofs.Lasting.{true_or_false, same_or_not, same_is, differ_is, lasts-less}
 use Rattle.retro_core.proofs.Closing.{IsCounted-same, AreWords-same}
 use Rattle.retro_core.proofs.Listed.{shut_word}
 use Rattle.retro_core.proofs.Struck.{AreLive-same}

@@ -1,7 +1,7 @@
 -- The game of a board on ranks and gaps.
-use Rattle.std.specs.Prelude.{ℕ, ◌==◌, ◌<◌, ◌&&◌, nat_lt, List, Bool, slice_index}
+use Rattle.std.specs.Prelude.{ℕ, ◌==◌, ◌&&◌, Bool, slice_index}
 use Rattle.std.specs.List.{list_any, list_all}
-use Rattle.board_text.specs.PlainBoard.{PlainBoard, places}
+use Rattle.board_text.specs.PlainBoard.{PlainBoard}
 use Rattle.positions.specs.Ranks.{configurations, rank_of, configuration_at}
 use Rattle.positions.specs.Gaps.{gaps, gap_of, pebble_of, others_of, member_of}
 use Rattle.retro_core.specs.Arena.{Arena}

@@ -1,5 +1,5 @@
 -- What a solver's tables and lists say of the game.
-use Rattle.std.specs.Prelude.{◌≡◌, ℕ, ◌+◌, ◌*◌, ◌<◌, ◌≤◌, ◌≢◌, ◌↔◌, ◌==◌, ◌&&◌, not, nat_lt, Bool, true, false, cond, zero, suc, List, [], ◌∷◌, length, AllPairs, Option, None, Some, slice_index, slice_index_or}
+use Rattle.std.specs.Prelude.{◌≡◌, ℕ, ◌+◌, ◌*◌, ◌<◌, ◌≤◌, ◌≢◌, ◌↔◌, ◌==◌, ◌&&◌, not, nat_lt, Bool, true, false, cond, suc, List, [], ◌∷◌, length, AllPairs, Option, None, Some, slice_index, slice_index_or}
 use Rattle.index_lists.specs.Lists.{times, AreLists}
 use Rattle.board_text.specs.PlainBoard.{PlainBoard, IsBoard}
 use Rattle.positions.specs.Ranks.{configurations, configuration_at}

@@ -212,6 +212,7 @@ impl<S: ListStore> Solver<S> {
 }
 
 /// A solver that isn't done.
+#[derive(Drop)]
 pub struct Unfinished<S: ListStore> {
     /// The solver, as it was.
     pub solver: Solver<S>,

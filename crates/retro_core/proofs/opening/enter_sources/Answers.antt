@@ -1,4 +1,4 @@
-use Rattle.std.proofs.Common.{◌≡◌, ◌<◌, arith}
+use Rattle.std.proofs.Common.{◌≡◌, arith}
 use Rattle.retro_core.specs.BoardArena.{arena_of}
 use Rattle.retro_core.proofs.Entering.{listing-start, listing-free, listing-step, listing-end}
 use Rattle.retro_core.proofs.opening.enter_sources.Goals as goal

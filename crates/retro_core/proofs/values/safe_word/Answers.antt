@@ -1,4 +1,4 @@
-use Rattle.std.proofs.Common.{◌≡◌, ◌<◌, arith, ap, sym, ◌∙◌, get_or}
+use Rattle.std.proofs.Common.{arith, ap, sym, ◌∙◌, get_or}
 use Rattle.positions.specs.Ranks.{configuration_at}
 use Rattle.retro_core.proofs.Safest.{safe-some, safe-none}
 use Rattle.retro_core.proofs.values.safe_word.Goals as goal

@@ -1,4 +1,4 @@
-use Rattle.std.proofs.Common.{◌≡◌, ◌<◌, true, false, length, arith, subst, sym}
+use Rattle.std.proofs.Common.{◌≡◌, ◌<◌, true, false, arith, subst}
 use Rattle.std.proofs.lemmas.List.{get_or_read}
 use Rattle.positions.specs.Gaps.{gaps}
 use Rattle.positions.specs.Counts.{HasSize}

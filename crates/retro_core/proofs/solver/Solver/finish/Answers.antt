@@ -1,4 +1,4 @@
-use Rattle.std.proofs.Common.{◌≡◌, ℕ, List, length, take, ◌++◌, sym, ◌∙◌}
+use Rattle.std.proofs.Common.{◌≡◌, ℕ, List, length, take, ◌++◌, ◌∙◌}
 use Rattle.std.proofs.Math.Seq.{take-append_seam}
 use Rattle.retro_core.proofs.Finished.{live-forever, values-are}
 use Rattle.retro_core.proofs.solver.Solver.finish.Goals as goal

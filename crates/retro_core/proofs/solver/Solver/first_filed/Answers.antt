@@ -1,5 +1,5 @@
-use Rattle.std.proofs.Common.{◌≡◌, ◌≤◌, ◌+◌, ℕ, List, [], None, slice_get, get_or, refl, sym, ap, ◌∙◌, subst, arith}
-use Rattle.retro_core.specs.Solving.{Solving, bucket, first_lists}
+use Rattle.std.proofs.Common.{◌≡◌, ℕ, List, None, slice_get, sym, ap, ◌∙◌, subst, arith}
+use Rattle.retro_core.specs.Solving.{Solving, bucket}
 use Rattle.retro_core.proofs.Solved.{solving_of, list-shown}
 use Rattle.retro_core.proofs.solver.Solver.first_filed.Goals as goal
 

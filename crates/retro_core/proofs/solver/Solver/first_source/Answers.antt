@@ -1,5 +1,4 @@
 use Rattle.std.proofs.Common.{◌≡◌, ◌%◌, ℕ, List, Some, None, slice_get, sym, ap, ◌∙◌, subst}
-use Rattle.positions.specs.Ranks.{configurations}
 use Rattle.retro_core.specs.Solving.{Solving, source, rank_in}
 use Rattle.retro_core.proofs.Sources.{first-some, first-none}
 use Rattle.retro_core.proofs.Solved.{source-shown}

@@ -1,8 +1,8 @@
-use Rattle.std.proofs.Common.{◌≡◌, ◌≤◌, ◌+◌, ◌<◌, ℕ, List, [], None, Some, slice_get, get_or, refl, sym, ap, ◌∙◌, subst, arith, inl, inr}
+use Rattle.std.proofs.Common.{◌≡◌, ◌+◌, ◌<◌, ℕ, List, None, Some, slice_get, sym, ap, ◌∙◌, subst, arith, inl, inr}
 use Rattle.std.proofs.lemmas.Bool.{cases_lt}
 use Rattle.index_lists.specs.Lists.{times}
 use Rattle.index_lists.proofs.Places.{place-of}
-use Rattle.retro_core.specs.Solving.{Solving, bucket, first_lists}
+use Rattle.retro_core.specs.Solving.{Solving, bucket}
 use Rattle.retro_core.proofs.Solved.{list-shown}
 use Rattle.retro_core.proofs.solver.Solver.next_filed.Goals as goal
 

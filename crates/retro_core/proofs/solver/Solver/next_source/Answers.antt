@@ -48,6 +48,6 @@ returns-in-Some-clause-not_listed g c =
     subst (λ (v : Solving). ((other : ℕ) → (place : ℕ) → slice_get (source v other) place ≡ Some c.args.rank → ⊥) → Some (c.in-Some.next % c.configurations-configurations.result) ≡ None) c.self.view_is
     (λ none.
     let free = node-free (configurations b) (pebble_of b c.args.gap) c.args.rank (g.S.ListStore.list c.self.inside.tables.sources) low
-        (λ other place here. none other place (ap (λ (ys : List ℕ). slice_get ys place) (source-shown _ e.is_board e.few _ _ _ _ _ _ _ _ _ _ _ _ _ _ c.self.invariant other) ∙ here)) in
+    (λ other place here. none other place (ap (λ (ys : List ℕ). slice_get ys place) (source-shown _ e.is_board e.few _ _ _ _ _ _ _ _ _ _ _ _ _ _ c.self.invariant other) ∙ here)) in
     let own : IsFree (g.S.ListStore.list c.self.inside.tables.sources) (c.gap_pebble.result * c.configurations-configurations.result + c.args.rank) = rw (c.gap_pebble.ensures.pebble, e.value) free in
     absurd (none_some c.next.result c.in-Some.next c.in-Some.is (c.next.ensures.free own)))

@@ -1,6 +1,6 @@
-use Rattle.std.proofs.Common.{◌≡◌, ◌≢◌, ◌≤◌, ◌<◌, ◌+◌, ℕ, List, suc, true, false, length, refl, sym, ap, ◌∙◌, subst, arith}
+use Rattle.std.proofs.Common.{◌≡◌, ℕ, suc, true, length, refl, sym, ap, ◌∙◌, subst, arith}
 use Rattle.retro_core.specs.declared.progress.Progress.TheVariants.{Filed}
-use Rattle.retro_core.specs.Solving.{Solving, bucket, NoneHas, IsSolving}
+use Rattle.retro_core.specs.Solving.{Solving, NoneHas}
 use Rattle.retro_core.proofs.Solved.{solving_of, none-has}
 use Rattle.retro_core.proofs.Rounds.{round-below, bucket-starts, last-state, further-state, shown-before, shown-next}
 use Rattle.retro_core.proofs.solver.Solver.round.Goals as goal

@@ -1,4 +1,3 @@
-use Rattle.std.proofs.Common.{◌≡◌}
 use Rattle.std.proofs.Math.Nat.{one-le-pow}
 use Rattle.board_text.specs.PlainBoard.{places}
 use Rattle.retro_core.proofs.Rounds.{start-state}

@@ -1,4 +1,4 @@
-use Rattle.std.proofs.Common.{◌≡◌, ◌≢◌, refl, arith, sym, ap, ◌∙◌, subst, rules}
+use Rattle.std.proofs.Common.{refl, arith, sym, ◌∙◌}
 use Rattle.retro_core.specs.BoardArena.{arena_of}
 use Rattle.retro_core.proofs.BoardArenas.{arena_is}
 use Rattle.retro_core.proofs.Listed.{source-head, source-end, closing-start, closing-step, closing-end, fewer-open}

@@ -1,4 +1,4 @@
-use Rattle.std.proofs.Common.{◌≡◌, ◌≢◌, ℕ, ◌*◌}
+use Rattle.std.proofs.Common.{◌≡◌, ◌≢◌, ℕ}
 use Rattle.retro_core.specs.Arena.{count_below}
 use Rattle.retro_core.specs.BoardArena.{arena_of}
 use Rattle.retro_core.specs.Tables.{is_open, AreFiled, AreSources, IsClosing}

@@ -1,5 +1,4 @@
-use Rattle.std.proofs.Common.{◌≡◌, sym, ◌∙◌, ◌&&◌}
-use Rattle.retro_core.specs.BoardArena.{arena_of}
+use Rattle.std.proofs.Common.{sym, ◌∙◌, ◌&&◌}
 use Rattle.retro_core.specs.Tables.{is_open, below}
 use Rattle.retro_core.proofs.Entered.{entered-stuck, entered-waits, waits-not}
 use Rattle.retro_core.proofs.tables.Tables.enter.Goals as goal

@@ -1,7 +1,5 @@
-use Rattle.std.proofs.Common.{◌≡◌, ◌≢◌, ◌<◌, slice_set, length, refl, arith, sym, ap, ◌∙◌, subst, rules}
-use Rattle.index_lists.specs.Lists.{without_node}
+use Rattle.std.proofs.Common.{◌≡◌, refl, arith}
 use Rattle.retro_core.specs.BoardArena.{arena_of}
-use Rattle.retro_core.specs.Tables.{is_open}
 use Rattle.retro_core.proofs.BoardArenas.{arena_is}
 use Rattle.retro_core.proofs.Listed.{filed-free, filed-pushed, others-kept, unlinking-start, unlinking-in, unlinking-step, unlinking-end, open-after, open-elsewhere}
 use Rattle.retro_core.proofs.tables.Tables.file.Goals as goal

@@ -1,4 +1,4 @@
-use Rattle.std.proofs.Common.{◌≡◌, ◌≢◌, ◌<◌, ◌≤◌, ◌+◌, ◌-◌, suc, length, slice_index, refl, arith, sym, ap, ◌∙◌, subst, rules}
+use Rattle.std.proofs.Common.{◌<◌, ◌+◌, ◌-◌, length, slice_index, arith}
 use Rattle.std.proofs.lemmas.List.{get_or_read}
 use Rattle.retro_core.specs.BoardArena.{arena_of}
 use Rattle.retro_core.proofs.BoardArenas.{arena_is}

@@ -1,5 +1,4 @@
-use Rattle.std.proofs.Common.{◌≡◌, ◌≢◌, ◌+◌, ◌<◌, ℕ, List, [], Some, None, slice_get, refl, arith, sym, ap, ◌∙◌, subst}
-use Rattle.index_lists.specs.Lists.{times}
+use Rattle.std.proofs.Common.{◌≡◌, ℕ, List, Some, slice_get, refl, arith, ap, ◌∙◌}
 use Rattle.index_lists.proofs.Places.{place-of}
 use Rattle.retro_core.specs.BoardArena.{arena_of}
 use Rattle.retro_core.specs.Tables.{alive, rest_from}
