@@ -24,6 +24,8 @@ mod nested;
 #[cfg(test)]
 mod printing;
 #[cfg(test)]
+mod solving;
+#[cfg(test)]
 mod spaces;
 #[cfg(test)]
 mod streams;

@@ -20,7 +20,7 @@ fn is_configuration(board: &Board, configuration: &[u16]) -> bool
 }
 
 /// The value of a configuration, where it is one and the board isn't too large.
-fn value_at(board: &Board, configuration: &mut [u16]) -> Option<Value> {
+pub(crate) fn value_at(board: &Board, configuration: &mut [u16]) -> Option<Value> {
     let count = u32::from(board.labels()).checked_pow(u32::from(board.pebbles()))?;
     if count > 1_048_576 || !is_configuration(board, configuration) {
         return None;

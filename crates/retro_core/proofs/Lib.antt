@@ -1,0 +1,15 @@
+pub mod Counts
+pub mod Lasting
+pub mod Strikes
+pub mod Closing
+pub mod BoardArenas
+pub mod Listed
+pub mod Struck
+pub mod Walking
+pub mod Entering
+pub mod Entered
+pub mod Sources
+pub mod Solved
+pub mod Rounds
+pub mod Safest
+pub mod Finished

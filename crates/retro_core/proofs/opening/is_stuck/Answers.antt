@@ -1,0 +1,11 @@
+use Rattle.std.proofs.Common.{arith}
+use Rattle.retro_core.specs.BoardArena.{arena_of}
+use Rattle.retro_core.proofs.BoardArenas.{arena_is}
+use Rattle.retro_core.proofs.Entered.{none-stuck}
+use Rattle.retro_core.proofs.opening.is_stuck.Goals as goal
+
+pub returns : goal.returns
+returns c =
+    let b = c.args.space.now in
+    none-stuck (arena_of b) (arena_is b c.pebbles-pebble-end.ensures.is_board) _ _ c.requires.counts c.requires.rank_in
+    (λ p i. c.loop-pebble.invariant p (omega (arith, i, c.pebbles-pebble-end.ensures.value, c.loop-pebble-test.false)))

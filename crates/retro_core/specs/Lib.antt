@@ -1,0 +1,4 @@
+pub mod Arena
+pub mod BoardArena
+pub mod Tables
+pub mod Solving

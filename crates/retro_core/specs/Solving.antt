@@ -1,0 +1,72 @@
+-- A solver as plain data, and what it knows of the game.
+use Rattle.std.specs.Prelude.{◌≡◌, ℕ, suc, ◌<◌, ◌≤◌, ◌↔◌, ◌%◌, Bool, true, List, [], AllPairs, map, slice_index_or}
+use Rattle.std.specs.List.{range_with_len}
+use Rattle.board_text.specs.PlainBoard.{PlainBoard, IsBoard, IsConfiguration}
+use Rattle.index_lists.specs.Lists.{times}
+use Rattle.positions.specs.declared.value.Value.TheVariants.{Finite, Forever}
+use Rattle.positions.specs.Game.{LabellerTree}
+use Rattle.positions.specs.Value.{HasValue}
+use Rattle.positions.specs.Ranks.{configurations, rank_of, configuration_at}
+use Rattle.positions.specs.Gaps.{gaps, member_of, IsAnswer}
+
+-- the board, the last round that filed something, whether a later one filed nothing; the configurations filed at each value,
+-- and the members of each gap that are not filed
+pub record Solving : Type 0 where
+  pub board : PlainBoard
+  pub rounds : ℕ
+  pub is_done : Bool
+  pub buckets : List (List ℕ)
+  pub sources : List (List ℕ)
+
+-- the configurations filed at a value, in order of filing
+abbrev pub bucket : Solving → ℕ → List ℕ
+bucket s value = slice_index_or s.buckets value []
+
+-- the members of a gap that are not filed
+abbrev pub source : Solving → ℕ → List ℕ
+source s gap = slice_index_or s.sources gap []
+
+-- the first so many lists
+abbrev pub first_lists : ℕ → (ℕ → List ℕ) → List (List ℕ)
+first_lists count list = map list (range_with_len 0 count)
+
+-- a rank is filed at a value exactly where it is the value of its configuration, and no round is still to come for it
+pub record AreBuckets (s : Solving) : Type 0 where
+  pub filed : (value rank : ℕ) → rank < configurations s.board
+      → (0 < times rank (bucket s value)) ↔ ((value ≤ s.rounds) × HasValue s.board (configuration_at s.board rank) (Finite value))
+  pub once : (value rank : ℕ) → times rank (bucket s value) ≤ 1
+  pub ranks : (value rank : ℕ) → 0 < times rank (bucket s value) → rank < configurations s.board
+  pub ascending : AllPairs (λ first second. first < second) (bucket s 0)
+
+-- the members of a gap that have no value of at most the number of rounds, each once
+pub record AreOpenMembers (s : Solving) : Type 0 where
+  pub listed : (gap label : ℕ) → gap < gaps s.board → label < s.board.labels
+      → (0 < times (rank_of s.board (member_of s.board gap label)) (source s gap)) ↔ LabellerTree s.board (suc s.rounds) (member_of s.board gap label)
+  pub once : (gap rank : ℕ) → gap < gaps s.board → rank < configurations s.board → times rank (source s gap) ≤ 1
+  pub members : (gap rank : ℕ) → gap < gaps s.board → 0 < times rank (source s gap)
+      → (label : ℕ) × (label < s.board.labels) × (rank ≡ rank_of s.board (member_of s.board gap label))
+
+-- what a solver knows, whenever no call of it runs
+pub record IsSolving (s : Solving) : Type 0 where
+  pub is_board : IsBoard s.board
+  pub few : configurations s.board ≤ 1048576
+  pub buckets : AreBuckets s
+  pub sources : AreOpenMembers s
+  pub forever : s.is_done ≡ true → (rank : ℕ) → rank < configurations s.board
+      → LabellerTree s.board (suc s.rounds) (configuration_at s.board rank) → HasValue s.board (configuration_at s.board rank) Forever
+
+-- no configuration has the value
+abbrev pub NoneHas : PlainBoard → ℕ → Type 0
+NoneHas board value = (configuration : List ℕ) → IsConfiguration board configuration → HasValue board configuration (Finite value) → ⊥
+
+-- the label is an answer, and a labeller lasts so many requests more after it
+abbrev pub AnswerLasts : PlainBoard → ℕ → ℕ → ℕ → Type 0
+AnswerLasts board gap depth label = IsAnswer board gap label × LabellerTree board depth (member_of board gap label)
+
+-- the label is an answer, and a labeller lasts forever after it
+abbrev pub AnswerForever : PlainBoard → ℕ → ℕ → Type 0
+AnswerForever board gap label = IsAnswer board gap label × HasValue board (member_of board gap label) Forever
+
+-- the configuration of a node of a list of members
+abbrev pub rank_in : PlainBoard → ℕ → ℕ
+rank_in board node = node % configurations board

@@ -1,0 +1,17 @@
+//! Why values were not found.
+
+use thiserror::Error;
+
+/// Why a board was not solved.
+#[derive(Clone, Copy, Debug, Error, PartialEq, Eq)]
+pub enum SolveFault {
+    /// The board has more than 1,048,576 configurations.
+    #[error("board too large")]
+    TooLarge,
+    /// A growth of memory was refused.
+    #[error("out of memory")]
+    Memory,
+    /// A thread couldn't be started. `Solver::open` starts none.
+    #[error("worker not started")]
+    Worker,
+}

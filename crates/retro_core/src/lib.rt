@@ -1,0 +1,15 @@
+//! Values of configurations, found backwards in rounds.
+#![tactic(auto)]
+
+mod fault;
+mod opening;
+mod progress;
+mod solver;
+mod tables;
+mod values;
+
+pub use fault::SolveFault;
+pub use positions::Value;
+pub use progress::Progress;
+pub use solver::{Solver, Unfinished};
+pub use values::Values;

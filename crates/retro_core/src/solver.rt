@@ -1,0 +1,241 @@
+//! The solver.
+
+ghost use Rattle.std.specs.Prelude.{◌≡◌, ℕ, ◌+◌, ◌<◌, ◌≤◌, ◌↔◌, true, false, suc, length, slice_get, IfOk, IfErr, Err, Some, None};
+ghost use Rattle.positions.specs.declared.value.Value.TheVariants.{Finite};
+ghost use Rattle.positions.specs.Value.{HasValue};
+ghost use Rattle.positions.specs.Ranks.{configurations, configuration_at};
+ghost use Rattle.positions.specs.Gaps.{gaps, IsDominator};
+ghost use Rattle.positions.specs.Counts.{HasSize, IsSmallest};
+ghost use Rattle.retro_core.specs.Solving.{IsSolving, bucket, source, NoneHas, AnswerLasts, AnswerForever};
+
+use crate::fault::SolveFault;
+use crate::opening::{counts_of, dominators_of};
+use crate::progress::Progress;
+use crate::tables::{OPEN, Tables};
+use crate::values::{Values, write_safe};
+use board_text::{Board, Memory};
+use index_lists::ListStore;
+use positions::{Space, TooLarge};
+use std::alloc::Global;
+use std::marker::Model;
+
+/// A board whose values are found round by round.
+///
+/// It holds no board: contracts see it as the board that it was opened for, with what is filed and what is not.
+/// No call but `open` takes memory.
+#[derive(Drop)]
+pub struct Solver<S: ListStore> {
+    space: Space,
+    dominators: Vec<Option<u8>>,
+    tables: Tables<S>,
+    round: u32,
+    done: bool,
+}
+
+impl<S: ListStore> Model for Solver<S> {
+    ghost use Rattle.std.specs.Prelude.{map};
+    ghost use Rattle.retro_core.specs.Solving.{Solving, rank_in, first_lists};
+    ghost use Rattle.retro_core.specs.Tables.{IsState};
+
+    ghost Value = { Solving };
+
+    ghost view = { λ s. record { board = s.space; rounds = s.round; is_done = s.done; buckets = first_lists (S.lists s.tables.buckets) (S.list s.tables.buckets); sources = first_lists (S.lists s.tables.sources) (λ gap. map (rank_in s.space) (S.list s.tables.sources gap)) } };
+
+    ghost invariant = { λ s. IsState s.space s.dominators.items s.tables.values.items s.tables.counts.items (S.nodes s.tables.buckets) (S.lists s.tables.buckets) (S.list s.tables.buckets)
+        (S.nodes s.tables.sources) (S.lists s.tables.sources) (S.list s.tables.sources) (S.nodes s.tables.living) (S.lists s.tables.living) (S.list s.tables.living) s.round s.done };
+}
+
+impl<S: ListStore + Drop> Solver<S> {
+    /// A solver of a board, which has filed the configurations of value 0, in ascending rank.
+    pub fn open(alloc: Global, board: &Board) -> Result<Solver<S>, SolveFault>
+        ensures board { IfOk result (λ solver. solver.board ≡ board.now) }
+        ensures start { IfOk result (λ solver. (solver.rounds ≡ 0) × (solver.is_done ≡ false)) }
+        ensures kept { IfOk result (λ solver. IsSolving solver) }
+        ensures too_large { (result ≡ Err SolveFault.TooLarge) ↔ (1048576 < configurations board.now) }
+        ensures no_worker { result ≡ Err SolveFault.Worker → ⊥ }
+    {
+        match Space::of(board) {
+            Ok(space) => match Solver::start(alloc, space, board) {
+                Ok(solver) => Ok(solver),
+                Err(Memory) => Err(SolveFault::Memory),
+            },
+            Err(TooLarge) => Err(SolveFault::TooLarge),
+        }
+    }
+
+    /// A solver of a board of this space.
+    fn start(alloc: Global, space: Space, board: &Board) -> Result<Solver<S>, Memory>
+        requires { space ≡ board.now }
+        ensures board { IfOk result (λ solver. solver.board ≡ board.now) }
+        ensures start { IfOk result (λ solver. (solver.rounds ≡ 0) × (solver.is_done ≡ false)) }
+        ensures kept { IfOk result (λ solver. IsSolving solver) }
+    {
+        let _ = space.configurations();
+        let dominators = dominators_of(alloc, &space, board)?;
+        let counts = counts_of(alloc, &space, board)?;
+        let mut tables = Tables::new(alloc, &space, counts)?;
+        tables.enter_all(&space, &dominators);
+        Ok(Solver {
+            space,
+            dominators,
+            tables,
+            round: 0,
+            done: false,
+        })
+    }
+}
+
+impl<S: ListStore> Solver<S> {
+    /// Files all configurations of the next value, or finds that none has it.
+    pub fn round(&mut self) -> Progress
+        ensures board { self.new.board ≡ self.old.board }
+        ensures after_done { self.old.is_done ≡ true → (result ≡ Progress.Done) × (self.new ≡ self.old) }
+        ensures filed { (n : ℕ) → result ≡ Progress.Filed n
+            → (0 < n) × (n ≡ length (bucket self.new (suc self.old.rounds))) × (self.new.rounds ≡ self.old.rounds + 1) × (self.new.is_done ≡ false) }
+        ensures none { result ≡ Progress.Done → NoneHas self.old.board (suc self.old.rounds) × (self.new.rounds ≡ self.old.rounds) × (self.new.is_done ≡ true) }
+        ensures filed_before { (value : ℕ) → value ≤ self.old.rounds → bucket self.new value ≡ bucket self.old value }
+        ensures kept { IsSolving self.new }
+    {
+        let _ = self.space.configurations();
+        if self.done {
+            return Progress::Done;
+        }
+        self.tables
+            .strike_bucket(&self.space, &self.dominators, self.round);
+        let filed = self.tables.buckets.len(self.round + 1);
+        if filed == 0 {
+            self.done = true;
+            return Progress::Done;
+        }
+        self.round += 1;
+        Progress::Filed(filed)
+    }
+
+    /// Whether a round has found that no configuration has the next value.
+    pub fn done(&self) -> bool
+        ensures { result ≡ self.now.is_done }
+    {
+        self.done
+    }
+
+    /// How many rounds have filed something: each value of at most this number is filed.
+    pub fn round_number(&self) -> u32
+        ensures value { result ≡ self.now.rounds }
+        ensures kept { IsSolving self.now }
+    {
+        let _ = self.space.configurations();
+        self.round
+    }
+
+    /// The space of the board.
+    pub fn space(&self) -> &Space
+        ensures { result.now ≡ self.now.board }
+    {
+        &self.space
+    }
+
+    /// The smallest pebble that dominates all others at the configuration of a rank, if one does. A lone pebble does.
+    pub fn dominator(&self, rank: u32) -> Option<u8>
+        requires { rank < configurations self.now.board }
+        ensures { IsSmallest (IsDominator self.now.board (configuration_at self.now.board rank)) result }
+    {
+        self.dominators[rank as usize]
+    }
+
+    /// The value of a configuration, if it is at most the number of rounds.
+    pub fn value_at(&self, rank: u32) -> Option<u32>
+        requires { rank < configurations self.now.board }
+        ensures { (value : ℕ) → (result ≡ Some value) ↔ ((value ≤ self.now.rounds) × HasValue self.now.board (configuration_at self.now.board rank) (Finite value)) }
+    {
+        let _ = self.space.configurations();
+        let value = self.tables.values[rank as usize];
+        if value == OPEN { None } else { Some(value) }
+    }
+
+    /// How many answers of a gap lead to a value of at least the number of rounds; once the rounds are done, to the value Forever.
+    pub fn count_of(&self, gap: u32) -> u32
+        requires { gap < gaps self.now.board }
+        ensures before { self.now.is_done ≡ false → HasSize (AnswerLasts self.now.board gap self.now.rounds) result }
+        ensures after { self.now.is_done ≡ true → HasSize (AnswerForever self.now.board gap) result }
+    {
+        let _ = self.space.configurations();
+        self.tables.counts[gap as usize]
+    }
+
+    /// The first configuration that is filed at a value.
+    pub fn first_filed(&self, value: u32) -> Option<u32>
+        ensures first { result ≡ slice_get (bucket self.now value) 0 }
+        ensures kept { IsSolving self.now }
+    {
+        if value > self.space.configurations() {
+            return None;
+        }
+        self.tables.buckets.first(value)
+    }
+
+    /// The configuration behind a filed one, among those of the same value. One that isn't filed has none.
+    pub fn next_filed(&self, rank: u32) -> Option<u32>
+        requires { rank < configurations self.now.board }
+        ensures behind { (value : ℕ) → (place : ℕ) → slice_get (bucket self.now value) place ≡ Some rank → result ≡ slice_get (bucket self.now value) (place + 1) }
+        ensures not_filed { ((value : ℕ) → (place : ℕ) → slice_get (bucket self.now value) place ≡ Some rank → ⊥) → result ≡ None }
+    {
+        let _ = self.space.configurations();
+        self.tables.buckets.next(rank)
+    }
+
+    /// The first configuration of a gap that has no value of at most the number of rounds.
+    pub fn first_source(&self, gap: u32) -> Option<u32>
+        requires { gap < gaps self.now.board }
+        ensures first { result ≡ slice_get (source self.now gap) 0 }
+    {
+        let configurations = self.space.configurations();
+        match self.tables.sources.first(gap) {
+            Some(node) => Some(node % configurations),
+            None => None,
+        }
+    }
+
+    /// The member behind one of a gap, among those that have no value of at most the number of rounds. One that has such a value has none.
+    pub fn next_source(&self, gap: u32, rank: u32) -> Option<u32>
+        requires gap { gap < gaps self.now.board }
+        requires rank { rank < configurations self.now.board }
+        ensures behind { (place : ℕ) → slice_get (source self.now gap) place ≡ Some rank → result ≡ slice_get (source self.now gap) (place + 1) }
+        ensures not_listed { ((other : ℕ) → (place : ℕ) → slice_get (source self.now other) place ≡ Some rank → ⊥) → result ≡ None }
+    {
+        let configurations = self.space.configurations();
+        let node = self.space.gap_pebble(gap) as u32 * configurations + rank;
+        match self.tables.sources.next(node) {
+            Some(next) => Some(next % configurations),
+            None => None,
+        }
+    }
+}
+
+/// A solver that isn't done.
+#[derive(Drop)]
+pub struct Unfinished<S: ListStore> {
+    /// The solver, as it was.
+    pub solver: Solver<S>,
+}
+
+impl<S: ListStore + Drop> Solver<S> {
+    /// The values of the board, once a round has found that no configuration has the next one.
+    pub fn finish(self) -> Result<Values, Unfinished<S>>
+        ensures values { IfOk result (λ values. (self.is_done ≡ true) × (values ≡ self.board)) }
+        ensures unfinished { IfErr result (λ unfinished. (self.is_done ≡ false) × (unfinished.solver ≡ self)) }
+    {
+        let _ = self.space.configurations();
+        if !self.done {
+            return Err(Unfinished { solver: self });
+        }
+        let Solver { space, tables, .. } = self;
+        let Tables {
+            values,
+            mut counts,
+            living,
+            ..
+        } = tables;
+        write_safe(&mut counts, &space, &living);
+        Ok(Values::new(space, values, counts))
+    }
+}
