@@ -23,7 +23,11 @@ fn open<S: ListStore + Drop>(rt: &impl Abort, alloc: Global, board: &Board) -> S
 }
 
 /// The values of a board, after as many rounds as it takes.
-fn solve<S: ListStore + Drop>(rt: &impl Abort, alloc: Global, board: &Board) -> Option<Values> {
+pub(crate) fn solve<S: ListStore + Drop>(
+    rt: &impl Abort,
+    alloc: Global,
+    board: &Board,
+) -> Option<Values> {
     let mut solver: Solver<S> = open(rt, alloc, board);
     for _ in 0..=solver.space().configurations() {
         if solver.round() == Progress::Done {
@@ -43,7 +47,7 @@ fn known<S: ListStore>(solver: &Solver<S>, rank: u32) -> Option<u32> {
 }
 
 /// The value of a rank, if it is one.
-fn value(values: &Values, rank: u32) -> Option<Value> {
+pub(crate) fn value(values: &Values, rank: u32) -> Option<Value> {
     if rank < values.space().configurations() {
         Some(values.of(rank))
     } else {
@@ -61,7 +65,7 @@ fn safe(values: &Values, gap: u32) -> Option<u16> {
 }
 
 /// The value of a rank by the slow program, if it is one.
-fn slow_value(board: &Board, space: &Space, rank: u32) -> Option<Value> {
+pub(crate) fn slow_value(board: &Board, space: &Space, rank: u32) -> Option<Value> {
     let mut labels = [0; 6];
     let pebbles = space.pebbles();
     if rank >= space.configurations() {
