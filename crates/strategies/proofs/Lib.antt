@@ -12,3 +12,9 @@ pub mod Building
 pub mod Finding
 pub mod Showing
 pub mod Lone
+pub mod Marking
+pub mod GapAnswers
+pub mod Lowering
+pub mod Added
+pub mod Spread
+pub mod Steps

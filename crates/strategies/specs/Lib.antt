@@ -1,3 +1,5 @@
 pub mod Best
 pub mod Document
 pub mod Example
+pub mod GapBest
+pub mod Spreading

@@ -1,0 +1,168 @@
+-- The best answer of a gap: where it is found, and that it is that of each member.
+use Rattle.std.proofs.Common.{◌≡◌, ℕ, ◌+◌, ◌<◌, ◌≤◌, ◌↔◌, ◌⊎◌, List, Option, None, Some, option_map, inl, inr, refl, sym, ◌∙◌, ap, subst, arith}
+use Rattle.std.proofs.lemmas.Bool.{cases_lt}
+use Rattle.board_text.specs.PlainBoard.{PlainBoard, IsConfiguration}
+use Rattle.positions.specs.declared.value.Value.{Value}
+use Rattle.positions.specs.declared.value.Value.TheVariants.{Finite, Forever}
+use Rattle.positions.specs.Counts.{IsSmallest}
+use Rattle.positions.specs.Game.{Legal, moved}
+use Rattle.positions.specs.Value.{HasValue}
+use Rattle.positions.specs.Ranks.{rank_of, configuration_at}
+use Rattle.positions.specs.Gaps.{gap_of, member_of, IsAnswer}
+use Rattle.positions.proofs.Configurations.{moved_is_configuration}
+use Rattle.positions.proofs.GapLaws.{member_of-gap_of, legal_is_answer}
+use Rattle.positions.proofs.Ranks.{configuration_at-rank_of}
+use Rattle.positions.proofs.Finiteness.{some_value}
+use Rattle.positions.proofs.Values.{same_value}
+use Rattle.retro_core.specs.Solving.{AnswerForever}
+use Rattle.strategies.specs.declared.gap_best.Best.{Best}
+use Rattle.strategies.specs.Best.{IsLess, HasNoGreaterValue, HasGreatestResult}
+use Rattle.strategies.specs.GapBest.{IsBestFor}
+use Rattle.strategies.proofs.Comparing.{cases_value, not_above}
+use Rattle.strategies.proofs.Answers.{IsBestBelow, NoneBelow, first_next, better_next, as_good_next, best_of_all}
+
+-- the best of the answers below a bound, if there is one
+abbrev pub IsFoundBelow : PlainBoard → List ℕ → ℕ → ℕ → Option Best → Type 0
+IsFoundBelow board configuration pebble bound (Some best) = IsBestBelow board configuration pebble bound best.label best.value
+IsFoundBelow board configuration pebble bound None = NoneBelow board configuration pebble bound
+
+-- the configuration is a member of the gap, which is the pebble's
+pub record IsMemberOf (board : PlainBoard) (configuration : List ℕ) (pebble gap : ℕ) : Type 0 where
+  pub is_configuration : IsConfiguration board configuration
+  pub is_pebble : pebble < board.pebbles
+  pub its_gap : gap_of board configuration pebble ≡ gap
+
+is_less_or_not : (first second : Value) → IsLess first second ⊎ ¬ IsLess first second
+is_less_or_not first second = elim (cases_value first second) [
+  | inl less ↦ inl less
+  | inr not_less ↦ inr (not_above first second not_less)
+]
+
+module _ (board : PlainBoard) (configuration : List ℕ) (pebble gap : ℕ) (is : IsMemberOf board configuration pebble gap) where
+  legal_there : (label : ℕ) → Legal board configuration pebble label ↔ IsAnswer board gap label
+  legal_there label = subst (λ (g : ℕ). Legal board configuration pebble label ↔ IsAnswer board g label) is.its_gap
+      (legal_is_answer board configuration pebble label is.is_configuration is.is_pebble)
+
+  member_there : (label : ℕ) → member_of board gap label ≡ moved configuration pebble label
+  member_there label = subst (λ (g : ℕ). member_of board g label ≡ moved configuration pebble label) is.its_gap
+      (member_of-gap_of board configuration pebble label is.is_configuration is.is_pebble)
+
+  -- what has the value is the result
+  value_there : (rank label : ℕ) (value : Value) → rank ≡ rank_of board (member_of board gap label) → Legal board configuration pebble label
+      → HasValue board (configuration_at board rank) value → HasValue board (moved configuration pebble label) value
+  value_there rank label value rank_is legal has =
+      let same : rank ≡ rank_of board (moved configuration pebble label) = rank_is ∙ ap (rank_of board) (member_there label) in
+      subst (λ (c : List ℕ). HasValue board c value)
+      (ap (configuration_at board) same ∙ configuration_at-rank_of board (moved configuration pebble label) (moved_is_configuration board configuration pebble label legal.is_label is.is_configuration))
+      has
+
+  -- no label is legal from one bound to another
+  widen : (bound more : ℕ) (best : Option Best) → bound ≤ more → ((label : ℕ) → bound ≤ label → label < more → ¬ Legal board configuration pebble label)
+      → IsFoundBelow board configuration pebble bound best → IsFoundBelow board configuration pebble more best
+  widen bound more None enough none found = λ other below. elim (cases_lt other bound) [ inl early ↦ found other early | inr late ↦ none other late below ]
+  widen bound more (Some best) enough none found = record {
+    early = omega (arith, found.early);
+    legal = found.legal;
+    has = found.has;
+    best = λ other below legal. elim (cases_lt other bound) [ inl early ↦ found.best other early legal | inr late ↦ absurd (none other late below legal) ];
+  }
+
+  -- the next answer is looked at
+  step : (best : Option Best) (later result : Best) → IsFoundBelow board configuration pebble later.label best → Legal board configuration pebble later.label
+      → HasValue board (moved configuration pebble later.label) later.value
+      → (best ≡ None → result ≡ later)
+      → ((first : Best) → best ≡ Some first → IsLess first.value later.value → result ≡ later)
+      → ((first : Best) → best ≡ Some first → ¬ IsLess first.value later.value → result ≡ first)
+      → IsFoundBelow board configuration pebble (later.label + 1) (Some result)
+  step None later result found legal has only greater kept =
+      subst (λ (b : Best). IsFoundBelow board configuration pebble (later.label + 1) (Some b)) (sym (only refl))
+      (first_next board configuration pebble later.label later.value found legal has)
+  step (Some first) later result found legal has only greater kept = elim (is_less_or_not first.value later.value) [
+    | inl less ↦ subst (λ (b : Best). IsFoundBelow board configuration pebble (later.label + 1) (Some b)) (sym (greater first refl less))
+        (better_next board configuration pebble later.label first.label first.value later.value found legal has less)
+    | inr not ↦ subst (λ (b : Best). IsFoundBelow board configuration pebble (later.label + 1) (Some b)) (sym (kept first refl not))
+        (as_good_next board configuration pebble later.label first.label first.value later.value found legal has not)
+  ]
+
+  pub found_next : (from rank : ℕ) (best : Option Best) (later result : Best)
+      → IsFoundBelow board configuration pebble from best
+      → IsSmallest (λ label. (from ≤ label) × IsAnswer board gap label) (Some later.label)
+      → rank ≡ rank_of board (member_of board gap later.label) → HasValue board (configuration_at board rank) later.value
+      → (best ≡ None → result ≡ later)
+      → ((first : Best) → best ≡ Some first → IsLess first.value later.value → result ≡ later)
+      → ((first : Best) → best ≡ Some first → ¬ IsLess first.value later.value → result ≡ first)
+      → IsFoundBelow board configuration pebble (later.label + 1) (Some result)
+  found_next from rank best later result found next rank_is has only greater kept =
+      let legal = (legal_there later.label).1 next.0.1 in
+      step best later result
+      (widen from later.label best next.0.0
+      (λ label late below legal. let least : later.label ≤ label = next.1 label (late, (legal_there label).0 legal) in absurd (omega arith)) found)
+      legal (value_there rank later.label later.value rank_is legal has) only greater kept
+
+  -- all answers have been looked at
+  pub found_all : (from : ℕ) (best : Option Best) → IsFoundBelow board configuration pebble from best
+      → IsSmallest (λ label. (from ≤ label) × IsAnswer board gap label) None → IsBestFor board configuration pebble best
+  found_all from None found none = λ label legal. elim (cases_lt label from) [
+    | inl early ↦ found label early legal
+    | inr late ↦ none label (late, (legal_there label).0 legal)
+  ]
+  found_all from (Some best) found none = (best_of_all board configuration pebble best.label best.value all, all.has)
+    where
+      all : IsBestBelow board configuration pebble board.labels best.label best.value
+      all = record {
+        early = found.legal.is_label;
+        legal = found.legal;
+        has = found.has;
+        best = λ other below legal. elim (cases_lt other from) [
+          | inl early ↦ found.best other early legal
+          | inr late ↦ absurd (none other (late, (legal_there other).0 legal))
+        ];
+      }
+
+  -- an answer that lasts forever is best
+  pub safest : (label : ℕ) → IsSmallest (AnswerForever board gap) (Some label) → IsBestFor board configuration pebble (Some (record { label = label; value = Forever }))
+  safest label smallest = ((greatest, least), has)
+    where
+      legal : Legal board configuration pebble label
+      legal = (legal_there label).1 smallest.0.0
+
+      has : HasValue board (moved configuration pebble label) Forever
+      has = subst (λ (c : List ℕ). HasValue board c Forever) (member_there label) smallest.0.1
+
+      greatest : HasGreatestResult board configuration pebble label
+      greatest = record {
+        legal = legal;
+        greatest = λ other is_legal.
+            let value = some_value board (moved configuration pebble other) (moved_is_configuration board configuration pebble other is_legal.is_label is.is_configuration) in
+            record { value = value.0; bound = Forever; of_first = value.1; of_second = has; not_greater = λ less. less };
+      }
+
+      forever : (other : ℕ) (most : HasNoGreaterValue board (moved configuration pebble label) (moved configuration pebble other))
+          → HasValue board (moved configuration pebble other) Forever
+      forever other most = by most.value most.bound most.of_first most.of_second most.not_greater
+        where
+          by : (value bound : Value) → HasValue board (moved configuration pebble label) value → HasValue board (moved configuration pebble other) bound
+              → ¬ IsLess bound value → HasValue board (moved configuration pebble other) Forever
+          by value Forever one two not = two
+          by Forever (Finite bound) one two not = absurd (not tt)
+          by (Finite value) (Finite bound) one two not =
+              let same : Forever ≡ Finite value = same_value board (moved configuration pebble label) Forever (Finite value) has one in absurd cc
+
+      least : (other : ℕ) → HasGreatestResult board configuration pebble other → label ≤ other
+      least other also = smallest.1 other (
+        (legal_there other).0 also.legal,
+        subst (λ (c : List ℕ). HasValue board c Forever) (sym (member_there other)) (forever other (also.greatest label legal)),
+      )
+
+-- ---- what a best answer says of a request
+
+module _ (board : PlainBoard) (configuration : List ℕ) (pebble : ℕ) where
+  pub best_is_smallest : (best : Option Best) → IsBestFor board configuration pebble best
+      → IsSmallest (HasGreatestResult board configuration pebble) (option_map (λ (b : Best). b.label) best)
+  best_is_smallest (Some best) is = is.0
+  best_is_smallest None none = λ label greatest. none label greatest.legal
+
+  pub best_is_none : (best : Option Best) → IsBestFor board configuration pebble best
+      → (option_map (λ (b : Best). b.label) best ≡ None) ↔ ((label : ℕ) → Legal board configuration pebble label → ⊥)
+  best_is_none (Some best) is = (λ same. absurd cc, λ none. absurd (none best.label is.0.0.legal))
+  best_is_none None none = (λ _. none, λ _. refl)

@@ -1,0 +1,83 @@
+-- Marks of the ranks that were reached.
+use Rattle.std.proofs.Common.{◌≡◌, ◌≢◌, ℕ, zero, suc, ◌<◌, ◌≤◌, ◌↔◌, inl, inr, Bool, true, false, List, [], ◌∷◌, ◌++◌, length, get_or, slice_index_or, slice_set, refl, sym, ◌∙◌, subst, arith}
+use Rattle.std.specs.List.{Contains}
+use Rattle.std.proofs.Math.Dec.{eqb}
+use Rattle.std.proofs.Math.ListN.{replicate}
+use Rattle.std.proofs.lemmas.Bool.{cases_lt, cases_eq, eqb-true}
+use Rattle.std.proofs.lemmas.Bool.Decides.{Decides-eqb}
+use Rattle.std.proofs.lemmas.List.{get_or-set_same, get_or-set_other, get_or_past, get_or_read}
+use Rattle.std.proofs.lemmas.List.Elements.{Contains-get_or, Contains-append_left, Contains-append_right, Contains-append_cases}
+use Rattle.std.proofs.lemmas.List.Quantifiers.{all_pairs_push}
+use Rattle.std.proofs.lemmas.Map.Made.{IsDistinct-from_AllPairs}
+use Rattle.std.proofs.lemmas.Map.Steps.{length-le_from_distinct_below}
+use Rattle.std.proofs.lemmas.Map.Views.{Contains-from_any}
+use Rattle.strategies.specs.Spreading.{AreMarked, IsWith}
+
+pub false_not_true : (b : Bool) → b ≡ false → b ≡ true → ⊥
+false_not_true true p q = absurd cc
+false_not_true false p q = absurd cc
+
+-- nothing is marked
+pub no_marks : (marks : List Bool) → ((rank : ℕ) → slice_index_or marks rank false ≡ false) → AreMarked marks []
+no_marks marks none = record {
+  marked = λ rank. (λ marked. absurd (false_not_true (slice_index_or marks rank false) (none rank) marked), λ among. absurd (let inside : among.0 < 0 = among.1 in omega arith));
+  once = λ i j d less inside. absurd (omega arith);
+}
+
+only_one : (rank other : ℕ) → Contains (rank ∷ []) other → other ≡ rank
+only_one rank other (zero, inside, same) = sym same
+only_one rank other (suc place, inside, same) = absurd (omega arith)
+
+-- one more is marked
+pub mark_more : (marks : List Bool) (ranks : List ℕ) (rank : ℕ) → AreMarked marks ranks → rank < length marks → ¬ Contains ranks rank
+    → AreMarked (slice_set marks rank true) (ranks ++ rank ∷ [])
+mark_more marks ranks rank are inside new = record {
+  marked = λ other. elim (cases_eq other rank) [
+    | inl same ↦ (
+      λ marked. Contains-append_right ranks (rank ∷ []) other (0, omega arith, sym same),
+      λ among. rw same (get_or-set_same marks rank true false inside),
+    )
+    | inr differ ↦ (
+      λ marked. Contains-append_left ranks (rank ∷ []) other ((are.marked other).0 (sym (get_or-set_other marks rank other true false differ) ∙ marked)),
+      λ among. elim (Contains-append_cases ranks (rank ∷ []) other among) [
+        | inl old ↦ get_or-set_other marks rank other true false differ ∙ (are.marked other).1 old
+        | inr last ↦ absurd (differ (only_one rank other last))
+      ],
+    )
+  ];
+  once = all_pairs_push (λ first second. first ≢ second) ranks rank are.once
+      (λ k d within same. new (subst (Contains ranks) same (Contains-get_or ranks k d within)));
+}
+
+-- there are no more than marks
+pub few_ranks : (marks : List Bool) (ranks : List ℕ) → AreMarked marks ranks → length ranks ≤ length marks
+few_ranks marks ranks are =
+    length-le_from_distinct_below ranks (length marks) (IsDistinct-from_AllPairs {eq = eqb} Decides-eqb ranks are.once)
+    (λ rank any. elim (cases_lt rank (length marks)) [
+      | inl inside ↦ inside
+      | inr beyond ↦ absurd (false_not_true (slice_index_or marks rank false) (get_or_past marks rank false beyond)
+          ((are.marked rank).1 (Contains-from_any {eq = eqb} eqb-true rank ranks any)))
+    ])
+
+-- whether there is a mark, as it is read
+pub is_marked : (marks : List Bool) (ranks : List ℕ) (rank : ℕ) (read : Bool) → AreMarked marks ranks → rank < length marks → read ≡ get_or marks rank read
+    → (read ≡ true) ↔ Contains ranks rank
+is_marked marks ranks rank read are inside is =
+    let same : read ≡ get_or marks rank false = get_or_read marks rank read inside is false in
+    (λ marked. (are.marked rank).0 (sym same ∙ marked), λ among. same ∙ (are.marked rank).1 among)
+
+pub known_stays : (marks : List Bool) (ranks : List ℕ) (rank : ℕ) (read : Bool) → AreMarked marks ranks → rank < length marks → read ≡ get_or marks rank read
+    → read ≡ true → IsWith ranks rank ranks
+known_stays marks ranks rank read are inside is marked =
+    let among : Contains ranks rank = (is_marked marks ranks rank read are inside is).0 marked in
+    record { known = λ _. refl; other = λ not. absurd (not among) }
+
+pub new_added : (marks : List Bool) (ranks : List ℕ) (rank : ℕ) (read : Bool) → AreMarked marks ranks → rank < length marks → read ≡ get_or marks rank read
+    → read ≡ false → ¬ Contains ranks rank
+new_added marks ranks rank read are inside is unmarked among =
+    false_not_true read unmarked ((is_marked marks ranks rank read are inside is).1 among)
+
+pub all_false : (size rank : ℕ) → slice_index_or (replicate size false) rank false ≡ false
+all_false zero rank = refl
+all_false (suc size) zero = refl
+all_false (suc size) (suc rank) = all_false size rank

@@ -1,0 +1,30 @@
+-- The best answers of gaps, with the values that they lead to.
+use Rattle.std.specs.Prelude.{◌≡◌, ℕ, ◌<◌, List, length, Option, None, Some, slice_index_or}
+use Rattle.board_text.specs.PlainBoard.{PlainBoard, IsConfiguration}
+use Rattle.positions.specs.declared.value.Value.{Value}
+use Rattle.positions.specs.Game.{Legal, moved}
+use Rattle.positions.specs.Value.{HasValue}
+use Rattle.positions.specs.Gaps.{gaps, gap_of}
+use Rattle.strategies.specs.declared.gap_best.Best.{Best}
+use Rattle.strategies.specs.Best.{IsLess, IsBestAnswer}
+
+-- the best answer to a request, with the value of its result; none where no label is legal
+abbrev pub IsBestFor : PlainBoard → List ℕ → ℕ → Option Best → Type 0
+IsBestFor board configuration pebble (Some best) =
+    IsBestAnswer board configuration pebble best.label × HasValue board (moved configuration pebble best.label) best.value
+IsBestFor board configuration pebble None = (label : ℕ) → Legal board configuration pebble label → ⊥
+
+-- it is the best answer at each member of the gap
+abbrev pub IsGapBest : PlainBoard → ℕ → Option Best → Type 0
+IsGapBest board gap best = (configuration : List ℕ) → (pebble : ℕ) → IsConfiguration board configuration → pebble < board.pebbles
+    → gap_of board configuration pebble ≡ gap → IsBestFor board configuration pebble best
+
+-- the best answer of each gap
+pub record AreGapsBest (board : PlainBoard) (answers : List (Option Best)) : Type 0 where
+  pub one_each : length answers ≡ gaps board
+  pub best : (gap : ℕ) → gap < gaps board → IsGapBest board gap (slice_index_or answers gap None)
+
+-- the best answer leads to a smaller value than this one, or there is none
+abbrev pub LeadsBelow : Option Best → Value → Type 0
+LeadsBelow (Some best) value = IsLess best.value value
+LeadsBelow None value = Unit {0}

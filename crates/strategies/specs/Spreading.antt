@@ -1,0 +1,79 @@
+-- Steps from one configuration to another, by ranks, and what they lead to from the start.
+use Rattle.std.specs.Prelude.{◌≡◌, ℕ, ◌<◌, ◌↔◌, ◌⊎◌, ◌++◌, ◌≢◌, Bool, true, false, List, [], ◌∷◌, Contains, AllPairs, Some, length, slice_get, slice_index_or}
+use Rattle.board_text.specs.PlainBoard.{PlainBoard}
+use Rattle.positions.specs.Game.{Legal, moved}
+use Rattle.positions.specs.Ranks.{configurations, rank_of, configuration_at}
+use Rattle.positions.specs.Gaps.{gaps, member_of, IsAnswer}
+use Rattle.strategies.specs.Best.{IsBestAnswer, IsBestRequest}
+use Rattle.strategies.specs.Document.{IsAnswerable, LeadsByAnswers, LeadsByRequests}
+
+-- the best answer to a request of the pebble leads from one rank to the other, which has a value of 1 or more
+pub record IsAnswerStep (board : PlainBoard) (from pebble to : ℕ) : Type 0 where
+  pub is_pebble : pebble < board.pebbles
+  pub label : ℕ
+  pub best : IsBestAnswer board (configuration_at board from) pebble label
+  pub to_is : to ≡ rank_of board (moved (configuration_at board from) pebble label)
+  pub some : IsAnswerable board (moved (configuration_at board from) pebble label)
+
+-- the best answer to some request does
+abbrev pub AnswerLeads : PlainBoard → ℕ → ℕ → Type 0
+AnswerLeads board from to = (pebble : ℕ) × IsAnswerStep board from pebble to
+
+-- the label is a legal answer to the best request, and leads from one rank to the other
+pub record IsRequestStep (board : PlainBoard) (from label to : ℕ) : Type 0 where
+  pub pebble : ℕ
+  pub best : IsBestRequest board (configuration_at board from) pebble
+  pub legal : Legal board (configuration_at board from) pebble label
+  pub to_is : to ≡ rank_of board (moved (configuration_at board from) pebble label)
+
+-- some legal answer to the best request does
+abbrev pub RequestLeads : PlainBoard → ℕ → ℕ → Type 0
+RequestLeads board from to = (label : ℕ) × IsRequestStep board from label to
+
+-- some requests lead by best answers from the start to the configuration of the rank, which has a value of 1 or more
+pub record IsReachedByAnswers (board : PlainBoard) (rank : ℕ) : Type 0 where
+  pub requests : List ℕ
+  pub reached : LeadsByAnswers board board.start requests (configuration_at board rank)
+  pub some : IsAnswerable board (configuration_at board rank)
+
+-- some legal answers to best requests lead from the start to the configuration of the rank
+pub record IsReachedByRequests (board : PlainBoard) (rank : ℕ) : Type 0 where
+  pub labels : List ℕ
+  pub reached : LeadsByRequests board board.start labels (configuration_at board rank)
+
+-- exactly the ranks of which the fact holds
+abbrev pub AreRanksOf : PlainBoard → (ℕ → Type 0) → List ℕ → Type 0
+AreRanksOf board P ranks = (rank : ℕ) → Contains ranks rank ↔ ((rank < configurations board) × P rank)
+
+-- which ranks were reached, in which order, of how many
+pub record ReachedRanks : Type 0 where
+  pub size : ℕ
+  pub ranks : List ℕ
+
+-- a mark for each rank that was reached, and each is there once
+pub record AreMarked (marks : List Bool) (ranks : List ℕ) : Type 0 where
+  pub marked : (rank : ℕ) → (slice_index_or marks rank false ≡ true) ↔ Contains ranks rank
+  pub once : AllPairs (λ first second. first ≢ second) ranks
+
+-- the rank stands behind the others, or was among them
+pub record IsWith (before : List ℕ) (rank : ℕ) (after : List ℕ) : Type 0 where
+  pub known : Contains before rank → after ≡ before
+  pub other : ¬ Contains before rank → after ≡ before ++ rank ∷ []
+
+-- what the fact holds of is added, behind the others
+pub record IsWithAll (before : List ℕ) (P : ℕ → Type 0) (after : List ℕ) : Type 0 where
+  pub each : (rank : ℕ) → Contains after rank ↔ (Contains before rank ⊎ P rank)
+  pub behind : (place rank : ℕ) → slice_get before place ≡ Some rank → slice_get after place ≡ Some rank
+
+-- the label is an answer of the gap, and leads to the rank
+abbrev pub IsAnswerAt : PlainBoard → ℕ → ℕ → ℕ → Type 0
+IsAnswerAt board gap label rank = IsAnswer board gap label × (rank ≡ rank_of board (member_of board gap label))
+
+-- some answer of the gap leads to the rank
+abbrev pub IsAnswerOf : PlainBoard → ℕ → ℕ → Type 0
+IsAnswerOf board gap rank = (label : ℕ) × IsAnswerAt board gap label rank
+
+-- whether all that the answers of a gap lead to is among the ranks
+pub record AreExpanded (board : PlainBoard) (expanded : List Bool) (ranks : List ℕ) : Type 0 where
+  pub one_each : length expanded ≡ gaps board
+  pub there : (gap : ℕ) → gap < gaps board → slice_index_or expanded gap false ≡ true → (rank : ℕ) → IsAnswerOf board gap rank → Contains ranks rank

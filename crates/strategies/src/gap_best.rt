@@ -1,0 +1,107 @@
+//! The best answer of a gap, which is that of each of its members.
+
+ghost use Rattle.std.specs.Prelude.{◌≡◌, ◌<◌, ◌↔◌, None, Some, IfOk, IsTrue, length};
+ghost use Rattle.positions.specs.Gaps.{gaps};
+ghost use Rattle.positions.specs.Ranks.{configurations, configuration_at};
+ghost use Rattle.positions.specs.declared.value.Value.TheVariants.{Finite};
+ghost use Rattle.strategies.specs.declared.gap_best.Best.{Best as BestOfGap};
+ghost use Rattle.strategies.specs.Best.{IsLess};
+ghost use Rattle.strategies.specs.GapBest.{IsBestFor, IsGapBest, AreGapsBest};
+
+use board_text::{Board, Memory};
+use positions::{Space, Value};
+use retro_core::Values;
+use std::alloc::Global;
+
+/// The best answer to a request, and the value of the configuration after it.
+#[derive(Clone, Copy, Debug, PartialEq, Eq)]
+pub(crate) struct Best {
+    pub(crate) label: u16,
+    pub(crate) value: Value,
+}
+
+/// The best answer of each gap.
+pub(crate) fn best_of_gaps(
+    alloc: Global,
+    board: &Board,
+    values: &Values,
+) -> Result<Vec<Option<Best>>, Memory>
+    requires same_board { values.now ≡ board.now }
+    ensures { IfOk result (λ answers. AreGapsBest board.now answers.items) }
+{
+    let gaps = values.space().gaps();
+    let mut answers = vec![in alloc; None; gaps as usize]?;
+    for gap in 0..gaps {
+        answers[gap as usize] = best_of_gap(board, values, gap);
+    }
+    Ok(answers)
+}
+
+/// The best answer to a request of a pebble at the configuration of a rank, from those of all gaps.
+pub(crate) fn best_in(
+    answers: &[Option<Best>],
+    space: &Space,
+    rank: u32,
+    pebble: u8,
+) -> Option<Best>
+    requires answers { AreGapsBest space.now answers.now }
+    requires rank { rank < configurations space.now }
+    requires pebble { pebble < space.now.pebbles }
+    ensures { IsBestFor space.now (configuration_at space.now rank) pebble result }
+{
+    answers[space.gap(rank, pebble) as usize]
+}
+
+/// The best answer of a gap, if it has an answer.
+pub(crate) fn best_of_gap(board: &Board, values: &Values, gap: u32) -> Option<Best>
+    requires same_board { values.now ≡ board.now }
+    requires gap { gap < gaps board.now }
+    ensures { IsGapBest board.now gap result }
+{
+    if let Some(label) = values.safe_answer(gap) {
+        return Some(Best {
+            label,
+            value: Value::Forever,
+        });
+    }
+    let space = values.space();
+    let _ = space.configurations();
+    let mut best = None;
+    let mut from = 0;
+    while let Some(label) = space.next_answer(board, gap, from) {
+        let value = values.of(space.member(gap, label));
+        best = Some(better(best, Best { label, value }));
+        from = label + 1;
+    }
+    best
+}
+
+/// The better of a best answer so far and a later one, which has to lead to a greater value.
+fn better(best: Option<Best>, later: Best) -> Best
+    ensures only { best ≡ None → result ≡ later }
+    ensures greater { (first : BestOfGap) → best ≡ Some first → IsLess first.value later.value → result ≡ later }
+    ensures kept { (first : BestOfGap) → best ≡ Some first → ¬ IsLess first.value later.value → result ≡ first }
+{
+    match best {
+        Some(first) if !is_less(first.value, later.value) => first,
+        _ => later,
+    }
+}
+
+/// Whether the first value is smaller than the second. Forever is greater than all numbers.
+pub(crate) fn is_less(first: Value, second: Value) -> bool
+    ensures { IsTrue result ↔ IsLess first second }
+{
+    match (first, second) {
+        (Value::Finite(first), Value::Finite(second)) => first < second,
+        (Value::Finite(_), Value::Forever) => true,
+        (Value::Forever, _) => false,
+    }
+}
+
+/// Whether a value is 1 or more.
+pub(crate) fn is_some(value: Value) -> bool
+    ensures { IsTrue result ↔ IsLess (Finite 0) value }
+{
+    value != Value::Finite(0)
+}

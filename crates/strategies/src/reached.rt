@@ -1,0 +1,72 @@
+//! Configurations that were reached.
+
+ghost use Rattle.std.specs.Prelude.{◌≡◌, ◌<◌, ◌≤◌, ◌↔◌, [], length, Contains, IfOk, IsTrue, slice_get};
+ghost use Rattle.strategies.specs.Spreading.{IsWith};
+
+use board_text::Memory;
+use std::alloc::Global;
+use std::marker::Model;
+
+/// The ranks of configurations that were reached, in the order in which they were, each once.
+#[derive(Drop)]
+pub(crate) struct Reached {
+    /// Whether each configuration was reached.
+    marks: Vec<bool>,
+    ranks: Vec<u32>,
+}
+
+impl Model for Reached {
+    ghost use Rattle.std.specs.Prelude.{length};
+    ghost use Rattle.strategies.specs.Spreading.{ReachedRanks, AreMarked};
+
+    ghost Value = { ReachedRanks };
+
+    ghost view = { λ s. record { size = length s.marks.items; ranks = s.ranks.items } };
+
+    ghost invariant = { λ s. AreMarked s.marks.items s.ranks.items };
+}
+
+impl Reached {
+    /// Nothing is reached, of so many configurations.
+    pub(crate) fn new(alloc: Global, size: u32) -> Result<Reached, Memory>
+        ensures size { IfOk result (λ reached. reached.size ≡ size) }
+        ensures empty { IfOk result (λ reached. reached.ranks ≡ []) }
+    {
+        let marks = vec![in alloc; false; size as usize]?;
+        Ok(Reached {
+            marks,
+            ranks: Vec::new(alloc),
+        })
+    }
+
+    /// Adds a rank behind the others, if it isn't among them.
+    pub(crate) fn add(&mut self, rank: u32) -> Result<(), Memory>
+        requires { rank < self.old.size }
+        ensures size { IfOk result (λ _. self.new.size ≡ self.old.size) }
+        ensures added { IfOk result (λ _. IsWith self.old.ranks rank self.new.ranks) }
+    {
+        if !self.marks[rank as usize] {
+            if self.ranks.push(rank).is_err() {
+                return Err(Memory);
+            }
+            self.marks[rank as usize] = true;
+        }
+        Ok(())
+    }
+
+    /// Whether a rank was reached.
+    pub(crate) fn contains(&self, rank: u32) -> bool
+        requires { rank < self.now.size }
+        ensures { IsTrue result ↔ Contains self.now.ranks rank }
+    {
+        self.marks[rank as usize]
+    }
+
+    /// The rank that was reached after so many others.
+    pub(crate) fn at(&self, place: usize) -> Option<u32>
+        ensures rank { result ≡ slice_get self.now.ranks place }
+        ensures few { length self.now.ranks ≤ self.now.size }
+    {
+        self.ranks.get(place).copied()
+    }
+}
