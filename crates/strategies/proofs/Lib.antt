@@ -18,3 +18,6 @@ pub mod Lowering
 pub mod Added
 pub mod Spread
 pub mod Steps
+pub mod Gathering
+pub mod Making
+pub mod Whole

@@ -2,13 +2,16 @@
 #![tactic(auto)]
 
 mod choosing;
+mod documents;
 mod gap_best;
 mod laws;
 mod laws_of_documents;
 mod reached;
+mod sections;
 mod spreading;
 
 pub use choosing::{best_answer, best_request};
+pub use documents::document;
 pub use laws::{best_answers_last, best_requests_end, one_best_answer, one_best_request};
 pub use laws_of_documents::{
     documents_break_no_rule, documents_claim_what_holds, documents_have_their_form,
