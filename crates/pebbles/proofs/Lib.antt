@@ -3,3 +3,5 @@ pub mod Pushing
 pub mod Unanswered
 pub mod Meanings
 pub mod Unread
+pub mod Rounds
+pub mod Headlines

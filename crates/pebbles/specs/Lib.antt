@@ -4,3 +4,5 @@ pub mod Run
 pub mod Meaning
 pub mod CheckRun
 pub mod NestedRun
+pub mod SolveRun
+pub mod Headline

@@ -2,20 +2,17 @@
 
 ghost use Rattle.std.specs.Prelude.{◌≡◌, ◌≢◌, ◌↔◌, ◌⊎◌, true, false, Err, IfOk, IfErr};
 ghost use Rattle.proof_text.specs.Proof.{IsDocument, plain_proof};
-ghost use Rattle.pebbles.specs.CheckRun.{GaveBoard, GaveProof, GaveNoBoard, GaveNoProof, RanCheck, CheckFails};
+ghost use Rattle.pebbles.specs.CheckRun.{GaveProof, GaveNoProof, RanCheck, CheckFails};
 ghost use Rattle.pebbles.specs.declared.running.RunFault.TheVariants.{Read, Write};
 
-use crate::answering::{answer_on, board_of, proof_of};
-use crate::reading::read_text;
+use crate::answering::{answer_on, proof_of};
+use crate::reading::{MAX_BOARD_BYTES, read_board, read_text};
 use crate::running::{RunFault, Verdict};
-use board_text::{Board, Failed, Sink, Source, write_all};
+use board_text::{Failed, Sink, Source, write_all};
 use positions::Space;
 use proof_text::Proof;
 use std::alloc::Global;
 use std::thread::Threads;
-
-/// The most bytes of a board.
-pub const MAX_BOARD_BYTES: usize = 1_048_576;
 
 /// The most bytes of a strategy document.
 pub const MAX_PROOF_BYTES: usize = 134_217_728;
@@ -48,22 +45,6 @@ pub fn run_check<B: Source, P: Source, W: Sink>(
         Ok(()) => Ok(answer.verdict),
         Err(Failed) => Err(RunFault::Write),
     }
-}
-
-/// The small board whose text the reader gives, with its space.
-fn read_board<R: Source>(alloc: Global, reader: &mut R) -> Result<(Board, Space), RunFault>
-    requires { R.has_failed reader.old ≡ false }
-    ensures found { IfOk result (λ p. GaveBoard (R.left reader.old) (R.left reader.new) p.0 × (p.1 ≡ p.0)) }
-    ensures fault { IfErr result (GaveNoBoard (R.left reader.old) (R.left reader.new) MAX_BOARD_BYTES) }
-    ensures read { (R.has_failed reader.new ≡ true) ↔ (result ≡ Err Read) }
-    ensures unwritten { result ≢ Err Write }
-{
-    let text = read_text(alloc, reader, MAX_BOARD_BYTES)?;
-    let board = board_of(alloc, text.as_slice())?;
-    let Ok(space) = Space::of(&board) else {
-        return Err(RunFault::TooLarge);
-    };
-    Ok((board, space))
 }
 
 /// The document for the board of the space whose text the reader gives.

@@ -1,11 +1,14 @@
-//! What a written line means, as the contract of a function without a body.
+//! Laws of what is written: what it means. Each is the contract of a function without a body.
 
-ghost use Rattle.std.specs.Prelude.{ℕ, List};
+ghost use Rattle.std.specs.Prelude.{ℕ, List, Option};
 ghost use Rattle.board_text.specs.PlainBoard.{PlainBoard, IsBoard};
 ghost use Rattle.positions.specs.Claim.{Holds};
 ghost use Rattle.proof_text.specs.Proof.{PlainProof};
 ghost use Rattle.proof_check.specs.declared.checking.Shown.{Shown as ShownClaim};
+ghost use Rattle.positions.specs.declared.value.Value.{Value as Worth};
+ghost use Rattle.pebbles.specs.Headline.{ShowsValue};
 ghost use Rattle.pebbles.specs.Run.{IsVerdict};
+ghost use Rattle.pebbles.specs.SolveRun.{RanSolve};
 ghost use Rattle.pebbles.specs.Meaning.{AcceptsLeast, CanAnswer};
 ghost use Rattle.pebbles.specs.declared.running.Verdict.TheVariants.{Accepted};
 
@@ -15,4 +18,12 @@ pub fn accepted_claims_hold()
     ensures least { (text : List ℕ) → (number : ℕ) → AcceptsLeast text number → CanAnswer text number }
     ensures holds { (board : PlainBoard) → (proof : PlainProof) → (shown : ShownClaim) → IsBoard board
         → IsVerdict board proof (Accepted shown) → Holds board shown.claim }
+{}
+
+/// The value that a solved board is given is the greatest number of requests that a labeller can answer against every adversary:
+/// the labeller's strategy that was written answers that many however requests come, the adversary's leaves every labeller without an answer
+/// by the next, and forever comes with a strategy that is closed over all requests and lists the start. A check accepts what was written.
+pub fn solved_boards_show_their_value()
+    ensures { (left_old : Option (List ℕ)) → (left_new : Option (List ℕ)) → (taken_old : Option (List ℕ)) → (taken_new : Option (List ℕ)) → (value : Worth)
+        → RanSolve left_old left_new taken_old taken_new value → ShowsValue left_old left_new taken_old taken_new value }
 {}

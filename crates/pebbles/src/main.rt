@@ -15,6 +15,7 @@ mod nesting;
 mod output;
 mod reading;
 mod running;
+mod solving;
 #[cfg(test)]
 mod tests;
 

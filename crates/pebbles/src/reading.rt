@@ -1,13 +1,18 @@
-//! Reading a text to its end.
+//! Reading a text to its end, and the board that it is.
 
-ghost use Rattle.std.specs.Prelude.{◌≡◌, ◌<◌, ◌≤◌, ◌↔◌, ◌^◌, true, false, Err, IfOk, IfErr};
+ghost use Rattle.std.specs.Prelude.{◌≡◌, ◌≢◌, ◌<◌, ◌≤◌, ◌↔◌, ◌^◌, true, false, Err, IfOk, IfErr};
 ghost use Rattle.board_text.specs.Ends.{GaveAll};
-ghost use Rattle.pebbles.specs.CheckRun.{IsUnread};
-ghost use Rattle.pebbles.specs.declared.running.RunFault.TheVariants.{Read};
+ghost use Rattle.pebbles.specs.CheckRun.{GaveBoard, GaveNoBoard, IsUnread};
+ghost use Rattle.pebbles.specs.declared.running.RunFault.TheVariants.{Read, Write};
 
+use crate::answering::board_of;
 use crate::running::RunFault;
-use board_text::{ReadFault, Source, read_all};
+use board_text::{Board, ReadFault, Source, read_all};
+use positions::Space;
 use std::alloc::Global;
+
+/// The most bytes of a board.
+pub const MAX_BOARD_BYTES: usize = 1_048_576;
 
 /// All that a reader gives, which is to be no more than so many bytes.
 pub(crate) fn read_text<R: Source>(
@@ -27,4 +32,23 @@ pub(crate) fn read_text<R: Source>(
         Err(ReadFault::Read) => Err(RunFault::Read),
         Err(ReadFault::Limit) => Err(RunFault::Limit),
     }
+}
+
+/// The small board whose text the reader gives, with its space.
+pub(crate) fn read_board<R: Source>(
+    alloc: Global,
+    reader: &mut R,
+) -> Result<(Board, Space), RunFault>
+    requires { R.has_failed reader.old ≡ false }
+    ensures found { IfOk result (λ p. GaveBoard (R.left reader.old) (R.left reader.new) p.0 × (p.1 ≡ p.0)) }
+    ensures fault { IfErr result (GaveNoBoard (R.left reader.old) (R.left reader.new) MAX_BOARD_BYTES) }
+    ensures read { (R.has_failed reader.new ≡ true) ↔ (result ≡ Err Read) }
+    ensures unwritten { result ≢ Err Write }
+{
+    let text = read_text(alloc, reader, MAX_BOARD_BYTES)?;
+    let board = board_of(alloc, text.as_slice())?;
+    let Ok(space) = Space::of(&board) else {
+        return Err(RunFault::TooLarge);
+    };
+    Ok((board, space))
 }

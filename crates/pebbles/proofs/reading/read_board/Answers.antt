@@ -1,6 +1,6 @@
 use Rattle.std.proofs.lemmas.Result.{err_from_is_err_and}
 use Rattle.pebbles.proofs.Unread.{no_board_there}
-use Rattle.pebbles.proofs.checking.read_board.Goals as goal
+use Rattle.pebbles.proofs.reading.read_board.Goals as goal
 
 pub returns-in_err-board-clause-fault : goal.returns-in_err-board-clause-fault
 returns-in_err-board-clause-fault g c =

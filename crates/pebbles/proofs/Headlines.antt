@@ -1,0 +1,47 @@
+-- What a solved board's document means.
+use Rattle.std.proofs.Common.{◌≡◌, ℕ, suc, List, Option, ap, ◌∙◌, subst}
+use Rattle.std.specs.Io.KnownBytes.{Appends}
+use Rattle.board_text.specs.PlainBoard.{PlainBoard}
+use Rattle.positions.specs.declared.value.Value.{Value}
+use Rattle.positions.specs.declared.value.Value.TheVariants.{Finite, Forever}
+use Rattle.positions.specs.declared.claim.Claim.TheVariants as claims
+use Rattle.positions.specs.Claim.{Shows}
+use Rattle.positions.specs.Value.{HasValue}
+use Rattle.positions.proofs.Trees.{not_both_trees}
+use Rattle.positions.proofs.Values.{same_value}
+use Rattle.proof_text.specs.Proof.{PlainProof}
+use Rattle.strategies.specs.Document.{claim_of}
+use Rattle.strategies.proofs.Formed.{is_formed}
+use Rattle.strategies.proofs.Obeying.{breaks_no_rule}
+use Rattle.strategies.proofs.Showing.{shows_claim}
+use Rattle.pebbles.specs.Headline.{Means, ShowsValue}
+use Rattle.pebbles.specs.SolveRun.{RanSolve, IsSolved}
+
+means : (board : PlainBoard) (document : PlainProof) (value : Value) → HasValue board board.start value → document.claim ≡ claim_of value
+    → Shows board document.labeller document.adversary document.claim → Means board document value
+means board document (Finite number) has claim shows =
+    let shown : Shows board document.labeller document.adversary (claims.Exactly number) = subst (Shows board document.labeller document.adversary) claim shows in
+    (claim, has.0, has.1, (λ lasts. not_both_trees board (suc number) board.start lasts has.1), shown.0, shown.1)
+means board document Forever has claim shows =
+    let shown : Shows board document.labeller document.adversary claims.Forever = subst (Shows board document.labeller document.adversary) claim shows in
+    (claim, has, shown.0, shown.1)
+
+pub shows_value : (left_old left_new taken_old taken_new : Option (List ℕ)) (value : Value) → RanSolve left_old left_new taken_old taken_new value
+    → ShowsValue left_old left_new taken_old taken_new value
+shows_value left_old left_new taken_old taken_new value ran =
+    let board : PlainBoard = ran.0 in
+    let gave = ran.2 in
+    let solved : IsSolved board value ran.1 = ran.3 in
+    let is = solved.is_document in
+    let start = gave.is_board.start in
+    let same : is.value ≡ value = same_value board board.start is.value value is.has_value solved.has_value in
+    record {
+      board = board;
+      document = solved.document;
+      is_board = gave.is_board;
+      is_proof = is_formed board solved.document start gave.few is;
+      read = gave.gave;
+      written = subst (Appends taken_old taken_new) solved.text_is ran.4;
+      accepted = breaks_no_rule board solved.document start is;
+      means = means board solved.document value solved.has_value (is.claim ∙ ap claim_of same) (shows_claim board solved.document start is);
+    }

@@ -1,0 +1,94 @@
+//! Solving a board: its document, from the bytes of the board to the bytes written.
+
+ghost use Rattle.std.specs.Prelude.{◌≡◌, ◌≢◌, ◌↔◌, ◌≤◌, true, false, Err, IfOk, IfErr, string_bytes};
+ghost use Rattle.board_text.specs.Ranges.{InRange};
+ghost use Rattle.positions.specs.Ranks.{configurations};
+ghost use Rattle.pebbles.specs.Run.{IsMemory, most_configurations};
+ghost use Rattle.pebbles.specs.SolveRun.{IsSolved, RanSolve, SolveFails};
+ghost use Rattle.pebbles.specs.declared.running.RunFault.TheVariants.{Read, Write};
+
+use crate::reading::{MAX_BOARD_BYTES, read_board};
+use crate::running::RunFault;
+use board_text::{Board, Failed, Memory, Sink, Source, write_all};
+use index_lists::LinkLists;
+use positions::Value;
+use proof_text::print;
+use retro_core::{SolveFault, Solver, Values};
+use std::alloc::Global;
+use std::thread::Threads;
+use strategies::document;
+
+/// Reads a board, finds the value of its start and writes the document that shows it.
+///
+/// The number of workers is 1 to 16; so far all rounds are run on this thread, whatever it is.
+/// The reader and the writer must not have failed before. Nothing is written before the whole text is built: after a fault nothing was written,
+/// but for `Write`, after which a front of the text was.
+pub fn run_solve<R: Source, W: Sink>(
+    _rt: &(impl Threads + Sync),
+    alloc: Global,
+    _workers: u8,
+    reader: &mut R,
+    writer: &mut W,
+) -> Result<Value, RunFault>
+    requires workers { InRange 1 16 _workers }
+    requires reader_ready { R.has_failed reader.old ≡ false }
+    requires writer_ready { W.has_failed writer.old ≡ false }
+    ensures ok { IfOk result (RanSolve (R.left reader.old) (R.left reader.new) (W.taken writer.old) (W.taken writer.new)) }
+    ensures fault { IfErr result (SolveFails (R.left reader.old) (R.left reader.new) MAX_BOARD_BYTES (W.taken writer.old) (W.taken writer.new)) }
+    ensures read { (R.has_failed reader.new ≡ true) ↔ (result ≡ Err Read) }
+    ensures write { (W.has_failed writer.new ≡ true) ↔ (result ≡ Err Write) }
+    ensures unwritten { IfErr result (λ fault. fault ≢ Write → writer.new ≡ writer.old) }
+{
+    let (board, _) = read_board(alloc, reader)?;
+    let solved = solve(alloc, &board)?;
+    match write_all(writer, solved.text.as_bytes()) {
+        Ok(()) => Ok(solved.value),
+        Err(Failed) => Err(RunFault::Write),
+    }
+}
+
+/// The value of a board's start, and the text of the board's document.
+#[derive(Drop)]
+struct Solved {
+    value: Value,
+    text: String,
+}
+
+/// The value of the start of a small board, and the text of the board's document.
+fn solve(alloc: Global, board: &Board) -> Result<Solved, RunFault>
+    requires { configurations board.now ≤ most_configurations }
+    ensures solved { IfOk result (λ solved. IsSolved board.now solved.value (string_bytes solved.text)) }
+    ensures memory { IfErr result IsMemory }
+{
+    let values = values_of(alloc, board)?;
+    let space = values.space();
+    let value = values.of(space.rank(board.start()));
+    let Ok(document) = document(alloc, board, &values) else {
+        return Err(RunFault::Memory);
+    };
+    match print(alloc, space, &document) {
+        Ok(text) => Ok(Solved { value, text }),
+        Err(Memory) => Err(RunFault::Memory),
+    }
+}
+
+/// The values of a small board, by as many rounds as it takes.
+pub(crate) fn values_of(alloc: Global, board: &Board) -> Result<Values, RunFault>
+    requires { configurations board.now ≤ most_configurations }
+    ensures values { IfOk result (λ values. values ≡ board.now) }
+    ensures memory { IfErr result IsMemory }
+{
+    let mut solver: Solver<LinkLists> = match Solver::open(alloc, board) {
+        Ok(solver) => solver,
+        Err(SolveFault::TooLarge) => return Err(RunFault::TooLarge),
+        Err(SolveFault::Memory) => return Err(RunFault::Memory),
+        Err(SolveFault::Worker) => return Err(RunFault::Worker),
+    };
+    loop {
+        match solver.finish() {
+            Ok(values) => return Ok(values),
+            Err(unfinished) => solver = unfinished.solver,
+        }
+        solver.round();
+    }
+}
