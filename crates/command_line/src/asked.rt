@@ -14,6 +14,10 @@ pub enum Job<'a> {
     Check { board: &'a str, proof: &'a str },
     /// Write the nested board with so many levels and pebbles, each 1 to 6.
     Nested { levels: u8, pebbles: u8 },
+    /// Solve the board, a path, with 1 to 16 workers, and write its strategy document.
+    Solve { workers: u8, board: &'a str },
+    /// Solve the board, a path, with 1 to 16 workers, and write how many configurations have each value.
+    Report { workers: u8, board: &'a str },
 }
 
 /// Why the words ask for nothing that can be done.

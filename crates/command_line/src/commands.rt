@@ -10,7 +10,7 @@ use std::alloc::{AllocError, Global};
 
 /// What the program is for.
 const ABOUT: &str =
-    "Checks strategies for the pebble game, whose boards are bounded timestamp systems.\n\n\
+    "Finds and checks strategies for the pebble game, whose boards are bounded timestamp systems.\n\n\
     Without a command it reads a board and behind it a strategy document from standard input, and writes what `check` writes.";
 
 /// What the statuses mean, with an example.
@@ -19,7 +19,7 @@ const AFTER_HELP: &str = "Exit statuses:\n  \
     1  a fault in the text of a board or a document, or a board that is too large\n  \
     2  wrong words on the command line\n  \
     3  the document was refused\n  \
-    4  no memory\n  \
+    4  no memory, or a worker that was not started\n  \
     5  a failed read or write, or an input that is too long\n\n\
     Example:\n  pebbles nested 2 2 > cycle.board\n  pebbles check cycle.board cycle.proof";
 
@@ -31,8 +31,27 @@ pub(crate) fn program<'a>(alloc: Global) -> Result<Command<'a>, AllocError>
         .about(ABOUT)
         .after_help(AFTER_HELP)
         .subcommand_required(true)
+        .subcommand(solve(alloc)?)?
         .subcommand(check(alloc)?)?
+        .subcommand(report(alloc)?)?
         .subcommand(nested(alloc)?)
+}
+
+fn solve<'a>(alloc: Global) -> Result<Command<'a>, AllocError>
+    ensures shape { IfOk result (λ c. shape_of c ≡ commands.solve) }
+    ensures local { IfOk result (λ c. (out-Command c).has_globals ≡ false) }
+{
+    let board = path(alloc, "board", "BOARD", "The path of a board");
+    Command::new(alloc, "solve")
+        .about(
+            "Reads a board, and writes its value with a strategy for each side that the value needs",
+        )
+        .after_help(
+            "Writes the strategy document of the board, which `check` accepts. It is the same for every number of workers.\n\n\
+            Example:\n  pebbles solve --workers 4 chain.board > chain.proof",
+        )
+        .arg(workers(alloc))?
+        .arg(board)
 }
 
 fn check<'a>(alloc: Global) -> Result<Command<'a>, AllocError>
@@ -56,6 +75,21 @@ fn check<'a>(alloc: Global) -> Result<Command<'a>, AllocError>
         )
         .arg(board)?
         .arg(proof)
+}
+
+fn report<'a>(alloc: Global) -> Result<Command<'a>, AllocError>
+    ensures shape { IfOk result (λ c. shape_of c ≡ commands.report) }
+    ensures local { IfOk result (λ c. (out-Command c).has_globals ≡ false) }
+{
+    let board = path(alloc, "board", "BOARD", "The path of a board");
+    Command::new(alloc, "report")
+        .about("Reads a board, and writes how many configurations have each value")
+        .after_help(
+            "The report is the same for every number of workers.\n\n\
+            Example:\n  pebbles report chain.board",
+        )
+        .arg(workers(alloc))?
+        .arg(board)
 }
 
 fn nested<'a>(alloc: Global) -> Result<Command<'a>, AllocError>
@@ -95,4 +129,17 @@ fn count<'a>(alloc: Global, id: &'a str, name: &'a str, most: u8, help: &'a str)
         .required(true)
         .value_parser(value_parser!(u8).range(1..=most as i64))
         .help(help)
+}
+
+/// How many workers solve a board, 1 to 16; 1 where the option isn't there.
+fn workers<'a>(alloc: Global) -> Arg<'a>
+    ensures rule { rule_of result ≡ commands.workers }
+    ensures local { result.global ≡ false }
+{
+    Arg::new(alloc, "workers")
+        .long("workers")
+        .value_name("N")
+        .default_value("1")
+        .value_parser(value_parser!(u8).range(1..=16))
+        .help("How many workers solve the board, 1 to 16")
 }

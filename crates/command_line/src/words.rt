@@ -64,7 +64,7 @@ fn fault(alloc: Global, error: &Error) -> JobFault
     }
 }
 
-//// The job of the command that the words named.
+/// The job of the command that the words named.
 fn chosen<'a>(matches: &ArgMatches<'a>) -> Option<Job<'a>>
     ensures some { IfSome result (λ j. IsReadAs (subcommand_rows_of matches.now) j) }
     ensures numbers { IfSome result IsInRange }
@@ -72,7 +72,9 @@ fn chosen<'a>(matches: &ArgMatches<'a>) -> Option<Job<'a>>
 {
     let (name, values) = named(matches)?;
     match name {
+        "solve" => solve_job(values),
         "check" => check_job(values),
+        "report" => report_job(values),
         "nested" => nested_job(values),
         _ => None,
     }
@@ -86,6 +88,16 @@ fn named<'m, 'a>(matches: &'m ArgMatches<'a>) -> Option<(&'a str, &'m ArgMatches
     matches.subcommand()
 }
 
+fn solve_job<'a>(values: &ArgMatches<'a>) -> Option<Job<'a>>
+    ensures asked { MatchOption result (asks (codes "solve") (rows_of (found_of values.now)) ≡ false)
+        (AsksFor (codes "solve") (rows_of (found_of values.now))) }
+    ensures numbers { IfSome result IsInRange }
+{
+    let workers = number(values, "workers", 16)?;
+    let board = text(values, "board")?;
+    Some(Job::Solve { workers, board })
+}
+
 fn check_job<'a>(values: &ArgMatches<'a>) -> Option<Job<'a>>
     ensures asked { MatchOption result (asks (codes "check") (rows_of (found_of values.now)) ≡ false)
         (AsksFor (codes "check") (rows_of (found_of values.now))) }
@@ -94,6 +106,16 @@ fn check_job<'a>(values: &ArgMatches<'a>) -> Option<Job<'a>>
     let board = text(values, "board")?;
     let proof = text(values, "proof")?;
     Some(Job::Check { board, proof })
+}
+
+fn report_job<'a>(values: &ArgMatches<'a>) -> Option<Job<'a>>
+    ensures asked { MatchOption result (asks (codes "report") (rows_of (found_of values.now)) ≡ false)
+        (AsksFor (codes "report") (rows_of (found_of values.now))) }
+    ensures numbers { IfSome result IsInRange }
+{
+    let workers = number(values, "workers", 16)?;
+    let board = text(values, "board")?;
+    Some(Job::Report { workers, board })
 }
 
 fn nested_job<'a>(values: &ArgMatches<'a>) -> Option<Job<'a>>
