@@ -9,6 +9,7 @@ use Rattle.command_line.specs.Commands.{check, nested, play_among, program, prog
 use Rattle.command_line.proofs.NamesMoved.{rows_after_same}
 use Rattle.command_line.proofs.TakesMoved.{level_same}
 
+-- the same words, somewhere else
 abbrev away : Bor (List (Bor Text)) → Bor (List (Bor Text))
 away sides = somewhere (map (λ (t : Bor Text). somewhere t.now) sides.now)
 
@@ -19,16 +20,17 @@ away_map (s ∷ rest) = ap (λ (xs : List (Bor Text)). somewhere s.now ∷ xs) (
 away_is : (sides : Bor (List (Bor Text))) → texts sides.now ≡ side_words → program_among (away sides) ≡ program
 away_is sides e = ap (λ (xs : List (Bor Text)). program_among (somewhere xs)) (away_map sides.now ∙ ap (λ (ts : List Text). map somewhere ts) e)
 
-abbrev built_play : Bor (List (Bor Text)) → Shape
-built_play sides = built_leaf (inherited program.top (play_among sides))
+-- a command as clap builds it below the program
+abbrev built_below : Shape → Shape
+built_below s = built_leaf (inherited program.top s)
 
-abbrev the : Shape → Shape
-the s = built_leaf (inherited program.top s)
+abbrev built_play : Bor (List (Bor Text)) → Shape
+built_play sides = built_below (play_among sides)
 
 -- the command that was named, by what the name is
 abbrev named : Bor (List (Bor Text)) → Bool → Bool → Bool → Bool → Bool → Bool → Option Shape
 named sides s c r n l h =
-    cond s (Some (the solve)) (cond c (Some (the check)) (cond r (Some (the report)) (cond n (Some (the nested))
+    cond s (Some (built_below solve)) (cond c (Some (built_below check)) (cond r (Some (built_below report)) (cond n (Some (built_below nested))
     (cond l (Some (built_play sides)) (cond h (Some (built_leaf help_shape)) None)))))
 
 passes_same : (sides : Bor (List (Bor Text))) (stop : Option (Text × List Text))

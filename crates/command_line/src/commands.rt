@@ -21,7 +21,7 @@ const AFTER_HELP: &str = "Exit statuses:\n  \
     3  the document was refused\n  \
     4  no memory, or a worker that was not started\n  \
     5  a failed read or write, or an input that is too long\n\n\
-    Example:\n  pebbles nested 2 2 > cycle.board\n  pebbles check cycle.board cycle.proof";
+    Example:\n  pebbles nested 2 2 > cycle.board\n  pebbles solve cycle.board > cycle.proof\n  pebbles check cycle.board cycle.proof";
 
 /// The words for the two sides of a play.
 static SIDES: [&str; 2] = ["labeller", "adversary"];
@@ -58,9 +58,7 @@ fn solve<'a>(alloc: Global) -> Result<Command<'a>, AllocError>
 {
     let board = path(alloc, "board", "BOARD", "The path of a board");
     Command::new(alloc, "solve")
-        .about(
-            "Reads a board, and writes its value with a strategy for each side that the value needs",
-        )
+        .about("Reads a board, and writes its value and the strategies that show it")
         .after_help(
             "Writes the strategy document of the board, which `check` accepts. It is the same for every number of workers.\n\n\
             Example:\n  pebbles solve --workers 4 chain.board > chain.proof",
