@@ -1,6 +1,6 @@
 //! What the words of command lines ask for.
 
-use command_line::{Job, JobFault, job};
+use command_line::{Job, JobFault, Player, job};
 use std::alloc::Global;
 use std::process::Abort;
 
@@ -71,6 +71,64 @@ fn nested_boards(rt: HostRuntime) {
 }
 
 #[test]
+fn solving(rt: HostRuntime) {
+    for (words, workers) in [
+        (["pebbles", "solve", "a"].as_slice(), 1),
+        (["pebbles", "solve", "--workers", "2", "a"].as_slice(), 2),
+        (["pebbles", "solve", "a", "--workers=16"].as_slice(), 16),
+        (
+            ["pebbles", "solve", "--workers", "1", "--", "a"].as_slice(),
+            1,
+        ),
+    ] {
+        assert_asks(
+            &rt,
+            rt.alloc(),
+            words,
+            Job::Solve {
+                workers,
+                board: "a",
+            },
+        );
+    }
+}
+
+#[test]
+fn reports(rt: HostRuntime) {
+    for (words, workers, board) in [
+        (["pebbles", "report", "a"].as_slice(), 1, "a"),
+        (["pebbles", "report", "--workers=3", "b"].as_slice(), 3, "b"),
+        (
+            ["pebbles", "report", "--", "--workers"].as_slice(),
+            1,
+            "--workers",
+        ),
+    ] {
+        assert_asks(&rt, rt.alloc(), words, Job::Report { workers, board });
+    }
+}
+
+#[test]
+fn plays(rt: HostRuntime) {
+    for (words, side) in [
+        (
+            ["pebbles", "play", "--side", "labeller", "a"].as_slice(),
+            Player::Labeller,
+        ),
+        (
+            ["pebbles", "play", "--side=adversary", "a"].as_slice(),
+            Player::Adversary,
+        ),
+        (
+            ["pebbles", "play", "a", "--side", "adversary"].as_slice(),
+            Player::Adversary,
+        ),
+    ] {
+        assert_asks(&rt, rt.alloc(), words, Job::Play { side, board: "a" });
+    }
+}
+
+#[test]
 fn wrong_words(rt: HostRuntime) {
     for words in [
         ["pebbles", ""].as_slice(),
@@ -88,6 +146,22 @@ fn wrong_words(rt: HostRuntime) {
         ["pebbles", "nested", "-1", "2"].as_slice(),
         ["pebbles", "nested", "1 ", "2"].as_slice(),
         ["pebbles", "nested", "99999999999999999999", "2"].as_slice(),
+        ["pebbles", "solve"].as_slice(),
+        ["pebbles", "solve", "a", "b"].as_slice(),
+        ["pebbles", "solve", "a", "--workers"].as_slice(),
+        ["pebbles", "solve", "--workers", "0", "a"].as_slice(),
+        ["pebbles", "solve", "--workers=17", "a"].as_slice(),
+        ["pebbles", "solve", "--workers=", "a"].as_slice(),
+        ["pebbles", "solve", "--workers=2", "--workers=2", "a"].as_slice(),
+        ["pebbles", "report"].as_slice(),
+        ["pebbles", "report", "--workers", "17", "a"].as_slice(),
+        ["pebbles", "check", "--workers=2", "a", "b"].as_slice(),
+        ["pebbles", "play", "a"].as_slice(),
+        ["pebbles", "play", "--side", "labeller"].as_slice(),
+        ["pebbles", "play", "--side", "person", "a"].as_slice(),
+        ["pebbles", "play", "--side", "Labeller", "a"].as_slice(),
+        ["pebbles", "play", "--side", "", "a"].as_slice(),
+        ["pebbles", "play", "--side=labeller", "--workers=2", "a"].as_slice(),
         ["pebbles", "--version"].as_slice(),
     ] {
         assert_usage(&rt, rt.alloc(), words);
@@ -103,6 +177,12 @@ fn help(rt: HostRuntime) {
         (["pebbles", "help", "check"].as_slice(), "<BOARD> <PROOF>"),
         (["pebbles", "check", "--help"].as_slice(), "<BOARD> <PROOF>"),
         (["pebbles", "nested", "-h"].as_slice(), "<LEVELS> <PEBBLES>"),
+        (["pebbles", "solve", "--help"].as_slice(), "[default: 1]"),
+        (["pebbles", "help", "report"].as_slice(), "--workers <N>"),
+        (
+            ["pebbles", "play", "-h"].as_slice(),
+            "[possible values: labeller, adversary]",
+        ),
     ] {
         assert_help(&rt, rt.alloc(), words, within);
     }

@@ -7,13 +7,12 @@ use Rattle.std.specs.Str.{bytes_eq}
 use Rattle.std.specs.Str.Parse.{starts_with_minus}
 use Rattle.std.proofs.lemmas.Int.{ints}
 use Rattle.std.proofs.lemmas.Slice.Eq.{bytes_eq-Decides}
-use Rattle.clap.specs.Facts.{explicit_source}
 use Rattle.clap.specs.Lexer.{long_of, without_minus}
 use Rattle.clap.specs.Values.{is_request}
 use Rattle.clap.specs.ValueTests.{is_signed_in, is_unsigned_in}
 use Rattle.clap.specs.Walk.{Held, Names, Row, Rule, Step, Text, Waiting, Walk, action_of, after_step, arg_by_id, arg_by_index, default_rows, finished, first_of, has_row, idle, is_empty, is_pending, long_or_other, next, nothing_held, one_of, option, positional, positional_held, reading_by, rows_after, settled, subcommand, subcommand_met, subcommand_or_other, takes_several, to_positional, trailing, value, walk, walk_from, walked, walked_from, with_default, word_met}
 use Rattle.clap.specs.Simple.{Shape}
-use Rattle.clap.specs.Takes.{default_passes, flag_word_passes, is_given, is_valid, level_passes, other_passes, positional_passes, settle_passes, step_passes, turn_passes, value_passes, values_pass, walk_passes, word_passes}
+use Rattle.clap.specs.Takes.{default_passes, flag_word_passes, is_valid, level_passes, other_passes, positional_passes, settle_passes, step_passes, turn_passes, value_passes, values_pass, walk_passes, word_passes}
 use Rattle.clap.specs.declared.builder.value_parser.Reading.TheVariants.{WithoutMinus}
 use Rattle.clap.specs.declared.builder.value_parser.ValueParser.TheVariants as vp
 use Rattle.clap.specs.declared.parser.matches.ValueSource.TheVariants.{DefaultValue}
@@ -21,6 +20,7 @@ use Rattle.std.proofs.lemmas.Bool.{eqb-true}
 use Rattle.clap.proofs.ValueTestLemmas.{accepts-Accepts, Accepts-accepts}
 use Rattle.clap.proofs.WalkLemmas.{both}
 use Rattle.command_line.proofs.RowFacts.{Each, Fits, GoodRule, either, found_each, some_first, with_fits}
+use Rattle.command_line.proofs.Defaults.{HasRow}
 use Rattle.command_line.proofs.WalkFits.{Good, IsNoCommand, RowsFit, long_no_command, long_word_fits, settled_fits}
 
 -- ---- one word
@@ -149,20 +149,20 @@ level_fits s words good pass =
     let walked_fits = walk_fits s (walk_from nothing_held) words good refl a.0 tt in
     (defaults_fit s.rules s.rules (settled s.rules end).rows good d.0 (settled_fits s.rules s.args_override_self end good b.0 walked_fits), d.1)
 
--- ---- what was given can be read
+-- ---- what has a row can be read
 
-given_row : (c : List Rule) (id : Text) (rows : List Row) (o : Option Row) → find (λ r. bytes_eq r.id id) rows ≡ o → Each (Fits c) rows
-    → option_map_or (λ r. explicit_source r.source) o false ≡ true
+fitting_row : (c : List Rule) (id : Text) (rows : List Row) (o : Option Row) → find (λ r. bytes_eq r.id id) rows ≡ o → Each (Fits c) rows
+    → is_some o ≡ true
     → (r : Row) × (find (λ r. bytes_eq r.id id) rows ≡ Some r) × Fits c r × (r.id ≡ id)
-given_row c id rows None e each h = absurd (true≢false (sym h))
-given_row c id rows (Some r) e each h =
+fitting_row c id rows None e each h = absurd (true≢false (sym h))
+fitting_row c id rows (Some r) e each h =
     let found = found_each (Fits c) (λ r. bytes_eq r.id id) rows r each e in
     (r, e, found.0, (bytes_eq-Decides r.id id).0 found.1)
 
-pub given_value : (c : List Rule) (a : Rule) (id : Text) (rows : List Row) → Each (Fits c) rows → arg_by_id c id ≡ Some a → is_given id rows ≡ true
+fitting_value : (c : List Rule) (a : Rule) (id : Text) (rows : List Row) → Each (Fits c) rows → arg_by_id c id ≡ Some a → HasRow id rows
     → (r : Row) × (v : Text) × (vs : List Text) × (find (λ r. bytes_eq r.id id) rows ≡ Some r) × (r.values ≡ v ∷ vs) × (value_passes a v ≡ true) × (r.reading ≡ reading_by a)
-given_value c a id rows each known given =
-    let row = given_row c id rows (find (λ r. bytes_eq r.id id) rows) refl each given in
+fitting_value c a id rows each known there =
+    let row = fitting_row c id rows (find (λ r. bytes_eq r.id id) rows) refl each there in
     let fits = row.2 in
     let same : fits.0 ≡ a = some_first fits.0 a (sym fits.1 ∙ (ap (arg_by_id c) row.3 ∙ known)) in
     go row.0 row.1 row.0.values refl fits.2 (subst (λ z. values_pass z row.0.values ≡ true) same fits.3) (fits.4 ∙ ap reading_by same)
@@ -172,11 +172,17 @@ given_value c a id rows each known given =
     go r found [] is some pass how = absurd (omega arith)
     go r found (v ∷ vs) is some pass how = (r, v, vs, found, is, (both (value_passes a v) (values_pass a vs) pass).0, how)
 
-pub text_there : (c : List Rule) (a : Rule) (id : Text) (rows : List Row) → Each (Fits c) rows → arg_by_id c id ≡ Some a → is_given id rows ≡ true
+pub text_there : (c : List Rule) (a : Rule) (id : Text) (rows : List Row) → Each (Fits c) rows → arg_by_id c id ≡ Some a → HasRow id rows
     → is_some (first_of id rows) ≡ true
-text_there c a id rows each known given =
-    let got = given_value c a id rows each known given in
+text_there c a id rows each known there =
+    let got = fitting_value c a id rows each known there in
     rw (got.3, got.4) refl
+
+pub choice_there : (c : List Rule) (a : Rule) (id : Text) (is_choice : Text → Bool) (rows : List Row) → Each (Fits c) rows → arg_by_id c id ≡ Some a
+    → ((t : Text) → value_passes a t ≡ true → is_choice t ≡ true) → HasRow id rows → option_map_or is_choice (first_of id rows) false ≡ true
+choice_there c a id is_choice rows each known passes there =
+    let got = fitting_value c a id rows each known there in
+    rw (got.3, got.4) (passes got.1 got.5)
 
 without_minus-cond : (t : List ℕ) → without_minus t ≡ cond (starts_with_minus t) (drop 1 t) t
 without_minus-cond [] = refl
@@ -206,9 +212,9 @@ unsigned most t e =
 
 pub number_there : (c : List Rule) (a : Rule) (id : Text) (most : ℕ) (rows : List Row) → Each (Fits c) rows → arg_by_id c id ≡ Some a
     → reading_by a ≡ WithoutMinus → ((t : Text) → value_passes a t ≡ true → is_signed_in (pos 1) (pos most) t ≡ true)
-    → is_given id rows ≡ true → option_map_or (is_unsigned_in 1 most) (one_of id rows) false ≡ true
-number_there c a id most rows each known how passes given =
-    let got = given_value c a id rows each known given in
+    → HasRow id rows → option_map_or (is_unsigned_in 1 most) (one_of id rows) false ≡ true
+number_there c a id most rows each known how passes there =
+    let got = fitting_value c a id rows each known there in
     let reads : got.0.reading ≡ WithoutMinus = got.6 ∙ how in
     let one : one_of id rows ≡ Some (without_minus got.1) = rw (got.3, got.4, reads) refl in
     ap (λ (o : Option Text). option_map_or (is_unsigned_in 1 most) o false) one ∙ unsigned most got.1 (passes got.1 got.5)

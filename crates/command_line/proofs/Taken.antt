@@ -1,30 +1,41 @@
 -- Where `clap` takes the words, the job can be read from its matches.
 use Rattle.std.proofs.Common.{◌≡◌, ◌∙◌, ◌&&◌, ◌||◌, not, Bool, ℕ, List, [], ◌∷◌, Option, Some, None, is_some, true, false, true≢false, refl, sym, inl, inr, cond, codes, drop, arith}
-use Rattle.std.specs.Prelude.{⊤, fold, option_map}
-use Rattle.std.specs.List.{list_all}
+use Rattle.std.specs.Prelude.{⊤, fold, map, option_map}
+use Rattle.std.specs.Borrow.{Bor}
+use Rattle.std.specs.List.{list_all, list_any}
 use Rattle.std.specs.Option.{option_map_or}
 use Rattle.std.specs.Str.{bytes_eq}
 use Rattle.std.proofs.lemmas.Slice.Eq.{bytes_eq-Decides}
-use Rattle.clap.specs.Walk.{Held, Names, Rule, Step, Text, Waiting, Walk, after_step, answers_to, arg_by_index, finished, long_or_other, next, nothing_held, rows_after, subcommand, subcommand_met, subcommand_or_other, to_positional, trailing, value, walk, walk_from, walked, walked_from, word_met}
+use Rattle.clap.specs.Walk.{Held, Names, Rule, Step, Text, Waiting, Walk, after_step, answers_to, arg_by_index, finished, long_or_other, next, nothing_held, rows_after, settled, subcommand, subcommand_met, subcommand_or_other, to_positional, trailing, value, walk, walk_from, walked, walked_from, word_met}
 use Rattle.clap.specs.Lexer.{long_of}
-use Rattle.clap.specs.Simple.{Shape, built, built_leaf, entered, help_shape, inherited, is_simple, label_of, names_of, rows_at, subcommand_of}
+use Rattle.clap.specs.Simple.{Shape, built, built_leaf, entered, filled, with_index, help_shape, inherited, is_simple, label_of, names_of, rows_at, subcommand_of}
 use Rattle.clap.specs.Takes.{built_takes, default_passes, entered_passes, is_given, is_valid, level_passes, other_passes, settle_passes, step_passes, takes, turn_passes, walk_passes, word_passes}
 use Rattle.clap.proofs.OnLiterals.{clap_on_literals}
 use Rattle.clap.proofs.WalkLemmas.{both}
-use Rattle.command_line.specs.Commands.{check, nested, program}
-use Rattle.command_line.specs.Reading.{is_read}
+use Rattle.command_line.specs.Commands.{check, nested, play_among, program, program_among, side_words, solving, somewhere, workers}
+use Rattle.command_line.specs.Reading.{can_solve, is_read}
 use Rattle.command_line.proofs.RowFacts.{either}
+use Rattle.command_line.proofs.Defaults.{default_row, given_row}
 use Rattle.command_line.proofs.WalkFits.{Good, IsNoCommand, long_no_command}
-use Rattle.command_line.proofs.LevelFits.{level_fits, number_there, text_there}
+use Rattle.command_line.proofs.LevelFits.{choice_there, level_fits, number_there, text_there}
 
-pub simple : is_simple program ≡ true
+pub simple : (sides : Bor (List (Bor Text))) → is_simple (program_among sides) ≡ true
 unfolding clap_on_literals
-simple = refl
+simple sides = refl
 
 -- ---- each command
 
 abbrev built_check : Shape
 built_check = built_leaf (inherited program.top check)
+
+abbrev built_solving : Text → Shape
+built_solving name = built_leaf (inherited program.top (solving name))
+
+abbrev built_workers : Rule
+built_workers = with_index 1 (filled workers)
+
+abbrev built_play : Shape
+built_play = built_leaf (inherited program.top (play_among (somewhere (map somewhere side_words))))
 
 abbrev built_nested : Shape
 built_nested = built_leaf (inherited program.top nested)
@@ -35,6 +46,29 @@ check_good = ((refl, inl (refl, omega arith)), ((refl, inl (refl, omega arith)),
 nested_good : Good built_nested.rules
 nested_good = ((refl, inl (refl, omega arith)), ((refl, inl (refl, omega arith)), ((refl, inr refl), tt)))
 
+solving_good : (name : Text) → Good (built_solving name).rules
+solving_good name = ((refl, inl (refl, omega arith)), ((refl, inl (refl, omega arith)), ((refl, inr refl), tt)))
+
+can_read : (name : Text) (words : List Text) → level_passes (built_solving name) [] nothing_held words false ≡ true
+    → can_solve (rows_after (built_solving name).rules [] words) ≡ true
+can_read name words pass =
+    let rules = (built_solving name).rules in
+    let rows = rows_after rules [] words in
+    let level = level_fits (built_solving name) words (solving_good name) pass in
+    let workers = default_row built_workers (drop 1 rules) (settled rules (walk rules [] nothing_held words).held).rows (omega arith) in
+    let board = (both (is_given (codes "board") rows) true level.1).0 in
+    let has_workers = number_there rules _ (codes "workers") 16 rows level.0 refl refl (λ t e. e) workers in
+    let has_board = text_there rules _ (codes "board") rows level.0 refl (given_row (codes "board") rows board) in
+    rw (has_workers, has_board) refl
+
+solve_read : (words : List Text) → level_passes (built_solving (codes "solve")) [] nothing_held words false ≡ true
+    → is_read (Some (rows_at (built_solving (codes "solve")) words)) ≡ true
+solve_read words pass = rw (can_read (codes "solve") words pass) refl
+
+report_read : (words : List Text) → level_passes (built_solving (codes "report")) [] nothing_held words false ≡ true
+    → is_read (Some (rows_at (built_solving (codes "report")) words)) ≡ true
+report_read words pass = rw (can_read (codes "report") words pass) refl
+
 check_read : (words : List Text) → level_passes built_check [] nothing_held words false ≡ true
     → is_read (Some (rows_at built_check words)) ≡ true
 check_read words pass =
@@ -43,8 +77,8 @@ check_read words pass =
     let parts = both (is_given (codes "board") rows) (is_given (codes "proof") rows && true) level.1 in
     let board = parts.0 in
     let proof = (both (is_given (codes "proof") rows) true parts.1).0 in
-    let has_board = text_there built_check.rules _ (codes "board") rows level.0 refl board in
-    let has_proof = text_there built_check.rules _ (codes "proof") rows level.0 refl proof in
+    let has_board = text_there built_check.rules _ (codes "board") rows level.0 refl (given_row (codes "board") rows board) in
+    let has_proof = text_there built_check.rules _ (codes "proof") rows level.0 refl (given_row (codes "proof") rows proof) in
     rw (has_board, has_proof) refl
 
 nested_read : (words : List Text) → level_passes built_nested [] nothing_held words false ≡ true
@@ -55,9 +89,25 @@ nested_read words pass =
     let parts = both (is_given (codes "levels") rows) (is_given (codes "pebbles") rows && true) level.1 in
     let levels = parts.0 in
     let pebbles = (both (is_given (codes "pebbles") rows) true parts.1).0 in
-    let has_levels = number_there built_nested.rules _ (codes "levels") 6 rows level.0 refl refl (λ t e. e) levels in
-    let has_pebbles = number_there built_nested.rules _ (codes "pebbles") 6 rows level.0 refl refl (λ t e. e) pebbles in
+    let has_levels = number_there built_nested.rules _ (codes "levels") 6 rows level.0 refl refl (λ t e. e) (given_row (codes "levels") rows levels) in
+    let has_pebbles = number_there built_nested.rules _ (codes "pebbles") 6 rows level.0 refl refl (λ t e. e) (given_row (codes "pebbles") rows pebbles) in
     rw (has_levels, has_pebbles) refl
+
+play_good : Good built_play.rules
+play_good = ((refl, inl (refl, omega arith)), ((refl, inl (refl, omega arith)), ((refl, inr refl), tt)))
+
+play_read : (words : List Text) → level_passes built_play [] nothing_held words false ≡ true
+    → is_read (Some (rows_at built_play words)) ≡ true
+play_read words pass =
+    let rows = rows_after built_play.rules [] words in
+    let level = level_fits built_play words play_good pass in
+    let parts = both (is_given (codes "side") rows) (is_given (codes "board") rows && true) level.1 in
+    let side = parts.0 in
+    let board = (both (is_given (codes "board") rows) true parts.1).0 in
+    let has_a_side = choice_there built_play.rules _ (codes "side") (λ t. list_any (λ word. bytes_eq word t) side_words) rows level.0 refl (λ t e. e)
+    (given_row (codes "side") rows side) in
+    let has_board = text_there built_play.rules _ (codes "board") rows level.0 refl (given_row (codes "board") rows board) in
+    rw (has_a_side, has_board) refl
 
 -- ---- a walk that passes stops at no `help`
 
@@ -131,21 +181,25 @@ stop_read : (stop : Option (Text × List Text)) → IsNoHelp stop → entered_pa
     → is_some (entered (built program) stop) ≡ true → is_read (entered (built program) stop) ≡ true
 stop_read None fine pass some = absurd (true≢false (sym some))
 stop_read (Some p) fine pass some =
-    go (answers_to p.0 (label_of built_check)) (answers_to p.0 (label_of built_nested)) (answers_to p.0 (codes "help", [])) refl pass some
+    go (answers_to p.0 (label_of (built_solving (codes "solve")))) (answers_to p.0 (label_of built_check)) (answers_to p.0 (label_of (built_solving (codes "report"))))
+    (answers_to p.0 (label_of built_nested)) (answers_to p.0 (label_of built_play)) (answers_to p.0 (codes "help", [])) refl pass some
   where
     help : Shape
     help = built_leaf help_shape
 
-    shape : Bool → Bool → Bool → Option Shape
-    shape a b d = cond a (Some built_check) (cond b (Some built_nested) (cond d (Some help) None))
+    shape : Bool → Bool → Bool → Bool → Bool → Bool → Option Shape
+    shape s c r n l h = cond s (Some (built_solving (codes "solve"))) (cond c (Some built_check) (cond r (Some (built_solving (codes "report"))) (cond n (Some built_nested) (cond l (Some built_play) (cond h (Some help) None)))))
 
-    go : (a b d : Bool) → answers_to p.0 (codes "help", []) ≡ d
-        → option_map_or (λ s. level_passes s [] nothing_held p.1 false) (shape a b d) true ≡ true
-        → is_some (option_map (λ s. rows_at s p.1) (shape a b d)) ≡ true
-        → is_read (option_map (λ s. rows_at s p.1) (shape a b d)) ≡ true
-    go true b d e pass some = check_read p.1 pass
-    go false true d e pass some = nested_read p.1 pass
-    go false false true e pass some =
+    go : (s c r n l h : Bool) → answers_to p.0 (codes "help", []) ≡ h
+        → option_map_or (λ s. level_passes s [] nothing_held p.1 false) (shape s c r n l h) true ≡ true
+        → is_some (option_map (λ s. rows_at s p.1) (shape s c r n l h)) ≡ true
+        → is_read (option_map (λ s. rows_at s p.1) (shape s c r n l h)) ≡ true
+    go true c r n l h e pass some = solve_read p.1 pass
+    go false true r n l h e pass some = check_read p.1 pass
+    go false false true n l h e pass some = report_read p.1 pass
+    go false false false true l h e pass some = nested_read p.1 pass
+    go false false false false true h e pass some = play_read p.1 pass
+    go false false false false false true e pass some =
         elim (either (bytes_eq (codes "help") p.0) false e) [
           | inl same ↦
               let is : codes "help" ≡ p.0 = (bytes_eq-Decides (codes "help") p.0).0 same in
@@ -153,7 +207,7 @@ stop_read (Some p) fine pass some =
               absurd (true≢false (sym again ∙ fine))
           | inr bad ↦ absurd (true≢false (sym bad))
         ]
-    go false false false e pass some = absurd (true≢false (sym some))
+    go false false false false false false e pass some = absurd (true≢false (sym some))
 
 pub taken : (words : List Text) → takes program words ≡ true → is_read (subcommand_of program words) ≡ true
 taken words e =

@@ -14,6 +14,21 @@ pub enum Job<'a> {
     Check { board: &'a str, proof: &'a str },
     /// Write the nested board with so many levels and pebbles, each 1 to 6.
     Nested { levels: u8, pebbles: u8 },
+    /// Solve the board, a path, with 1 to 16 workers, and write its strategy document.
+    Solve { workers: u8, board: &'a str },
+    /// Solve the board, a path, with 1 to 16 workers, and write how many configurations have each value.
+    Report { workers: u8, board: &'a str },
+    /// Play on the board, a path. The person plays this side, by lines of standard input, and the program the other one.
+    Play { side: Player, board: &'a str },
+}
+
+/// One of the two that play.
+#[derive(Clone, Copy, Debug, PartialEq, Eq)]
+pub enum Player {
+    /// It answers a request with a label.
+    Labeller,
+    /// It names the pebble of a request.
+    Adversary,
 }
 
 /// Why the words ask for nothing that can be done.

@@ -1,7 +1,7 @@
 //! The program's commands, with the texts of their help.
 
-ghost use Rattle.std.specs.Prelude.{◌≡◌, IfOk, false};
-ghost use Rattle.clap.specs.Words.{app_of, rule_of, shape_of};
+ghost use Rattle.std.specs.Prelude.{◌≡◌, IfOk, List, false, true};
+ghost use Rattle.clap.specs.Words.{Text, app_of, is_simple, rule_of, shape_of, subcommand_of, takes};
 ghost use Rattle.clap.specs.declared.builder.command.Command.TheViews.{out-Command};
 ghost use Rattle.command_line.specs.Commands as commands;
 
@@ -10,7 +10,7 @@ use std::alloc::{AllocError, Global};
 
 /// What the program is for.
 const ABOUT: &str =
-    "Checks strategies for the pebble game, whose boards are bounded timestamp systems.\n\n\
+    "Finds and checks strategies for the pebble game, whose boards are bounded timestamp systems.\n\n\
     Without a command it reads a board and behind it a strategy document from standard input, and writes what `check` writes.";
 
 /// What the statuses mean, with an example.
@@ -19,20 +19,52 @@ const AFTER_HELP: &str = "Exit statuses:\n  \
     1  a fault in the text of a board or a document, or a board that is too large\n  \
     2  wrong words on the command line\n  \
     3  the document was refused\n  \
-    4  no memory\n  \
+    4  no memory, or a worker that was not started\n  \
     5  a failed read or write, or an input that is too long\n\n\
-    Example:\n  pebbles nested 2 2 > cycle.board\n  pebbles check cycle.board cycle.proof";
+    Example:\n  pebbles nested 2 2 > cycle.board\n  pebbles solve cycle.board > cycle.proof\n  pebbles check cycle.board cycle.proof";
+
+/// The words for the two sides of a play.
+static SIDES: [&str; 2] = ["labeller", "adversary"];
 
 /// All commands.
 pub(crate) fn program<'a>(alloc: Global) -> Result<Command<'a>, AllocError>
-    ensures { IfOk result (λ c. app_of c ≡ commands.program) }
+    ensures simple { IfOk result (λ c. is_simple (app_of c) ≡ true) }
+    ensures takes { IfOk result (λ c. (words : List Text)
+        → takes (app_of c) words ≡ takes commands.program words) }
+    ensures reads { IfOk result (λ c. (words : List Text)
+        → subcommand_of (app_of c) words ≡ subcommand_of commands.program words) }
+{
+    program_among(alloc, SIDES.as_slice())
+}
+
+/// All commands, with these words for the sides of a play.
+fn program_among<'a>(alloc: Global, sides: &'a [&'a str]) -> Result<Command<'a>, AllocError>
+    ensures { IfOk result (λ c. app_of c ≡ commands.program_among sides.entry) }
 {
     Command::new(alloc, "pebbles")
         .about(ABOUT)
         .after_help(AFTER_HELP)
         .subcommand_required(true)
+        .subcommand(solve(alloc)?)?
         .subcommand(check(alloc)?)?
-        .subcommand(nested(alloc)?)
+        .subcommand(report(alloc)?)?
+        .subcommand(nested(alloc)?)?
+        .subcommand(play(alloc, sides)?)
+}
+
+fn solve<'a>(alloc: Global) -> Result<Command<'a>, AllocError>
+    ensures shape { IfOk result (λ c. shape_of c ≡ commands.solve) }
+    ensures local { IfOk result (λ c. (out-Command c).has_globals ≡ false) }
+{
+    let board = path(alloc, "board", "BOARD", "The path of a board");
+    Command::new(alloc, "solve")
+        .about("Reads a board, and writes its value and the strategies that show it")
+        .after_help(
+            "Writes the strategy document of the board, which `check` accepts. It is the same for every number of workers.\n\n\
+            Example:\n  pebbles solve --workers 4 chain.board > chain.proof",
+        )
+        .arg(workers(alloc))?
+        .arg(board)
 }
 
 fn check<'a>(alloc: Global) -> Result<Command<'a>, AllocError>
@@ -58,6 +90,21 @@ fn check<'a>(alloc: Global) -> Result<Command<'a>, AllocError>
         .arg(proof)
 }
 
+fn report<'a>(alloc: Global) -> Result<Command<'a>, AllocError>
+    ensures shape { IfOk result (λ c. shape_of c ≡ commands.report) }
+    ensures local { IfOk result (λ c. (out-Command c).has_globals ≡ false) }
+{
+    let board = path(alloc, "board", "BOARD", "The path of a board");
+    Command::new(alloc, "report")
+        .about("Reads a board, and writes how many configurations have each value")
+        .after_help(
+            "The report is the same for every number of workers.\n\n\
+            Example:\n  pebbles report chain.board",
+        )
+        .arg(workers(alloc))?
+        .arg(board)
+}
+
 fn nested<'a>(alloc: Global) -> Result<Command<'a>, AllocError>
     ensures shape { IfOk result (λ c. shape_of c ≡ commands.nested) }
     ensures local { IfOk result (λ c. (out-Command c).has_globals ≡ false) }
@@ -72,6 +119,35 @@ fn nested<'a>(alloc: Global) -> Result<Command<'a>, AllocError>
         )
         .arg(levels)?
         .arg(pebbles)
+}
+
+fn play<'a>(alloc: Global, sides: &'a [&'a str]) -> Result<Command<'a>, AllocError>
+    ensures shape { IfOk result (λ c. shape_of c ≡ commands.play_among sides.entry) }
+    ensures local { IfOk result (λ c. (out-Command c).has_globals ≡ false) }
+{
+    let board = path(alloc, "board", "BOARD", "The path of a board");
+    Command::new(alloc, "play")
+        .about("Plays against you on a board, with best requests or best answers")
+        .after_help(
+            "Lines come from standard input. The adversary writes the number of a pebble, the labeller a label for the pebble \
+            that is asked; `quit` ends the play.\n\n\
+            Example:\n  pebbles play --side adversary chain.board",
+        )
+        .arg(side(alloc, sides))?
+        .arg(board)
+}
+
+/// The side that the person plays, one of these words.
+fn side<'a>(alloc: Global, sides: &'a [&'a str]) -> Arg<'a>
+    ensures rule { rule_of result ≡ commands.side_among sides.entry }
+    ensures local { result.global ≡ false }
+{
+    Arg::new(alloc, "side")
+        .long("side")
+        .value_name("SIDE")
+        .required(true)
+        .value_parser(sides)
+        .help("The side that you play")
 }
 
 /// A path that has to be there.
@@ -95,4 +171,17 @@ fn count<'a>(alloc: Global, id: &'a str, name: &'a str, most: u8, help: &'a str)
         .required(true)
         .value_parser(value_parser!(u8).range(1..=most as i64))
         .help(help)
+}
+
+/// How many workers solve a board, 1 to 16; 1 where the option isn't there.
+fn workers<'a>(alloc: Global) -> Arg<'a>
+    ensures rule { rule_of result ≡ commands.workers }
+    ensures local { result.global ≡ false }
+{
+    Arg::new(alloc, "workers")
+        .long("workers")
+        .value_name("N")
+        .default_value("1")
+        .value_parser(value_parser!(u8).range(1..=16))
+        .help("How many workers solve the board, 1 to 16")
 }
