@@ -13,3 +13,5 @@ pub mod Solved
 pub mod Rounds
 pub mod Safest
 pub mod Finished
+pub mod RowGaps
+pub mod Noting

@@ -1,9 +1,11 @@
 //! Values of configurations, found backwards in rounds.
 #![tactic(auto)]
 
+mod answering;
 mod fault;
 mod opening;
 mod progress;
+mod row;
 mod solver;
 mod tables;
 mod values;

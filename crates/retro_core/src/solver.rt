@@ -8,8 +8,8 @@ ghost use Rattle.positions.specs.Gaps.{gaps, IsDominator};
 ghost use Rattle.positions.specs.Counts.{HasSize, IsSmallest};
 ghost use Rattle.retro_core.specs.Solving.{IsSolving, bucket, source, NoneHas, AnswerLasts, AnswerForever};
 
+use crate::answering::Answering;
 use crate::fault::SolveFault;
-use crate::opening::{counts_of, dominators_of};
 use crate::progress::Progress;
 use crate::tables::{OPEN, Tables};
 use crate::values::{Values, write_safe};
@@ -71,8 +71,7 @@ impl<S: ListStore + Drop> Solver<S> {
         ensures kept { IfOk result (λ solver. IsSolving solver) }
     {
         let _ = space.configurations();
-        let dominators = dominators_of(alloc, &space, board)?;
-        let counts = counts_of(alloc, &space, board)?;
+        let Answering { counts, dominators } = Answering::of(alloc, &space, board)?;
         let mut tables = Tables::new(alloc, &space, counts)?;
         tables.enter_all(&space, &dominators);
         Ok(Solver {
@@ -100,8 +99,7 @@ impl<S: ListStore> Solver<S> {
         if self.done {
             return Progress::Done;
         }
-        self.tables
-            .strike_bucket(&self.space, &self.dominators, self.round);
+        self.tables.strike_bucket(&self.space, self.round);
         let filed = self.tables.buckets.len(self.round + 1);
         if filed == 0 {
             self.done = true;

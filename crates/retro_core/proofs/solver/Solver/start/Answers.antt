@@ -8,11 +8,11 @@ pub invariant_of-result : goal.invariant_of-result
 invariant_of-result g c =
     let b = c.args.space in
     let e = c.configurations.ensures in
-    start-state b e.is_board _ _ _ _ _ _ _ _ _ _ _ _ (one-le-pow b.pebbles (places b) e.is_board.labels.0) c.in_ok-dominators.ensures c.enter_all.ensures.entered
+    start-state b e.is_board _ _ _ _ _ _ _ _ _ _ _ _ (one-le-pow b.pebbles (places b) e.is_board.labels.0) c.in_ok-counts.ensures.dominators c.enter_all.ensures.entered
 
 pub returns-clause-kept : goal.returns-clause-kept
 returns-clause-kept g c =
     let b = c.args.space in
     let e = c.configurations.ensures in
     solving_of b e.is_board e.few _ _ _ _ _ _ _ _ _ _ _ _ _ _
-    (start-state b e.is_board _ _ _ _ _ _ _ _ _ _ _ _ (one-le-pow b.pebbles (places b) e.is_board.labels.0) c.in_ok-dominators.ensures c.enter_all.ensures.entered)
+    (start-state b e.is_board _ _ _ _ _ _ _ _ _ _ _ _ (one-le-pow b.pebbles (places b) e.is_board.labels.0) c.in_ok-counts.ensures.dominators c.enter_all.ensures.entered)
