@@ -41,7 +41,7 @@ count-one test = by (test 0) refl
     })
     by false e = same_size P (count_to test 1) 0 size ((size_zero P).1 (λ k holds. true_not_false (test 0) (ap test (let low : k < 1 = holds.0 in omega arith) ∙ holds.1) e))
 
-count-same : (test : ℕ → Bool) (n : ℕ) → count_to test n ≡ count_below n test
+pub count-same : (test : ℕ → Bool) (n : ℕ) → count_to test n ≡ count_below n test
 count-same test zero = count_to-zero test
 count-same test (suc n) =
     let next : suc n ≡ n + 1 = omega arith in

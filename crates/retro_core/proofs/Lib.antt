@@ -15,3 +15,4 @@ pub mod Safest
 pub mod Finished
 pub mod RowGaps
 pub mod Noting
+pub mod ValueSizes

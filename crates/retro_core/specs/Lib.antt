@@ -3,3 +3,4 @@ pub mod BoardArena
 pub mod Tables
 pub mod Solving
 pub mod Opening
+pub mod Sizes

@@ -6,6 +6,7 @@ mod fault;
 mod opening;
 mod progress;
 mod row;
+mod sizes;
 mod solver;
 mod tables;
 mod values;
