@@ -26,6 +26,8 @@ mod printing;
 #[cfg(test)]
 mod solving;
 #[cfg(test)]
+mod solving_calls;
+#[cfg(test)]
 mod solving_shapes;
 #[cfg(test)]
 mod spaces;

@@ -14,7 +14,11 @@ use std::alloc::Global;
 use std::process::Abort;
 
 /// What `open` answers where it is refused no growth.
-fn open<S: ListStore + Drop>(rt: &impl Abort, alloc: Global, board: &Board) -> Solver<S> {
+pub(crate) fn open<S: ListStore + Drop>(
+    rt: &impl Abort,
+    alloc: Global,
+    board: &Board,
+) -> Solver<S> {
     let opened: Result<Solver<S>, SolveFault> = match Solver::open(alloc, board) {
         Err(SolveFault::Memory) => Solver::open(alloc, board),
         opened => opened,

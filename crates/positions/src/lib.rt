@@ -1,6 +1,7 @@
 //! Configurations of the pebble game, and what they are worth.
 #![tactic(auto)]
 
+mod answer_set;
 mod claim;
 mod label_set;
 mod laws;
@@ -13,6 +14,7 @@ mod turns;
 mod value;
 mod writing;
 
+pub use answer_set::AnswerSet;
 pub use claim::Claim;
 pub use laws::{
     lasts_less, one_dominator, one_has_a_tree, one_value_at_most, shown_claims_hold,

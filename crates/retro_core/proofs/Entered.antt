@@ -12,7 +12,7 @@ use Rattle.retro_core.specs.Arena.{Arena, IsArena, count_below, live, next, last
 use Rattle.retro_core.specs.BoardArena.{answers, arena_of}
 use Rattle.retro_core.specs.Tables.{is_open, below, IsCounted, AreSources, AreLive, IsEntered, IsStage}
 use Rattle.retro_core.proofs.BoardArenas.{answers_is}
-use Rattle.retro_core.proofs.Lasting.{both_true, and_true, same_or_not, same_is, differ_is, next-from, true_not_false}
+use Rattle.retro_core.proofs.Lasting.{both_true, and_true, same_or_not, same_is, differ_is, next-from, next-gives, true_or_false, true_not_false}
 use Rattle.retro_core.proofs.Listed.{filed-pushed, open-after, open-elsewhere, open_word}
 use Rattle.retro_core.proofs.Struck.{AreLive-same}
 use Rattle.retro_core.proofs.Entering.{IsPush, below_is, not_below, below_other, push-ascends, AreSources-same}
@@ -41,7 +41,7 @@ count-one test = by (test 0) refl
     })
     by false e = same_size P (count_to test 1) 0 size ((size_zero P).1 (λ k holds. true_not_false (test 0) (ap test (let low : k < 1 = holds.0 in omega arith) ∙ holds.1) e))
 
-count-same : (test : ℕ → Bool) (n : ℕ) → count_to test n ≡ count_below n test
+pub count-same : (test : ℕ → Bool) (n : ℕ) → count_to test n ≡ count_below n test
 count-same test zero = count_to-zero test
 count-same test (suc n) =
     let next : suc n ≡ n + 1 = omega arith in
@@ -82,6 +82,17 @@ counted-all b counts size each = record {
 
 pub none-stuck : (a : Arena) → IsArena a → (counts : List ℕ) (c : ℕ) → IsCounted a (lasts a 0) counts → c < a.configurations → ((p : ℕ) → p < a.pebbles → 0 < slice_index counts (a.gap c p)) → false ≡ not (next a (lasts a 0) c)
 none-stuck a is counts c k i some = sym (ap not (next-from a (lasts a 0) c (λ p j. let e = k.counted (a.gap c p) (is.gap_in c p i j) in let h = some p j in omega arith)))
+
+pub some-stuck : (a : Arena) → IsArena a → (counts : List ℕ) (c p g : ℕ) → IsCounted a (lasts a 0) counts → c < a.configurations → p < a.pebbles → g ≡ a.gap c p → slice_index counts g ≡ 0
+    → true ≡ not (next a (lasts a 0) c)
+some-stuck a is counts c p g k i j g_is none = elim (true_or_false (next a (lasts a 0) c)) [
+  | inr stuck ↦ sym (ap not stuck)
+  | inl free ↦ absurd (
+      let some : 0 < live a (lasts a 0) (a.gap c p) = next-gives a (lasts a 0) c p free j in
+      let counted : slice_index counts (a.gap c p) ≡ live a (lasts a 0) (a.gap c p) = k.counted (a.gap c p) (is.gap_in c p i j) in
+      let here : slice_index counts (a.gap c p) ≡ 0 = ap (slice_index counts) (sym g_is) ∙ none in
+      omega arith)
+]
 
 -- ---- one more
 

@@ -13,3 +13,6 @@ pub mod Solved
 pub mod Rounds
 pub mod Safest
 pub mod Finished
+pub mod RowGaps
+pub mod Noting
+pub mod ValueSizes

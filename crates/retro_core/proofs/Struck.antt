@@ -2,7 +2,7 @@
 use Rattle.std.proofs.Common.{◌≡◌, ◌≢◌, ℕ, ◌+◌, ◌<◌, ◌==◌, ◌&&◌, not, inl, inr, Bool, true, false, cond, suc, refl, arith, sym, ap, ◌∙◌, subst, List, Option, Some, None, get_or, slice_index, slice_set}
 use Rattle.std.proofs.lemmas.Bool.Decides.{nat_tests}
 use Rattle.std.proofs.lemmas.List.Kept.{AllPairs-filter}
-use Rattle.index_lists.specs.Lists.{times, without_node, IsIn, AreLists}
+use Rattle.index_lists.specs.Lists.{times, without_node, IsFree, IsIn, IsHome, AreLists}
 use Rattle.index_lists.proofs.Times.{times-without_same, times-without_other}
 use Rattle.board_text.specs.PlainBoard.{PlainBoard}
 use Rattle.positions.specs.Ranks.{configurations, configuration_at}
@@ -14,12 +14,13 @@ use Rattle.retro_core.specs.Tables.{is_open, IsCounted, AreFiled, AreSources, Ar
 use Rattle.retro_core.proofs.BoardArenas.{dominant_is}
 use Rattle.retro_core.proofs.Lasting.{both_true, and_true, true_or_false, same_or_not, same_is}
 use Rattle.retro_core.proofs.Strikes.{strike-home}
+use Rattle.retro_core.proofs.Listed.{times_true}
 use Rattle.retro_core.proofs.Closing.{counted-alone, counted-struck, words-alone, words-some, words-closed, home-now}
 
 -- ---- live answers
 
 -- the label of a configuration in a gap of its own is an answer
-leads : Arena → ℕ → ℕ → Bool
+abbrev leads : Arena → ℕ → ℕ → Bool
 leads a g x = a.gap x (a.pebble g) == g && a.is_answer g (a.label x (a.pebble g))
 
 number_is : (m n : ℕ) → m == n ≡ true → m ≡ n
@@ -100,6 +101,32 @@ AreLive-same a above above' nodes lists living same are = record {
   once = λ g x i j. are.once g x i j ∙ ap (λ b. cond (b && (a.gap x (a.pebble g) == g && a.is_answer g (a.label x (a.pebble g)))) 1 0) (same x j);
   ascending = are.ascending;
 }
+
+-- what is in no list, where all that is above the bound is listed, has no dominator
+pub live-loose : (a : Arena) → IsArena a → (above : ℕ → Bool) (nodes lists : ℕ) (living : ℕ → List ℕ) (c : ℕ) → AreLive a above nodes lists living → c < a.configurations → above c ≡ true → IsFree living c
+    → (p : ℕ) → Dominant a c p → ⊥
+live-loose a is above nodes lists living c are i is_above free p d =
+    let listed = live-in a is above nodes lists living c p are i d is_above in
+    let none = free.free listed.0 in
+    let some = listed.1 in
+    omega arith
+
+-- the list of a configuration is the gap of its dominator
+pub record IsLed (a : Arena) (c g : ℕ) : Type 0 where
+  pub gap_in : g < a.gaps
+  pub dominant : Dominant a c (a.pebble g)
+  pub gap_is : g ≡ a.gap c (a.pebble g)
+
+pub live-home : (a : Arena) → IsArena a → (above : ℕ → Bool) (nodes lists : ℕ) (living : ℕ → List ℕ) (c g : ℕ) → AreLive a above nodes lists living → c < a.configurations → IsHome lists living c g → IsLed a c g
+live-home a is above nodes lists living c g are i home =
+    let in_gaps : g < a.gaps = (let inside = home.home_in in let size = are.lists_is in omega arith) in
+    let one : times c (living g) ≡ 1 = home.times_is g ∙ rw (same_is g g refl) refl in
+    let both = both_true (above c) (leads a g c) (times_true (above c && leads a g c) (times c (living g)) (omega arith) (are.once g c in_gaps i)) in
+    record {
+      gap_in = in_gaps;
+      dominant = leads-dominant a is g c in_gaps both.1;
+      gap_is = sym (number_is (a.gap c (a.pebble g)) g (both_true (a.gap c (a.pebble g) == g) (a.is_answer g (a.label c (a.pebble g))) both.1).0);
+    }
 
 -- ---- dominators
 

@@ -1,9 +1,12 @@
 //! Values of configurations, found backwards in rounds.
 #![tactic(auto)]
 
+mod answering;
 mod fault;
 mod opening;
 mod progress;
+mod row;
+mod sizes;
 mod solver;
 mod tables;
 mod values;

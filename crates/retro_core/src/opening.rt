@@ -1,45 +1,18 @@
 //! What a solver has before the first round.
 
 ghost use Rattle.std.specs.Prelude.{◌≡◌, ℕ, ◌+◌, ◌<◌, ◌==◌, ◌||◌, Bool, false, not, IfOk};
+ghost use Rattle.board_text.specs.PlainBoard.{places};
 ghost use Rattle.retro_core.specs.Arena.{lasts, next};
 ghost use Rattle.retro_core.specs.BoardArena.{arena_of};
+ghost use Rattle.retro_core.specs.Opening.{IsRow, IsInRow};
 ghost use Rattle.retro_core.specs.Tables.{below, IsCounted, AreSources, AreLive, AreDominators, IsEntered};
 
+use crate::row::Row;
 use crate::tables::{OPEN, Tables};
-use board_text::{Board, Memory};
+use board_text::Memory;
 use index_lists::ListStore;
 use positions::Space;
 use std::alloc::Global;
-
-/// The dominator of each configuration.
-pub(crate) fn dominators_of(
-    alloc: Global,
-    space: &Space,
-    board: &Board,
-) -> Result<Vec<Option<u8>>, Memory>
-    requires { space.now ≡ board.now }
-    ensures { IfOk result (λ dominators. AreDominators space.now dominators.items) }
-{
-    let configurations = space.configurations();
-    let mut dominators = vec![in alloc; None; configurations as usize]?;
-    for rank in 0..configurations {
-        dominators[rank as usize] = space.dominator(board, rank);
-    }
-    Ok(dominators)
-}
-
-/// How many answers each gap has.
-pub(crate) fn counts_of(alloc: Global, space: &Space, board: &Board) -> Result<Vec<u32>, Memory>
-    requires { space.now ≡ board.now }
-    ensures { IfOk result (λ counts. IsCounted (arena_of space.now) (lasts (arena_of space.now) 0) counts.items) }
-{
-    let gaps = space.gaps();
-    let mut counts = vec![in alloc; 0; gaps as usize]?;
-    for gap in 0..gaps {
-        counts[gap as usize] = space.count_answers(board, gap);
-    }
-    Ok(counts)
-}
 
 impl<S: ListStore + Drop> Tables<S> {
     /// Tables in which no configuration is entered, by the numbers of answers.
@@ -73,14 +46,32 @@ impl<S: ListStore> Tables<S> {
         ensures entered { IsEntered (arena_of space.now) (arena_of space.now).configurations self.new.values.items self.new.counts.items (S.nodes self.new.buckets) (S.lists self.new.buckets) (S.list self.new.buckets)
             (S.nodes self.new.sources) (S.lists self.new.sources) (S.list self.new.sources) (S.nodes self.new.living) (S.lists self.new.living) (S.list self.new.living) }
     {
-        for rank in 0..space.configurations() {
-            self.enter(space, dominators, rank);
+        let labels = space.labels() as u32;
+        for place in 0..space.configurations() / labels {
+            let row = Row::at(space, place * labels);
+            self.enter_row(space, &row, dominators);
+        }
+    }
+
+    /// Enters the configurations of a row.
+    fn enter_row(&mut self, space: &Space, row: &Row, dominators: &[Option<u8>])
+        requires row { IsRow space.now row.now.first row.now.gaps }
+        requires dominators { AreDominators space.now dominators.now }
+        requires entered { IsEntered (arena_of space.now) row.now.first self.old.values.items self.old.counts.items (S.nodes self.old.buckets) (S.lists self.old.buckets) (S.list self.old.buckets)
+            (S.nodes self.old.sources) (S.lists self.old.sources) (S.list self.old.sources) (S.nodes self.old.living) (S.lists self.old.living) (S.list self.old.living) }
+        ensures entered { IsEntered (arena_of space.now) (row.now.first + places space.now) self.new.values.items self.new.counts.items (S.nodes self.new.buckets) (S.lists self.new.buckets) (S.list self.new.buckets)
+            (S.nodes self.new.sources) (S.lists self.new.sources) (S.list self.new.sources) (S.nodes self.new.living) (S.lists self.new.living) (S.list self.new.living) }
+    {
+        let labels = space.labels() as u32;
+        for rank in row.first..row.first + labels {
+            self.enter(space, row, dominators, rank);
         }
     }
 
     /// Enters a configuration: it is filed at 0 if a request has no answer, else it waits in the gap of each pebble.
-    fn enter(&mut self, space: &Space, dominators: &[Option<u8>], rank: u32)
+    fn enter(&mut self, space: &Space, row: &Row, dominators: &[Option<u8>], rank: u32)
         requires rank_in { rank < (arena_of space.now).configurations }
+        requires row { IsInRow space.now row.now.first row.now.gaps rank }
         requires dominators { AreDominators space.now dominators.now }
         requires entered { IsEntered (arena_of space.now) rank self.old.values.items self.old.counts.items (S.nodes self.old.buckets) (S.lists self.old.buckets) (S.list self.old.buckets)
             (S.nodes self.old.sources) (S.lists self.old.sources) (S.list self.old.sources) (S.nodes self.old.living) (S.lists self.old.living) (S.list self.old.living) }
@@ -88,37 +79,45 @@ impl<S: ListStore> Tables<S> {
             (S.nodes self.new.sources) (S.lists self.new.sources) (S.list self.new.sources) (S.nodes self.new.living) (S.lists self.new.living) (S.list self.new.living) }
     {
         let _ = space.configurations();
-        enter_live(&mut self.living, space, dominators, rank);
-        if is_stuck(&self.counts, space, rank) {
+        enter_live(&mut self.living, space, row, dominators, rank);
+        if is_stuck(&self.counts, space, row, rank) {
             self.values[rank as usize] = 0;
             self.buckets.push_back(0, rank);
         } else {
-            enter_sources(&mut self.sources, space, rank);
+            enter_sources(&mut self.sources, space, row, rank);
         }
     }
 }
 
 /// Puts a configuration behind the live answers of its dominator's gap, if it has a dominator.
-fn enter_live<S: ListStore>(living: &mut S, space: &Space, dominators: &[Option<u8>], rank: u32)
+fn enter_live<S: ListStore>(
+    living: &mut S,
+    space: &Space,
+    row: &Row,
+    dominators: &[Option<u8>],
+    rank: u32,
+)
     requires rank_in { rank < (arena_of space.now).configurations }
+    requires row { IsInRow space.now row.now.first row.now.gaps rank }
     requires dominators { AreDominators space.now dominators.now }
     requires live { AreLive (arena_of space.now) (below rank) (S.nodes living.old) (S.lists living.old) (S.list living.old) }
     ensures live { AreLive (arena_of space.now) (below (rank + 1)) (S.nodes living.new) (S.lists living.new) (S.list living.new) }
 {
     let _ = space.configurations();
     if let Some(pebble) = dominators[rank as usize] {
-        living.push_back(space.gap(rank, pebble), rank);
+        living.push_back(row.gap(space, rank, pebble), rank);
     }
 }
 
 /// Whether some request has no answer.
-fn is_stuck(counts: &[u32], space: &Space, rank: u32) -> bool
+fn is_stuck(counts: &[u32], space: &Space, row: &Row, rank: u32) -> bool
     requires rank_in { rank < (arena_of space.now).configurations }
+    requires row { IsInRow space.now row.now.first row.now.gaps rank }
     requires counts { IsCounted (arena_of space.now) (lasts (arena_of space.now) 0) counts.now }
     ensures { result ≡ not (next (arena_of space.now) (lasts (arena_of space.now) 0) rank) }
 {
     for pebble in 0..space.pebbles() {
-        if counts[space.gap(rank, pebble) as usize] == 0 {
+        if counts[row.gap(space, rank, pebble) as usize] == 0 {
             return true;
         }
     }
@@ -126,15 +125,16 @@ fn is_stuck(counts: &[u32], space: &Space, rank: u32) -> bool
 }
 
 /// Puts a configuration behind the members that wait in the gap of each pebble.
-fn enter_sources<S: ListStore>(sources: &mut S, space: &Space, rank: u32)
+fn enter_sources<S: ListStore>(sources: &mut S, space: &Space, row: &Row, rank: u32)
     requires rank_in { rank < (arena_of space.now).configurations }
+    requires row { IsInRow space.now row.now.first row.now.gaps rank }
     requires sources { (waits : ℕ → Bool) × (waits rank ≡ false) × AreSources (arena_of space.now) waits (S.nodes sources.old) (S.lists sources.old) (S.list sources.old) }
     ensures sources { (waits : ℕ → Bool) → waits rank ≡ false → AreSources (arena_of space.now) waits (S.nodes sources.old) (S.lists sources.old) (S.list sources.old)
         → AreSources (arena_of space.now) (λ x. x == rank || waits x) (S.nodes sources.new) (S.lists sources.new) (S.list sources.new) }
 {
     let configurations = space.configurations();
     for pebble in 0..space.pebbles() {
-        let gap = space.gap(rank, pebble);
+        let gap = row.gap(space, rank, pebble);
         sources.push_back(gap, pebble as u32 * configurations + rank);
     }
 }

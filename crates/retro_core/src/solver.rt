@@ -1,6 +1,7 @@
 //! The solver.
 
-ghost use Rattle.std.specs.Prelude.{◌≡◌, ℕ, ◌+◌, ◌<◌, ◌≤◌, ◌↔◌, true, false, suc, length, slice_get, IfOk, IfErr, Err, Some, None};
+ghost use Rattle.std.specs.Prelude.{◌≡◌, ℕ, ◌+◌, ◌<◌, ◌≤◌, ◌↔◌, true, false, suc, length, slice_get, IfOk, IfErr, Err, Some, None, IsTrue};
+ghost use Rattle.index_lists.specs.Lists.{times};
 ghost use Rattle.positions.specs.declared.value.Value.TheVariants.{Finite};
 ghost use Rattle.positions.specs.Value.{HasValue};
 ghost use Rattle.positions.specs.Ranks.{configurations, configuration_at};
@@ -8,9 +9,10 @@ ghost use Rattle.positions.specs.Gaps.{gaps, IsDominator};
 ghost use Rattle.positions.specs.Counts.{HasSize, IsSmallest};
 ghost use Rattle.retro_core.specs.Solving.{IsSolving, bucket, source, NoneHas, AnswerLasts, AnswerForever};
 
+use crate::answering::Answering;
 use crate::fault::SolveFault;
-use crate::opening::{counts_of, dominators_of};
 use crate::progress::Progress;
+use crate::sizes::{count_open, put};
 use crate::tables::{OPEN, Tables};
 use crate::values::{Values, write_safe};
 use board_text::{Board, Memory};
@@ -28,13 +30,17 @@ pub struct Solver<S: ListStore> {
     space: Space,
     dominators: Vec<Option<u8>>,
     tables: Tables<S>,
+    /// How many configurations are filed at each value of at most the number of rounds.
+    sizes: Vec<u32>,
     round: u32,
     done: bool,
 }
 
 impl<S: ListStore> Model for Solver<S> {
-    ghost use Rattle.std.specs.Prelude.{map};
+    ghost use Rattle.std.specs.Prelude.{map, vec_capacity};
+    ghost use Rattle.positions.specs.Ranks.{configurations};
     ghost use Rattle.retro_core.specs.Solving.{Solving, rank_in, first_lists};
+    ghost use Rattle.retro_core.specs.Sizes.{AreSizes};
     ghost use Rattle.retro_core.specs.Tables.{IsState};
 
     ghost Value = { Solving };
@@ -42,7 +48,8 @@ impl<S: ListStore> Model for Solver<S> {
     ghost view = { λ s. record { board = s.space; rounds = s.round; is_done = s.done; buckets = first_lists (S.lists s.tables.buckets) (S.list s.tables.buckets); sources = first_lists (S.lists s.tables.sources) (λ gap. map (rank_in s.space) (S.list s.tables.sources gap)) } };
 
     ghost invariant = { λ s. IsState s.space s.dominators.items s.tables.values.items s.tables.counts.items (S.nodes s.tables.buckets) (S.lists s.tables.buckets) (S.list s.tables.buckets)
-        (S.nodes s.tables.sources) (S.lists s.tables.sources) (S.list s.tables.sources) (S.nodes s.tables.living) (S.lists s.tables.living) (S.list s.tables.living) s.round s.done };
+        (S.nodes s.tables.sources) (S.lists s.tables.sources) (S.list s.tables.sources) (S.nodes s.tables.living) (S.lists s.tables.living) (S.list s.tables.living) s.round s.done
+        × AreSizes (configurations s.space) s.round (vec_capacity s.sizes) (S.list s.tables.buckets) s.sizes.items };
 }
 
 impl<S: ListStore + Drop> Solver<S> {
@@ -71,14 +78,16 @@ impl<S: ListStore + Drop> Solver<S> {
         ensures kept { IfOk result (λ solver. IsSolving solver) }
     {
         let _ = space.configurations();
-        let dominators = dominators_of(alloc, &space, board)?;
-        let counts = counts_of(alloc, &space, board)?;
-        let mut tables = Tables::new(alloc, &space, counts)?;
+        let Answering { counts, dominators } = Answering::of(alloc, &space, board)?;
+        let mut tables = Tables::<S>::new(alloc, &space, counts)?;
+        let mut sizes = Vec::with_capacity(alloc, space.configurations() as usize)?;
         tables.enter_all(&space, &dominators);
+        put(&mut sizes, tables.buckets.len(0));
         Ok(Solver {
             space,
             dominators,
             tables,
+            sizes,
             round: 0,
             done: false,
         })
@@ -100,13 +109,13 @@ impl<S: ListStore> Solver<S> {
         if self.done {
             return Progress::Done;
         }
-        self.tables
-            .strike_bucket(&self.space, &self.dominators, self.round);
+        self.tables.strike_bucket(&self.space, self.round);
         let filed = self.tables.buckets.len(self.round + 1);
         if filed == 0 {
             self.done = true;
             return Progress::Done;
         }
+        put(&mut self.sizes, filed);
         self.round += 1;
         Progress::Filed(filed)
     }
@@ -195,19 +204,34 @@ impl<S: ListStore> Solver<S> {
         }
     }
 
-    /// The member behind one of a gap, among those that have no value of at most the number of rounds. One that has such a value has none.
+    /// The member behind one of a gap, among those that have no value of at most the number of rounds. What isn't such
+    /// a member of the gap has none.
     pub fn next_source(&self, gap: u32, rank: u32) -> Option<u32>
         requires gap { gap < gaps self.now.board }
         requires rank { rank < configurations self.now.board }
         ensures behind { (place : ℕ) → slice_get (source self.now gap) place ≡ Some rank → result ≡ slice_get (source self.now gap) (place + 1) }
-        ensures not_listed { ((other : ℕ) → (place : ℕ) → slice_get (source self.now other) place ≡ Some rank → ⊥) → result ≡ None }
+        ensures not_listed { ((place : ℕ) → slice_get (source self.now gap) place ≡ Some rank → ⊥) → result ≡ None }
     {
         let configurations = self.space.configurations();
         let node = self.space.gap_pebble(gap) as u32 * configurations + rank;
+        if !stands_in(&self.tables.sources, gap, node) {
+            return None;
+        }
         match self.tables.sources.next(node) {
             Some(next) => Some(next % configurations),
             None => None,
         }
+    }
+}
+
+/// Whether a node stands in a list.
+fn stands_in<S: ListStore>(lists: &S, list: u32, node: u32) -> bool
+    requires { node < S.nodes lists.now }
+    ensures { IsTrue result ↔ (0 < times node (S.list lists.now list)) }
+{
+    match lists.home(node) {
+        Some(home) => home == list,
+        None => false,
     }
 }
 
@@ -228,7 +252,12 @@ impl<S: ListStore + Drop> Solver<S> {
         if !self.done {
             return Err(Unfinished { solver: self });
         }
-        let Solver { space, tables, .. } = self;
+        let Solver {
+            space,
+            tables,
+            sizes,
+            ..
+        } = self;
         let Tables {
             values,
             mut counts,
@@ -236,6 +265,7 @@ impl<S: ListStore + Drop> Solver<S> {
             ..
         } = tables;
         write_safe(&mut counts, &space, &living);
-        Ok(Values::new(space, values, counts))
+        let forever = count_open(&values);
+        Ok(Values::new(space, values, counts, sizes, forever))
     }
 }

@@ -3,7 +3,7 @@
 ghost use Rattle.std.specs.Prelude.{◌≡◌, ◌≢◌, ℕ, ◌+◌, ◌*◌, ◌<◌, ◌≤◌, true, false, suc, Bool, [], length, slice_set};
 ghost use Rattle.retro_core.specs.Arena.{without};
 ghost use Rattle.retro_core.specs.BoardArena.{arena_of};
-ghost use Rattle.retro_core.specs.Tables.{is_open, alive, rest_from, AreFiled, AreSources, AreDominators, IsClosed, IsStage, IsToStrike};
+ghost use Rattle.retro_core.specs.Tables.{is_open, alive, rest_from, AreFiled, AreSources, IsClosed, IsStage, IsToStrike};
 
 use index_lists::ListStore;
 use positions::Space;
@@ -73,10 +73,9 @@ impl<S: ListStore> Tables<S> {
 
     /// Strikes a configuration of the round's value: its dominator's gap loses an answer, and the open members of that gap
     /// are filed at the next value if none is left.
-    pub(crate) fn strike(&mut self, space: &Space, dominators: &[Option<u8>], rank: u32, round: u32)
+    pub(crate) fn strike(&mut self, space: &Space, rank: u32, round: u32)
         requires rank_in { rank < (arena_of space.now).configurations }
         requires round_in { round < (arena_of space.now).configurations }
-        requires dominators { AreDominators space.now dominators.now }
         requires to_strike { (above : ℕ → Bool) × IsToStrike (arena_of space.now) round above rank
             × IsStage (arena_of space.now) above self.old.values.items self.old.counts.items (S.nodes self.old.buckets) (S.lists self.old.buckets) (S.list self.old.buckets)
             (S.nodes self.old.sources) (S.lists self.old.sources) (S.list self.old.sources) (S.nodes self.old.living) (S.lists self.old.living) (S.list self.old.living) }
@@ -88,10 +87,9 @@ impl<S: ListStore> Tables<S> {
         ensures other_buckets { (v : ℕ) → v ≢ round + 1 → S.list self.new.buckets v ≡ S.list self.old.buckets v }
     {
         let _ = space.configurations();
-        let Some(pebble) = dominators[rank as usize] else {
+        let Some(gap) = self.living.home(rank) else {
             return;
         };
-        let gap = space.gap(rank, pebble);
         self.living.unlink(rank);
         let left = self.counts[gap as usize] - 1;
         self.counts[gap as usize] = left;
@@ -101,9 +99,8 @@ impl<S: ListStore> Tables<S> {
     }
 
     /// Strikes all configurations of the round's value.
-    pub(crate) fn strike_bucket(&mut self, space: &Space, dominators: &[Option<u8>], round: u32)
+    pub(crate) fn strike_bucket(&mut self, space: &Space, round: u32)
         requires round_in { round < (arena_of space.now).configurations }
-        requires dominators { AreDominators space.now dominators.now }
         requires stage { IsStage (arena_of space.now) (alive (arena_of space.now) round (S.list self.old.buckets round)) self.old.values.items self.old.counts.items (S.nodes self.old.buckets) (S.lists self.old.buckets) (S.list self.old.buckets)
             (S.nodes self.old.sources) (S.lists self.old.sources) (S.list self.old.sources) (S.nodes self.old.living) (S.lists self.old.living) (S.list self.old.living) }
         ensures stage { IsStage (arena_of space.now) (alive (arena_of space.now) round []) self.new.values.items self.new.counts.items (S.nodes self.new.buckets) (S.lists self.new.buckets) (S.list self.new.buckets)
@@ -113,7 +110,7 @@ impl<S: ListStore> Tables<S> {
         let _ = space.configurations();
         let mut at = self.buckets.first(round);
         while let Some(rank) = at {
-            self.strike(space, dominators, rank, round);
+            self.strike(space, rank, round);
             at = self.buckets.next(rank);
         }
     }

@@ -6,6 +6,9 @@ ghost use Rattle.positions.specs.Ranks.{configurations, configuration_at};
 ghost use Rattle.positions.specs.Gaps.{gaps};
 ghost use Rattle.positions.specs.Counts.{IsSmallest};
 ghost use Rattle.retro_core.specs.Solving.{AnswerForever};
+ghost use Rattle.positions.specs.declared.value.Value.TheVariants.{Finite};
+ghost use Rattle.positions.specs.Laws.{Occurs};
+ghost use Rattle.retro_core.specs.Sizes.{HasCount, IsGreatest, AreCounts};
 ghost use Rattle.retro_core.specs.Tables.{known_word, AreForever, AreValues};
 
 use crate::tables::OPEN;
@@ -23,29 +26,44 @@ pub struct Values {
     values: Vec<u32>,
     /// The smallest answer of each gap that leads to Forever, or `OPEN` for none.
     safe: Vec<u32>,
+    /// How many configurations have each finite value, 0 and up to the greatest that there is.
+    sizes: Vec<u32>,
+    /// How many configurations have the value Forever.
+    forever: u32,
 }
 
 impl Model for Values {
     ghost use Rattle.board_text.specs.PlainBoard.{PlainBoard};
+    ghost use Rattle.positions.specs.Ranks.{configurations};
+    ghost use Rattle.retro_core.specs.Sizes.{AreCounts};
     ghost use Rattle.retro_core.specs.Tables.{AreValues};
 
     ghost Value = { PlainBoard };
 
     ghost view = { λ s. s.space };
 
-    ghost invariant = { λ s. AreValues s.space s.values.items s.safe.items };
+    ghost invariant = { λ s. AreValues s.space s.values.items s.safe.items × AreCounts (configurations s.space) s.values.items s.sizes.items s.forever };
 }
 
 impl Values {
-    /// The values in these words.
-    pub(crate) fn new(space: Space, values: Vec<u32>, safe: Vec<u32>) -> Values
-        requires { AreValues space values.items safe.items }
+    /// The values in these words, with the number of configurations of each finite value and of Forever.
+    pub(crate) fn new(
+        space: Space,
+        values: Vec<u32>,
+        safe: Vec<u32>,
+        sizes: Vec<u32>,
+        forever: u32,
+    ) -> Values
+        requires values { AreValues space values.items safe.items }
+        requires counts { AreCounts (configurations space) values.items sizes.items forever }
         ensures { result ≡ space }
     {
         Values {
             space,
             values,
             safe,
+            sizes,
+            forever,
         }
     }
 
@@ -59,6 +77,40 @@ impl Values {
             Value::Forever
         } else {
             Value::Finite(value)
+        }
+    }
+
+    /// How many configurations have the value.
+    pub fn count(&self, value: Value) -> u32
+        ensures { HasCount self.now value result }
+    {
+        let _ = self.space.configurations();
+        match value {
+            Value::Finite(number) => self.count_finite(number),
+            Value::Forever => self.forever,
+        }
+    }
+
+    /// How many configurations have a finite value.
+    fn count_finite(&self, number: u32) -> u32
+        ensures { HasCount self.now (Finite number) result }
+    {
+        let _ = self.space.configurations();
+        if number as usize >= self.sizes.len() {
+            return 0;
+        }
+        self.sizes[number as usize]
+    }
+
+    /// The greatest finite value of a configuration, if one has a finite value.
+    pub fn greatest_finite(&self) -> Option<u32>
+        ensures { IsGreatest (Occurs self.now) result }
+    {
+        let _ = self.space.configurations();
+        if self.sizes[0] == 0 {
+            None
+        } else {
+            Some((self.sizes.len() - 1) as u32)
         }
     }
 

@@ -11,7 +11,7 @@ returns-in-Some g c =
       first = subst (λ (v : Solving). Some (c.in-Some.node % c.configurations-configurations.result) ≡ slice_get (source v c.args.gap) 0) c.self.view_is
           (ap (λ n. Some (c.in-Some.node % n)) c.configurations-configurations.ensures.value
           ∙ sym (first-some (rank_in c.self.inside.space) _ c.in-Some.node (sym c.first.ensures.first ∙ c.in-Some.is))
-          ∙ ap (λ (xs : List ℕ). slice_get xs 0) (sym (source-shown _ e.is_board e.few _ _ _ _ _ _ _ _ _ _ _ _ _ _ c.self.invariant c.args.gap)));
+          ∙ ap (λ (xs : List ℕ). slice_get xs 0) (sym (source-shown _ e.is_board e.few _ _ _ _ _ _ _ _ _ _ _ _ _ _ c.self.invariant.0 c.args.gap)));
     }
 
 pub returns-in-None : goal.returns-in-None
@@ -20,5 +20,5 @@ returns-in-None g c =
     record {
       first = subst (λ (v : Solving). None ≡ slice_get (source v c.args.gap) 0) c.self.view_is
           (sym (first-none (rank_in c.self.inside.space) _ (sym c.first.ensures.first ∙ c.in-None.is))
-          ∙ ap (λ (xs : List ℕ). slice_get xs 0) (sym (source-shown _ e.is_board e.few _ _ _ _ _ _ _ _ _ _ _ _ _ _ c.self.invariant c.args.gap)));
+          ∙ ap (λ (xs : List ℕ). slice_get xs 0) (sym (source-shown _ e.is_board e.few _ _ _ _ _ _ _ _ _ _ _ _ _ _ c.self.invariant.0 c.args.gap)));
     }

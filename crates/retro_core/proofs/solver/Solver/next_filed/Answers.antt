@@ -8,7 +8,7 @@ use Rattle.retro_core.proofs.solver.Solver.next_filed.Goals as goal
 
 pub returns-clause-behind : goal.returns-clause-behind
 returns-clause-behind g c =
-    let f = c.self.invariant.stage.filed_are in
+    let f = c.self.invariant.0.stage.filed_are in
     subst (λ (v : Solving). (value : ℕ) → (place : ℕ) → slice_get (bucket v value) place ≡ Some c.args.rank → c.next.result ≡ slice_get (bucket v value) (place + 1)) c.self.view_is
     (λ value place here.
     c.next.ensures.behind value place (ap (λ (xs : List ℕ). slice_get xs place) (sym (list-shown _ _ f.are_lists.beyond value)) ∙ here)
@@ -19,7 +19,7 @@ none-times n none = elim (cases_lt 0 n) [ inl some ↦ absurd (none some) | inr 
 
 pub returns-clause-not_filed : goal.returns-clause-not_filed
 returns-clause-not_filed g c =
-    let f = c.self.invariant.stage.filed_are in
+    let f = c.self.invariant.0.stage.filed_are in
     subst (λ (v : Solving). ((value : ℕ) → (place : ℕ) → slice_get (bucket v value) place ≡ Some c.args.rank → ⊥) → c.next.result ≡ None) c.self.view_is
     (λ none. c.next.ensures.free (record {
       free = λ l. none-times (times c.args.rank (g.S.ListStore.list c.self.inside.tables.buckets l)) (λ some.

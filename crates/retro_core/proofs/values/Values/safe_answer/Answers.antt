@@ -10,15 +10,15 @@ use Rattle.retro_core.proofs.values.Values.safe_answer.Goals as goal
 pub returns-then-label : goal.returns-then-label
 returns-then-label c =
     let i : c.args.gap < gaps c.self.inside.space = rw (← c.self.view_is) at c.requires in
-    let size = c.self.invariant.safe_length in
+    let size = c.self.invariant.0.safe_length in
     let word = get_or_read c.self.inside.safe.items c.args.gap c.index-label.result.now (omega arith) c.index-label.ensures 0 in
     subst (λ (b : PlainBoard). IsSmallest (AnswerForever b c.args.gap) None) c.self.view_is
-    (read-none c.self.inside.space c.self.inside.safe.items c.args.gap c.index-label.result.now (c.self.invariant.safest c.args.gap i) word c.if-label.true)
+    (read-none c.self.inside.space c.self.inside.safe.items c.args.gap c.index-label.result.now (c.self.invariant.0.safest c.args.gap i) word c.if-label.true)
 
 pub returns-else-label : goal.returns-else-label
 returns-else-label c =
     let i : c.args.gap < gaps c.self.inside.space = rw (← c.self.view_is) at c.requires in
-    let size = c.self.invariant.safe_length in
+    let size = c.self.invariant.0.safe_length in
     let word = get_or_read c.self.inside.safe.items c.args.gap c.index-label.result.now (omega arith) c.index-label.ensures 0 in
     subst (λ (b : PlainBoard). IsSmallest (AnswerForever b c.args.gap) (Some c.index-label.result.now)) c.self.view_is
-    (read-some c.self.inside.space c.self.inside.safe.items c.args.gap c.index-label.result.now (c.self.invariant.safest c.args.gap i) word c.if-label.false)
+    (read-some c.self.inside.space c.self.inside.safe.items c.args.gap c.index-label.result.now (c.self.invariant.0.safest c.args.gap i) word c.if-label.false)

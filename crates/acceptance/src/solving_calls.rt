@@ -1,0 +1,162 @@
+//! The calls of a solver and of its values on worked boards.
+//!
+//! A run of the tests may refuse one growth of memory, whichever.
+
+use crate::solving::{open, solve};
+use crate::texts::{CHAIN_OF_THREE, CYCLE_WITH_A_WAY_IN, NO_PAIRS, THREE_PEBBLES, board_of};
+use board_text::Board;
+use index_lists::{LinkLists, ListStore, PlainLists};
+use nested_cycles::nested_board;
+use positions::Value;
+use retro_core::{Progress, SolveFault, Solver, Values};
+use std::alloc::Global;
+use std::process::Abort;
+
+/// The first configurations that are filed at a value.
+fn filed<S: ListStore>(solver: &Solver<S>, value: u32) -> [Option<u32>; 6] {
+    let mut found = [None; 6];
+    let mut at = solver.first_filed(value);
+    for place in 0..6 {
+        found[place] = at;
+        at = match at {
+            Some(rank) if rank < solver.space().configurations() => solver.next_filed(rank),
+            _ => None,
+        };
+    }
+    found
+}
+
+/// The first member of a gap without a value, if it is a gap.
+fn first_source<S: ListStore>(solver: &Solver<S>, gap: u32) -> Option<u32> {
+    if gap < solver.space().gaps() {
+        solver.first_source(gap)
+    } else {
+        None
+    }
+}
+
+/// What stands behind a member of a gap without a value, if they are a gap and a rank.
+fn next_source<S: ListStore>(solver: &Solver<S>, gap: u32, rank: u32) -> Option<u32> {
+    if gap < solver.space().gaps() && rank < solver.space().configurations() {
+        solver.next_source(gap, rank)
+    } else {
+        None
+    }
+}
+
+/// The count of a gap, if it is one.
+fn count_of<S: ListStore>(solver: &Solver<S>, gap: u32) -> Option<u32> {
+    if gap < solver.space().gaps() {
+        Some(solver.count_of(gap))
+    } else {
+        None
+    }
+}
+
+/// The dominator of a configuration, if it is one and has one.
+fn dominator<S: ListStore>(solver: &Solver<S>, rank: u32) -> Option<u8> {
+    if rank < solver.space().configurations() {
+        solver.dominator(rank)
+    } else {
+        None
+    }
+}
+
+/// The lists of a chain of three labels, before and after its first round.
+fn lists_of_a_chain<S: ListStore + Drop>(rt: &impl Abort, alloc: Global) {
+    let board = board_of(rt, alloc, CHAIN_OF_THREE);
+    let mut solver: Solver<S> = open(rt, alloc, &board);
+    assert_eq!(rt; dominator(&solver, 5), Some(1));
+    assert_eq!(rt; dominator(&solver, 8), None);
+    let stuck = [Some(2), Some(5), Some(6), Some(7), Some(8), None];
+    assert_eq!(rt; filed(&solver, 0), stuck);
+    assert_eq!(rt; filed(&solver, 1), [None; 6]);
+    // Gap 4 is pebble 1 where pebble 0 is on label 1. Its member with label 2 is stuck.
+    assert_eq!(rt; first_source(&solver, 4), Some(3));
+    assert_eq!(rt; next_source(&solver, 4, 3), Some(4));
+    assert_eq!(rt; next_source(&solver, 4, 4), None);
+    assert_eq!(rt; next_source(&solver, 4, 5), None);
+    // Rank 0 waits in the gap before, and rank 1 behind it.
+    assert_eq!(rt; next_source(&solver, 3, 0), Some(1));
+    assert_eq!(rt; next_source(&solver, 4, 0), None);
+    assert_eq!(rt; count_of(&solver, 4), Some(1));
+    assert_eq!(rt; count_of(&solver, 3), Some(2));
+    assert_eq!(rt; solver.round(), Progress::Filed(3));
+    assert_eq!(rt; filed(&solver, 0), stuck);
+    assert_eq!(rt; filed(&solver, 1).iter().flatten().count(), 3);
+    assert_eq!(rt; first_source(&solver, 4), None);
+    assert_eq!(rt; first_source(&solver, 3), Some(0));
+    assert_eq!(rt; next_source(&solver, 3, 0), None);
+    // One answer leads to a value of at least 1: label 1, which leads to rank 1.
+    assert_eq!(rt; count_of(&solver, 4), Some(0));
+    assert_eq!(rt; count_of(&solver, 3), Some(1));
+}
+
+#[test]
+fn lists(rt: HostRuntime) {
+    lists_of_a_chain::<PlainLists>(&rt, rt.alloc());
+    lists_of_a_chain::<LinkLists>(&rt, rt.alloc());
+}
+
+/// Opens a solver some times. At most one growth of memory is refused, and then that call says so and the others give a solver.
+fn open_in_turn<S: ListStore + Drop>(rt: &impl Abort, alloc: Global, board: &Board) {
+    let mut refused = 0;
+    for _ in 0..3 {
+        let opened: Result<Solver<S>, SolveFault> = Solver::open(alloc, board);
+        match opened {
+            Ok(mut solver) => {
+                assert_eq!(rt; solver.round(), Progress::Filed(3));
+                assert_eq!(rt; solver.round(), Progress::Filed(1));
+                assert_eq!(rt; solver.round(), Progress::Done);
+            }
+            Err(fault) => {
+                assert_eq!(rt; fault, SolveFault::Memory);
+                refused += 1;
+            }
+        }
+    }
+    assert!(rt; refused < 2);
+}
+
+#[test]
+fn a_growth_is_refused(rt: HostRuntime) {
+    let board = board_of(&rt, rt.alloc(), CHAIN_OF_THREE);
+    open_in_turn::<PlainLists>(&rt, rt.alloc(), &board);
+    open_in_turn::<LinkLists>(&rt, rt.alloc(), &board);
+}
+
+/// Asserts how many configurations have each of the finite values and the value Forever, and that no greater one has any.
+fn assert_counts(rt: &impl Abort, values: &Values, finite: &[(u32, u32)], forever: u32) {
+    let mut greatest = None;
+    for (number, count) in finite {
+        assert_eq!(rt; values.count(Value::Finite(*number)), *count);
+        greatest = Some(*number);
+    }
+    let next = greatest.map_or(0, |number: u32| number.saturating_add(1));
+    assert_eq!(rt; values.count(Value::Finite(next)), 0);
+    assert_eq!(rt; values.count(Value::Finite(u32::MAX)), 0);
+    assert_eq!(rt; values.count(Value::Forever), forever);
+    assert_eq!(rt; values.greatest_finite(), greatest);
+}
+
+#[test]
+fn counts(rt: HostRuntime) {
+    for (text, finite, forever) in [
+        (CHAIN_OF_THREE, [(0, 5), (1, 3), (2, 1)].as_slice(), 0),
+        (CYCLE_WITH_A_WAY_IN, [(0, 9), (1, 7)].as_slice(), 9),
+        (THREE_PEBBLES, [(0, 24), (1, 3)].as_slice(), 0),
+        (NO_PAIRS, [(0, 1_048_576)].as_slice(), 0),
+    ] {
+        let board = board_of(&rt, rt.alloc(), text);
+        let values = solve::<LinkLists>(&rt, rt.alloc(), &board).expect(&rt, "values");
+        assert_counts(&rt, &values, finite, forever);
+    }
+}
+
+#[test]
+fn counts_of_a_nested_board(rt: HostRuntime) {
+    let made = nested_board(rt.alloc(), 3, 3).or_else(|_| nested_board(rt.alloc(), 3, 3));
+    let board = made.ok().expect(&rt, "a nested board");
+    let values = solve::<LinkLists>(&rt, rt.alloc(), &board).expect(&rt, "values");
+    assert_counts(&rt, &values, &[], 729);
+}
