@@ -5,3 +5,4 @@ pub mod Meanings
 pub mod Unread
 pub mod Rounds
 pub mod Headlines
+pub mod Counting

@@ -18,7 +18,7 @@ abbrev pub rounds_left : Solving → ℕ
 rounds_left solver = cond solver.is_done 0 (suc (configurations solver.board - solver.rounds))
 
 -- a finite value is no greater than the number of configurations
-value_few : (board : PlainBoard) (configuration : List ℕ) (value : ℕ) → IsConfiguration board configuration → HasValue board configuration (Finite value)
+pub value_few : (board : PlainBoard) (configuration : List ℕ) (value : ℕ) → IsConfiguration board configuration → HasValue board configuration (Finite value)
     → value ≤ configurations board
 value_few board configuration value is has = elim (cases_lt (configurations board) value) [
   | inr few ↦ few

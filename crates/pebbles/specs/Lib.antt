@@ -6,3 +6,5 @@ pub mod CheckRun
 pub mod NestedRun
 pub mod SolveRun
 pub mod Headline
+pub mod Report
+pub mod ReportRun

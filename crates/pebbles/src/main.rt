@@ -14,6 +14,7 @@ mod laws;
 mod nesting;
 mod output;
 mod reading;
+mod reporting;
 mod running;
 mod solving;
 #[cfg(test)]
@@ -23,7 +24,10 @@ use board_text::Through;
 use checking::run_check;
 use command_line::{Job, JobFault, job};
 use nesting::run_nested;
+use positions::Value;
+use reporting::run_report;
 use running::{RunFault, Verdict, run_joined};
+use solving::run_solve;
 use std::process::ExitCode;
 use std::{env, fs, io};
 
@@ -58,6 +62,23 @@ fn main(rt: HostRuntime) -> ExitCode {
             }
             _ => failed(&rt, RunFault::Read),
         },
+        Ok(Job::Solve { workers, board }) => match fs::open(&rt, board) {
+            Ok(board) => {
+                let mut board = Through::new(board);
+                solved(&rt, run_solve(&rt, alloc, workers, &mut board, &mut writer))
+            }
+            Err(_) => failed(&rt, RunFault::Read),
+        },
+        Ok(Job::Report { workers, board }) => match fs::open(&rt, board) {
+            Ok(board) => {
+                let mut board = Through::new(board);
+                done(
+                    &rt,
+                    run_report(&rt, alloc, workers, &mut board, &mut writer),
+                )
+            }
+            Err(_) => failed(&rt, RunFault::Read),
+        },
         Ok(Job::Nested { levels, pebbles }) => {
             done(&rt, run_nested(alloc, levels, pebbles, &mut writer))
         }
@@ -75,6 +96,14 @@ fn answered(rt: &HostRuntime, answer: Result<Verdict, RunFault>) -> ExitCode {
     match answer {
         Ok(Verdict::Accepted(_)) => ExitCode::SUCCESS,
         Ok(Verdict::Refused(_)) => ExitCode::from(3),
+        Err(fault) => failed(rt, fault),
+    }
+}
+
+/// The status of a board that was to be solved.
+fn solved(rt: &HostRuntime, answer: Result<Value, RunFault>) -> ExitCode {
+    match answer {
+        Ok(_) => ExitCode::SUCCESS,
         Err(fault) => failed(rt, fault),
     }
 }

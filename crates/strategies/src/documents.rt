@@ -43,7 +43,7 @@ pub fn document(alloc: Global, board: &Board, values: &Values) -> Result<Proof, 
 }
 
 /// What a document says of a start with a value.
-fn claim(value: Value) -> Claim
+pub fn claim(value: Value) -> Claim
     ensures { result ≡ claim_of value }
 {
     match value {

@@ -11,7 +11,7 @@ mod sections;
 mod spreading;
 
 pub use choosing::{best_answer, best_request};
-pub use documents::document;
+pub use documents::{claim, document};
 pub use laws::{best_answers_last, best_requests_end, one_best_answer, one_best_request};
 pub use laws_of_documents::{
     documents_break_no_rule, documents_claim_what_holds, documents_have_their_form,

@@ -1,0 +1,159 @@
+//! Reporting how many configurations of a board have each value.
+
+ghost use Rattle.std.specs.Prelude.{◌≡◌, ◌≢◌, ◌↔◌, ◌≤◌, ℕ, List, ◌++◌, true, false, Err, IfOk, IfErr, OnOk, string_bytes};
+ghost use Rattle.board_text.specs.Ranges.{InRange};
+ghost use Rattle.positions.specs.Ranks.{configurations};
+ghost use Rattle.pebbles.specs.Run.{IsMemory, most_configurations};
+ghost use Rattle.pebbles.specs.Report.{AreCounts, IsCountOfValues, IsReportOf, count_line, count_lines, end_lines, head_lines, size_line, size_lines, start_line};
+ghost use Rattle.pebbles.specs.ReportRun.{RanReport, ReportFails};
+ghost use Rattle.pebbles.specs.declared.running.RunFault.TheVariants.{Read, Write};
+
+use crate::reading::{MAX_BOARD_BYTES, read_board};
+use crate::running::RunFault;
+use crate::solving::values_of;
+use board_text::{Board, Failed, Sink, Source, write_all};
+use positions::{Space, Value};
+use proof_text::write_claim;
+use retro_core::Values;
+use std::alloc::{AllocError, Global};
+use std::fmt::Write;
+use std::thread::Threads;
+use strategies::claim;
+
+/// Reads a board and writes how many of its configurations have each value.
+///
+/// The number of workers is 1 to 16; so far all rounds are run on this thread, whatever it is.
+/// The reader and the writer must not have failed before. Nothing is written before the whole text is built: after a fault nothing was written,
+/// but for `Write`, after which a front of the text was.
+pub fn run_report<R: Source, W: Sink>(
+    _rt: &(impl Threads + Sync),
+    alloc: Global,
+    _workers: u8,
+    reader: &mut R,
+    writer: &mut W,
+) -> Result<(), RunFault>
+    requires workers { InRange 1 16 _workers }
+    requires reader_ready { R.has_failed reader.old ≡ false }
+    requires writer_ready { W.has_failed writer.old ≡ false }
+    ensures ok { OnOk result (RanReport (R.left reader.old) (R.left reader.new) (W.taken writer.old) (W.taken writer.new)) }
+    ensures fault { IfErr result (ReportFails (R.left reader.old) (R.left reader.new) MAX_BOARD_BYTES (W.taken writer.old) (W.taken writer.new)) }
+    ensures read { (R.has_failed reader.new ≡ true) ↔ (result ≡ Err Read) }
+    ensures write { (W.has_failed writer.new ≡ true) ↔ (result ≡ Err Write) }
+    ensures unwritten { IfErr result (λ fault. fault ≢ Write → writer.new ≡ writer.old) }
+{
+    let (board, _) = read_board(alloc, reader)?;
+    let text = report_on(alloc, &board)?;
+    match write_all(writer, text.as_bytes()) {
+        Ok(()) => Ok(()),
+        Err(Failed) => Err(RunFault::Write),
+    }
+}
+
+/// The report of a small board.
+fn report_on(alloc: Global, board: &Board) -> Result<String, RunFault>
+    requires { configurations board.now ≤ most_configurations }
+    ensures text { IfOk result (λ text. IsReportOf board.now (string_bytes text)) }
+    ensures memory { IfErr result IsMemory }
+{
+    let values = values_of(alloc, board)?;
+    match report_of(alloc, board, &values) {
+        Ok(text) => Ok(text),
+        Err(AllocError) => Err(RunFault::Memory),
+    }
+}
+
+/// The report of a board with these values.
+fn report_of(alloc: Global, board: &Board, values: &Values) -> Result<String, AllocError>
+    requires same_board { values.now ≡ board.now }
+    ensures { IfOk result (λ text. IsReportOf board.now (string_bytes text)) }
+{
+    let space = values.space();
+    let start = values.of(space.rank(board.start()));
+    let forever = values.count(Value::Forever);
+    let mut text = String::new(alloc);
+    write_head(&mut text, space)?;
+    write_start(&mut text, start)?;
+    write_counts(&mut text, values)?;
+    write_end(&mut text, forever)?;
+    Ok(text)
+}
+
+/// Writes how large the board is.
+fn write_head(text: &mut String, space: &Space) -> Result<(), AllocError>
+    ensures { OnOk result (string_bytes text.new ≡ string_bytes text.old ++ head_lines space.now) }
+{
+    write_sizes(
+        text,
+        space.labels(),
+        space.pebbles(),
+        space.configurations(),
+    )
+}
+
+/// Writes the first lines, with these numbers.
+fn write_sizes(
+    text: &mut String,
+    labels: u16,
+    pebbles: u8,
+    configurations: u32,
+) -> Result<(), AllocError>
+    ensures { OnOk result (string_bytes text.new ≡ string_bytes text.old ++ size_lines labels pebbles configurations) }
+{
+    text.push_str("report 1\n")?;
+    write_size(text, "labels", labels as u32)?;
+    write_size(text, "pebbles", pebbles as u32)?;
+    write_size(text, "configurations", configurations)?;
+    Ok(())
+}
+
+/// Writes a line of a word and a number.
+fn write_size(text: &mut String, word: &str, size: u32) -> Result<(), AllocError>
+    ensures { OnOk result (string_bytes text.new ≡ string_bytes text.old ++ size_line word.now size) }
+{
+    write!(text, "{word} {size}\n")
+}
+
+/// Writes the value of the start.
+fn write_start(text: &mut String, start: Value) -> Result<(), AllocError>
+    ensures { OnOk result (string_bytes text.new ≡ string_bytes text.old ++ start_line start) }
+{
+    text.push_str("start ")?;
+    write_claim(text, claim(start))?;
+    text.push_str("\n")
+}
+
+/// Writes a line for each finite value from 0 to the greatest that occurs.
+fn write_counts(text: &mut String, values: &Values) -> Result<(), AllocError>
+    ensures { OnOk result ((counts : List ℕ) × AreCounts values.now counts × (string_bytes text.new ≡ string_bytes text.old ++ count_lines 0 counts)) }
+{
+    for value in 0..count_of_values(values) {
+        let count = values.count(Value::Finite(value));
+        write_count(text, value, count)?;
+    }
+    Ok(())
+}
+
+/// Writes how many configurations have a value.
+fn write_count(text: &mut String, value: u32, count: u32) -> Result<(), AllocError>
+    ensures { OnOk result (string_bytes text.new ≡ string_bytes text.old ++ count_line value count) }
+{
+    write!(text, "value {value}: {count}\n")
+}
+
+/// Writes how many configurations last forever, and the end.
+fn write_end(text: &mut String, forever: u32) -> Result<(), AllocError>
+    ensures { OnOk result (string_bytes text.new ≡ string_bytes text.old ++ end_lines forever) }
+{
+    write!(text, "forever: {forever}\nend\n")
+}
+
+/// How many values there are from 0 to the greatest that occurs.
+fn count_of_values(values: &Values) -> u32
+    ensures { IsCountOfValues values.now result }
+{
+    let _ = values.space().configurations();
+    match values.greatest_finite() {
+        Some(greatest) => greatest + 1,
+        None => 0,
+    }
+}
