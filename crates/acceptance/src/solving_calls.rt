@@ -100,7 +100,7 @@ fn lists(rt: HostRuntime) {
 
 /// Opens a solver some times. At most one growth of memory is refused, and then that call says so and the others give a solver.
 fn open_in_turn<S: ListStore + Drop>(rt: &impl Abort, alloc: Global, board: &Board) {
-    let mut refused = 0;
+    let mut was_refused = false;
     for _ in 0..3 {
         let opened: Result<Solver<S>, SolveFault> = Solver::open(alloc, board);
         match opened {
@@ -111,11 +111,11 @@ fn open_in_turn<S: ListStore + Drop>(rt: &impl Abort, alloc: Global, board: &Boa
             }
             Err(fault) => {
                 assert_eq!(rt; fault, SolveFault::Memory);
-                refused += 1;
+                assert!(rt; !was_refused);
+                was_refused = true;
             }
         }
     }
-    assert!(rt; refused < 2);
 }
 
 #[test]

@@ -74,10 +74,9 @@ impl Values {
     {
         let value = self.values[rank as usize];
         if value == OPEN {
-            Value::Forever
-        } else {
-            Value::Finite(value)
+            return Value::Forever;
         }
+        Value::Finite(value)
     }
 
     /// How many configurations have the value.

@@ -7,8 +7,8 @@ use Rattle.positions.specs.Value.{HasValue}
 use Rattle.retro_core.proofs.Listed.{shut_word}
 use Rattle.retro_core.proofs.values.Values.of.Goals as goal
 
-pub returns-else-value : goal.returns-else-value
-returns-else-value c =
+pub returns : goal.returns
+returns c =
     let values = c.self.inside.values.items in
     let i : c.args.rank < configurations c.self.inside.space = rw (← c.self.view_is) at c.requires in
     let size = c.self.invariant.0.values_length in
