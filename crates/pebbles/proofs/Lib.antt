@@ -6,3 +6,4 @@ pub mod Unread
 pub mod Rounds
 pub mod Headlines
 pub mod Counting
+pub mod Sums

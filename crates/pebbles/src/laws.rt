@@ -1,12 +1,14 @@
 //! Laws of what is written: what it means. Each is the contract of a function without a body.
 
-ghost use Rattle.std.specs.Prelude.{ℕ, List, Option};
+ghost use Rattle.std.specs.Prelude.{◌≡◌, ℕ, ◌+◌, List, Option, sum};
+ghost use Rattle.positions.specs.Ranks.{configurations};
 ghost use Rattle.board_text.specs.PlainBoard.{PlainBoard, IsBoard};
 ghost use Rattle.positions.specs.Claim.{Holds};
 ghost use Rattle.proof_text.specs.Proof.{PlainProof};
 ghost use Rattle.proof_check.specs.declared.checking.Shown.{Shown as ShownClaim};
 ghost use Rattle.positions.specs.declared.value.Value.{Value as Worth};
 ghost use Rattle.pebbles.specs.Headline.{ShowsValue};
+ghost use Rattle.pebbles.specs.Report.{Report as CountReport, IsReport};
 ghost use Rattle.pebbles.specs.Run.{IsVerdict};
 ghost use Rattle.pebbles.specs.SolveRun.{RanSolve};
 ghost use Rattle.pebbles.specs.Meaning.{AcceptsLeast, CanAnswer};
@@ -26,4 +28,9 @@ pub fn accepted_claims_hold()
 pub fn solved_boards_show_their_value()
     ensures { (left_old : Option (List ℕ)) → (left_new : Option (List ℕ)) → (taken_old : Option (List ℕ)) → (taken_new : Option (List ℕ)) → (value : Worth)
         → RanSolve left_old left_new taken_old taken_new value → ShowsValue left_old left_new taken_old taken_new value }
+{}
+
+/// The counts of a report add up to the number of configurations.
+pub fn reports_add_up()
+    ensures { (board : PlainBoard) → (report : CountReport) → IsReport board report → sum report.counts + report.forever ≡ configurations board }
 {}
