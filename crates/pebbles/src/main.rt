@@ -1,10 +1,10 @@
-//! Checks strategies for the pebble game and writes nested boards.
+//! Solves boards of the pebble game, checks strategies for them, counts values and writes nested boards.
 //!
 //! Without a command a board and a strategy document behind it are read from standard input, and one
 //! line is written to standard output. `pebbles --help` lists the commands.
 //!
 //! Exit statuses: 0 done, 1 a fault of a text or a board that is too large, 2 wrong words,
-//! 3 refused, 4 no memory, 5 a failed read or write, or an input that is too long.
+//! 3 refused, 4 no memory or a worker that wasn't started, 5 a failed read or write, or an input that is too long.
 #![tactic(auto)]
 
 mod answering;
