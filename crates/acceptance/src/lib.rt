@@ -32,6 +32,8 @@ mod solving_shapes;
 #[cfg(test)]
 mod spaces;
 #[cfg(test)]
+mod strategy_documents;
+#[cfg(test)]
 mod streams;
 #[cfg(test)]
 mod texts;

@@ -1,0 +1,259 @@
+//! Best answers, best requests and documents of solved boards.
+//!
+//! A run of the tests may refuse one growth of memory, whichever. So a call that was refused one is made once more.
+
+ghost use Rattle.std.specs.Prelude.{◌≡◌, IfOk, IfSome};
+ghost use Rattle.positions.specs.Ranks.{configurations};
+ghost use Rattle.proof_text.specs.Proof.{IsDocument};
+
+use crate::documents::{
+    CHAIN_VALUE_TWO, CYCLE_FOREVER, PAIR_VALUE_ONE, THREE_PEBBLES_VALUE_ONE, WAY_IN_VALUE_ONE,
+    check_document, print_document,
+};
+use crate::texts::{
+    CHAIN_OF_THREE, CYCLE_WITH_A_WAY_IN, LONE_LABEL, ONE_PAIR, SHARED_LABEL, THREE_CYCLE,
+    THREE_PEBBLES, board_of, build_board,
+};
+use board_text::{Board, Memory};
+use index_lists::LinkLists;
+use nested_cycles::nested_board;
+use proof_check::{CheckFault, Shown};
+use proof_text::{Claim, Proof};
+use retro_core::{Progress, SolveFault, Solver, Values};
+use std::alloc::{AllocError, Global};
+use std::process::Abort;
+use std::thread::Threads;
+use strategies::{best_answer, best_request, document};
+
+/// For one label and one pebble: it stays where it is.
+const LONE_LABEL_FOREVER: &str = "proof 1\nforever\nlabeller 1\nat 0 for * take 0\nend\n";
+
+/// For one label and two pebbles: the first request has no answer.
+const SHARED_LABEL_VALUE_ZERO: &str =
+    "proof 1\nvalue 0\nlabeller 0\nadversary 1\nat 0 0 for 0 ask 0\nend\n";
+
+/// A solver of a board, where it is refused no growth.
+fn solver_of(alloc: Global, board: &Board) -> Result<Solver<LinkLists>, SolveFault>
+    ensures { IfOk result (λ solver. solver.board ≡ board.now) }
+{
+    match Solver::open(alloc, board) {
+        Err(SolveFault::Memory) => Solver::open(alloc, board),
+        opened => opened,
+    }
+}
+
+/// The values of a board that isn't too large.
+fn values_of(alloc: Global, board: &Board) -> Option<Values>
+    ensures { IfSome result (λ values. values ≡ board.now) }
+{
+    let mut solver = solver_of(alloc, board).ok()?;
+    for _ in 0..=solver.space().configurations() {
+        if solver.round() == Progress::Done {
+            break;
+        }
+    }
+    solver.finish().ok()
+}
+
+/// What `document` answers where it is refused no growth.
+fn document_of(alloc: Global, board: &Board, values: &Values) -> Result<Proof, Memory>
+    requires { values.now ≡ board.now }
+    ensures { IfOk result (IsDocument board.now) }
+{
+    match document(alloc, board, values) {
+        Err(Memory) => document(alloc, board, values),
+        answer => answer,
+    }
+}
+
+/// The text of a board's document.
+fn document_text(alloc: Global, board: &Board) -> Option<String> {
+    let values = values_of(alloc, board)?;
+    let proof = document_of(alloc, board, &values).ok()?;
+    print_document(alloc, values.space(), &proof).ok()
+}
+
+#[test]
+fn documents_of_worked_boards(rt: HostRuntime) {
+    for (board, text) in [
+        (THREE_CYCLE, CYCLE_FOREVER),
+        (ONE_PAIR, PAIR_VALUE_ONE),
+        (CHAIN_OF_THREE, CHAIN_VALUE_TWO),
+        (LONE_LABEL, LONE_LABEL_FOREVER),
+        (SHARED_LABEL, SHARED_LABEL_VALUE_ZERO),
+        (CYCLE_WITH_A_WAY_IN, WAY_IN_VALUE_ONE),
+        (THREE_PEBBLES, THREE_PEBBLES_VALUE_ONE),
+    ] {
+        let board = board_of(&rt, rt.alloc(), board);
+        let written = document_text(rt.alloc(), &board).expect(&rt, "a document");
+        assert_eq!(&rt; written.as_str(), text);
+    }
+}
+
+/// The best answer to a request of a pebble at a configuration, if they are ones.
+fn answer(board: &Board, values: &Values, rank: u32, pebble: u8) -> Option<Option<u16>>
+    requires { values.now ≡ board.now }
+{
+    if rank < values.space().configurations() && pebble < board.pebbles() {
+        Some(best_answer(board, values, rank, pebble))
+    } else {
+        None
+    }
+}
+
+/// The best request at a configuration, if it is one.
+fn request(board: &Board, values: &Values, rank: u32) -> Option<Option<u8>>
+    requires { values.now ≡ board.now }
+{
+    if rank < values.space().configurations() {
+        Some(best_request(board, values, rank))
+    } else {
+        None
+    }
+}
+
+/// A configuration of two pebbles, the best answer to each request, and the best request.
+#[derive(Clone, Copy)]
+struct Best {
+    labels: [u16; 2],
+    answers: [Option<u16>; 2],
+    request: Option<u8>,
+}
+
+/// What is best at a configuration.
+fn at(labels: [u16; 2], answers: [Option<u16>; 2], request: Option<u8>) -> Best {
+    Best {
+        labels,
+        answers,
+        request,
+    }
+}
+
+/// Asserts what is best at configurations of a board of so many labels.
+fn assert_best(rt: &impl Abort, alloc: Global, text: &str, labels: u16, wanted: &[Best]) {
+    let board = board_of(rt, alloc, text);
+    let values = values_of(alloc, &board).expect(rt, "values");
+    for best in wanted {
+        let [first, second] = best.labels;
+        let rank = u32::from(first) * u32::from(labels) + u32::from(second);
+        let [of_first, of_second] = best.answers;
+        assert_eq!(rt;
+            answer(&board, &values, rank, 0),
+            Some(of_first),
+            "at rank {rank}"
+        );
+        assert_eq!(rt;
+            answer(&board, &values, rank, 1),
+            Some(of_second),
+            "at rank {rank}"
+        );
+        assert_eq!(rt;
+            request(&board, &values, rank),
+            Some(best.request),
+            "at rank {rank}"
+        );
+    }
+}
+
+#[test]
+fn best_in_the_chain_of_three(rt: HostRuntime) {
+    // An answer is greater than the other pebble's label. A smaller one lasts longer.
+    let wanted = [
+        at([0, 0], [Some(1), Some(1)], Some(0)),
+        at([0, 1], [Some(2), Some(1)], Some(0)),
+        at([0, 2], [None, Some(1)], Some(0)),
+        at([1, 0], [Some(1), Some(2)], Some(1)),
+        at([1, 1], [Some(2), Some(2)], Some(0)),
+        at([1, 2], [None, Some(2)], Some(0)),
+        at([2, 0], [Some(1), None], Some(1)),
+        at([2, 1], [Some(2), None], Some(1)),
+        at([2, 2], [None, None], Some(0)),
+    ];
+    assert_best(&rt, rt.alloc(), CHAIN_OF_THREE, 3, &wanted);
+}
+
+#[test]
+fn best_on_a_way_into_the_cycle(rt: HostRuntime) {
+    // At most one label dominates the other pebble's, and none dominates 4.
+    let wanted = [
+        at([0, 1], [Some(2), Some(1)], None),
+        at([1, 1], [Some(2), Some(2)], None),
+        at([0, 3], [Some(4), Some(1)], Some(0)),
+        at([3, 0], [Some(1), Some(4)], Some(1)),
+        at([3, 3], [Some(4), Some(4)], Some(0)),
+        at([2, 4], [None, Some(0)], Some(0)),
+        at([3, 4], [None, Some(4)], Some(0)),
+        at([4, 0], [Some(1), None], Some(1)),
+        at([4, 3], [Some(4), None], Some(1)),
+        at([4, 4], [None, None], Some(0)),
+    ];
+    assert_best(&rt, rt.alloc(), CYCLE_WITH_A_WAY_IN, 5, &wanted);
+}
+
+/// What the checker says of a board's document, if the board isn't too large.
+fn checked(
+    rt: &(impl Threads + Sync),
+    alloc: Global,
+    board: &Board,
+) -> Option<Result<Shown, CheckFault>> {
+    let values = values_of(alloc, board)?;
+    let _ = values.space().configurations();
+    let proof = document_of(alloc, board, &values).ok()?;
+    Some(check_document(rt, alloc, board, &proof))
+}
+
+/// Asserts that the checker accepts a board's document with the claim.
+fn assert_accepted(rt: &(impl Abort + Threads + Sync), alloc: Global, board: &Board, claim: Claim) {
+    assert_eq!(rt; checked(rt, alloc, board), Some(Ok(Shown { claim })));
+}
+
+/// The board of 256 labels, each of which dominates all smaller ones, with two pebbles on label 0.
+fn chain_of_all_labels(alloc: Global) -> Result<Option<Board>, AllocError> {
+    let mut pairs = Vec::new(alloc);
+    for above in 0..256u16 {
+        for below in 0..above {
+            pairs.push((above, below))?;
+        }
+    }
+    Ok(build_board(alloc, 256, 2, &[0, 0], &pairs).ok())
+}
+
+#[test]
+fn the_document_of_the_chain_of_all_labels(rt: HostRuntime) {
+    let made = chain_of_all_labels(rt.alloc()).or_else(|_| chain_of_all_labels(rt.alloc()));
+    let board = made.ok().flatten().expect(&rt, "a board");
+    assert_accepted(&rt, rt.alloc(), &board, Claim::Exactly(255));
+}
+
+#[test]
+fn the_document_of_the_nested_board_of_level_four(rt: HostRuntime) {
+    let made = nested_board(rt.alloc(), 4, 4).or_else(|_| nested_board(rt.alloc(), 4, 4));
+    let board = made.ok().expect(&rt, "a nested board");
+    assert_accepted(&rt, rt.alloc(), &board, Claim::Forever);
+}
+
+/// Makes a board's document some times. At most one growth of memory is refused, and then that call says so and the others give the document.
+fn make_in_turn(rt: &impl Abort, alloc: Global, board: &Board, text: &str) {
+    let values = values_of(alloc, board).expect(rt, "values");
+    let mut was_refused = false;
+    for _ in 0..3 {
+        match document(alloc, board, &values) {
+            Ok(proof) => {
+                let written = print_document(alloc, values.space(), &proof);
+                assert_eq!(rt; written.expect(rt, "a text").as_str(), text);
+            }
+            Err(Memory) => {
+                assert!(rt; !was_refused);
+                was_refused = true;
+            }
+        }
+    }
+}
+
+#[test]
+fn a_growth_is_refused(rt: HostRuntime) {
+    let chain = board_of(&rt, rt.alloc(), CHAIN_OF_THREE);
+    make_in_turn(&rt, rt.alloc(), &chain, CHAIN_VALUE_TWO);
+    let cycle = board_of(&rt, rt.alloc(), THREE_CYCLE);
+    make_in_turn(&rt, rt.alloc(), &cycle, CYCLE_FOREVER);
+}
