@@ -18,6 +18,8 @@ mod reporting;
 mod running;
 mod solving;
 #[cfg(test)]
+mod solving_tests;
+#[cfg(test)]
 mod tests;
 
 use board_text::Through;

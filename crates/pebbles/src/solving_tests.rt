@@ -1,0 +1,154 @@
+//! Solving and reporting over readers and writers that are slow, that fail, and that are refused memory.
+
+use crate::reporting::run_report;
+use crate::running::RunFault;
+use crate::solving::run_solve;
+use board_text::{BoardFault, BoardKind, Sink, Source};
+use fakes::{Drip, Failing, Trickle};
+use positions::Value;
+use std::alloc::Global;
+use std::thread::Threads;
+
+const PLENTY: usize = 100_000;
+
+const ROOM: usize = 200;
+
+const NOTHING: &[u8] = b"";
+
+/// Two labels, of which 1 dominates 0, with two pebbles on 0.
+const PAIR: &[u8] = b"board 1\nlabels 2\npebbles 2\nstart 0 0\nbeats 1 0\nend\n";
+
+/// The first request is answered with 1, which nothing dominates.
+const PAIR_DOCUMENT: &[u8] =
+    b"proof 1\nvalue 1\nlabeller 1\nat 0 0 for 1 take 1 1\nadversary 2\nat 0 0 for 1 ask 0\nat 1 0 for 0 ask 1\nend\n";
+
+/// Where a pebble is on 1, the other has no legal label.
+const PAIR_REPORT: &[u8] =
+    b"report 1\nlabels 2\npebbles 2\nconfigurations 4\nstart value 1\nvalue 0: 3\nvalue 1: 1\nforever: 0\nend\n";
+
+/// What is asked for.
+#[derive(Clone, Copy, Debug, PartialEq, Eq)]
+enum Command {
+    Solve,
+    Report,
+}
+
+/// A board's text, and how many calls of each end go well.
+#[derive(Clone, Copy)]
+struct Ends {
+    board: &'static [u8],
+    reads: usize,
+    writes: usize,
+    failing: Failing,
+}
+
+const READY: Ends = Ends {
+    board: PAIR,
+    reads: PLENTY,
+    writes: PLENTY,
+    failing: Failing::Refuses,
+};
+
+/// Whether a run answers and writes what it should, or was refused memory and wrote nothing; and whether the ends failed where it says so.
+/// A report answers no value.
+fn serves(
+    rt: &(impl Threads + Sync),
+    alloc: Global,
+    command: Command,
+    ends: Ends,
+    wanted: Result<Option<Value>, RunFault>,
+    written: &[u8],
+) -> bool {
+    let mut reader = Drip::new(ends.board, ends.reads);
+    let mut writer = Trickle::<ROOM>::new(ends.writes, ends.failing);
+    let answer = match command {
+        Command::Solve => run_solve(rt, alloc, 2, &mut reader, &mut writer).map(Some),
+        Command::Report => run_report(rt, alloc, 16, &mut reader, &mut writer).map(|()| None),
+    };
+    let told = reader.failed() == (answer == Err(RunFault::Read))
+        && writer.failed() == (answer == Err(RunFault::Write));
+    if answer == Err(RunFault::Memory) {
+        return told && writer.taken().is_empty();
+    }
+    told && answer == wanted && writer.taken() == written
+}
+
+#[test]
+fn one_byte_a_call(rt: HostRuntime) {
+    let alloc = rt.alloc();
+    let value = Ok(Some(Value::Finite(1)));
+    assert!(rt; serves(&rt, alloc, Command::Solve, READY, value, PAIR_DOCUMENT));
+    assert!(rt; serves(&rt, alloc, Command::Report, READY, Ok(None), PAIR_REPORT));
+}
+
+#[test]
+fn faults_write_nothing(rt: HostRuntime) {
+    let large = Ends {
+        board: b"board 1\nlabels 33\npebbles 4\nstart 0 0 0 0\nend\n",
+        ..READY
+    };
+    let cut = Ends {
+        board: b"board 1\nlabels 2\npebbles 2\nstart 0 0\nbeats 1 0\n",
+        ..READY
+    };
+    let end = Err(RunFault::Board(BoardFault {
+        line: 6,
+        kind: BoardKind::End,
+    }));
+    for command in [Command::Solve, Command::Report] {
+        assert!(rt;
+            serves(
+                &rt,
+                rt.alloc(),
+                command,
+                large,
+                Err(RunFault::TooLarge),
+                NOTHING
+            )
+        );
+        assert!(rt; serves(&rt, rt.alloc(), command, cut, end, NOTHING));
+    }
+}
+
+#[test]
+fn a_read_fails_at_each_call(rt: HostRuntime) {
+    for command in [Command::Solve, Command::Report] {
+        for reads in 0..PAIR.len() + 1 {
+            let ends = Ends { reads, ..READY };
+            assert!(rt;
+                serves(&rt, rt.alloc(), command, ends, Err(RunFault::Read), NOTHING),
+                "at call {reads} of {command:?}"
+            );
+        }
+    }
+}
+
+#[test]
+fn a_write_fails_at_each_call(rt: HostRuntime) {
+    for (command, text) in [
+        (Command::Solve, PAIR_DOCUMENT),
+        (Command::Report, PAIR_REPORT),
+    ] {
+        for failing in [Failing::Refuses, Failing::TakesNothing] {
+            for writes in 0..text.len() {
+                let ends = Ends {
+                    writes,
+                    failing,
+                    ..READY
+                };
+                let written = text.get(..writes).unwrap_or(NOTHING);
+                assert!(rt;
+                    serves(
+                        &rt,
+                        rt.alloc(),
+                        command,
+                        ends,
+                        Err(RunFault::Write),
+                        written
+                    ),
+                    "at call {writes} of {command:?}"
+                );
+            }
+        }
+    }
+}
