@@ -1,0 +1,82 @@
+-- What is written before the first line is read.
+use Rattle.std.proofs.Common.{◌≡◌, ℕ, ◌≤◌, List, [], ◌∷◌, ◌++◌, length, take, inl, inr, refl, sym, ap, ◌∙◌, subst, arith, append-nil, append_assoc}
+use Rattle.std.specs.Prelude.{Option, None, Some, Result, Ok, Err, IfOk, IfErr}
+use Rattle.std.specs.Io.KnownBytes.{Appends, Consumes, Keeps}
+use Rattle.board_text.specs.Ends.{AppendsFront}
+use Rattle.board_text.proofs.Moves.{Appends-trans, Appends-kept}
+use Rattle.player.specs.Transcript.{Game, Standing, Going, Over, Opens, BringInTurn, IsPlayed, Stops, Transcribes}
+use Rattle.player.specs.Play.{Came, Ends, HasEnded, HasWritten, BreaksOff}
+use Rattle.player.specs.declared.end.PlayEnd.{PlayEnd}
+use Rattle.player.specs.declared.end.PlayFault.{PlayFault}
+use Rattle.player.specs.declared.end.PlayFault.TheVariants.{Read, Write, Memory, Limit}
+use Rattle.player.proofs.Coming.{none_yet, came_of}
+use Rattle.player.proofs.Going.{HasTranscript, transcript_of, front_behind, front_kept, Appends-none}
+
+module _ (game : Game) (opening : List ℕ) (first : Standing) (opens : Opens game opening first) where
+  played : (lines : List (List ℕ)) (more : List ℕ) (to : Standing) → BringInTurn game first lines more to → IsPlayed game lines (opening ++ more) to
+  played lines more to brings = record { opening = opening; first = first; more = more; opens = opens; brings = brings; text_is = refl }
+
+  stops : (lines : List (List ℕ)) (more : List ℕ) (end : PlayEnd) → Stops (BringInTurn game first) lines more end → Stops (IsPlayed game) lines (opening ++ more) end
+  stops lines more end h =
+      (h.0, opening ++ h.1, h.2, played lines h.1 (Going h.0 h.2) h.3, ap (λ l. opening ++ l) h.4 ∙ sym (append_assoc opening h.1 _), h.5)
+
+  transcribes : (lines : List (List ℕ)) (more : List ℕ) (end : PlayEnd) → Transcribes (BringInTurn game first) lines more end → Transcribes (IsPlayed game) lines (opening ++ more) end
+  transcribes lines more end (inl over) = inl (played lines more (Over end) over)
+  transcribes lines more end (inr stopped) = inr (stops lines more end stopped)
+
+  -- the opening alone
+  alone : IsPlayed game [] opening first
+  alone = subst (λ l. IsPlayed game [] l first) (append-nil opening) (played [] [] first (refl, refl))
+
+  module _ (left_old left_new taken_old taken_now taken_new : Option (List ℕ)) (written : Appends taken_old taken_now opening) where
+    pub has_ended : (end : PlayEnd) → HasEnded (BringInTurn game first) left_old left_new taken_now taken_new end → HasEnded (IsPlayed game) left_old left_new taken_old taken_new end
+    has_ended end h = (
+      h.0,
+      h.1,
+      opening ++ h.2,
+      h.3,
+      elim h.4 [ inl over ↦ inl (played h.0 h.2 (Over end) over) | inr stopped ↦ inr (stops h.0 h.2 end stopped.0, stopped.1, stopped.2) ],
+      Appends-trans taken_old taken_now taken_new opening h.2 written h.5,
+    )
+
+    has_written : (Waits : List (List ℕ) → List ℕ → Type 0) → HasWritten (BringInTurn game first) left_old left_new taken_now taken_new Waits → HasWritten (IsPlayed game) left_old left_new taken_old taken_new Waits
+    has_written Waits h = (h.0, h.1, opening ++ h.2, h.3, h.4, h.5, h.6, played h.0 h.2 (Going h.3 h.4) h.7, Appends-trans taken_old taken_now taken_new opening h.2 written h.8)
+
+    behind : (text : List ℕ) → AppendsFront taken_now taken_new text → AppendsFront taken_old taken_new (opening ++ text)
+    behind text begun = subst (AppendsFront taken_old taken_new) (append-nil _) (front_behind taken_old taken_now taken_new opening text [] written begun)
+
+    pub breaks_off : (fault : PlayFault) → BreaksOff (BringInTurn game first) left_old left_new taken_now taken_new fault → BreaksOff (IsPlayed game) left_old left_new taken_old taken_new fault
+    breaks_off Read h = has_written _ h
+    breaks_off Limit h = has_written _ h
+    breaks_off Write h = (h.0, h.1, opening ++ h.2, h.3, h.4, transcribes h.0 h.2 h.3 h.5, behind h.2 h.6)
+    breaks_off Memory h = (h.0, h.1, opening ++ h.2, h.3, h.4, transcribes h.0 h.2 h.3 h.5, behind h.2 h.6)
+
+  -- nothing was written
+  pub unopened : (left taken_old taken_new : Option (List ℕ)) → Keeps taken_old taken_new → BreaksOff (IsPlayed game) left left taken_old taken_new Memory
+  unopened left taken_old taken_new kept =
+      let whole = transcript_of (IsPlayed game) [] opening first alone in (
+        [],
+        [],
+        opening ++ whole.tail,
+        whole.end,
+        came_of left left [] _ (omega arith) (none_yet left),
+        whole.transcribes,
+        front_kept taken_old taken_old taken_new [] (opening ++ whole.tail) (Appends-none taken_old) kept,
+      )
+
+  -- the opening wasn't written whole
+  pub unshown_opening : (left taken_old taken_new : Option (List ℕ)) → AppendsFront taken_old taken_new opening → BreaksOff (IsPlayed game) left left taken_old taken_new Write
+  unshown_opening left taken_old taken_new begun =
+      let whole = transcript_of (IsPlayed game) [] opening first alone in (
+        [],
+        [],
+        opening ++ whole.tail,
+        whole.end,
+        came_of left left [] _ (omega arith) (none_yet left),
+        whole.transcribes,
+        front_behind taken_old taken_old taken_new [] opening whole.tail (Appends-none taken_old) begun,
+      )
+
+pub Keeps-same : (a : Option (List ℕ)) → Keeps a a
+Keeps-same None = tt
+Keeps-same (Some x) = refl

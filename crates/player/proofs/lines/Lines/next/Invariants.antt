@@ -1,0 +1,15 @@
+use Rattle.std.proofs.Common.{◌≡◌, ◌++◌, ◌-◌, ◌≤◌, ℕ, List, length, false}
+use Rattle.std.specs.Io.KnownBytes.{Consumes}
+use Rattle.player.proofs.lines.Lines.next.Given as goal
+
+abbrev pub invariant-loop-size : goal.invariant-loop-size
+invariant-loop-size g l = record {
+  more : List ℕ;
+  grown : l.self.bytes ≡ l.initial.self.bytes ++ more;
+  read : Consumes (g.R.Source.left l.initial.reader) (g.R.Source.left l.reader) more;
+  goes_on : l.self.has_ended ≡ false;
+  unfailed : g.R.Source.has_failed l.reader ≡ false;
+}
+
+abbrev pub decreases-loop-size : goal.decreases-loop-size
+decreases-loop-size g l = 65 - length l.self.bytes

@@ -1,0 +1,6 @@
+pub mod Words
+pub mod Transcript
+pub mod Play
+pub mod Reading
+pub mod Turns
+pub mod Seats

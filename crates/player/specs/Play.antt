@@ -1,0 +1,56 @@
+-- What a play reads and writes.
+use Rattle.std.specs.Prelude.{◌≡◌, ◌≢◌, ℕ, ◌≤◌, ◌⊎◌, List, [], ◌∷◌, ◌++◌, length, All, Option}
+use Rattle.std.specs.List.{flat_map}
+use Rattle.std.specs.Io.KnownBytes.{Appends, Consumes, IsAtEnd}
+use Rattle.board_text.specs.Ends.{GaveAll, AppendsFront}
+use Rattle.board_text.specs.LineForms.{closed}
+use Rattle.player.specs.Words.{IsLine, BeginsTooLong, most_lines}
+use Rattle.player.specs.Transcript.{Game, Standing, Going, Over, IsPlayed, Stops, Transcribes}
+use Rattle.player.specs.declared.end.PlayEnd.{PlayEnd}
+use Rattle.player.specs.declared.end.PlayFault.{PlayFault}
+use Rattle.player.specs.declared.end.PlayFault.TheVariants.{Read, Write, Memory, Limit}
+
+-- these lines and the rest were all that came, each line with its line feed
+abbrev pub CameClosed : Option (List ℕ) → Option (List ℕ) → List (List ℕ) → List ℕ → Type 0
+CameClosed left_old left_new lines rest = Consumes left_old left_new (flat_map closed lines ++ rest)
+
+-- these lines were all that there was, the last of them without a line feed
+pub record CameWhole (left_old left_new : Option (List ℕ)) (lines : List (List ℕ)) : Type 0 where
+  pub before : List (List ℕ)
+  pub last : List ℕ
+  pub lines_are : lines ≡ before ++ last ∷ []
+  pub some : last ≢ []
+  pub read : GaveAll left_old left_new (flat_map closed before ++ last)
+
+-- these lines came, and behind them the rest
+pub record Came (left_old left_new : Option (List ℕ)) (lines : List (List ℕ)) (rest : List ℕ) : Type 0 where
+  pub came : CameClosed left_old left_new lines rest ⊎ ((rest ≡ []) × CameWhole left_old left_new lines)
+  pub each : All IsLine lines
+  pub few : length lines ≤ most_lines
+
+-- the lines end the play, or the end of the input does
+abbrev pub Ends : (List (List ℕ) → List ℕ → Standing → Type 0) → Option (List ℕ) → List (List ℕ) → List ℕ → List ℕ → PlayEnd → Type 0
+Ends Played left_new lines rest text end = Played lines text (Over end) ⊎ (Stops Played lines text end × IsAtEnd left_new × (rest ≡ []))
+
+module _ (Played : List (List ℕ) → List ℕ → Standing → Type 0) (left_old left_new taken_old taken_new : Option (List ℕ)) where
+  -- lines came, and what was written is their transcript, which tells this end
+  abbrev pub HasEnded : PlayEnd → Type 0
+  HasEnded end = (lines : List (List ℕ)) × (rest text : List ℕ)
+      × Came left_old left_new lines rest × Ends Played left_new lines rest text end × Appends taken_old taken_new text
+
+  -- lines came that didn't end the play, and what was written is what they bring
+  abbrev pub HasWritten : (List (List ℕ) → List ℕ → Type 0) → Type 0
+  HasWritten Waits = (lines : List (List ℕ)) × (rest text at : List ℕ) × (requests : ℕ)
+      × Came left_old left_new lines rest × Waits lines rest × Played lines text (Going at requests) × Appends taken_old taken_new text
+
+  -- lines came, and what was written is a front of their transcript
+  abbrev pub HasBegun : Type 0
+  HasBegun = (lines : List (List ℕ)) × (rest text : List ℕ) × (end : PlayEnd)
+      × Came left_old left_new lines rest × Transcribes Played lines text end × AppendsFront taken_old taken_new text
+
+  -- when each fault comes, and what was written before it
+  abbrev pub BreaksOff : PlayFault → Type 0
+  BreaksOff Read = HasWritten (λ lines rest. IsLine rest)
+  BreaksOff Limit = HasWritten (λ lines rest. (length lines ≡ most_lines) ⊎ BeginsTooLong rest)
+  BreaksOff Write = HasBegun
+  BreaksOff Memory = HasBegun

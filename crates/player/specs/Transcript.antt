@@ -1,0 +1,154 @@
+-- What a play writes: a text for each line of the person, by the moves of the pebble game.
+use Rattle.std.specs.Prelude.{◌≡◌, ◌≢◌, ℕ, suc, ◌<◌, ◌⊎◌, List, [], ◌∷◌, ◌++◌, Option, None, Some, codes}
+use Rattle.std.specs.Fmt.{decimal}
+use Rattle.board_text.specs.LineForms.{closed, number_line, numbers_line}
+use Rattle.board_text.specs.PlainBoard.{PlainBoard}
+use Rattle.positions.specs.declared.value.Value.{Value}
+use Rattle.positions.specs.declared.value.Value.TheVariants.{Finite, Forever}
+use Rattle.positions.specs.Game.{Legal, moved}
+use Rattle.positions.specs.Value.{HasValue}
+use Rattle.proof_text.specs.ProofText.{claim_line}
+use Rattle.strategies.specs.Best.{IsBestAnswer, IsBestRequest}
+use Rattle.strategies.specs.Document.{claim_of}
+use Rattle.player.specs.Words.{quit}
+use Rattle.player.specs.declared.end.PlayEnd.{PlayEnd}
+use Rattle.player.specs.declared.end.PlayEnd.TheVariants.{Stuck, Stopped, NoStrategy}
+
+-- who the person is, and the board that is played on
+pub data Game : Type 0 where
+  PersonAsks PersonAnswers : PlainBoard → Game
+
+-- where a play stands: it goes on from a configuration, after so many answered requests, or it is over
+pub data Standing : Type 0 where
+  Going : List ℕ → ℕ → Standing
+  Over : PlayEnd → Standing
+
+-- it is over where there is an end
+abbrev pub standing : Option PlayEnd → List ℕ → ℕ → Standing
+standing None at requests = Going at requests
+standing (Some end) at requests = Over end
+
+-- ---- lines
+
+-- the value of the start
+abbrev pub value_line : Value → List ℕ
+value_line value = claim_line (claim_of value)
+
+-- the labels of a configuration
+abbrev pub at_line : List ℕ → List ℕ
+at_line configuration = numbers_line (codes "at") configuration
+
+-- the value of the start and its labels
+abbrev pub opening_lines : Value → List ℕ → List ℕ
+opening_lines value start = value_line value ++ at_line start
+
+-- the answer to a request
+abbrev pub takes_line : ℕ → ℕ → List ℕ
+takes_line pebble label = closed (codes "pebble " ++ decimal pebble ++ codes " takes " ++ decimal label)
+
+-- a request
+abbrev pub ask_line : ℕ → List ℕ
+ask_line pebble = number_line (codes "ask") pebble
+
+abbrev pub stuck_line : ℕ → ℕ → List ℕ
+stuck_line pebble requests = closed (codes "no label for pebble " ++ decimal pebble ++ codes " after " ++ decimal requests ++ codes " requests")
+
+abbrev pub stopped_line : ℕ → List ℕ
+stopped_line requests = closed (codes "stopped after " ++ decimal requests ++ codes " requests")
+
+abbrev pub no_strategy_line : List ℕ
+no_strategy_line = closed (codes "no strategy")
+
+abbrev pub no_request_line : List ℕ
+no_request_line = closed (codes "not a request")
+
+abbrev pub no_answer_line : List ℕ
+no_answer_line = closed (codes "not an answer")
+
+-- ---- the person asks
+
+-- the best answer to a request, where some label is legal
+abbrev pub Replies : PlainBoard → List ℕ → ℕ → ℕ → List ℕ → Standing → Type 0
+Replies board at requests pebble said to =
+    ((label : ℕ) × IsBestAnswer board at pebble label
+    × (said ≡ takes_line pebble label ++ at_line (moved at pebble label)) × (to ≡ Going (moved at pebble label) (suc requests)))
+    ⊎ (((label : ℕ) → Legal board at pebble label → ⊥) × (said ≡ stuck_line pebble requests) × (to ≡ Over (Stuck requests)))
+
+-- the line names no pebble of the board, and isn't `quit`
+abbrev pub IsNoRequest : PlainBoard → List ℕ → Type 0
+IsNoRequest board line = (line ≢ quit) × ((pebble : ℕ) → pebble < board.pebbles → line ≢ decimal pebble)
+
+-- what a line brings where the person is the adversary
+abbrev pub RepliesToLine : PlainBoard → List ℕ → ℕ → List ℕ → List ℕ → Standing → Type 0
+RepliesToLine board at requests line said to =
+    ((pebble : ℕ) × (pebble < board.pebbles) × (line ≡ decimal pebble) × Replies board at requests pebble said to)
+    ⊎ ((line ≡ quit) × (said ≡ stopped_line requests) × (to ≡ Over (Stopped requests)))
+    ⊎ (IsNoRequest board line × (said ≡ no_request_line) × (to ≡ Going at requests))
+
+-- ---- the person answers
+
+-- the best request, which no label may be legal for
+abbrev pub Asks : PlainBoard → List ℕ → ℕ → List ℕ → Standing → Type 0
+Asks board at requests said to = (pebble : ℕ) × IsBestRequest board at pebble
+    × ((((label : ℕ) × Legal board at pebble label) × (said ≡ ask_line pebble) × (to ≡ Going at requests))
+    ⊎ (((label : ℕ) → Legal board at pebble label → ⊥) × (said ≡ ask_line pebble ++ stuck_line pebble requests) × (to ≡ Over (Stuck requests))))
+
+-- the line is a legal label for the pebble that is asked for
+abbrev pub IsLegalLine : PlainBoard → List ℕ → List ℕ → ℕ → ℕ → Type 0
+IsLegalLine board at line pebble label = IsBestRequest board at pebble × Legal board at pebble label × (line ≡ decimal label)
+
+-- the line is no legal label, and isn't `quit`
+abbrev pub IsNoAnswer : PlainBoard → List ℕ → List ℕ → Type 0
+IsNoAnswer board at line = (line ≢ quit) × ((pebble label : ℕ) → IsLegalLine board at line pebble label → ⊥)
+
+-- what a line brings where the person is the labeller
+abbrev pub AsksAfterLine : PlainBoard → List ℕ → ℕ → List ℕ → List ℕ → Standing → Type 0
+AsksAfterLine board at requests line said to =
+    ((pebble label : ℕ) × (asked : List ℕ) × IsLegalLine board at line pebble label
+    × Asks board (moved at pebble label) (suc requests) asked to × (said ≡ at_line (moved at pebble label) ++ asked))
+    ⊎ ((line ≡ quit) × (said ≡ stopped_line requests) × (to ≡ Over (Stopped requests)))
+    ⊎ (IsNoAnswer board at line × (said ≡ no_answer_line) × (to ≡ Going at requests))
+
+-- ---- the play
+
+-- what is written before a line is read: the value, the start, and where the person is the labeller the first request, or that there is no strategy
+abbrev pub Opens : Game → List ℕ → Standing → Type 0
+Opens (PersonAsks board) said to =
+    (value : Value) × HasValue board board.start value × (said ≡ opening_lines value board.start) × (to ≡ Going board.start 0)
+Opens (PersonAnswers board) said to =
+    (HasValue board board.start Forever × (said ≡ opening_lines Forever board.start ++ no_strategy_line) × (to ≡ Over NoStrategy))
+    ⊎ ((number : ℕ) × (asked : List ℕ) × HasValue board board.start (Finite number)
+    × (said ≡ opening_lines (Finite number) board.start ++ asked) × Asks board board.start 0 asked to)
+
+-- what one line brings; nothing where the play is over
+abbrev pub Brings : Game → Standing → List ℕ → List ℕ → Standing → Type 0
+Brings game (Over end) line said to = (said ≡ []) × (to ≡ Over end)
+Brings (PersonAsks board) (Going at requests) line said to = RepliesToLine board at requests line said to
+Brings (PersonAnswers board) (Going at requests) line said to = AsksAfterLine board at requests line said to
+
+-- what these lines bring, one after the other
+abbrev pub BringInTurn : Game → Standing → List (List ℕ) → List ℕ → Standing → Type 0
+BringInTurn game from [] text to = (text ≡ []) × (from ≡ to)
+BringInTurn game from (line ∷ lines) text to =
+    (said more : List ℕ) × (next : Standing) × Brings game from line said next × BringInTurn game next lines more to × (text ≡ said ++ more)
+
+-- what is written once these lines are read, and where the play then stands
+pub record IsPlayed (game : Game) (lines : List (List ℕ)) (text : List ℕ) (to : Standing) : Type 0 where
+  pub opening : List ℕ
+  pub first : Standing
+  pub more : List ℕ
+  pub opens : Opens game opening first
+  pub brings : BringInTurn game first lines more to
+  pub text_is : text ≡ opening ++ more
+
+-- where the lines end before the play is over, one more line is written
+abbrev pub Stops : (List (List ℕ) → List ℕ → Standing → Type 0) → List (List ℕ) → List ℕ → PlayEnd → Type 0
+Stops Played lines text end =
+    (at front : List ℕ) × (requests : ℕ) × Played lines front (Going at requests) × (text ≡ front ++ stopped_line requests) × (end ≡ Stopped requests)
+
+-- the whole transcript of input lines, and the end that it tells
+abbrev pub Transcribes : (List (List ℕ) → List ℕ → Standing → Type 0) → List (List ℕ) → List ℕ → PlayEnd → Type 0
+Transcribes Played lines text end = Played lines text (Over end) ⊎ Stops Played lines text end
+
+abbrev pub IsTranscript : Game → List (List ℕ) → List ℕ → PlayEnd → Type 0
+IsTranscript game lines text end = Transcribes (IsPlayed game) lines text end

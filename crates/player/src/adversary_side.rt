@@ -1,0 +1,152 @@
+//! Plays in which the person is the adversary.
+
+ghost use Rattle.std.specs.Prelude.{◌≡◌, ◌↔◌, ◌+◌, ◌<◌, ◌≤◌, ◌^◌, ◌++◌, true, false, None, Err, IfOk, IfErr, string_bytes};
+ghost use Rattle.positions.specs.Ranks.{configurations};
+ghost use Rattle.player.specs.Play.{HasEnded, BreaksOff};
+ghost use Rattle.player.specs.Seats.{at};
+ghost use Rattle.player.specs.Transcript.{Going, IsPlayed, PersonAsks, Replies, no_request_line, standing};
+ghost use Rattle.player.specs.Turns.{Says};
+ghost use Rattle.player.specs.declared.end.PlayFault.TheVariants.{Read, Write};
+
+use crate::end::{PlayEnd, PlayFault};
+use crate::play::{Play, play_on};
+use crate::showing::show;
+use crate::word::Word;
+use crate::writing::{stopped, write_opening, write_reply, write_stuck};
+use board_text::{Board, Sink, Source};
+use retro_core::Values;
+use std::alloc::{AllocError, Global};
+use std::marker::Model;
+use strategies::best_answer;
+
+/// Plays with a person who is the adversary: each line names a pebble, which is put on the label of the best answer.
+///
+/// The values are those of the board. The reader and the writer must not have failed before.
+/// The play ends where no label is legal for a pebble, with a line `quit`, or at the end of the input.
+/// A line of any other kind is answered and changes nothing.
+/// Each answer is written before the next line is read.
+pub fn play_adversary_side<R: Source, W: Sink>(
+    alloc: Global,
+    board: &Board,
+    values: &Values,
+    reader: &mut R,
+    writer: &mut W,
+) -> Result<PlayEnd, PlayFault>
+    requires same_board { values.now ≡ board.now }
+    requires reader_ready { R.has_failed reader.old ≡ false }
+    requires writer_ready { W.has_failed writer.old ≡ false }
+    ensures ok { IfOk result (HasEnded (IsPlayed (PersonAsks board.now)) (R.left reader.old) (R.left reader.new) (W.taken writer.old) (W.taken writer.new)) }
+    ensures fault { IfErr result (BreaksOff (IsPlayed (PersonAsks board.now)) (R.left reader.old) (R.left reader.new) (W.taken writer.old) (W.taken writer.new)) }
+    ensures read { (R.has_failed reader.new ≡ true) ↔ (result ≡ Err Read) }
+    ensures write { (W.has_failed writer.new ≡ true) ↔ (result ≡ Err Write) }
+{
+    let mut text = String::new(alloc);
+    let space = values.space();
+    let start = space.rank(board.start());
+    let Ok(()) = write_opening(&mut text, space, values.of(start), start) else {
+        return Err(PlayFault::Memory);
+    };
+    show(&mut text, writer)?;
+    let mut play = AdversarySide::new(board, values, start);
+    play_on(&mut play, &mut text, reader, writer)
+}
+
+/// A play in which the person is the adversary.
+#[derive(Drop)]
+struct AdversarySide<'a> {
+    board: &'a Board,
+    values: &'a Values,
+    /// The rank of the configuration.
+    rank: u32,
+    /// How many requests were answered.
+    requests: u32,
+}
+
+impl<'a> Model for AdversarySide<'a> {
+    ghost use Rattle.std.specs.Prelude.{◌≡◌, ◌<◌};
+    ghost use Rattle.positions.specs.Ranks.{configurations};
+    ghost use Rattle.player.specs.Seats.{Seat};
+
+    ghost Value = { Seat };
+
+    ghost view = { λ s. record { board = s.board.now; rank = s.rank; requests = s.requests } };
+
+    ghost invariant = { λ s. (s.values.now ≡ s.board.now) × (s.rank < configurations s.board.now) };
+}
+
+impl<'a> AdversarySide<'a> {
+    /// No request was answered yet, and the pebbles are at the configuration of this rank.
+    fn new(board: &'a Board, values: &'a Values, rank: u32) -> AdversarySide<'a>
+        requires same_board { values.now ≡ board.now }
+        requires rank { rank < configurations board.now }
+        ensures { result ≡ record { board = board.now; rank = rank; requests = 0 } }
+    {
+        AdversarySide {
+            board,
+            values,
+            rank,
+            requests: 0,
+        }
+    }
+
+    /// Answers a request of a pebble, if some label is legal.
+    fn request(&mut self, pebble: u8, text: &mut String) -> Result<Option<PlayEnd>, AllocError>
+        requires pebble { pebble < self.old.board.pebbles }
+        requires few { self.old.requests + 1 < 2 ^ 32 }
+        ensures board { self.new.board ≡ self.old.board }
+        ensures count { self.new.requests ≤ self.old.requests + 1 }
+        ensures said { IfOk result (λ end. Says (string_bytes text.old) (string_bytes text.new)
+            (λ said. Replies self.old.board (at self.old) self.old.requests pebble said (standing end (at self.new) self.new.requests))) }
+    {
+        let space = self.values.space();
+        match best_answer(self.board, self.values, self.rank, pebble) {
+            Some(label) => {
+                self.rank = space.with(self.rank, pebble, label);
+                self.requests += 1;
+                write_reply(text, space, pebble, label, self.rank)?;
+                Ok(None)
+            }
+            None => {
+                write_stuck(text, pebble, self.requests)?;
+                Ok(Some(PlayEnd::Stuck {
+                    requests: self.requests,
+                }))
+            }
+        }
+    }
+}
+
+impl Play for AdversarySide<'_> {
+    ghost game = { λ s. PersonAsks s.board };
+
+    ghost at = { at };
+
+    ghost requests = { λ s. s.requests };
+
+    fn answer(&mut self, word: Word, text: &mut String) -> Result<Option<PlayEnd>, AllocError> {
+        let pebbles = u32::from(self.values.space().pebbles());
+        match word {
+            Word::Number(number) => {
+                if number < pebbles {
+                    self.request(number as u8, text)
+                } else {
+                    refuse(text)
+                }
+            }
+            Word::Quit => stopped(text, self.requests),
+            Word::Other => refuse(text),
+        }
+    }
+
+    fn requests(&self) -> u32 {
+        self.requests
+    }
+}
+
+/// Says that a line is no request.
+fn refuse(text: &mut String) -> Result<Option<PlayEnd>, AllocError>
+    ensures { IfOk result (λ end. (end ≡ None) × (string_bytes text.new ≡ string_bytes text.old ++ no_request_line)) }
+{
+    text.push_str("not a request\n")?;
+    Ok(None)
+}

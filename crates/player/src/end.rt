@@ -1,0 +1,25 @@
+//! How a play ends, and why one is broken off.
+
+/// How a play has ended, with the number of requests that were answered.
+#[derive(Clone, Copy, Debug, PartialEq, Eq)]
+pub enum PlayEnd {
+    /// No label is legal for the pebble that was asked for.
+    Stuck { requests: u32 },
+    /// The person stopped, or the input ended.
+    Stopped { requests: u32 },
+    /// The value is forever, so the adversary has no strategy to play.
+    NoStrategy,
+}
+
+/// Why a play was broken off.
+#[derive(Clone, Copy, Debug, PartialEq, Eq)]
+pub enum PlayFault {
+    /// The reader failed.
+    Read,
+    /// The writer failed.
+    Write,
+    /// A growth was refused.
+    Memory,
+    /// A line is longer than 64 bytes, or a million lines didn't end the play.
+    Limit,
+}

@@ -1,0 +1,13 @@
+//! Plays of the pebble game with a person, who is the adversary or the labeller.
+#![tactic(auto)]
+
+mod adversary_side;
+mod end;
+mod lines;
+mod play;
+mod showing;
+mod word;
+mod writing;
+
+pub use adversary_side::play_adversary_side;
+pub use end::{PlayEnd, PlayFault};

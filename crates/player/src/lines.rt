@@ -1,0 +1,157 @@
+//! The lines of a reader, one by one.
+
+ghost use Rattle.std.specs.Prelude.{◌≡◌, ◌≢◌, ◌+◌, ◌≤◌, ◌<◌, ◌↔◌, [], length, take, drop, slice_index, true, false, Err, IfOk, IfErr, OnOk, OnErr, MatchOption};
+ghost use Rattle.std.specs.Io.KnownBytes.{Keeps};
+ghost use Rattle.player.specs.Words.{Spells, HasNoFeed, most_bytes};
+ghost use Rattle.player.specs.Reading.{IsEmptyAtEnd, GivesLine, GivesNoLine, IsFilled};
+ghost use Rattle.player.specs.declared.lines.LineFault.TheVariants.{Read};
+
+use crate::word::Word;
+use board_text::{Failed, Source};
+use std::marker::Model;
+
+/// How many bytes a line has at most, without its line feed.
+const MOST_BYTES: usize = 64;
+
+/// How many bytes are read at a time.
+const SIZE: usize = 4096;
+
+/// Why there is no next line.
+#[derive(Clone, Copy, Debug, PartialEq, Eq)]
+pub(crate) enum LineFault {
+    /// The reader failed.
+    Read,
+    /// The line is too long.
+    Limit,
+}
+
+/// What was read and isn't taken yet.
+///
+/// At the end of the input, bytes behind the last line feed are a line too.
+#[derive(Drop)]
+pub(crate) struct Lines {
+    buffer: [u8; SIZE],
+    from: usize,
+    to: usize,
+    has_ended: bool,
+}
+
+impl Model for Lines {
+    ghost use Rattle.std.specs.Prelude.{drop, take, length};
+    ghost use Rattle.player.specs.Reading.{Unread, IsPart};
+
+    ghost Value = { Unread };
+
+    ghost view = { λ s. record { bytes = drop s.from (take s.to s.buffer); has_ended = s.has_ended } };
+
+    ghost invariant = { λ s. IsPart s.from s.to (length s.buffer) };
+}
+
+impl Lines {
+    /// Nothing is read yet.
+    pub(crate) fn new() -> Lines
+        ensures { result ≡ record { bytes = []; has_ended = false } }
+    {
+        Lines {
+            buffer: [0; SIZE],
+            from: 0,
+            to: 0,
+            has_ended: false,
+        }
+    }
+
+    /// What the next line says, if there is one. The reader is asked only where no whole line is left.
+    pub(crate) fn next<R: Source>(&mut self, reader: &mut R) -> Result<Option<Word>, LineFault>
+        requires ready { R.has_failed reader.old ≡ false }
+        requires end { IsEmptyAtEnd self.old (R.left reader.old) }
+        ensures line { IfOk result (GivesLine self.old self.new (R.left reader.old) (R.left reader.new)) }
+        ensures unfailed { OnOk result (R.has_failed reader.new ≡ false) }
+        ensures fault { IfErr result (GivesNoLine self.old (R.left reader.old) (R.left reader.new)) }
+        ensures read { (R.has_failed reader.new ≡ true) ↔ (result ≡ Err Read) }
+    {
+        if self.has_ended {
+            return Ok(None);
+        }
+        loop {
+            let size = line_size(self.unread());
+            if size > MOST_BYTES {
+                return Err(LineFault::Limit);
+            }
+            if size < self.unread().len() {
+                return Ok(Some(self.take_line(size)));
+            }
+            match self.fill(reader) {
+                Ok(true) => {}
+                Ok(false) => return Ok(self.take_last()),
+                Err(fault) => return Err(fault),
+            }
+        }
+    }
+
+    /// What was read and isn't taken yet.
+    fn unread(&self) -> &[u8]
+        ensures { result.now ≡ self.now.bytes }
+    {
+        &self.buffer[self.from..self.to]
+    }
+
+    /// What the line of so many bytes says, which is taken with its line feed.
+    fn take_line(&mut self, size: usize) -> Word
+        requires inside { size < length self.old.bytes }
+        ensures word { Spells (take size self.old.bytes) result }
+        ensures rest { self.new.bytes ≡ drop (size + 1) self.old.bytes }
+        ensures same { self.new.has_ended ≡ self.old.has_ended }
+    {
+        let word = Word::of(&self.unread()[..size]);
+        self.from += size + 1;
+        word
+    }
+
+    /// What all that is left says, unless nothing is.
+    fn take_last(&mut self) -> Option<Word>
+        ensures nothing_left { self.new.bytes ≡ [] }
+        ensures same { self.new.has_ended ≡ self.old.has_ended }
+        ensures word { MatchOption result (self.old.bytes ≡ []) (λ word. Spells self.old.bytes word × (self.old.bytes ≢ [])) }
+    {
+        if self.unread().is_empty() {
+            return None;
+        }
+        let word = Word::of(self.unread());
+        self.from = self.to;
+        Some(word)
+    }
+
+    /// Reads once, behind what isn't taken yet, and says whether anything came.
+    fn fill<R: Source>(&mut self, reader: &mut R) -> Result<bool, LineFault>
+        requires short { length self.old.bytes ≤ most_bytes }
+        requires goes_on { self.old.has_ended ≡ false }
+        ensures filled { IfOk result (IsFilled self.old self.new (R.left reader.old) (R.left reader.new)) }
+        ensures unfailed { OnOk result (R.has_failed reader.new ≡ R.has_failed reader.old) }
+        ensures kept { OnErr result (Keeps (R.left reader.old) (R.left reader.new)) }
+        ensures read { IfErr result (λ fault. (fault ≡ Read) × (R.has_failed reader.new ≡ true)) }
+    {
+        self.buffer.copy_within(self.from..self.to, 0);
+        self.to -= self.from;
+        self.from = 0;
+        match reader.read(&mut self.buffer[self.to..]) {
+            Ok(0) => {
+                self.has_ended = true;
+                Ok(false)
+            }
+            Ok(count) => {
+                self.to += count;
+                Ok(true)
+            }
+            Err(Failed) => Err(LineFault::Read),
+        }
+    }
+}
+
+/// How many bytes stand before the first line feed, or all where there is none.
+fn line_size(bytes: &[u8]) -> usize
+    ensures within { result ≤ length bytes.now }
+    ensures inside { HasNoFeed (take result bytes.now) }
+    ensures feed { result < length bytes.now → slice_index bytes.now result ≡ 10 }
+{
+    bytes.iter().take_while(|byte| **byte != b'\n').count()
+}

@@ -1,0 +1,122 @@
+//! A play, line by line.
+
+ghost use Rattle.std.specs.Prelude.{◌≡◌, ◌↔◌, ◌+◌, ◌≤◌, ◌<◌, ◌^◌, ℕ, List, [], true, false, Err, IfOk, IfErr, OnOk, OnErr, string_bytes};
+ghost use Rattle.std.specs.Io.KnownBytes.{Appends};
+ghost use Rattle.board_text.specs.Ends.{AppendsFront};
+ghost use Rattle.player.specs.Transcript.{Game, Standing, Going, BringInTurn, standing, stopped_line};
+ghost use Rattle.player.specs.Play.{HasEnded, BreaksOff};
+ghost use Rattle.player.specs.Turns.{BringsAll, Says, Writes, FailsToWrite};
+ghost use Rattle.player.specs.declared.end.PlayEnd.TheVariants.{Stopped};
+ghost use Rattle.player.specs.declared.end.PlayFault.TheVariants.{Read, Write};
+
+use crate::end::{PlayEnd, PlayFault};
+use crate::lines::{LineFault, Lines};
+use crate::showing::show;
+use crate::word::Word;
+use crate::writing::write_stopped;
+use board_text::{Sink, Source};
+use std::alloc::AllocError;
+
+/// How many lines are read at most.
+const MOST_LINES: u32 = 1_000_000;
+
+/// A play that goes on, which answers what a person says.
+pub(crate) trait Play {
+    // Who the person is, and the board.
+    ghost game: { Self → Game };
+
+    // The configuration.
+    ghost at: { Self → List ℕ };
+
+    // How many requests were answered.
+    ghost requests: { Self → ℕ };
+
+    /// Writes what a word brings behind the text, and gives the end of the play, if it is over.
+    fn answer(&mut self, word: Word, text: &mut String) -> Result<Option<PlayEnd>, AllocError>
+        requires { requests self.old + 1 < 2 ^ 32 }
+        ensures game { game self.new ≡ game self.old }
+        ensures count { requests self.new ≤ requests self.old + 1 }
+        ensures said { IfOk result (λ end. Says (string_bytes text.old) (string_bytes text.new)
+            (λ said. BringsAll (game self.old) (Going (at self.old) (requests self.old)) word said (standing end (at self.new) (requests self.new)))) };
+
+    /// How many requests were answered.
+    fn requests(&self) -> u32
+        ensures { result ≡ requests self.now };
+}
+
+/// Plays on with the lines of a reader, as far as they go. Each answer is written before the next line is read.
+pub(crate) fn play_on<P: Play, R: Source, W: Sink>(
+    play: &mut P,
+    text: &mut String,
+    reader: &mut R,
+    writer: &mut W,
+) -> Result<PlayEnd, PlayFault>
+    requires fresh { P.requests play.old ≡ 0 }
+    requires empty { string_bytes text.old ≡ [] }
+    requires reader_ready { R.has_failed reader.old ≡ false }
+    requires writer_ready { W.has_failed writer.old ≡ false }
+    ensures ok { IfOk result (HasEnded (BringInTurn (P.game play.old) (Going (P.at play.old) 0)) (R.left reader.old) (R.left reader.new) (W.taken writer.old) (W.taken writer.new)) }
+    ensures fault { IfErr result (BreaksOff (BringInTurn (P.game play.old) (Going (P.at play.old) 0)) (R.left reader.old) (R.left reader.new) (W.taken writer.old) (W.taken writer.new)) }
+    ensures read { (R.has_failed reader.new ≡ true) ↔ (result ≡ Err Read) }
+    ensures write { (W.has_failed writer.new ≡ true) ↔ (result ≡ Err Write) }
+{
+    let mut lines = Lines::new();
+    for _ in 0..MOST_LINES {
+        let word = match lines.next(reader) {
+            Ok(Some(word)) => word,
+            Ok(None) => return stop(play, text, writer),
+            Err(LineFault::Read) => return Err(PlayFault::Read),
+            Err(LineFault::Limit) => return Err(PlayFault::Limit),
+        };
+        match turn(play, word, text, writer) {
+            Ok(None) => {}
+            Ok(Some(end)) => return Ok(end),
+            Err(fault) => return Err(fault),
+        }
+    }
+    Err(PlayFault::Limit)
+}
+
+/// Answers a word, and shows the answer.
+fn turn<P: Play, W: Sink>(
+    play: &mut P,
+    word: Word,
+    text: &mut String,
+    writer: &mut W,
+) -> Result<Option<PlayEnd>, PlayFault>
+    requires few { P.requests play.old + 1 < 2 ^ 32 }
+    requires empty { string_bytes text.old ≡ [] }
+    requires ready { W.has_failed writer.old ≡ false }
+    ensures game { P.game play.new ≡ P.game play.old }
+    ensures count { P.requests play.new ≤ P.requests play.old + 1 }
+    ensures empty { OnOk result (string_bytes text.new ≡ []) }
+    ensures unfailed { OnOk result (W.has_failed writer.new ≡ false) }
+    ensures written { IfOk result (λ end. Writes (W.taken writer.old) (W.taken writer.new)
+        (λ said. BringsAll (P.game play.old) (Going (P.at play.old) (P.requests play.old)) word said (standing end (P.at play.new) (P.requests play.new)))) }
+    ensures fault { IfErr result (FailsToWrite (W.taken writer.old) (W.taken writer.new)
+        (λ said. (to : Standing) × BringsAll (P.game play.old) (Going (P.at play.old) (P.requests play.old)) word said to)) }
+    ensures write { (W.has_failed writer.new ≡ true) ↔ (result ≡ Err Write) }
+{
+    let Ok(end) = play.answer(word, text) else {
+        return Err(PlayFault::Memory);
+    };
+    show(text, writer)?;
+    Ok(end)
+}
+
+/// Ends the play at the end of the input.
+fn stop<P: Play, W: Sink>(play: &P, text: &mut String, writer: &mut W) -> Result<PlayEnd, PlayFault>
+    requires empty { string_bytes text.old ≡ [] }
+    requires ready { W.has_failed writer.old ≡ false }
+    ensures end { IfOk result (λ end. end ≡ Stopped (P.requests play.now)) }
+    ensures written { OnOk result (Appends (W.taken writer.old) (W.taken writer.new) (stopped_line (P.requests play.now))) }
+    ensures fault { IfErr result (FailsToWrite (W.taken writer.old) (W.taken writer.new) (λ said. said ≡ stopped_line (P.requests play.now))) }
+    ensures write { (W.has_failed writer.new ≡ true) ↔ (result ≡ Err Write) }
+{
+    let requests = play.requests();
+    if write_stopped(text, requests).is_err() {
+        return Err(PlayFault::Memory);
+    }
+    show(text, writer)?;
+    Ok(PlayEnd::Stopped { requests })
+}

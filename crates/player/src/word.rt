@@ -1,0 +1,44 @@
+//! What a line of a person says.
+
+ghost use Rattle.std.specs.Prelude.{◌≡◌, ◌≢◌, ℕ, ◌<◌, ◌^◌, MatchOption};
+ghost use Rattle.std.specs.Fmt.{decimal};
+ghost use Rattle.player.specs.Words.{Spells};
+
+use board_text::line_reader::LineReader;
+
+/// The line that ends a play.
+const QUIT: &[u8] = b"quit";
+
+/// What a line says.
+#[derive(Clone, Copy, Debug, PartialEq, Eq)]
+pub(crate) enum Word {
+    /// A number below 2^32, without a sign or a leading zero.
+    Number(u32),
+    /// That the play shall end.
+    Quit,
+    /// Anything else.
+    Other,
+}
+
+impl Word {
+    /// What the line says.
+    pub(crate) fn of(line: &[u8]) -> Word
+        ensures { Spells line.now result }
+    {
+        if line == QUIT {
+            return Word::Quit;
+        }
+        match whole_number(line) {
+            Some(number) => Word::Number(number),
+            None => Word::Other,
+        }
+    }
+}
+/// The number that a whole line spells.
+fn whole_number(line: &[u8]) -> Option<u32>
+    ensures { MatchOption result ((number : ℕ) → number < 2 ^ 32 → line.now ≢ decimal number) (λ number. line.now ≡ decimal number) }
+{
+    let mut text = LineReader::new(line);
+    let number = text.number(0, u32::MAX)?;
+    if text.is_empty() { Some(number) } else { None }
+}

@@ -1,0 +1,78 @@
+//! The lines that a play writes.
+
+ghost use Rattle.std.specs.Prelude.{◌≡◌, ◌<◌, ◌++◌, Some, IfOk, OnOk, string_bytes};
+ghost use Rattle.positions.specs.Ranks.{configurations, configuration_at, rank_of};
+ghost use Rattle.player.specs.Transcript.{at_line, opening_lines, stopped_line, stuck_line, takes_line};
+ghost use Rattle.player.specs.declared.end.PlayEnd.TheVariants.{Stopped};
+
+use crate::end::PlayEnd;
+use positions::{Space, Value, write_labels};
+use proof_text::write_claim;
+use std::alloc::AllocError;
+use std::fmt::Write;
+use strategies::claim;
+
+/// Writes the value of the start, and its labels.
+pub(crate) fn write_opening(
+    text: &mut String,
+    space: &Space,
+    value: Value,
+    start: u32,
+) -> Result<(), AllocError>
+    requires { start < configurations space.now }
+    ensures { OnOk result (string_bytes text.new ≡ string_bytes text.old ++ opening_lines value (configuration_at space.now start)) }
+{
+    write_claim(text, claim(value))?;
+    text.push_str("\n")?;
+    write_at(text, space, start)
+}
+
+/// Writes the labels of the configuration of a rank.
+pub(crate) fn write_at(text: &mut String, space: &Space, rank: u32) -> Result<(), AllocError>
+    requires { rank < configurations space.now }
+    ensures { OnOk result (string_bytes text.new ≡ string_bytes text.old ++ at_line (configuration_at space.now rank)) }
+{
+    text.push_str("at")?;
+    write_labels(text, space, rank)?;
+    text.push_str("\n")
+}
+
+/// Writes the label that a pebble takes, and the configuration of the rank after it.
+pub(crate) fn write_reply(
+    text: &mut String,
+    space: &Space,
+    pebble: u8,
+    label: u16,
+    rank: u32,
+) -> Result<(), AllocError>
+    requires { rank < configurations space.now }
+    ensures { OnOk result (string_bytes text.new ≡ string_bytes text.old ++ (takes_line pebble label ++ at_line (configuration_at space.now rank))) }
+{
+    write!(text, "pebble {pebble} takes {label}\n")?;
+    write_at(text, space, rank)
+}
+
+/// Writes that no label is legal for a pebble, after so many answered requests.
+pub(crate) fn write_stuck(text: &mut String, pebble: u8, requests: u32) -> Result<(), AllocError>
+    ensures { OnOk result (string_bytes text.new ≡ string_bytes text.old ++ stuck_line pebble requests) }
+{
+    write!(
+        text,
+        "no label for pebble {pebble} after {requests} requests\n"
+    )
+}
+
+/// Writes that the play was stopped, after so many answered requests.
+pub(crate) fn write_stopped(text: &mut String, requests: u32) -> Result<(), AllocError>
+    ensures { OnOk result (string_bytes text.new ≡ string_bytes text.old ++ stopped_line requests) }
+{
+    write!(text, "stopped after {requests} requests\n")
+}
+
+/// The end of a play that the person stops, with its line.
+pub(crate) fn stopped(text: &mut String, requests: u32) -> Result<Option<PlayEnd>, AllocError>
+    ensures { IfOk result (λ end. (end ≡ Some (Stopped requests)) × (string_bytes text.new ≡ string_bytes text.old ++ stopped_line requests)) }
+{
+    write_stopped(text, requests)?;
+    Ok(Some(PlayEnd::Stopped { requests }))
+}
