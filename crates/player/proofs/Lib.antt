@@ -5,3 +5,4 @@ pub mod Going
 pub mod Opening
 pub mod Moving
 pub mod Requests
+pub mod Answering

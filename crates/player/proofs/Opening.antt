@@ -64,6 +64,11 @@ module _ (game : Game) (opening : List ℕ) (first : Standing) (opens : Opens ga
         front_kept taken_old taken_old taken_new [] (opening ++ whole.tail) (Appends-none taken_old) kept,
       )
 
+  -- the play is over before a line is read
+  pub over_at_once : (left taken_old taken_new : Option (List ℕ)) (end : PlayEnd) → first ≡ Over end → Appends taken_old taken_new opening → HasEnded (IsPlayed game) left left taken_old taken_new end
+  over_at_once left taken_old taken_new end over written =
+      ([], [], opening, came_of left left [] _ (omega arith) (none_yet left), inl (subst (IsPlayed game [] opening) over alone), written)
+
   -- the opening wasn't written whole
   pub unshown_opening : (left taken_old taken_new : Option (List ℕ)) → AppendsFront taken_old taken_new opening → BreaksOff (IsPlayed game) left left taken_old taken_new Write
   unshown_opening left taken_old taken_new begun =

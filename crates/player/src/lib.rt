@@ -3,6 +3,7 @@
 
 mod adversary_side;
 mod end;
+mod labeller_side;
 mod lines;
 mod play;
 mod showing;
@@ -11,3 +12,4 @@ mod writing;
 
 pub use adversary_side::play_adversary_side;
 pub use end::{PlayEnd, PlayFault};
+pub use labeller_side::play_labeller_side;

@@ -1,0 +1,232 @@
+//! Plays in which the person is the labeller.
+
+ghost use Rattle.std.specs.Prelude.{◌≡◌, ◌↔◌, ◌+◌, ◌<◌, ◌≤◌, ◌^◌, ◌++◌, ℕ, List, true, false, None, Err, IfOk, IfErr, IsTrue, string_bytes};
+ghost use Rattle.std.specs.Fmt.{decimal};
+ghost use Rattle.board_text.specs.PlainBoard.{IsBoard};
+ghost use Rattle.positions.specs.Ranks.{configurations, configuration_at, rank_of};
+ghost use Rattle.positions.specs.Value.{HasValue};
+ghost use Rattle.positions.specs.declared.value.Value.TheVariants.{Finite};
+ghost use Rattle.player.specs.Play.{HasEnded, BreaksOff};
+ghost use Rattle.player.specs.Seats.{HasAsked, IsRequestAt, NextStands, IsLegalAt, IsSeated, at};
+ghost use Rattle.player.specs.Transcript.{Standing, IsPlayed, Opens, PersonAnswers, AsksAfterLine, no_answer_line, standing};
+ghost use Rattle.player.specs.Turns.{Says};
+ghost use Rattle.player.specs.declared.end.PlayFault.TheVariants.{Read, Write};
+
+use crate::end::{PlayEnd, PlayFault};
+use crate::play::{Play, play_on};
+use crate::showing::show;
+use crate::word::Word;
+use crate::writing::{stopped, write_at, write_opening, write_stuck};
+use board_text::{Board, Sink, Source};
+use positions::Value;
+use retro_core::Values;
+use std::alloc::{AllocError, Global};
+use std::fmt::Write;
+use std::marker::Model;
+use strategies::{best_answer, best_request};
+
+/// Plays with a person who is the labeller: best requests are made, and each line answers one with a label.
+///
+/// The values are those of the board. The reader and the writer must not have failed before.
+/// The play ends where no label is legal for the pebble that is asked for, with a line `quit`, or at the end of the input.
+/// Where the value is forever it ends before a line is read.
+/// A line of any other kind is answered, and the same request stands.
+/// Each answer is written before the next line is read.
+pub fn play_labeller_side<R: Source, W: Sink>(
+    alloc: Global,
+    board: &Board,
+    values: &Values,
+    reader: &mut R,
+    writer: &mut W,
+) -> Result<PlayEnd, PlayFault>
+    requires same_board { values.now ≡ board.now }
+    requires reader_ready { R.has_failed reader.old ≡ false }
+    requires writer_ready { W.has_failed writer.old ≡ false }
+    ensures ok { IfOk result (HasEnded (IsPlayed (PersonAnswers board.now)) (R.left reader.old) (R.left reader.new) (W.taken writer.old) (W.taken writer.new)) }
+    ensures fault { IfErr result (BreaksOff (IsPlayed (PersonAnswers board.now)) (R.left reader.old) (R.left reader.new) (W.taken writer.old) (W.taken writer.new)) }
+    ensures read { (R.has_failed reader.new ≡ true) ↔ (result ≡ Err Read) }
+    ensures write { (W.has_failed writer.new ≡ true) ↔ (result ≡ Err Write) }
+{
+    let mut text = String::new(alloc);
+    let start = values.space().rank(board.start());
+    let Ok(next) = open(&mut text, board, values, start) else {
+        return Err(PlayFault::Memory);
+    };
+    show(&mut text, writer)?;
+    match next {
+        Next::Asks(pebble) => {
+            let mut play = LabellerSide::new(board, values, start, pebble);
+            play_on(&mut play, &mut text, reader, writer)
+        }
+        Next::Ends(end) => Ok(end),
+    }
+}
+
+/// What comes next in a play.
+#[derive(Clone, Copy, Debug, PartialEq, Eq)]
+enum Next {
+    /// A pebble is asked for.
+    Asks(u8),
+    /// The play is over.
+    Ends(PlayEnd),
+}
+
+/// The best request at the configuration of a rank with a finite value.
+#[derive(Clone, Copy, Debug, PartialEq, Eq)]
+struct Request {
+    pebble: u8,
+    /// Whether no label is legal.
+    is_stuck: bool,
+}
+
+/// Writes the value of the start and its labels, and what comes next.
+fn open(text: &mut String, board: &Board, values: &Values, start: u32) -> Result<Next, AllocError>
+    requires same_board { values.now ≡ board.now }
+    requires board { IsBoard board.now }
+    requires start { start ≡ rank_of board.now board.now.start }
+    requires rank { start < configurations board.now }
+    ensures { IfOk result (λ next. Says (string_bytes text.old) (string_bytes text.new)
+        (λ said. (to : Standing) × Opens (PersonAnswers board.now) said to × NextStands board.now (configuration_at board.now start) 0 next to)) }
+{
+    let value = values.of(start);
+    write_opening(text, values.space(), value, start)?;
+    match value {
+        Value::Finite(_) => write_request(text, request_at(board, values, start), 0),
+        Value::Forever => {
+            text.push_str("no strategy\n")?;
+            Ok(Next::Ends(PlayEnd::NoStrategy))
+        }
+    }
+}
+
+/// The best request at the configuration of a rank, whose value is finite.
+fn request_at(board: &Board, values: &Values, rank: u32) -> Request
+    requires same_board { values.now ≡ board.now }
+    requires rank { rank < configurations board.now }
+    requires finite { (number : ℕ) × HasValue board.now (configuration_at board.now rank) (Finite number) }
+    ensures { IsRequestAt board.now (configuration_at board.now rank) result }
+{
+    let pebble = best_request(board, values, rank).unwrap();
+    let is_stuck = best_answer(board, values, rank, pebble).is_none();
+    Request { pebble, is_stuck }
+}
+
+/// Writes a request, and that the play is over where no label is legal.
+fn write_request(text: &mut String, request: Request, requests: u32) -> Result<Next, AllocError>
+    ensures { IfOk result (λ next. Says (string_bytes text.old) (string_bytes text.new) (HasAsked request requests next)) }
+{
+    write!(text, "ask {}\n", request.pebble)?;
+    if request.is_stuck {
+        write_stuck(text, request.pebble, requests)?;
+        return Ok(Next::Ends(PlayEnd::Stuck { requests }));
+    }
+    Ok(Next::Asks(request.pebble))
+}
+
+/// A play in which the person is the labeller.
+#[derive(Drop)]
+struct LabellerSide<'a> {
+    board: &'a Board,
+    values: &'a Values,
+    /// The rank of the configuration.
+    rank: u32,
+    /// The pebble that is asked for, which is the best request.
+    asked: u8,
+    /// How many requests were answered.
+    requests: u32,
+}
+
+impl<'a> Model for LabellerSide<'a> {
+    ghost use Rattle.player.specs.Seats.{Seat, IsSeated};
+
+    ghost Value = { Seat };
+
+    ghost view = { λ s. record { board = s.board.now; rank = s.rank; requests = s.requests } };
+
+    ghost invariant = { λ s. IsSeated s.board.now s.values.now s.rank s.asked };
+}
+
+impl<'a> LabellerSide<'a> {
+    /// No request was answered yet, and the pebble is asked for at the configuration of this rank.
+    fn new(board: &'a Board, values: &'a Values, rank: u32, asked: u8) -> LabellerSide<'a>
+        requires { IsSeated board.now values.now rank asked }
+        ensures { result ≡ record { board = board.now; rank = rank; requests = 0 } }
+    {
+        LabellerSide {
+            board,
+            values,
+            rank,
+            asked,
+            requests: 0,
+        }
+    }
+
+    /// Whether a label is legal for the pebble that is asked for.
+    fn is_legal(&self, label: u16) -> bool
+        ensures { IsTrue result ↔ IsLegalAt self.now label }
+    {
+        self.values
+            .space()
+            .legal(self.board, self.rank, self.asked, label)
+    }
+
+    /// Puts the pebble that is asked for on a legal label, and makes the next request.
+    fn put(&mut self, label: u16, text: &mut String) -> Result<Option<PlayEnd>, AllocError>
+        requires legal { IsLegalAt self.old label }
+        requires few { self.old.requests + 1 < 2 ^ 32 }
+        ensures board { self.new.board ≡ self.old.board }
+        ensures count { self.new.requests ≤ self.old.requests + 1 }
+        ensures said { IfOk result (λ end. Says (string_bytes text.old) (string_bytes text.new)
+            (λ said. (line : List ℕ) → line ≡ decimal label → AsksAfterLine self.old.board (at self.old) self.old.requests line said (standing end (at self.new) self.new.requests))) }
+    {
+        let space = self.values.space();
+        let rank = space.with(self.rank, self.asked, label);
+        let request = request_at(self.board, self.values, rank);
+        let requests = self.requests + 1;
+        write_at(text, space, rank)?;
+        match write_request(text, request, requests)? {
+            Next::Asks(pebble) => {
+                self.rank = rank;
+                self.asked = pebble;
+                self.requests = requests;
+                Ok(None)
+            }
+            Next::Ends(end) => Ok(Some(end)),
+        }
+    }
+}
+
+impl Play for LabellerSide<'_> {
+    ghost game = { λ s. PersonAnswers s.board };
+
+    ghost at = { at };
+
+    ghost requests = { λ s. s.requests };
+
+    fn answer(&mut self, word: Word, text: &mut String) -> Result<Option<PlayEnd>, AllocError> {
+        let labels = u32::from(self.values.space().labels());
+        match word {
+            Word::Number(number) => {
+                if number < labels && self.is_legal(number as u16) {
+                    self.put(number as u16, text)
+                } else {
+                    refuse(text)
+                }
+            }
+            Word::Quit => stopped(text, self.requests),
+            Word::Other => refuse(text),
+        }
+    }
+
+    fn requests(&self) -> u32 {
+        self.requests
+    }
+}
+
+/// Says that a line is no answer.
+fn refuse(text: &mut String) -> Result<Option<PlayEnd>, AllocError>
+    ensures { IfOk result (λ end. (end ≡ None) × (string_bytes text.new ≡ string_bytes text.old ++ no_answer_line)) }
+{
+    text.push_str("not an answer\n")?;
+    Ok(None)
+}
