@@ -6,3 +6,4 @@ pub mod Opening
 pub mod Moving
 pub mod Requests
 pub mod Answering
+pub mod Lasting

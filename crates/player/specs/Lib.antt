@@ -4,3 +4,4 @@ pub mod Play
 pub mod Reading
 pub mod Turns
 pub mod Seats
+pub mod Laws

@@ -1,0 +1,11 @@
+use Rattle.player.proofs.Lasting.{no_sooner, no_later, within}
+use Rattle.player.proofs.laws.plays_last_by_the_value.Goals as goal
+
+pub returns-clause-asking : goal.returns-clause-asking
+returns-clause-asking c = no_sooner
+
+pub returns-clause-answering : goal.returns-clause-answering
+returns-clause-answering c = no_later
+
+pub returns-clause-going : goal.returns-clause-going
+returns-clause-going c = within

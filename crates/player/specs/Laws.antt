@@ -1,0 +1,36 @@
+-- What plays have to do with the value of the start.
+use Rattle.std.specs.Prelude.{◌≡◌, ℕ, zero, suc, ◌≤◌, List}
+use Rattle.board_text.specs.PlainBoard.{PlainBoard}
+use Rattle.positions.specs.declared.value.Value.TheVariants.{Finite, Forever}
+use Rattle.positions.specs.Game.{Legal, moved}
+use Rattle.positions.specs.Value.{HasValue}
+use Rattle.strategies.specs.Best.{IsBestAnswer, IsBestRequest}
+use Rattle.player.specs.declared.end.PlayEnd.{PlayEnd}
+use Rattle.player.specs.declared.end.PlayEnd.TheVariants.{Stuck, Stopped, NoStrategy}
+
+-- the start has a finite value, and no fewer requests were answered
+abbrev pub HasReached : PlainBoard → ℕ → Type 0
+HasReached board requests = (number : ℕ) × HasValue board board.start (Finite number) × (number ≤ requests)
+
+-- the start has a finite value, and no more requests were answered
+abbrev pub IsWithin : PlainBoard → ℕ → Type 0
+IsWithin board requests = (number : ℕ) × HasValue board board.start (Finite number) × (requests ≤ number)
+
+-- an end of a play with a person who is the adversary: no label is legal only once as many requests are answered as the value has
+abbrev pub IsNoSooner : PlainBoard → PlayEnd → Type 0
+IsNoSooner board (Stuck requests) = HasReached board requests
+IsNoSooner board (Stopped requests) = Unit {0}
+IsNoSooner board NoStrategy = ⊥
+
+-- an end of a play with a person who is the labeller: no more requests are answered than the value has, unless that is forever
+abbrev pub IsNoLater : PlainBoard → PlayEnd → Type 0
+IsNoLater board (Stuck requests) = IsWithin board requests
+IsNoLater board (Stopped requests) = IsWithin board requests
+IsNoLater board NoStrategy = HasValue board board.start Forever
+
+-- a play of best requests and best answers ends after so many answers
+abbrev pub EndsBestPlay : PlainBoard → List ℕ → ℕ → Type 0
+EndsBestPlay board configuration zero = (pebble : ℕ) × IsBestRequest board configuration pebble × ((label : ℕ) → Legal board configuration pebble label → ⊥)
+EndsBestPlay board configuration (suc number) =
+    (pebble label : ℕ) × IsBestRequest board configuration pebble × IsBestAnswer board configuration pebble label
+    × EndsBestPlay board (moved configuration pebble label) number

@@ -1,0 +1,29 @@
+//! Laws of plays, each the contract of a function without a body.
+
+ghost use Rattle.std.specs.Prelude.{◌≡◌, ℕ, List};
+ghost use Rattle.board_text.specs.PlainBoard.{PlainBoard, IsConfiguration};
+ghost use Rattle.positions.specs.declared.value.Value.TheVariants.{Finite};
+ghost use Rattle.positions.specs.Value.{HasValue};
+ghost use Rattle.player.specs.Laws.{IsWithin, IsNoSooner, IsNoLater, EndsBestPlay};
+ghost use Rattle.player.specs.Transcript.{Going, PersonAsks, PersonAnswers, IsPlayed, IsTranscript};
+ghost use Rattle.player.specs.declared.end.PlayEnd.{PlayEnd as End};
+
+/// Against a person who is the adversary the labeller's side is stuck only after as many answered requests as the start's value,
+/// and never where that is forever. A person who is the labeller answers at most that many,
+/// and there is no strategy against the person exactly where the value is forever.
+pub fn plays_last_by_the_value()
+    ensures asking { (board : PlainBoard) → (lines : List (List ℕ)) → (text : List ℕ) → (end : End)
+        → IsTranscript (PersonAsks board) lines text end → IsNoSooner board end }
+    ensures answering { (board : PlainBoard) → (lines : List (List ℕ)) → (text : List ℕ) → (end : End)
+        → IsTranscript (PersonAnswers board) lines text end → IsNoLater board end }
+    ensures going { (board : PlainBoard) → (lines : List (List ℕ)) → (text : List ℕ) → (at : List ℕ) → (requests : ℕ)
+        → IsPlayed (PersonAnswers board) lines text (Going at requests) → IsWithin board requests }
+{}
+
+/// Best requests and best answers end a play after exactly as many answers as the value, where that is finite.
+pub fn best_play_ends_by_the_value()
+    ensures ends { (board : PlainBoard) → (configuration : List ℕ) → (number : ℕ) → IsConfiguration board configuration
+        → HasValue board configuration (Finite number) → EndsBestPlay board configuration number }
+    ensures exactly { (board : PlainBoard) → (configuration : List ℕ) → (number : ℕ) → (other : ℕ)
+        → HasValue board configuration (Finite number) → EndsBestPlay board configuration other → other ≡ number }
+{}
