@@ -178,6 +178,12 @@ text_there c a id rows each known there =
     let got = fitting_value c a id rows each known there in
     rw (got.3, got.4) refl
 
+pub choice_there : (c : List Rule) (a : Rule) (id : Text) (is_choice : Text → Bool) (rows : List Row) → Each (Fits c) rows → arg_by_id c id ≡ Some a
+    → ((t : Text) → value_passes a t ≡ true → is_choice t ≡ true) → HasRow id rows → option_map_or is_choice (first_of id rows) false ≡ true
+choice_there c a id is_choice rows each known passes there =
+    let got = fitting_value c a id rows each known there in
+    rw (got.3, got.4) (passes got.1 got.5)
+
 without_minus-cond : (t : List ℕ) → without_minus t ≡ cond (starts_with_minus t) (drop 1 t) t
 without_minus-cond [] = refl
 without_minus-cond (x ∷ xs) = go (x == 45)

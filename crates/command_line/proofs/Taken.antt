@@ -1,7 +1,8 @@
 -- Where `clap` takes the words, the job can be read from its matches.
 use Rattle.std.proofs.Common.{◌≡◌, ◌∙◌, ◌&&◌, ◌||◌, not, Bool, ℕ, List, [], ◌∷◌, Option, Some, None, is_some, true, false, true≢false, refl, sym, inl, inr, cond, codes, drop, arith}
-use Rattle.std.specs.Prelude.{⊤, fold, option_map}
-use Rattle.std.specs.List.{list_all}
+use Rattle.std.specs.Prelude.{⊤, fold, map, option_map}
+use Rattle.std.specs.Borrow.{Bor}
+use Rattle.std.specs.List.{list_all, list_any}
 use Rattle.std.specs.Option.{option_map_or}
 use Rattle.std.specs.Str.{bytes_eq}
 use Rattle.std.proofs.lemmas.Slice.Eq.{bytes_eq-Decides}
@@ -11,16 +12,16 @@ use Rattle.clap.specs.Simple.{Shape, built, built_leaf, entered, filled, with_in
 use Rattle.clap.specs.Takes.{built_takes, default_passes, entered_passes, is_given, is_valid, level_passes, other_passes, settle_passes, step_passes, takes, turn_passes, walk_passes, word_passes}
 use Rattle.clap.proofs.OnLiterals.{clap_on_literals}
 use Rattle.clap.proofs.WalkLemmas.{both}
-use Rattle.command_line.specs.Commands.{check, nested, program, solving, workers}
+use Rattle.command_line.specs.Commands.{check, nested, play_among, program, program_among, side_words, solving, somewhere, workers}
 use Rattle.command_line.specs.Reading.{can_solve, is_read}
 use Rattle.command_line.proofs.RowFacts.{either}
 use Rattle.command_line.proofs.Defaults.{default_row, given_row}
 use Rattle.command_line.proofs.WalkFits.{Good, IsNoCommand, long_no_command}
-use Rattle.command_line.proofs.LevelFits.{level_fits, number_there, text_there}
+use Rattle.command_line.proofs.LevelFits.{choice_there, level_fits, number_there, text_there}
 
-pub simple : is_simple program ≡ true
+pub simple : (sides : Bor (List (Bor Text))) → is_simple (program_among sides) ≡ true
 unfolding clap_on_literals
-simple = refl
+simple sides = refl
 
 -- ---- each command
 
@@ -32,6 +33,9 @@ built_solving name = built_leaf (inherited program.top (solving name))
 
 abbrev built_workers : Rule
 built_workers = with_index 1 (filled workers)
+
+abbrev built_play : Shape
+built_play = built_leaf (inherited program.top (play_among (somewhere (map somewhere side_words))))
 
 abbrev built_nested : Shape
 built_nested = built_leaf (inherited program.top nested)
@@ -88,6 +92,22 @@ nested_read words pass =
     let has_levels = number_there built_nested.rules _ (codes "levels") 6 rows level.0 refl refl (λ t e. e) (given_row (codes "levels") rows levels) in
     let has_pebbles = number_there built_nested.rules _ (codes "pebbles") 6 rows level.0 refl refl (λ t e. e) (given_row (codes "pebbles") rows pebbles) in
     rw (has_levels, has_pebbles) refl
+
+play_good : Good built_play.rules
+play_good = ((refl, inl (refl, omega arith)), ((refl, inl (refl, omega arith)), ((refl, inr refl), tt)))
+
+play_read : (words : List Text) → level_passes built_play [] nothing_held words false ≡ true
+    → is_read (Some (rows_at built_play words)) ≡ true
+play_read words pass =
+    let rows = rows_after built_play.rules [] words in
+    let level = level_fits built_play words play_good pass in
+    let parts = both (is_given (codes "side") rows) (is_given (codes "board") rows && true) level.1 in
+    let side = parts.0 in
+    let board = (both (is_given (codes "board") rows) true parts.1).0 in
+    let has_a_side = choice_there built_play.rules _ (codes "side") (λ t. list_any (λ word. bytes_eq word t) side_words) rows level.0 refl (λ t e. e)
+    (given_row (codes "side") rows side) in
+    let has_board = text_there built_play.rules _ (codes "board") rows level.0 refl (given_row (codes "board") rows board) in
+    rw (has_a_side, has_board) refl
 
 -- ---- a walk that passes stops at no `help`
 
@@ -162,23 +182,24 @@ stop_read : (stop : Option (Text × List Text)) → IsNoHelp stop → entered_pa
 stop_read None fine pass some = absurd (true≢false (sym some))
 stop_read (Some p) fine pass some =
     go (answers_to p.0 (label_of (built_solving (codes "solve")))) (answers_to p.0 (label_of built_check)) (answers_to p.0 (label_of (built_solving (codes "report"))))
-    (answers_to p.0 (label_of built_nested)) (answers_to p.0 (codes "help", [])) refl pass some
+    (answers_to p.0 (label_of built_nested)) (answers_to p.0 (label_of built_play)) (answers_to p.0 (codes "help", [])) refl pass some
   where
     help : Shape
     help = built_leaf help_shape
 
-    shape : Bool → Bool → Bool → Bool → Bool → Option Shape
-    shape s c r n h = cond s (Some (built_solving (codes "solve"))) (cond c (Some built_check) (cond r (Some (built_solving (codes "report"))) (cond n (Some built_nested) (cond h (Some help) None))))
+    shape : Bool → Bool → Bool → Bool → Bool → Bool → Option Shape
+    shape s c r n l h = cond s (Some (built_solving (codes "solve"))) (cond c (Some built_check) (cond r (Some (built_solving (codes "report"))) (cond n (Some built_nested) (cond l (Some built_play) (cond h (Some help) None)))))
 
-    go : (s c r n h : Bool) → answers_to p.0 (codes "help", []) ≡ h
-        → option_map_or (λ s. level_passes s [] nothing_held p.1 false) (shape s c r n h) true ≡ true
-        → is_some (option_map (λ s. rows_at s p.1) (shape s c r n h)) ≡ true
-        → is_read (option_map (λ s. rows_at s p.1) (shape s c r n h)) ≡ true
-    go true c r n h e pass some = solve_read p.1 pass
-    go false true r n h e pass some = check_read p.1 pass
-    go false false true n h e pass some = report_read p.1 pass
-    go false false false true h e pass some = nested_read p.1 pass
-    go false false false false true e pass some =
+    go : (s c r n l h : Bool) → answers_to p.0 (codes "help", []) ≡ h
+        → option_map_or (λ s. level_passes s [] nothing_held p.1 false) (shape s c r n l h) true ≡ true
+        → is_some (option_map (λ s. rows_at s p.1) (shape s c r n l h)) ≡ true
+        → is_read (option_map (λ s. rows_at s p.1) (shape s c r n l h)) ≡ true
+    go true c r n l h e pass some = solve_read p.1 pass
+    go false true r n l h e pass some = check_read p.1 pass
+    go false false true n l h e pass some = report_read p.1 pass
+    go false false false true l h e pass some = nested_read p.1 pass
+    go false false false false true h e pass some = play_read p.1 pass
+    go false false false false false true e pass some =
         elim (either (bytes_eq (codes "help") p.0) false e) [
           | inl same ↦
               let is : codes "help" ≡ p.0 = (bytes_eq-Decides (codes "help") p.0).0 same in
@@ -186,7 +207,7 @@ stop_read (Some p) fine pass some =
               absurd (true≢false (sym again ∙ fine))
           | inr bad ↦ absurd (true≢false (sym bad))
         ]
-    go false false false false false e pass some = absurd (true≢false (sym some))
+    go false false false false false false e pass some = absurd (true≢false (sym some))
 
 pub taken : (words : List Text) → takes program words ≡ true → is_read (subcommand_of program words) ≡ true
 taken words e =

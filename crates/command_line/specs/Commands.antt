@@ -1,5 +1,6 @@
 -- The commands of the program, as `clap` reads them.
-use Rattle.std.specs.Prelude.{ℕ, [], ◌∷◌, List, Some, true, false, codes, pos}
+use Rattle.std.specs.Prelude.{ℕ, [], ◌∷◌, List, Some, true, false, codes, map, pos}
+use Rattle.std.specs.Borrow.{Bor}
 use Rattle.clap.specs.Walk.{Rule, Text}
 use Rattle.clap.specs.Simple.{App, Shape, new_rule, new_shape}
 use Rattle.clap.specs.declared.builder.value_parser.ValueParser.TheVariants as vp
@@ -43,9 +44,32 @@ report = solving (codes "report")
 abbrev pub nested : Shape
 nested = command (codes "nested") (number (codes "levels") 6 ∷ number (codes "pebbles") 6 ∷ [])
 
--- the program: one of its commands has to be named
-abbrev pub program : App
-program = record {
-  top = record (new_shape (codes "pebbles")) { is_leaf = false; subcommand_required = true };
-  subs = solve ∷ check ∷ report ∷ nested ∷ [];
+-- the words for the two sides of a play
+abbrev pub side_words : List Text
+side_words = codes "labeller" ∷ codes "adversary" ∷ []
+
+-- the option for the side that the person plays, which has to be there and to be one of these words
+abbrev pub side_among : Bor (List (Bor Text)) → Rule
+side_among words = record (new_rule (codes "side")) {
+  long = Some (codes "side");
+  required = true;
+  value_names = 1;
+  parser = Some (vp.Names words);
 }
+
+abbrev pub play_among : Bor (List (Bor Text)) → Shape
+play_among words = command (codes "play") (side_among words ∷ path (codes "board") ∷ [])
+
+-- the program: one of its commands has to be named
+abbrev pub program_among : Bor (List (Bor Text)) → App
+program_among words = record {
+  top = record (new_shape (codes "pebbles")) { is_leaf = false; subcommand_required = true };
+  subs = solve ∷ check ∷ report ∷ nested ∷ play_among words ∷ [];
+}
+
+-- a value behind a reference; what `clap` reads doesn't depend on where it lies
+abbrev pub somewhere : {X : Type 0} → X → Bor X
+somewhere x = record { ref_ptr = (0, 0); now = x }
+
+abbrev pub program : App
+program = program_among (somewhere (map somewhere side_words))

@@ -2,18 +2,27 @@
 use Rattle.std.specs.Prelude.{◌≡◌, ◌≤◌, ℕ, Bool, ◌&&◌, ◌||◌, false, List, Option, Some, None, is_some}
 use Rattle.std.specs.Prelude.{codes, option_map}
 use Rattle.std.specs.Str.{bytes_eq}
+use Rattle.std.specs.List.{list_any}
 use Rattle.std.specs.Option.{option_map_or}
 use Rattle.std.specs.Str.Parse.{digits_value, without_leading_plus}
 use Rattle.clap.specs.ValueTests.{is_unsigned_in}
 use Rattle.clap.specs.Walk.{Row, Text, first_of, one_of}
 use Rattle.command_line.specs.declared.asked.Job.{Job}
-use Rattle.command_line.specs.declared.asked.Job.TheVariants.{Joined, Check, Nested, Solve, Report}
+use Rattle.command_line.specs.declared.asked.Job.TheVariants.{Joined, Check, Nested, Solve, Report, Play}
+use Rattle.command_line.specs.declared.asked.Player.{Player}
+use Rattle.command_line.specs.declared.asked.Player.TheVariants.{Labeller, Adversary}
+use Rattle.command_line.specs.Commands.{side_words}
 
 -- the matches of the command that was named give n for the id, from 1 to `most`
 abbrev pub HasNumber : List Row → Text → ℕ → ℕ → Type 0
 HasNumber rows id most n =
     (option_map (λ t. digits_value 10 (without_leading_plus t)) (one_of id rows) ≡ Some n)
     × (1 ≤ n) × (n ≤ most)
+
+-- the word for a side
+abbrev pub word_of : Player → Text
+word_of Labeller = codes "labeller"
+word_of Adversary = codes "adversary"
 
 -- the command that was named, with its matches, asks for the job
 abbrev pub AsksFor : Text → List Row → Job → Type 0
@@ -29,6 +38,9 @@ AsksFor name rows (Solve workers board) = (name ≡ codes "solve")
 AsksFor name rows (Report workers board) = (name ≡ codes "report")
     × HasNumber rows (codes "workers") 16 workers
     × (first_of (codes "board") rows ≡ Some board.now)
+AsksFor name rows (Play side board) = (name ≡ codes "play")
+    × (first_of (codes "side") rows ≡ Some (word_of side))
+    × (first_of (codes "board") rows ≡ Some board.now)
 
 -- what `clap` finds on the words asks for the job
 abbrev pub IsReadAs : Option (Text × List Row) → Job → Type 0
@@ -42,6 +54,7 @@ IsInRange (Check board proof) = Unit {0}
 IsInRange (Nested levels pebbles) = (1 ≤ levels) × (levels ≤ 6) × (1 ≤ pebbles) × (pebbles ≤ 6)
 IsInRange (Solve workers board) = (1 ≤ workers) × (workers ≤ 16)
 IsInRange (Report workers board) = (1 ≤ workers) × (workers ≤ 16)
+IsInRange (Play side board) = Unit {0}
 
 -- the same as a test, of some job
 abbrev pub has_number : List Row → Text → ℕ → Bool
@@ -51,6 +64,10 @@ has_number rows id most = option_map_or (is_unsigned_in 1 most) (one_of id rows)
 abbrev pub can_solve : List Row → Bool
 can_solve rows = has_number rows (codes "workers") 16 && is_some (first_of (codes "board") rows)
 
+abbrev pub has_side : List Row → Bool
+has_side rows = option_map_or (λ t. list_any (λ word. bytes_eq word t) side_words)
+    (first_of (codes "side") rows) false
+
 abbrev pub asks : Text → List Row → Bool
 asks name rows =
     (bytes_eq name (codes "check")
@@ -58,7 +75,9 @@ asks name rows =
     || ((bytes_eq name (codes "nested")
     && (has_number rows (codes "levels") 6 && has_number rows (codes "pebbles") 6))
     || ((bytes_eq name (codes "solve") && can_solve rows)
-    || (bytes_eq name (codes "report") && can_solve rows)))
+    || ((bytes_eq name (codes "report") && can_solve rows)
+    || (bytes_eq name (codes "play")
+    && (has_side rows && is_some (first_of (codes "board") rows))))))
 
 abbrev pub is_read : Option (Text × List Row) → Bool
 is_read None = false

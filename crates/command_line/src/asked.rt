@@ -18,6 +18,17 @@ pub enum Job<'a> {
     Solve { workers: u8, board: &'a str },
     /// Solve the board, a path, with 1 to 16 workers, and write how many configurations have each value.
     Report { workers: u8, board: &'a str },
+    /// Play on the board, a path. The person plays this side, by lines of standard input, and the program the other one.
+    Play { side: Player, board: &'a str },
+}
+
+/// One of the two that play.
+#[derive(Clone, Copy, Debug, PartialEq, Eq)]
+pub enum Player {
+    /// It answers a request with a label.
+    Labeller,
+    /// It names the pebble of a request.
+    Adversary,
 }
 
 /// Why the words ask for nothing that can be done.

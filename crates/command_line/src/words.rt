@@ -1,12 +1,12 @@
 //! The job that the words of the command line ask for.
 
-ghost use Rattle.std.specs.Prelude.{◌≡◌, ◌≤◌, ◌↔◌, ◌⊎◌, IfOk, IfErr, IfSome, MatchOption, Ok, None, true, false, length, codes, option_map};
+ghost use Rattle.std.specs.Prelude.{◌≡◌, ◌≤◌, ◌↔◌, ◌⊎◌, IfOk, IfErr, IfSome, MatchOption, Ok, None, Some, true, false, length, codes, option_map};
 ghost use Rattle.clap.specs.Words.{first_of, found_of, kind_of, rows_of, subcommand_of, subcommand_rows_of, takes};
 ghost use Rattle.clap.specs.Walk.{texts};
 ghost use Rattle.command_line.specs.Commands as commands;
-ghost use Rattle.command_line.specs.Reading.{AsksFor, HasNumber, IsInRange, IsReadAs, asks, has_number, is_read};
+ghost use Rattle.command_line.specs.Reading.{AsksFor, HasNumber, IsInRange, IsReadAs, asks, has_number, has_side, is_read, word_of};
 
-use crate::asked::{Job, JobFault};
+use crate::asked::{Job, JobFault, Player};
 use crate::commands::program;
 use clap::error::ErrorKind;
 use clap::{ArgMatches, Error};
@@ -76,6 +76,7 @@ fn chosen<'a>(matches: &ArgMatches<'a>) -> Option<Job<'a>>
         "check" => check_job(values),
         "report" => report_job(values),
         "nested" => nested_job(values),
+        "play" => play_job(values),
         _ => None,
     }
 }
@@ -126,6 +127,27 @@ fn nested_job<'a>(values: &ArgMatches<'a>) -> Option<Job<'a>>
     let levels = number(values, "levels", 6)?;
     let pebbles = number(values, "pebbles", 6)?;
     Some(Job::Nested { levels, pebbles })
+}
+
+fn play_job<'a>(values: &ArgMatches<'a>) -> Option<Job<'a>>
+    ensures asked { MatchOption result (asks (codes "play") (rows_of (found_of values.now)) ≡ false)
+        (AsksFor (codes "play") (rows_of (found_of values.now))) }
+    ensures numbers { IfSome result IsInRange }
+{
+    let side = side(values)?;
+    let board = text(values, "board")?;
+    Some(Job::Play { side, board })
+}
+
+fn side(matches: &ArgMatches<'_>) -> Option<Player>
+    ensures { MatchOption result (has_side (rows_of (found_of matches.now)) ≡ false)
+        (λ side. first_of (codes "side") (rows_of (found_of matches.now)) ≡ Some (word_of side)) }
+{
+    match text(matches, "side")? {
+        "labeller" => Some(Player::Labeller),
+        "adversary" => Some(Player::Adversary),
+        _ => None,
+    }
 }
 
 fn text<'a>(matches: &ArgMatches<'a>, id: &str) -> Option<&'a str>

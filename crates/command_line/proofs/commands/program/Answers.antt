@@ -1,17 +1,18 @@
-use Rattle.std.proofs.Common.{rules, ap₂, ◌≡◌, ◌∙◌, [], codes, true}
+use Rattle.std.proofs.Common.{rules, ◌≡◌, ◌∙◌, ap}
 use Rattle.std.proofs.lemmas.Result.{IfOk-weaker}
-use Rattle.clap.specs.Words.{app_of, with_subcommand}
-use Rattle.clap.specs.Simple.{App, new_shape}
+use Rattle.clap.specs.Simple.{App}
+use Rattle.clap.specs.Walk.{texts}
+use Rattle.clap.specs.Words.{is_simple, subcommand_of, takes}
+use Rattle.command_line.specs.Commands.{side_words}
+use Rattle.command_line.proofs.SameProgram.{reads_as_program, takes_as_program}
+use Rattle.command_line.proofs.Taken.{simple}
 use Rattle.command_line.proofs.commands.program.Goals as goal
-
-abbrev top : App
-top = record { top = record (new_shape (codes "pebbles")) { subcommand_required = true }; subs = [] }
 
 pub returns : goal.returns
 returns c =
-    let none : app_of c.subcommand_required.result ≡ top = search rules in
-    let first = c.in_ok-subcommand.ensures.shape c.in_ok-solve.ensures.local ∙ ap₂ with_subcommand none c.in_ok-solve.ensures.shape in
-    let second = c.in_ok-subcommand-2.ensures.shape c.in_ok-check.ensures.local ∙ ap₂ with_subcommand first c.in_ok-check.ensures.shape in
-    let third = c.in_ok-subcommand-3.ensures.shape c.in_ok-report.ensures.local ∙ ap₂ with_subcommand second c.in_ok-report.ensures.shape in
-    IfOk-weaker c.subcommand-4.result _ _
-    (λ r added. added.shape c.in_ok-nested.ensures.local ∙ ap₂ with_subcommand third c.in_ok-nested.ensures.shape) c.subcommand-4.ensures
+    let words : texts c.as_slice.result.now ≡ side_words = search rules in
+    record {
+      simple = IfOk-weaker c.program_among.result _ _ (λ r e. ap is_simple e ∙ simple c.as_slice.result) c.program_among.ensures;
+      takes = IfOk-weaker c.program_among.result _ _ (λ r e t. ap (λ (a : App). takes a t) e ∙ takes_as_program c.as_slice.result t words) c.program_among.ensures;
+      reads = IfOk-weaker c.program_among.result _ _ (λ r e t. ap (λ (a : App). subcommand_of a t) e ∙ reads_as_program c.as_slice.result t words) c.program_among.ensures;
+    }

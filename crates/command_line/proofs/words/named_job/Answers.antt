@@ -1,16 +1,15 @@
 use Rattle.std.proofs.Common.{◌∙◌, ap, sym, refl, true≢false}
 use Rattle.clap.specs.Walk.{texts}
-use Rattle.clap.specs.Words.{App, is_simple, subcommand_of, takes}
 use Rattle.command_line.specs.Reading.{is_read}
-use Rattle.command_line.proofs.Taken.{simple, taken}
+use Rattle.command_line.proofs.Taken.{taken}
 use Rattle.command_line.proofs.words.named_job.Goals as goal
 
 pub returns-in-Err-clause-takes : goal.returns-in-Err-clause-takes
 returns-in-Err-clause-takes c = λ e.
-    c.fault.ensures.memory (c.in-Err.ensures.passes (ap (λ (a : App). takes a (texts c.args.words.now)) c.in_ok-command.ensures ∙ e))
+    c.fault.ensures.memory (c.in-Err.ensures.passes (c.in_ok-command.ensures.takes (texts c.args.words.now) ∙ e))
 
 pub returns-clause-takes : goal.returns-clause-takes
 returns-clause-takes c = λ e.
-    let found = c.in-Ok.ensures.ok.2 (ap is_simple c.in_ok-command.ensures ∙ simple) in
-    let read = found.1 ∙ ap (λ (a : App). subcommand_of a (texts c.args.words.now)) c.in_ok-command.ensures in
+    let found = c.in-Ok.ensures.ok.2 c.in_ok-command.ensures.simple in
+    let read = found.1 ∙ c.in_ok-command.ensures.reads (texts c.args.words.now) in
     absurd (true≢false (sym (taken (texts c.args.words.now) e) ∙ (ap is_read (sym read) ∙ c.in-None.ensures.none refl)))
