@@ -8,3 +8,4 @@ pub mod SolveRun
 pub mod Headline
 pub mod Report
 pub mod ReportRun
+pub mod PlayRun

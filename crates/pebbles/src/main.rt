@@ -1,4 +1,4 @@
-//! Solves boards of the pebble game, checks strategies for them, counts values and writes nested boards.
+//! Solves boards of the pebble game, checks strategies for them, counts values, plays with a person and writes nested boards.
 //!
 //! Without a command a board and a strategy document behind it are read from standard input, and one
 //! line is written to standard output. `pebbles --help` lists the commands.
@@ -13,6 +13,9 @@ mod joined;
 mod laws;
 mod nesting;
 mod output;
+mod playing;
+#[cfg(test)]
+mod playing_tests;
 mod reading;
 mod reporting;
 mod running;
@@ -24,9 +27,12 @@ mod tests;
 
 use board_text::Through;
 use checking::run_check;
-use command_line::{Job, JobFault, job};
+use command_line::{Job, JobFault, Player, job};
 use nesting::run_nested;
+use player::PlayEnd;
+use playing::run_play;
 use positions::Value;
+use proof_check::Side;
 use reporting::run_report;
 use running::{RunFault, Verdict, run_joined};
 use solving::run_solve;
@@ -81,6 +87,18 @@ fn main(rt: HostRuntime) -> ExitCode {
             }
             Err(_) => failed(&rt, RunFault::Read),
         },
+        Ok(Job::Play { side, board }) => match fs::open(&rt, board) {
+            Ok(board) => {
+                let mut board = Through::new(board);
+                let mut lines = Through::new(rt.stdin());
+                let side = side_of(side);
+                played(
+                    &rt,
+                    run_play(&rt, alloc, side, &mut board, &mut lines, &mut writer),
+                )
+            }
+            Err(_) => failed(&rt, RunFault::Read),
+        },
         Ok(Job::Nested { levels, pebbles }) => {
             done(&rt, run_nested(alloc, levels, pebbles, &mut writer))
         }
@@ -107,6 +125,22 @@ fn solved(rt: &HostRuntime, answer: Result<Value, RunFault>) -> ExitCode {
     match answer {
         Ok(_) => ExitCode::SUCCESS,
         Err(fault) => failed(rt, fault),
+    }
+}
+
+/// The status of a play, however it ended.
+fn played(rt: &HostRuntime, answer: Result<PlayEnd, RunFault>) -> ExitCode {
+    match answer {
+        Ok(_) => ExitCode::SUCCESS,
+        Err(fault) => failed(rt, fault),
+    }
+}
+
+/// The side that the person plays.
+fn side_of(player: Player) -> Side {
+    match player {
+        Player::Labeller => Side::Labeller,
+        Player::Adversary => Side::Adversary,
     }
 }
 

@@ -12,8 +12,10 @@ use Rattle.strategies.specs.Best.{IsBestAnswer, IsBestRequest}
 use Rattle.strategies.proofs.Answers.{lasts_after, best_answer}
 use Rattle.strategies.proofs.Requests.{best_request, same_request}
 use Rattle.strategies.proofs.Comparing.{less_than_finite}
-use Rattle.player.specs.Laws.{HasReached, IsWithin, IsNoSooner, IsNoLater, EndsBestPlay}
-use Rattle.player.specs.Transcript.{Standing, Going, Over, PersonAsks, PersonAnswers, Opens, Asks, Brings, BringInTurn, IsPlayed, IsTranscript}
+use Rattle.std.specs.Prelude.{Option}
+use Rattle.player.specs.Play.{Ends, HasEnded}
+use Rattle.player.specs.Laws.{KeepsToValue, HasReached, IsWithin, IsNoSooner, IsNoLater, EndsBestPlay}
+use Rattle.player.specs.Transcript.{Game, Standing, Going, Over, PersonAsks, PersonAnswers, Opens, Asks, Brings, BringInTurn, IsPlayed, IsTranscript}
 use Rattle.player.specs.declared.end.PlayEnd.{PlayEnd}
 use Rattle.player.specs.declared.end.PlayEnd.TheVariants.{Stuck, Stopped, NoStrategy}
 
@@ -104,6 +106,20 @@ within board lines text at requests played =
 pub no_later : (board : PlainBoard) (lines : List (List ℕ)) (text : List ℕ) (end : PlayEnd) → IsTranscript (PersonAnswers board) lines text end → IsNoLater board end
 no_later board lines text end (inl played) = left_by board lines text (Over end) played
 no_later board lines text end (inr stops) = subst (IsNoLater board) (sym stops.5) (within board lines stops.1 stops.0 stops.2 stops.3)
+
+-- ---- both
+
+pub keeps_to_value : (game : Game) (left_old left_new taken_old taken_new : Option (List ℕ)) (end : PlayEnd) → HasEnded (IsPlayed game) left_old left_new taken_old taken_new end → KeepsToValue game end
+keeps_to_value (PersonAsks board) left_old left_new taken_old taken_new end ended = no_sooner board ended.0 ended.2 end (transcript ended.4)
+  where
+    transcript : Ends (IsPlayed (PersonAsks board)) left_new ended.0 ended.1 ended.2 end → IsTranscript (PersonAsks board) ended.0 ended.2 end
+    transcript (inl over) = inl over
+    transcript (inr stops) = inr stops.0
+keeps_to_value (PersonAnswers board) left_old left_new taken_old taken_new end ended = no_later board ended.0 ended.2 end (transcript ended.4)
+  where
+    transcript : Ends (IsPlayed (PersonAnswers board)) left_new ended.0 ended.1 ended.2 end → IsTranscript (PersonAnswers board) ended.0 ended.2 end
+    transcript (inl over) = inl over
+    transcript (inr stops) = inr stops.0
 
 -- ---- best play
 

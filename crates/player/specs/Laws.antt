@@ -5,6 +5,7 @@ use Rattle.positions.specs.declared.value.Value.TheVariants.{Finite, Forever}
 use Rattle.positions.specs.Game.{Legal, moved}
 use Rattle.positions.specs.Value.{HasValue}
 use Rattle.strategies.specs.Best.{IsBestAnswer, IsBestRequest}
+use Rattle.player.specs.Transcript.{Game, PersonAsks, PersonAnswers}
 use Rattle.player.specs.declared.end.PlayEnd.{PlayEnd}
 use Rattle.player.specs.declared.end.PlayEnd.TheVariants.{Stuck, Stopped, NoStrategy}
 
@@ -27,6 +28,11 @@ abbrev pub IsNoLater : PlainBoard → PlayEnd → Type 0
 IsNoLater board (Stuck requests) = IsWithin board requests
 IsNoLater board (Stopped requests) = IsWithin board requests
 IsNoLater board NoStrategy = HasValue board board.start Forever
+
+-- an end of the play that its value allows
+abbrev pub KeepsToValue : Game → PlayEnd → Type 0
+KeepsToValue (PersonAsks board) end = IsNoSooner board end
+KeepsToValue (PersonAnswers board) end = IsNoLater board end
 
 -- a play of best requests and best answers ends after so many answers
 abbrev pub EndsBestPlay : PlainBoard → List ℕ → ℕ → Type 0

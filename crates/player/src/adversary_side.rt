@@ -2,6 +2,7 @@
 
 ghost use Rattle.std.specs.Prelude.{◌≡◌, ◌↔◌, ◌+◌, ◌<◌, ◌≤◌, ◌^◌, ◌++◌, true, false, None, Err, IfOk, IfErr, string_bytes};
 ghost use Rattle.positions.specs.Ranks.{configurations};
+ghost use Rattle.player.specs.Laws.{KeepsToValue};
 ghost use Rattle.player.specs.Play.{HasEnded, BreaksOff};
 ghost use Rattle.player.specs.Seats.{at};
 ghost use Rattle.player.specs.Transcript.{Going, IsPlayed, PersonAsks, Replies, no_request_line, standing};
@@ -37,6 +38,7 @@ pub fn play_adversary_side<R: Source, W: Sink>(
     requires writer_ready { W.has_failed writer.old ≡ false }
     ensures ok { IfOk result (HasEnded (IsPlayed (PersonAsks board.now)) (R.left reader.old) (R.left reader.new) (W.taken writer.old) (W.taken writer.new)) }
     ensures fault { IfErr result (BreaksOff (IsPlayed (PersonAsks board.now)) (R.left reader.old) (R.left reader.new) (W.taken writer.old) (W.taken writer.new)) }
+    ensures value { IfOk result (KeepsToValue (PersonAsks board.now)) }
     ensures read { (R.has_failed reader.new ≡ true) ↔ (result ≡ Err Read) }
     ensures write { (W.has_failed writer.new ≡ true) ↔ (result ≡ Err Write) }
 {

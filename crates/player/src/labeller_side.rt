@@ -6,6 +6,7 @@ ghost use Rattle.board_text.specs.PlainBoard.{IsBoard};
 ghost use Rattle.positions.specs.Ranks.{configurations, configuration_at, rank_of};
 ghost use Rattle.positions.specs.Value.{HasValue};
 ghost use Rattle.positions.specs.declared.value.Value.TheVariants.{Finite};
+ghost use Rattle.player.specs.Laws.{KeepsToValue};
 ghost use Rattle.player.specs.Play.{HasEnded, BreaksOff};
 ghost use Rattle.player.specs.Seats.{HasAsked, IsRequestAt, NextStands, IsLegalAt, IsSeated, at};
 ghost use Rattle.player.specs.Transcript.{Standing, IsPlayed, Opens, PersonAnswers, AsksAfterLine, no_answer_line, standing};
@@ -44,6 +45,7 @@ pub fn play_labeller_side<R: Source, W: Sink>(
     requires writer_ready { W.has_failed writer.old ≡ false }
     ensures ok { IfOk result (HasEnded (IsPlayed (PersonAnswers board.now)) (R.left reader.old) (R.left reader.new) (W.taken writer.old) (W.taken writer.new)) }
     ensures fault { IfErr result (BreaksOff (IsPlayed (PersonAnswers board.now)) (R.left reader.old) (R.left reader.new) (W.taken writer.old) (W.taken writer.new)) }
+    ensures value { IfOk result (KeepsToValue (PersonAnswers board.now)) }
     ensures read { (R.has_failed reader.new ≡ true) ↔ (result ≡ Err Read) }
     ensures write { (W.has_failed writer.new ≡ true) ↔ (result ≡ Err Write) }
 {

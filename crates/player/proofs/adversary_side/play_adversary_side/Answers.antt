@@ -6,6 +6,7 @@ use Rattle.positions.specs.Ranks.{configuration_at}
 use Rattle.player.specs.Transcript.{opening_lines, Going, PersonAsks}
 use Rattle.player.proofs.Moving.{opening_text}
 use Rattle.player.proofs.Requests.{begins}
+use Rattle.player.proofs.Lasting.{keeps_to_value}
 use Rattle.player.proofs.Opening.{has_ended, breaks_off, unopened, unshown_opening, Keeps-same}
 use Rattle.player.proofs.adversary_side.play_adversary_side.Goals as goal
 
@@ -36,3 +37,6 @@ returns-clause-fault g c =
     let opens = begins c.args.board.now c.rank-start.result c.of.result c.start.ensures.is_board.start rank (rw c.requires.same_board at c.of.ensures) in
     let text = opening_text _ _ _ _ _ _ (c.space-space.ensures ∙ c.requires.same_board) c.new-text.ensures.bytes c.in-Ok.ensures in
     IfErr-weaker c.play_on.result _ _ (λ fault h. breaks_off (PersonAsks c.args.board.now) _ _ opens _ _ _ (g.W.Sink.taken c.show.new.writer) _ (subst (Appends _ _) text c.in_ok-show.ensures.written) fault h) (rw c.new-play.ensures at c.play_on.ensures.fault)
+
+pub returns-clause-value : goal.returns-clause-value
+returns-clause-value g c = IfOk-weaker c.play_on.result _ _ (λ end. keeps_to_value (PersonAsks c.args.board.now) _ _ _ _ end) (returns-clause-ok g c)

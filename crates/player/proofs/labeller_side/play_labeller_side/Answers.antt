@@ -5,6 +5,7 @@ use Rattle.board_text.specs.Ends.{AppendsFront}
 use Rattle.positions.proofs.Finiteness.{some_value}
 use Rattle.player.specs.Transcript.{PersonAnswers, Opens, Going}
 use Rattle.player.proofs.Answering.{has_opening}
+use Rattle.player.proofs.Lasting.{keeps_to_value}
 use Rattle.player.proofs.Opening.{has_ended, breaks_off, over_at_once, unopened, unshown_opening, Keeps-same}
 use Rattle.player.proofs.labeller_side.play_labeller_side.Goals as goal
 
@@ -50,3 +51,9 @@ returns-clause-ok g c =
     let opening = rw c.in-Ends.is at c.in-Ok.ensures in
     let text = opening.1 ∙ ap (λ l. l ++ opening.0) c.new-text.ensures.bytes in
     over_at_once (PersonAnswers c.args.board.now) opening.0 opening.2.0 opening.2.1 _ _ _ c.in-Ends.end opening.2.2 (subst (Appends _ _) text c.in_ok-show.ensures.written)
+
+pub returns-in-Asks-clause-value : goal.returns-in-Asks-clause-value
+returns-in-Asks-clause-value g c = IfOk-weaker c.play_on.result _ _ (λ end. keeps_to_value (PersonAnswers c.args.board.now) _ _ _ _ end) (returns-in-Asks-clause-ok g c)
+
+pub returns-clause-value : goal.returns-clause-value
+returns-clause-value g c = keeps_to_value (PersonAnswers c.args.board.now) _ _ _ _ c.in-Ends.end (returns-clause-ok g c)

@@ -1,0 +1,394 @@
+//! Plays over readers and writers that are slow, that fail, that look at what was written, and that are refused memory.
+
+ghost use Rattle.std.specs.Prelude.{false};
+
+use crate::playing::run_play;
+use crate::running::RunFault;
+use board_text::{BoardFault, BoardKind, Failed, Sink, Source};
+use fakes::{Drip, Failing, Trickle};
+use player::PlayEnd;
+use proof_check::Side;
+use std::alloc::Global;
+use std::cell::Cell;
+use std::thread::Threads;
+
+const PLENTY: usize = 100_000;
+
+const ROOM: usize = 200;
+
+const NOTHING: &[u8] = b"";
+
+/// Three labels, of which each dominates all smaller ones, with two pebbles on 0.
+const CHAIN: &[u8] =
+    b"board 1\nlabels 3\npebbles 2\nstart 0 0\nbeats 1 0\nbeats 2 0\nbeats 2 1\nend\n";
+
+/// Three labels, each of which dominates one other, with two pebbles on 0.
+const CYCLE: &[u8] =
+    b"board 1\nlabels 3\npebbles 2\nstart 0 0\nbeats 0 2\nbeats 1 0\nbeats 2 1\nend\n";
+
+const REQUESTS: &[u8] = b"1\nx\n0\n1\n";
+
+const REPLIES: &[u8] =
+    b"value 2\nat 0 0\npebble 1 takes 1\nat 0 1\nnot a request\npebble 0 takes 2\nat 2 1\nno label for pebble 1 after 2 requests\n";
+
+/// The replies to the first three lines, and that the input ended.
+const STOPPED_REPLIES: &[u8] =
+    b"value 2\nat 0 0\npebble 1 takes 1\nat 0 1\nnot a request\npebble 0 takes 2\nat 2 1\nstopped after 2 requests\n";
+
+const ANSWERS: &[u8] = b"0\n1\n2\n";
+
+const ASKED: &[u8] =
+    b"value 2\nat 0 0\nask 0\nnot an answer\nat 1 0\nask 1\nat 1 2\nask 0\nno label for pebble 0 after 2 requests\n";
+
+/// A play: the person's side, the texts, and how many calls of each end go well.
+#[derive(Clone, Copy)]
+struct Play {
+    side: Side,
+    board: &'static [u8],
+    lines: &'static [u8],
+    board_reads: usize,
+    line_reads: usize,
+    writes: usize,
+    failing: Failing,
+}
+
+const ASKING: Play = Play {
+    side: Side::Adversary,
+    board: CHAIN,
+    lines: REQUESTS,
+    board_reads: PLENTY,
+    line_reads: PLENTY,
+    writes: PLENTY,
+    failing: Failing::Refuses,
+};
+
+const ANSWERING: Play = Play {
+    side: Side::Labeller,
+    lines: ANSWERS,
+    ..ASKING
+};
+
+const STUCK: Result<PlayEnd, RunFault> = Ok(PlayEnd::Stuck { requests: 2 });
+
+/// Whether a play answers and writes what it should, or was refused memory and wrote a front of that; and whether the ends failed where it says so.
+fn serves(
+    rt: &(impl Threads + Sync),
+    alloc: Global,
+    play: Play,
+    wanted: Result<PlayEnd, RunFault>,
+    written: &[u8],
+) -> bool {
+    let mut board = Drip::new(play.board, play.board_reads);
+    let mut lines = Drip::new(play.lines, play.line_reads);
+    let mut writer = Trickle::<ROOM>::new(play.writes, play.failing);
+    let answer = run_play(rt, alloc, play.side, &mut board, &mut lines, &mut writer);
+    let told = (board.failed() || lines.failed()) == (answer == Err(RunFault::Read))
+        && writer.failed() == (answer == Err(RunFault::Write));
+    if answer == Err(RunFault::Memory) {
+        return told && written.starts_with(writer.taken());
+    }
+    told && answer == wanted && writer.taken() == written
+}
+
+/// The answer to lines of a person who asks, and what is written beside the opening.
+fn asks(
+    rt: &(impl Threads + Sync),
+    alloc: Global,
+    lines: &'static [u8],
+    wanted: Result<PlayEnd, RunFault>,
+    written: &[u8],
+) -> bool {
+    serves(rt, alloc, Play { lines, ..ASKING }, wanted, written)
+}
+
+#[test]
+fn the_person_asks(rt: HostRuntime) {
+    assert!(rt; serves(&rt, rt.alloc(), ASKING, STUCK, REPLIES));
+}
+
+#[test]
+fn the_input_ends(rt: HostRuntime) {
+    let stopped = Ok(PlayEnd::Stopped { requests: 2 });
+    assert!(rt; asks(&rt, rt.alloc(), b"1\nx\n0\n", stopped, STOPPED_REPLIES));
+    assert!(rt; asks(&rt, rt.alloc(), b"1\nx\n0", stopped, STOPPED_REPLIES));
+    assert!(rt;
+        asks(
+            &rt,
+            rt.alloc(),
+            b"1\nx\n0\nquit\n1\n",
+            stopped,
+            STOPPED_REPLIES
+        )
+    );
+}
+
+#[test]
+fn the_person_answers(rt: HostRuntime) {
+    assert!(rt; serves(&rt, rt.alloc(), ANSWERING, STUCK, ASKED));
+}
+
+#[test]
+fn a_person_who_answers_stops(rt: HostRuntime) {
+    let stopped = Ok(PlayEnd::Stopped { requests: 1 });
+    let play = Play {
+        lines: b"1\nquit\n",
+        ..ANSWERING
+    };
+    let written = b"value 2\nat 0 0\nask 0\nat 1 0\nask 1\nstopped after 1 requests\n";
+    assert!(rt; serves(&rt, rt.alloc(), play, stopped, written));
+}
+
+#[test]
+fn there_is_no_strategy(rt: HostRuntime) {
+    let play = Play {
+        board: CYCLE,
+        line_reads: 0,
+        ..ANSWERING
+    };
+    let written = b"forever\nat 0 0\nno strategy\n";
+    assert!(rt; serves(&rt, rt.alloc(), play, Ok(PlayEnd::NoStrategy), written));
+}
+
+#[test]
+fn other_lines_are_no_requests(rt: HostRuntime) {
+    let none = Ok(PlayEnd::Stopped { requests: 0 });
+    let written =
+        b"value 2\nat 0 0\nnot a request\nnot a request\nnot a request\nnot a request\nnot a request\nstopped after 0 requests\n";
+    assert!(rt; asks(&rt, rt.alloc(), b"00\n2\n\n 1\n-1\n", none, written));
+    let one = Ok(PlayEnd::Stopped { requests: 1 });
+    let replied = b"value 2\nat 0 0\npebble 1 takes 1\nat 0 1\nstopped after 1 requests\n";
+    assert!(rt; asks(&rt, rt.alloc(), b"1", one, replied));
+}
+
+#[test]
+fn long_lines(rt: HostRuntime) {
+    let none = Ok(PlayEnd::Stopped { requests: 0 });
+    let longest = b"xxxxxxxxxxxxxxxxxxxxxxxxxxxxxxxxxxxxxxxxxxxxxxxxxxxxxxxxxxxxxxxx\n";
+    let refused = b"value 2\nat 0 0\nnot a request\nstopped after 0 requests\n";
+    assert!(rt; asks(&rt, rt.alloc(), longest, none, refused));
+    let longer = b"xxxxxxxxxxxxxxxxxxxxxxxxxxxxxxxxxxxxxxxxxxxxxxxxxxxxxxxxxxxxxxxxx\n";
+    assert!(rt;
+        asks(
+            &rt,
+            rt.alloc(),
+            longer,
+            Err(RunFault::Limit),
+            b"value 2\nat 0 0\n"
+        )
+    );
+}
+
+#[test]
+fn a_long_line_is_seen_at_its_last_byte(rt: HostRuntime) {
+    // One more read would fail.
+    let play = Play {
+        lines: b"xxxxxxxxxxxxxxxxxxxxxxxxxxxxxxxxxxxxxxxxxxxxxxxxxxxxxxxxxxxxxxxxx",
+        line_reads: 65,
+        ..ASKING
+    };
+    assert!(rt;
+        serves(
+            &rt,
+            rt.alloc(),
+            play,
+            Err(RunFault::Limit),
+            b"value 2\nat 0 0\n"
+        )
+    );
+}
+
+#[test]
+fn boards_with_faults(rt: HostRuntime) {
+    let end = Err(RunFault::Board(BoardFault {
+        line: 4,
+        kind: BoardKind::Start,
+    }));
+    let play = Play {
+        board: b"board 1\nlabels 3\npebbles 2\n",
+        line_reads: 0,
+        ..ASKING
+    };
+    assert!(rt; serves(&rt, rt.alloc(), play, end, NOTHING));
+    let large = Play {
+        board: b"board 1\nlabels 33\npebbles 4\nstart 0 0 0 0\nend\n",
+        line_reads: 0,
+        ..ANSWERING
+    };
+    assert!(rt; serves(&rt, rt.alloc(), large, Err(RunFault::TooLarge), NOTHING));
+}
+
+#[test]
+fn a_read_of_the_board_fails_at_each_call(rt: HostRuntime) {
+    for board_reads in 0..CHAIN.len() + 1 {
+        let play = Play {
+            board_reads,
+            ..ASKING
+        };
+        assert!(rt;
+            serves(&rt, rt.alloc(), play, Err(RunFault::Read), NOTHING),
+            "at call {board_reads}"
+        );
+    }
+}
+
+/// What was written when this many bytes of the requests were read.
+fn replies_after(read: usize) -> &'static [u8] {
+    let size = match read {
+        0 | 1 => 15,
+        2 | 3 => 39,
+        4 | 5 => 53,
+        _ => 77,
+    };
+    REPLIES.get(..size).unwrap_or(NOTHING)
+}
+
+#[test]
+fn a_read_of_lines_fails_at_each_call(rt: HostRuntime) {
+    for line_reads in 0..REQUESTS.len() {
+        let play = Play {
+            line_reads,
+            ..ASKING
+        };
+        let written = replies_after(line_reads);
+        assert!(rt;
+            serves(&rt, rt.alloc(), play, Err(RunFault::Read), written),
+            "at call {line_reads}"
+        );
+    }
+}
+
+#[test]
+fn a_write_fails_at_each_call(rt: HostRuntime) {
+    for (play, text) in [(ASKING, REPLIES), (ANSWERING, ASKED)] {
+        for failing in [Failing::Refuses, Failing::TakesNothing] {
+            for writes in 0..text.len() {
+                let failing_play = Play {
+                    writes,
+                    failing,
+                    ..play
+                };
+                let written = text.get(..writes).unwrap_or(NOTHING);
+                assert!(rt;
+                    serves(&rt, rt.alloc(), failing_play, Err(RunFault::Write), written),
+                    "at call {writes}"
+                );
+            }
+        }
+    }
+}
+
+/// Takes all, and notes how many bytes that is.
+#[derive(Drop)]
+struct Noting<'a> {
+    noted: &'a Cell<usize>,
+}
+
+impl Sink for Noting<'_> {
+    ghost has_failed = { λ _. false };
+
+    fn write(&mut self, from: &[u8]) -> Result<usize, Failed> {
+        self.noted.set(self.noted.get().saturating_add(from.len()));
+        Ok(from.len())
+    }
+
+    fn failed(&self) -> bool {
+        false
+    }
+}
+
+/// Gives one line a call, and looks whether as much was written as there is to be before that line.
+#[derive(Drop)]
+struct Watching<'a> {
+    lines: &'a [(usize, &'static [u8])],
+    calls: usize,
+    noted: &'a Cell<usize>,
+    is_late: bool,
+}
+
+impl Source for Watching<'_> {
+    ghost has_failed = { λ _. false };
+
+    fn read(&mut self, into: &mut [u8]) -> Result<usize, Failed> {
+        let Some((written, line)) = self.lines.get(self.calls) else {
+            return Ok(0);
+        };
+        if self.noted.get() != *written {
+            self.is_late = true;
+        }
+        self.calls = self.calls.saturating_add(1);
+        let size = line.len().min(into.len());
+        into[..size].copy_from_slice(&line[..size]);
+        Ok(size)
+    }
+
+    fn failed(&self) -> bool {
+        false
+    }
+}
+
+#[test]
+fn each_answer_is_written_before_the_next_read(rt: HostRuntime) {
+    let noted = Cell::new(0);
+    let lines: [(usize, &[u8]); 4] = [(15, b"1\n"), (39, b"x\n"), (53, b"0\n"), (77, b"1\n")];
+    let mut watching = Watching {
+        lines: &lines,
+        calls: 0,
+        noted: &noted,
+        is_late: false,
+    };
+    let mut board = Drip::new(CHAIN, PLENTY);
+    let mut writer = Noting { noted: &noted };
+    let answer = run_play(
+        &rt,
+        rt.alloc(),
+        Side::Adversary,
+        &mut board,
+        &mut watching,
+        &mut writer,
+    );
+    if answer != Err(RunFault::Memory) {
+        assert_eq!(rt; answer, STUCK);
+        assert_eq!(rt; noted.get(), REPLIES.len());
+        assert_eq!(rt; watching.calls, 4);
+    }
+    assert!(rt; !watching.is_late);
+}
+
+/// Gives lines `x` for ever.
+#[derive(Drop)]
+struct Junk;
+
+impl Source for Junk {
+    ghost has_failed = { λ _. false };
+
+    fn read(&mut self, into: &mut [u8]) -> Result<usize, Failed> {
+        let Some(line) = into.get_mut(..2) else {
+            return Ok(0);
+        };
+        line.copy_from_slice(b"x\n");
+        Ok(2)
+    }
+
+    fn failed(&self) -> bool {
+        false
+    }
+}
+
+#[test]
+fn a_million_lines_are_read(rt: HostRuntime) {
+    let noted = Cell::new(0);
+    let mut board = Drip::new(CHAIN, PLENTY);
+    let mut writer = Noting { noted: &noted };
+    let answer = run_play(
+        &rt,
+        rt.alloc(),
+        Side::Adversary,
+        &mut board,
+        &mut Junk,
+        &mut writer,
+    );
+    if answer != Err(RunFault::Memory) {
+        assert_eq!(rt; answer, Err(RunFault::Limit));
+        assert_eq!(rt; noted.get(), 15 + 14_000_000);
+    }
+}
