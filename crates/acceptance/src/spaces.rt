@@ -3,6 +3,7 @@
 ghost use Rattle.std.specs.Prelude.{◌≡◌, ◌↔◌, IsTrue};
 ghost use Rattle.board_text.specs.PlainBoard.{IsConfiguration};
 
+use crate::assertions::assert_same;
 use crate::texts::{
     CHAIN_OF_THREE, CYCLE_WITH_A_WAY_IN, LONE_LABEL, NO_PAIRS, ONE_PAIR, SHARED_LABEL, THREE_CYCLE,
     THREE_PEBBLES, board_of, build_board,
@@ -122,23 +123,25 @@ fn answers_by_definition(board: &Board, space: &Space) -> bool
 fn ranks_of_a_chain(rt: HostRuntime) {
     let board = board_of(&rt, rt.alloc(), CHAIN_OF_THREE);
     let space = Space::of(&board).expect(&rt, "a small board");
-    assert_eq!(rt; rank_of(&space, &[1, 2]), Some(5));
     assert!(rt; space.configurations() == 9 && space.pebbles() == 2 && space.labels() == 3);
-    assert_eq!(rt; space.with(5, 0, 2), 8);
-    assert_eq!(rt; space.dominator(&board, 5), Some(1));
-    assert_eq!(rt; space.dominator(&board, 8), None);
+    assert_same(&rt, [1, 2], rank_of(&space, &[1, 2]), Some(5));
+    assert_same(&rt, "another label", space.with(5, 0, 2), 8);
+    assert_same(&rt, 5, space.dominator(&board, 5), Some(1));
+    assert_same(&rt, 8, space.dominator(&board, 8), None);
 }
 
 #[test]
 fn gaps_of_a_chain(rt: HostRuntime) {
     let board = board_of(&rt, rt.alloc(), CHAIN_OF_THREE);
     let space = Space::of(&board).expect(&rt, "a small board");
-    assert!(rt; space.configurations() == 9 && space.pebbles() == 2);
-    assert_eq!(rt; space.gap(5, 0), 2);
-    assert_eq!(rt; space.gap(5, 1), 4);
-    assert!(rt; space.gaps() == 6);
-    assert_eq!(rt; space.gap_pebble(2), 0);
-    assert_eq!(rt; space.gap_pebble(4), 1);
+    assert!(rt; space.configurations() == 9 && space.pebbles() == 2 && space.gaps() == 6);
+    assert_same(&rt, 5, [space.gap(5, 0), space.gap(5, 1)], [2, 4]);
+    assert_same(
+        &rt,
+        "pebbles",
+        [space.gap_pebble(2), space.gap_pebble(4)],
+        [0, 1],
+    );
 }
 
 #[test]
@@ -146,9 +149,12 @@ fn answers_of_a_chain(rt: HostRuntime) {
     let board = board_of(&rt, rt.alloc(), CHAIN_OF_THREE);
     let space = Space::of(&board).expect(&rt, "a small board");
     assert!(rt; space.gaps() == 6 && space.labels() == 3);
-    assert_eq!(rt; space.member(4, 0), 3);
-    assert_eq!(rt; space.count_answers(&board, 4), 1);
-    assert_eq!(rt; space.next_answer(&board, 4, 0), Some(2));
+    let answers = (
+        space.member(4, 0),
+        space.count_answers(&board, 4),
+        space.next_answer(&board, 4, 0),
+    );
+    assert_same(&rt, 4, answers, (3, 1, Some(2)));
 }
 
 #[test]
@@ -188,7 +194,7 @@ fn most_labels_and_most_pebbles(rt: HostRuntime) {
             "parts of a board",
         );
         let space = Space::of(&board).expect(&rt, "a small board");
-        assert_eq!(rt; space.configurations(), configurations);
+        assert_same(&rt, labels, space.configurations(), configurations);
         assert!(rt; ranks_lead_back(&space), "{labels} labels");
     }
 }
