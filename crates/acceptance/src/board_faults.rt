@@ -203,5 +203,5 @@ fn cut_at_each_length(rt: HostRuntime) {
         let fault = fault_of(rt.alloc(), &text[..length]);
         assert_same(&rt, length, fault, Some(cut_fault(length)));
     }
-    assert_eq!(rt; fault_of(rt.alloc(), text), None);
+    assert_same(&rt, "the whole", fault_of(rt.alloc(), text), None);
 }

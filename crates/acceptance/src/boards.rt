@@ -68,7 +68,7 @@ fn has_dominators(board: &Board, label: u16, words: &[u64]) -> bool {
 /// Asserts the words of the labels that dominate each of these.
 fn assert_dominators(rt: &impl Abort, board: &Board, wanted: &[(u16, [u64; 4])]) {
     for (label, words) in wanted {
-        assert!(rt; has_dominators(board, *label, words), "{label}");
+        assert_same(rt, *label, has_dominators(board, *label, words), true);
     }
 }
 
@@ -110,7 +110,7 @@ fn the_largest_board(rt: HostRuntime) -> Result<(), AllocError> {
     let board = board_of(&rt, rt.alloc(), text.as_str());
     assert_sizes(&rt, &board, 256, 6, &[255, 128, 100, 64, 9, 0]);
     for (x, y) in [(255, 0), (255, 254), (1, 0), (128, 127), (64, 63)] {
-        assert!(rt; has_one_way(&board, x, y), "{x} {y}");
+        assert_same(&rt, (x, y), has_one_way(&board, x, y), true);
     }
     let dominators = [
         (0, [ALL - 1, ALL, ALL, ALL]),
@@ -131,10 +131,7 @@ fn a_cycle_of_cycles(rt: HostRuntime) {
     );
     assert!(rt; board.labels() == 9);
     for label in 0..9 {
-        assert_eq!(rt;
-            board.beats(0, label),
-            [2, 6, 7, 8].contains(&label),
-            "{label}"
-        );
+        let dominated = [2, 6, 7, 8].contains(&label);
+        assert_same(&rt, label, board.beats(0, label), dominated);
     }
 }

@@ -69,22 +69,24 @@ fn faults_of_labels_pebbles_and_starts(rt: HostRuntime) {
     }
 }
 
+/// Pairs of two labels, and their fault, if they have one.
+const FAULTS_OF_PAIRS: &[(&[(u16, u16)], Option<(u32, BoardKind)>)] = &[
+    (&[], None),
+    (&[(1, 0)], None),
+    (&[(0, 2)], Some((5, BoardKind::Beats))),
+    (&[(2, 2)], Some((5, BoardKind::Beats))),
+    (&[(65_535, 0)], Some((5, BoardKind::Beats))),
+    (&[(1, 1)], Some((5, BoardKind::SelfBeat))),
+    (&[(0, 1), (1, 0)], Some((6, BoardKind::TwoWay))),
+    (&[(1, 0), (0, 1)], Some((6, BoardKind::TwoWay))),
+    (&[(1, 0), (1, 0)], Some((6, BoardKind::Order))),
+];
+
 #[test]
 fn faults_of_pairs(rt: HostRuntime) {
-    for (pairs, fault) in [
-        ([].as_slice(), None),
-        (&[(1, 0)], None),
-        (&[(0, 2)], Some((5, BoardKind::Beats))),
-        (&[(2, 2)], Some((5, BoardKind::Beats))),
-        (&[(65_535, 0)], Some((5, BoardKind::Beats))),
-        (&[(1, 1)], Some((5, BoardKind::SelfBeat))),
-        (&[(0, 1), (1, 0)], Some((6, BoardKind::TwoWay))),
-        (&[(1, 0), (0, 1)], Some((6, BoardKind::TwoWay))),
-        (&[(1, 0), (1, 0)], Some((6, BoardKind::Order))),
-    ] {
-        let found = fault_of_pairs(rt.alloc(), pairs);
-        assert_same(&rt, pairs, found, fault);
+    for (pairs, fault) in FAULTS_OF_PAIRS {
+        assert_same(&rt, *pairs, fault_of_pairs(rt.alloc(), pairs), *fault);
     }
     let found = fault_of_parts(rt.alloc(), 3, 1, &[0], &[(0, 1), (1, 2), (0, 2)]);
-    assert_eq!(rt; found, Some((7, BoardKind::Order)));
+    assert_same(&rt, "three labels", found, Some((7, BoardKind::Order)));
 }

@@ -76,7 +76,7 @@ fn assert_printed(rt: &impl Abort, alloc: Global, board: &str, text: &str) {
     let space = space_of(rt, alloc, board);
     let proof = read_document(alloc, &space, text.as_bytes()).expect(rt, "a document");
     let again = print_document(alloc, &space, &proof).expect(rt, "the text of a document");
-    assert_eq!(rt; again.as_str(), text);
+    assert_same(rt, text, again.as_str(), text);
 }
 
 #[test]

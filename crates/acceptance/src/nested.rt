@@ -58,12 +58,20 @@ fn print_again(alloc: Global, text: &str) -> Option<String>
     print(alloc, &board).ok()
 }
 
+/// Asserts the text of the nested board of a level.
+fn assert_text(rt: &impl Abort, alloc: Global, levels: u8, pebbles: u8, wanted: &str)
+    requires levels { InRange 1 6 levels }
+    requires pebbles { InRange 1 6 pebbles }
+{
+    let text = nested_text(rt, alloc, levels, pebbles);
+    assert_eq!(rt; text.as_str(), wanted);
+}
+
 #[test]
 fn the_smallest_levels(rt: HostRuntime) {
-    let alloc = rt.alloc();
-    assert_eq!(rt; nested_text(&rt, alloc, 1, 1).as_str(), LONE_LABEL);
-    assert_eq!(rt; nested_text(&rt, alloc, 2, 2).as_str(), THREE_CYCLE);
-    assert_eq!(rt; nested_text(&rt, alloc, 2, 3).as_str(), THREE_PEBBLES);
+    assert_text(&rt, rt.alloc(), 1, 1, LONE_LABEL);
+    assert_text(&rt, rt.alloc(), 2, 2, THREE_CYCLE);
+    assert_text(&rt, rt.alloc(), 2, 3, THREE_PEBBLES);
 }
 
 #[test]

@@ -10,6 +10,8 @@ use crate::texts::{
 };
 use board_text::Board;
 use positions::{Space, TooLarge, is_legal};
+use std::alloc::Global;
+use std::process::Abort;
 
 /// How many configurations the board has, if a space is made for it.
 fn count_configurations(board: &Board) -> Result<u32, TooLarge> {
@@ -160,9 +162,17 @@ fn answers_of_a_chain(rt: HostRuntime) {
 #[test]
 fn sizes(rt: HostRuntime) {
     let board = board_of(&rt, rt.alloc(), NO_PAIRS);
-    assert_eq!(rt; count_configurations(&board), Ok(1_048_576));
+    assert_same(&rt, 32, count_configurations(&board), Ok(1_048_576));
     let board = build_board(rt.alloc(), 33, 4, &[0, 0, 0, 0], &[]).expect(&rt, "parts of a board");
-    assert_eq!(rt; count_configurations(&board), Err(TooLarge));
+    assert_same(&rt, 33, count_configurations(&board), Err(TooLarge));
+}
+
+/// Asserts that the space of a board and the slow program agree about answers.
+fn assert_answers(rt: &impl Abort, alloc: Global, text: &str) {
+    let board = board_of(rt, alloc, text);
+    let space = Space::of(&board).expect(rt, "a small board");
+    assert_same(rt, text, legal_by_definition(&board, &space), true);
+    assert_same(rt, text, answers_by_definition(&board, &space), true);
 }
 
 #[test]
@@ -176,10 +186,7 @@ fn legal_answers(rt: HostRuntime) {
         CYCLE_WITH_A_WAY_IN,
         THREE_PEBBLES,
     ] {
-        let board = board_of(&rt, rt.alloc(), text);
-        let space = Space::of(&board).expect(&rt, "a small board");
-        assert!(rt; legal_by_definition(&board, &space), "{text}");
-        assert!(rt; answers_by_definition(&board, &space), "{text}");
+        assert_answers(&rt, rt.alloc(), text);
     }
 }
 
@@ -195,6 +202,6 @@ fn most_labels_and_most_pebbles(rt: HostRuntime) {
         );
         let space = Space::of(&board).expect(&rt, "a small board");
         assert_same(&rt, labels, space.configurations(), configurations);
-        assert!(rt; ranks_lead_back(&space), "{labels} labels");
+        assert_same(&rt, labels, ranks_lead_back(&space), true);
     }
 }

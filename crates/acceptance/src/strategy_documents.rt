@@ -78,7 +78,7 @@ fn document_text(alloc: Global, board: &Board) -> Option<String> {
 fn assert_document(rt: &impl Abort, alloc: Global, board: &str, text: &str) {
     let board = board_of(rt, alloc, board);
     let written = document_text(alloc, &board).expect(rt, "a document");
-    assert_eq!(rt; written.as_str(), text);
+    assert_same(rt, text, written.as_str(), text);
 }
 
 #[test]
@@ -205,7 +205,12 @@ fn checked(
 
 /// Asserts that the checker accepts a board's document with the claim.
 fn assert_accepted(rt: &(impl Abort + Threads + Sync), alloc: Global, board: &Board, claim: Claim) {
-    assert_eq!(rt; checked(rt, alloc, board), Some(Ok(Shown { claim })));
+    assert_same(
+        rt,
+        claim,
+        checked(rt, alloc, board),
+        Some(Ok(Shown { claim })),
+    );
 }
 
 /// The board of 256 labels, each of which dominates all smaller ones, with two pebbles on label 0.
@@ -239,11 +244,11 @@ fn make_in_turn(rt: &impl Abort, alloc: Global, board: &Board, text: &str) {
     for _ in 0..3 {
         match document(alloc, board, &values) {
             Ok(proof) => {
-                let written = print_document(alloc, values.space(), &proof);
-                assert_eq!(rt; written.expect(rt, "a text").as_str(), text);
+                let written = print_document(alloc, values.space(), &proof).expect(rt, "a text");
+                assert_same(rt, "the text", written.as_str(), text);
             }
             Err(Memory) => {
-                assert!(rt; !was_refused);
+                assert_same(rt, "refused before", was_refused, false);
                 was_refused = true;
             }
         }
