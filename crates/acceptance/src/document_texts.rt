@@ -109,13 +109,13 @@ fn rows_by_rank(rt: HostRuntime) {
         turns: Turns::Count(1),
         take: [2, 1, 0, 0, 0, 0],
     };
-    assert_same(&rt, 1, proof.labeller.get(1), Some(&answer));
+    assert_same(&rt, "answer", proof.labeller.get(1), Some(&answer));
     let request = AdversaryRow {
         at: 5,
         left: 0,
         ask: 0,
     };
-    assert_same(&rt, 2, proof.adversary.get(2), Some(&request));
+    assert_same(&rt, "request", proof.adversary.get(2), Some(&request));
 }
 
 #[test]

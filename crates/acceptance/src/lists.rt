@@ -134,7 +134,12 @@ fn push_and_unlink<S: ListStore>(rt: &impl Abort, store: &mut S)
     assert!(rt; unlink(store, 1));
     assert!(rt; reads_as(store, 0, &[3, 2]) && is_loose(store, 1));
     let around = [store.next(3), store.prev(2), store.home(1)];
-    assert_same(rt, "around", around, [Some(2), Some(3), None]);
+    assert_same(
+        rt,
+        "behind 3, before 2, home of 1",
+        around,
+        [Some(2), Some(3), None],
+    );
 }
 
 /// Moves of nodes from a list with 3 and 2 to another.
@@ -172,7 +177,7 @@ fn three_nodes<S: ListStore>(rt: &impl Abort, store: &mut S)
     assert_same(rt, "length", store.len(0), 1);
     assert!(rt; push(store, 0, 0));
     assert!(rt; reads_as(store, 0, &[1, 0]));
-    assert_same(rt, 0, store.prev(0), Some(1));
+    assert_same(rt, "before 0", store.prev(0), Some(1));
 }
 
 /// Stores of no node or no list.

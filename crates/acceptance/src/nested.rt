@@ -80,8 +80,9 @@ fn labels_that_the_first_dominates(rt: HostRuntime) {
     assert!(rt; board.labels() == 9);
     for label in 0..9 {
         let dominated = [2, 6, 7, 8].contains(&label);
-        assert_same(&rt, label, board.beats(0, label), dominated);
-        assert_same(&rt, label, nested_beats(3, 0, u64::from(label)), dominated);
+        assert_same(&rt, ("board", label), board.beats(0, label), dominated);
+        let beats = nested_beats(3, 0, u64::from(label));
+        assert_same(&rt, ("words", label), beats, dominated);
     }
 }
 
@@ -90,10 +91,10 @@ fn assert_lines(rt: &impl Abort, alloc: Global, levels: u8, labels: u16, lines: 
     requires { InRange 1 6 levels }
 {
     let text = nested_text(rt, alloc, levels, levels);
-    assert_same(rt, levels, text.as_str().lines().count(), lines);
+    assert_same(rt, ("lines", levels), text.as_str().lines().count(), lines);
     let board = board_of(rt, alloc, text.as_str());
-    assert_same(rt, levels, board.labels(), labels);
-    assert_same(rt, levels, board.pebbles(), levels);
+    assert_same(rt, ("labels", levels), board.labels(), labels);
+    assert_same(rt, ("pebbles", levels), board.pebbles(), levels);
 }
 
 #[test]

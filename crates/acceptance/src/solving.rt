@@ -100,8 +100,8 @@ fn assert_two_rounds<S: ListStore>(
 fn chain<S: ListStore + Drop>(rt: &impl Abort, alloc: Global) {
     let board = board_of(rt, alloc, CHAIN_OF_THREE);
     let mut solver: Solver<S> = open(rt, alloc, &board);
-    assert_same(rt, 5, known(&solver, 5), Some(0));
-    assert_same(rt, 0, known(&solver, 0), None);
+    assert_same(rt, "rank 5 at first", known(&solver, 5), Some(0));
+    assert_same(rt, "rank 0 at first", known(&solver, 0), None);
     let filed = [Progress::Filed(3), Progress::Filed(1)];
     assert_two_rounds(rt, &mut solver, filed, false);
     assert_two_rounds(rt, &mut solver, [Progress::Done, Progress::Done], true);
@@ -151,8 +151,8 @@ pub(crate) fn assert_solved(rt: &impl Abort, alloc: Global, board: &Board) {
     let plain = solve::<PlainLists>(rt, alloc, board);
     for rank in 0..linked.space().configurations() {
         let expected = slow_value(board, linked.space(), rank);
-        assert_same(rt, rank, value(&linked, rank), expected);
-        assert_same(rt, rank, value(&plain, rank), expected);
+        assert_same(rt, ("linked", rank), value(&linked, rank), expected);
+        assert_same(rt, ("plain", rank), value(&plain, rank), expected);
     }
 }
 

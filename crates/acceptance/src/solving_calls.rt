@@ -70,7 +70,7 @@ fn assert_filed<S: ListStore>(
     wanted: &[(u32, [Option<u32>; 6])],
 ) {
     for (value, ranks) in wanted {
-        assert_same(rt, *value, filed(solver, *value), *ranks);
+        assert_same(rt, ("filed at", *value), filed(solver, *value), *ranks);
     }
 }
 
@@ -81,7 +81,7 @@ fn assert_first_sources<S: ListStore>(
     wanted: &[(u32, Option<u32>)],
 ) {
     for (gap, rank) in wanted {
-        assert_same(rt, *gap, first_source(solver, *gap), *rank);
+        assert_same(rt, ("first of", *gap), first_source(solver, *gap), *rank);
     }
 }
 
@@ -100,7 +100,7 @@ fn assert_next_sources<S: ListStore>(
 /// Asserts the counts of gaps.
 fn assert_counts_of_gaps<S: ListStore>(rt: &impl Abort, solver: &Solver<S>, wanted: &[(u32, u32)]) {
     for (gap, count) in wanted {
-        assert_same(rt, *gap, count_of(solver, *gap), Some(*count));
+        assert_same(rt, ("count of", *gap), count_of(solver, *gap), Some(*count));
     }
 }
 
@@ -109,8 +109,8 @@ const STUCK: [Option<u32>; 6] = [Some(2), Some(5), Some(6), Some(7), Some(8), No
 
 /// Asserts the lists of a chain of three labels before its first round.
 fn assert_lists_before<S: ListStore>(rt: &impl Abort, solver: &Solver<S>) {
-    assert_same(rt, 5, dominator(solver, 5), Some(1));
-    assert_same(rt, 8, dominator(solver, 8), None);
+    assert_same(rt, ("dominator of", 5), dominator(solver, 5), Some(1));
+    assert_same(rt, ("dominator of", 8), dominator(solver, 8), None);
     assert_filed(rt, solver, &[(0, STUCK), (1, [None; 6])]);
     // Gap 4 is pebble 1 where pebble 0 is on label 1. Its member with label 2 is stuck.
     assert_first_sources(rt, solver, &[(4, Some(3))]);
@@ -123,7 +123,12 @@ fn assert_lists_before<S: ListStore>(rt: &impl Abort, solver: &Solver<S>) {
 /// Asserts the lists of a chain of three labels after its first round.
 fn assert_lists_after<S: ListStore>(rt: &impl Abort, solver: &Solver<S>) {
     assert_filed(rt, solver, &[(0, STUCK)]);
-    assert_same(rt, 1, filed(solver, 1).iter().flatten().count(), 3);
+    assert_same(
+        rt,
+        "filed at 1",
+        filed(solver, 1).iter().flatten().count(),
+        3,
+    );
     assert_first_sources(rt, solver, &[(4, None), (3, Some(0))]);
     assert_next_sources(rt, solver, &[(3, 0, None)]);
     // One answer leads to a value of at least 1: label 1, which leads to rank 1.
@@ -164,7 +169,7 @@ fn open_in_turn<S: ListStore + Drop>(rt: &impl Abort, alloc: Global, board: &Boa
             Err(fault) => {
                 assert_same(
                     rt,
-                    "once",
+                    "a refused call",
                     (fault, was_refused),
                     (SolveFault::Memory, false),
                 );

@@ -126,10 +126,10 @@ fn ranks_of_a_chain(rt: HostRuntime) {
     let board = board_of(&rt, rt.alloc(), CHAIN_OF_THREE);
     let space = Space::of(&board).expect(&rt, "a small board");
     assert!(rt; space.configurations() == 9 && space.pebbles() == 2 && space.labels() == 3);
-    assert_same(&rt, [1, 2], rank_of(&space, &[1, 2]), Some(5));
+    assert_same(&rt, "rank", rank_of(&space, &[1, 2]), Some(5));
     assert_same(&rt, "another label", space.with(5, 0, 2), 8);
-    assert_same(&rt, 5, space.dominator(&board, 5), Some(1));
-    assert_same(&rt, 8, space.dominator(&board, 8), None);
+    assert_same(&rt, "dominator of 5", space.dominator(&board, 5), Some(1));
+    assert_same(&rt, "dominator of 8", space.dominator(&board, 8), None);
 }
 
 #[test]
@@ -137,7 +137,7 @@ fn gaps_of_a_chain(rt: HostRuntime) {
     let board = board_of(&rt, rt.alloc(), CHAIN_OF_THREE);
     let space = Space::of(&board).expect(&rt, "a small board");
     assert!(rt; space.configurations() == 9 && space.pebbles() == 2 && space.gaps() == 6);
-    assert_same(&rt, 5, [space.gap(5, 0), space.gap(5, 1)], [2, 4]);
+    assert_same(&rt, "gaps", [space.gap(5, 0), space.gap(5, 1)], [2, 4]);
     assert_same(
         &rt,
         "pebbles",
@@ -156,7 +156,7 @@ fn answers_of_a_chain(rt: HostRuntime) {
         space.count_answers(&board, 4),
         space.next_answer(&board, 4, 0),
     );
-    assert_same(&rt, 4, answers, (3, 1, Some(2)));
+    assert_same(&rt, "gap 4", answers, (3, 1, Some(2)));
 }
 
 #[test]
@@ -171,8 +171,18 @@ fn sizes(rt: HostRuntime) {
 fn assert_answers(rt: &impl Abort, alloc: Global, text: &str) {
     let board = board_of(rt, alloc, text);
     let space = Space::of(&board).expect(rt, "a small board");
-    assert_same(rt, text, legal_by_definition(&board, &space), true);
-    assert_same(rt, text, answers_by_definition(&board, &space), true);
+    assert_same(
+        rt,
+        ("legal", text),
+        legal_by_definition(&board, &space),
+        true,
+    );
+    assert_same(
+        rt,
+        ("answers", text),
+        answers_by_definition(&board, &space),
+        true,
+    );
 }
 
 #[test]

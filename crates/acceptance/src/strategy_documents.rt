@@ -140,9 +140,24 @@ fn assert_best_at(rt: &impl Abort, board: &Board, values: &Values, rank: u32, wa
     requires { values.now ≡ board.now }
 {
     let [of_first, of_second] = wanted.answers;
-    assert_same(rt, rank, answer(board, values, rank, 0), Some(of_first));
-    assert_same(rt, rank, answer(board, values, rank, 1), Some(of_second));
-    assert_same(rt, rank, request(board, values, rank), Some(wanted.request));
+    assert_same(
+        rt,
+        ("pebble 0", rank),
+        answer(board, values, rank, 0),
+        Some(of_first),
+    );
+    assert_same(
+        rt,
+        ("pebble 1", rank),
+        answer(board, values, rank, 1),
+        Some(of_second),
+    );
+    assert_same(
+        rt,
+        ("request", rank),
+        request(board, values, rank),
+        Some(wanted.request),
+    );
 }
 
 /// Asserts what is best at configurations of a board of so many labels.

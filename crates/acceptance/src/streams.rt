@@ -141,11 +141,21 @@ fn write_through<W: Write + Drop>(inner: W) -> (Result<(), Failed>, bool, W) {
 #[test]
 fn writers_of_std(rt: HostRuntime) {
     let (answer, has_failed, _) = write_through(Broken);
-    assert_same(&rt, "a write", (answer, has_failed), (Err(Failed), true));
+    assert_same(
+        &rt,
+        "a broken writer",
+        (answer, has_failed),
+        (Err(Failed), true),
+    );
     let (answer, has_failed, _) = write_through(Cursor::new([0; 16]));
-    assert_same(&rt, "a write", (answer, has_failed), (Err(Failed), true));
+    assert_same(
+        &rt,
+        "too little room",
+        (answer, has_failed),
+        (Err(Failed), true),
+    );
     let (answer, has_failed, cursor) = write_through(Cursor::new([0; 17]));
-    assert_same(&rt, "a write", (answer, has_failed), (Ok(()), false));
+    assert_same(&rt, "room enough", (answer, has_failed), (Ok(()), false));
     let bytes = cursor.into_inner();
     assert_eq!(rt; bytes.as_slice(), TEXT);
 }

@@ -117,8 +117,8 @@ fn a_way_into_the_cycle(rt: HostRuntime) {
         let value = way_in_value(labels);
         let requests = value.unwrap_or(10);
         let lasts_so_long = lasts(&board, &mut labels, requests);
-        assert_same(&rt, rank, lasts_so_long, Some(true));
+        assert_same(&rt, ("so long", rank), lasts_so_long, Some(true));
         let lasts_longer = lasts(&board, &mut labels, requests.saturating_add(1));
-        assert_same(&rt, rank, lasts_longer, Some(value.is_none()));
+        assert_same(&rt, ("longer", rank), lasts_longer, Some(value.is_none()));
     }
 }
