@@ -1,5 +1,6 @@
 //! The faults of board texts.
 
+use crate::assertions::assert_same;
 use crate::texts::{ONE_PAIR, read_board};
 use board_text::{BoardFault, BoardKind};
 use std::alloc::Global;
@@ -24,7 +25,7 @@ fn fault_of(alloc: Global, text: &[u8]) -> Option<(u32, BoardKind)> {
 fn assert_faults(rt: &impl Abort, alloc: Global, line: u32, kind: BoardKind, texts: &[&str]) {
     for text in texts {
         let fault = fault_of(alloc, text.as_bytes());
-        assert_eq!(rt; fault, Some((line, kind)), "{text}");
+        assert_same(rt, *text, fault, Some((line, kind)));
     }
 }
 
@@ -103,9 +104,17 @@ fn starts(rt: HostRuntime) {
     assert_faults(&rt, rt.alloc(), 4, BoardKind::Start, &texts);
 }
 
+/// Asserts that each text has its fault.
+fn assert_each(rt: &impl Abort, alloc: Global, texts: &[(&str, u32, BoardKind)]) {
+    for (text, line, kind) in texts {
+        let fault = fault_of(alloc, text.as_bytes());
+        assert_same(rt, *text, fault, Some((*line, *kind)));
+    }
+}
+
 #[test]
 fn pairs_and_ends(rt: HostRuntime) {
-    for (text, line, kind) in [
+    let texts = [
         (after_head!(""), 5, BoardKind::End),
         (after_head!("e"), 5, BoardKind::End),
         (after_head!("end"), 5, BoardKind::End),
@@ -158,10 +167,8 @@ fn pairs_and_ends(rt: HostRuntime) {
         (after_head!("beats 1 0\nend\n\0"), 7, BoardKind::Trailing),
         (after_head!("beats 1 0\nend\n\n"), 7, BoardKind::Trailing),
         (after_head!("end\nend\n"), 6, BoardKind::Trailing),
-    ] {
-        let fault = fault_of(rt.alloc(), text.as_bytes());
-        assert_eq!(rt; fault, Some((line, kind)), "{text}");
-    }
+    ];
+    assert_each(&rt, rt.alloc(), &texts);
 }
 
 #[test]
@@ -194,7 +201,7 @@ fn cut_at_each_length(rt: HostRuntime) {
     assert_eq!(rt; text.len(), 51);
     for length in 0..text.len() {
         let fault = fault_of(rt.alloc(), &text[..length]);
-        assert_eq!(rt; fault, Some(cut_fault(length)), "{length} bytes");
+        assert_same(&rt, length, fault, Some(cut_fault(length)));
     }
-    assert_eq!(rt; fault_of(rt.alloc(), text), None);
+    assert_same(&rt, "the whole", fault_of(rt.alloc(), text), None);
 }

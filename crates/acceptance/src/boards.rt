@@ -1,8 +1,10 @@
 //! What boards say that are read from their texts.
 
+use crate::assertions::assert_same;
 use crate::texts::{LONE_LABEL, THREE_CYCLE, board_of, build_board, largest_text};
 use board_text::Board;
 use std::alloc::AllocError;
+use std::process::Abort;
 
 const ALL: u64 = u64::MAX;
 
@@ -63,22 +65,42 @@ fn has_dominators(board: &Board, label: u16, words: &[u64]) -> bool {
     label < board.labels() && board.dominators(label) == words
 }
 
+/// Asserts the words of the labels that dominate each of these.
+fn assert_dominators(rt: &impl Abort, board: &Board, wanted: &[(u16, [u64; 4])]) {
+    for (label, words) in wanted {
+        assert_same(rt, *label, has_dominators(board, *label, words), true);
+    }
+}
+
+/// Whether both are labels, the first dominates the second, and there is no other pair of the two.
+fn has_one_way(board: &Board, x: u16, y: u16) -> bool {
+    x < board.labels()
+        && y < board.labels()
+        && board.beats(x, y)
+        && !board.beats(y, x)
+        && !board.beats(x, x)
+}
+
+/// Asserts how many labels and pebbles a board has, and its start.
+fn assert_sizes(rt: &impl Abort, board: &Board, labels: u16, pebbles: u8, start: &[u16]) {
+    assert_same(rt, "labels", board.labels(), labels);
+    assert_same(rt, "pebbles", board.pebbles(), pebbles);
+    assert_eq!(rt; board.start(), start);
+}
+
 #[test]
 fn small_boards(rt: HostRuntime) {
     let board = board_of(&rt, rt.alloc(), THREE_CYCLE);
-    assert_eq!(rt; board.labels(), 3);
-    assert_eq!(rt; board.pebbles(), 2);
-    assert_eq!(rt; board.start(), [0, 0].as_slice());
+    assert_sizes(&rt, &board, 3, 2, &[0, 0]);
     assert!(rt; has_pairs(&board, &[(0, 2), (1, 0), (2, 1)]));
-    for (label, dominators) in [(0, 0b010), (1, 0b100), (2, 0b001)] {
-        assert!(rt;
-            has_dominators(&board, label, &[dominators, 0, 0, 0]),
-            "{label}"
-        );
-    }
+    let dominators = [
+        (0, [0b010, 0, 0, 0]),
+        (1, [0b100, 0, 0, 0]),
+        (2, [0b001, 0, 0, 0]),
+    ];
+    assert_dominators(&rt, &board, &dominators);
     let board = board_of(&rt, rt.alloc(), LONE_LABEL);
-    assert_eq!(rt; board.labels(), 1);
-    assert_eq!(rt; board.pebbles(), 1);
+    assert_sizes(&rt, &board, 1, 1, &[0]);
     assert!(rt; has_pairs(&board, &[]));
 }
 
@@ -86,23 +108,18 @@ fn small_boards(rt: HostRuntime) {
 fn the_largest_board(rt: HostRuntime) -> Result<(), AllocError> {
     let text = largest_text(rt.alloc())?;
     let board = board_of(&rt, rt.alloc(), text.as_str());
-    assert_eq!(rt; board.labels(), 256);
-    assert_eq!(rt; board.pebbles(), 6);
-    assert_eq!(rt; board.start(), [255, 128, 100, 64, 9, 0].as_slice());
+    assert_sizes(&rt, &board, 256, 6, &[255, 128, 100, 64, 9, 0]);
     for (x, y) in [(255, 0), (255, 254), (1, 0), (128, 127), (64, 63)] {
-        assert!(rt; x < 256 && y < 256);
-        assert!(rt; board.beats(x, y) && !board.beats(y, x), "{x} {y}");
-        assert!(rt; !board.beats(x, x), "{x}");
+        assert_same(&rt, (x, y), has_one_way(&board, x, y), true);
     }
-    for (label, words) in [
+    let dominators = [
         (0, [ALL - 1, ALL, ALL, ALL]),
         (100, [0, ALL << 37, ALL, ALL]),
         (127, [0, 0, ALL, ALL]),
         (254, [0, 0, 0, 1 << 63]),
         (255, [0, 0, 0, 0]),
-    ] {
-        assert!(rt; has_dominators(&board, label, &words), "{label}");
-    }
+    ];
+    assert_dominators(&rt, &board, &dominators);
     Ok(())
 }
 
@@ -114,10 +131,7 @@ fn a_cycle_of_cycles(rt: HostRuntime) {
     );
     assert!(rt; board.labels() == 9);
     for label in 0..9 {
-        assert_eq!(rt;
-            board.beats(0, label),
-            [2, 6, 7, 8].contains(&label),
-            "{label}"
-        );
+        let dominated = [2, 6, 7, 8].contains(&label);
+        assert_same(&rt, label, board.beats(0, label), dominated);
     }
 }

@@ -1,8 +1,10 @@
 //! Boards that are built of their parts, and the faults of such parts.
 
+use crate::assertions::assert_same;
 use crate::texts::{THREE_CYCLE, build_board, print_board};
 use board_text::BoardKind;
 use std::alloc::Global;
+use std::process::Abort;
 
 /// The fault of parts with two labels, two pebbles and these pairs, if they have one.
 fn fault_of_pairs(alloc: Global, pairs: &[(u16, u16)]) -> Option<(u32, BoardKind)> {
@@ -33,15 +35,27 @@ fn built_and_printed(rt: HostRuntime) {
     assert_eq!(rt; text.as_str(), THREE_CYCLE);
 }
 
+/// Asserts the fault of parts of which the only pair is faulty, too.
+fn assert_fault(
+    rt: &impl Abort,
+    alloc: Global,
+    labels: u16,
+    pebbles: u8,
+    start: &[u16],
+    fault: (u32, BoardKind),
+) {
+    let found = fault_of_parts(alloc, labels, pebbles, start, &[(0, 0)]);
+    assert_same(rt, (labels, pebbles, start), found, Some(fault));
+}
+
 #[test]
 fn faults_of_labels_pebbles_and_starts(rt: HostRuntime) {
+    let alloc = rt.alloc();
     for labels in [0, 257, 65_535] {
-        let fault = fault_of_parts(rt.alloc(), labels, 7, &[0], &[(0, 0)]);
-        assert_eq!(rt; fault, Some((2, BoardKind::Labels)), "{labels} labels");
+        assert_fault(&rt, alloc, labels, 7, &[0], (2, BoardKind::Labels));
     }
     for pebbles in [0, 7, 255] {
-        let fault = fault_of_parts(rt.alloc(), 2, pebbles, &[2], &[(0, 0)]);
-        assert_eq!(rt; fault, Some((3, BoardKind::Pebbles)), "{pebbles} pebbles");
+        assert_fault(&rt, alloc, 2, pebbles, &[2], (3, BoardKind::Pebbles));
     }
     for start in [
         [].as_slice(),
@@ -51,44 +65,28 @@ fn faults_of_labels_pebbles_and_starts(rt: HostRuntime) {
         &[0, 0, 0],
         &[0, 65_535],
     ] {
-        let fault = fault_of_parts(rt.alloc(), 2, 2, start, &[(0, 0)]);
-        assert_eq!(rt; fault, Some((4, BoardKind::Start)), "start {start:?}");
+        assert_fault(&rt, alloc, 2, 2, start, (4, BoardKind::Start));
     }
 }
 
+/// Pairs of two labels, and their fault, if they have one.
+const FAULTS_OF_PAIRS: &[(&[(u16, u16)], Option<(u32, BoardKind)>)] = &[
+    (&[], None),
+    (&[(1, 0)], None),
+    (&[(0, 2)], Some((5, BoardKind::Beats))),
+    (&[(2, 2)], Some((5, BoardKind::Beats))),
+    (&[(65_535, 0)], Some((5, BoardKind::Beats))),
+    (&[(1, 1)], Some((5, BoardKind::SelfBeat))),
+    (&[(0, 1), (1, 0)], Some((6, BoardKind::TwoWay))),
+    (&[(1, 0), (0, 1)], Some((6, BoardKind::TwoWay))),
+    (&[(1, 0), (1, 0)], Some((6, BoardKind::Order))),
+];
+
 #[test]
 fn faults_of_pairs(rt: HostRuntime) {
-    let alloc = rt.alloc();
-    assert_eq!(rt; fault_of_pairs(alloc, &[]), None);
-    assert_eq!(rt; fault_of_pairs(alloc, &[(1, 0)]), None);
-    assert_eq!(rt;
-        fault_of_pairs(alloc, &[(0, 2)]),
-        Some((5, BoardKind::Beats))
-    );
-    assert_eq!(rt;
-        fault_of_pairs(alloc, &[(2, 2)]),
-        Some((5, BoardKind::Beats))
-    );
-    assert_eq!(rt;
-        fault_of_pairs(alloc, &[(65_535, 0)]),
-        Some((5, BoardKind::Beats))
-    );
-    assert_eq!(rt;
-        fault_of_pairs(alloc, &[(1, 1)]),
-        Some((5, BoardKind::SelfBeat))
-    );
-    assert_eq!(rt;
-        fault_of_pairs(alloc, &[(0, 1), (1, 0)]),
-        Some((6, BoardKind::TwoWay))
-    );
-    assert_eq!(rt;
-        fault_of_pairs(alloc, &[(1, 0), (0, 1)]),
-        Some((6, BoardKind::TwoWay))
-    );
-    assert_eq!(rt;
-        fault_of_pairs(alloc, &[(1, 0), (1, 0)]),
-        Some((6, BoardKind::Order))
-    );
-    let fault = fault_of_parts(alloc, 3, 1, &[0], &[(0, 1), (1, 2), (0, 2)]);
-    assert_eq!(rt; fault, Some((7, BoardKind::Order)));
+    for (pairs, fault) in FAULTS_OF_PAIRS {
+        assert_same(&rt, *pairs, fault_of_pairs(rt.alloc(), pairs), *fault);
+    }
+    let found = fault_of_parts(rt.alloc(), 3, 1, &[0], &[(0, 1), (1, 2), (0, 2)]);
+    assert_same(&rt, "three labels", found, Some((7, BoardKind::Order)));
 }

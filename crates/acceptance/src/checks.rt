@@ -1,5 +1,6 @@
 //! What the checker says of documents.
 
+use crate::assertions::assert_same;
 use crate::documents::{
     CHAIN_LEAST_TWO, CHAIN_MOST_TWO, CHAIN_VALUE_TWO, CYCLE_FOREVER, PAIR_VALUE_ONE,
     THREE_PEBBLES_VALUE_ONE, WAY_IN_VALUE_ONE, check_text,
@@ -23,7 +24,7 @@ fn assert_checked(
 ) {
     let board = board_of(rt, alloc, board);
     let answer = check_text(rt, alloc, &board, text.as_bytes()).expect(rt, "a document");
-    assert_eq!(rt; answer, wanted.map(|claim| Shown { claim }), "{text}");
+    assert_same(rt, text, answer, wanted.map(|claim| Shown { claim }));
 }
 
 /// Asserts that the checker accepts each document with its claim.

@@ -1,5 +1,6 @@
 //! Documents that are read and printed, and the faults of those that are none.
 
+use crate::assertions::assert_same;
 use crate::documents::{
     CHAIN_LEAST_TWO, CHAIN_MOST_TWO, CHAIN_VALUE_TWO, CYCLE_FOREVER, PAIR_VALUE_ONE,
     THREE_PEBBLES_VALUE_ONE, WAY_IN_VALUE_ONE, print_document, read_document,
@@ -51,7 +52,7 @@ fn fault_of(alloc: Global, space: &Space, text: &[u8]) -> Option<(u32, ProofKind
 fn assert_faults(rt: &impl Abort, alloc: Global, space: &Space, texts: &[(&str, u32, ProofKind)]) {
     for (text, line, kind) in texts {
         let fault = fault_of(alloc, space, text.as_bytes());
-        assert_eq!(rt; fault, Some((*line, *kind)), "{text}");
+        assert_same(rt, *text, fault, Some((*line, *kind)));
     }
 }
 
@@ -66,8 +67,16 @@ fn assert_fronts(
     for length in 0..text.len() {
         let wanted = faults.iter().rev().find(|fault| fault.0 <= length);
         let wanted = wanted.map(|fault| (fault.1, fault.2));
-        assert_eq!(rt; fault_of(alloc, space, &text[..length]), wanted, "{length}");
+        assert_same(rt, length, fault_of(alloc, space, &text[..length]), wanted);
     }
+}
+
+/// Asserts that a document for the board is printed as it was read.
+fn assert_printed(rt: &impl Abort, alloc: Global, board: &str, text: &str) {
+    let space = space_of(rt, alloc, board);
+    let proof = read_document(alloc, &space, text.as_bytes()).expect(rt, "a document");
+    let again = print_document(alloc, &space, &proof).expect(rt, "the text of a document");
+    assert_same(rt, text, again.as_str(), text);
 }
 
 #[test]
@@ -81,11 +90,7 @@ fn documents_are_printed_as_they_were_read(rt: HostRuntime) {
         (CHAIN_OF_THREE, CHAIN_LEAST_TWO),
         (CHAIN_OF_THREE, CHAIN_MOST_TWO),
     ] {
-        let alloc = rt.alloc();
-        let space = space_of(&rt, alloc, board);
-        let proof = read_document(alloc, &space, text.as_bytes()).expect(&rt, "a document");
-        let again = print_document(alloc, &space, &proof).expect(&rt, "the text of a document");
-        assert_eq!(&rt; again.as_str(), text);
+        assert_printed(&rt, rt.alloc(), board, text);
     }
 }
 
@@ -96,25 +101,21 @@ fn rows_by_rank(rt: HostRuntime) {
         &rt,
         "a document",
     );
-    assert_eq!(&rt; proof.claim, Claim::Exactly(2));
-    assert_eq!(&rt; proof.labeller.len(), 3);
-    assert_eq!(&rt; proof.adversary.len(), 4);
-    assert_eq!(&rt;
-        proof.labeller.get(1),
-        Some(&LabellerRow {
-            at: 1,
-            turns: Turns::Count(1),
-            take: [2, 1, 0, 0, 0, 0],
-        })
-    );
-    assert_eq!(&rt;
-        proof.adversary.get(2),
-        Some(&AdversaryRow {
-            at: 5,
-            left: 0,
-            ask: 0,
-        })
-    );
+    assert_same(&rt, "claim", proof.claim, Claim::Exactly(2));
+    assert_same(&rt, "answers", proof.labeller.len(), 3);
+    assert_same(&rt, "requests", proof.adversary.len(), 4);
+    let answer = LabellerRow {
+        at: 1,
+        turns: Turns::Count(1),
+        take: [2, 1, 0, 0, 0, 0],
+    };
+    assert_same(&rt, "answer", proof.labeller.get(1), Some(&answer));
+    let request = AdversaryRow {
+        at: 5,
+        left: 0,
+        ask: 0,
+    };
+    assert_same(&rt, "request", proof.adversary.get(2), Some(&request));
 }
 
 #[test]

@@ -4,6 +4,7 @@
 
 ghost use Rattle.std.specs.Prelude.{◌≡◌, ◌<◌};
 
+use crate::assertions::assert_same;
 use board_text::Memory;
 use index_lists::{LinkLists, ListStore, PlainLists};
 use std::alloc::Global;
@@ -113,26 +114,55 @@ fn is_loose<S: ListStore>(store: &S, node: u32) -> bool
     store.home(node).is_none() && store.next(node).is_none() && store.prev(node).is_none()
 }
 
+/// Whether the two lists of a store are read as these nodes.
+fn both_read_as<S: ListStore>(store: &S, first: &[u32], second: &[u32]) -> bool
+    requires { S.lists store.now ≡ 2 }
+{
+    reads_as(store, 0, first) && reads_as(store, 1, second)
+}
+
+/// Pushes of three nodes out of four, of which one is unlinked.
+fn push_and_unlink<S: ListStore>(rt: &impl Abort, store: &mut S)
+    requires nodes { S.nodes store.old ≡ 4 }
+    requires lists { S.lists store.old ≡ 2 }
+    ensures nodes { S.nodes store.new ≡ 4 }
+    ensures lists { S.lists store.new ≡ 2 }
+{
+    assert!(rt; both_read_as(store, &[], &[]));
+    assert!(rt; push(store, 0, 3) & push(store, 0, 1) & push(store, 0, 2));
+    assert!(rt; reads_as(store, 0, &[3, 1, 2]));
+    assert!(rt; unlink(store, 1));
+    assert!(rt; reads_as(store, 0, &[3, 2]) && is_loose(store, 1));
+    let around = [store.next(3), store.prev(2), store.home(1)];
+    assert_same(
+        rt,
+        "behind 3, before 2, home of 1",
+        around,
+        [Some(2), Some(3), None],
+    );
+}
+
+/// Moves of nodes from a list with 3 and 2 to another.
+fn move_between<S: ListStore>(rt: &impl Abort, store: &mut S)
+    requires nodes { S.nodes store.old ≡ 4 }
+    requires lists { S.lists store.old ≡ 2 }
+{
+    store.move_to(3, 1);
+    assert!(rt; both_read_as(store, &[2], &[3]));
+    store.move_to(2, 0);
+    assert!(rt; both_read_as(store, &[2], &[3]));
+    store.move_to(1, 1);
+    store.move_to(3, 1);
+    assert!(rt; both_read_as(store, &[2], &[1, 3]) && is_loose(store, 0));
+}
+
 /// Pushes, unlinks and moves of four nodes in two lists.
 fn four_nodes<S: ListStore>(rt: &impl Abort, store: &mut S)
     requires nodes { S.nodes store.old ≡ 4 }
     requires lists { S.lists store.old ≡ 2 }
 {
-    assert!(rt; reads_as(store, 0, &[]) && reads_as(store, 1, &[]));
-    assert!(rt; push(store, 0, 3) && push(store, 0, 1) && push(store, 0, 2));
-    assert!(rt; reads_as(store, 0, &[3, 1, 2]));
-    assert!(rt; unlink(store, 1));
-    assert!(rt; reads_as(store, 0, &[3, 2]) && is_loose(store, 1));
-    assert_eq!(rt; store.next(3), Some(2));
-    assert_eq!(rt; store.prev(2), Some(3));
-    assert_eq!(rt; store.home(1), None);
-    store.move_to(3, 1);
-    assert!(rt; reads_as(store, 0, &[2]) && reads_as(store, 1, &[3]));
-    store.move_to(2, 0);
-    assert!(rt; reads_as(store, 0, &[2]) && reads_as(store, 1, &[3]));
-    store.move_to(1, 1);
-    store.move_to(3, 1);
-    assert!(rt; reads_as(store, 0, &[2]) && reads_as(store, 1, &[1, 3]) && is_loose(store, 0));
+    push_and_unlink(rt, store);
+    move_between(rt, store);
 }
 
 /// Both ends of a list of three nodes are unlinked, and one comes back.
@@ -140,23 +170,27 @@ fn three_nodes<S: ListStore>(rt: &impl Abort, store: &mut S)
     requires nodes { S.nodes store.old ≡ 3 }
     requires lists { S.lists store.old ≡ 1 }
 {
-    assert!(rt; push(store, 0, 0) && push(store, 0, 1) && push(store, 0, 2));
-    assert!(rt; unlink(store, 0) && unlink(store, 2));
-    assert_eq!(rt; (store.first(0), store.last(0)), (Some(1), Some(1)));
-    assert_eq!(rt; (store.next(1), store.prev(1)), (None, None));
-    assert_eq!(rt; store.len(0), 1);
+    assert!(rt; push(store, 0, 0) & push(store, 0, 1) & push(store, 0, 2));
+    assert!(rt; unlink(store, 0) & unlink(store, 2));
+    let ends = [store.first(0), store.last(0), store.next(1), store.prev(1)];
+    assert_same(rt, "ends", ends, [Some(1), Some(1), None, None]);
+    assert_same(rt, "length", store.len(0), 1);
     assert!(rt; push(store, 0, 0));
     assert!(rt; reads_as(store, 0, &[1, 0]));
-    assert_eq!(rt; store.prev(0), Some(1));
+    assert_same(rt, "before 0", store.prev(0), Some(1));
 }
 
-/// Stores of no node or no list, and of one of each.
-fn small_stores<S: ListStore + Drop>(rt: &impl Abort, alloc: Global) {
+/// Stores of no node or no list.
+fn empty_stores<S: ListStore + Drop>(rt: &impl Abort, alloc: Global) {
     let _nothing: S = make(rt, alloc, 0, 0);
     let no_node: S = make(rt, alloc, 0, 1);
     assert!(rt; reads_as(&no_node, 0, &[]));
     let no_list: S = make(rt, alloc, 1, 0);
     assert!(rt; is_loose(&no_list, 0));
+}
+
+/// A store of one node and one list.
+fn one_node<S: ListStore + Drop>(rt: &impl Abort, alloc: Global) {
     let mut one: S = make(rt, alloc, 1, 1);
     assert!(rt; push(&mut one, 0, 0) && reads_as(&one, 0, &[0]));
     one.move_to(0, 0);
@@ -240,8 +274,10 @@ fn ends_of_a_list(rt: HostRuntime) {
 
 #[test]
 fn smallest_sizes(rt: HostRuntime) {
-    small_stores::<PlainLists>(&rt, rt.alloc());
-    small_stores::<LinkLists>(&rt, rt.alloc());
+    empty_stores::<PlainLists>(&rt, rt.alloc());
+    empty_stores::<LinkLists>(&rt, rt.alloc());
+    one_node::<PlainLists>(&rt, rt.alloc());
+    one_node::<LinkLists>(&rt, rt.alloc());
 }
 
 #[test]

@@ -1,5 +1,6 @@
 //! Documents of a thousand rows in each section, with a fault in one of them.
 
+use crate::assertions::assert_same;
 use crate::documents::check_text;
 use crate::texts::build_board;
 use board_text::Board;
@@ -132,7 +133,7 @@ fn assert_checked(
         alloc, labeller, adversary,
     ))?;
     let answer = check_text(rt, alloc, &board, text.as_bytes()).expect(rt, "a document");
-    assert_eq!(rt; answer, wanted);
+    assert_same(rt, (labeller.at, adversary.at), answer, wanted);
     Ok(())
 }
 

@@ -4,6 +4,7 @@ ghost use Rattle.std.specs.Prelude.{◌≡◌, IfOk, IfSome, string_bytes};
 ghost use Rattle.board_text.specs.Ranges.{InRange};
 ghost use Rattle.nested_cycles.specs.NestedBoard.{IsNestedBoard};
 
+use crate::assertions::assert_same;
 use crate::texts::{LONE_LABEL, THREE_CYCLE, THREE_PEBBLES, board_of, print_board};
 use board_text::{Board, Memory, parse, print};
 use nested_cycles::{nested_beats, nested_board};
@@ -22,12 +23,21 @@ fn make_board(alloc: Global, levels: u8, pebbles: u8) -> Result<Board, Memory>
     }
 }
 
+/// The nested board of a level.
+pub(crate) fn nested(rt: &impl Abort, alloc: Global, levels: u8, pebbles: u8) -> Board
+    requires levels { InRange 1 6 levels }
+    requires pebbles { InRange 1 6 pebbles }
+    ensures { IsNestedBoard levels pebbles result }
+{
+    make_board(alloc, levels, pebbles).expect(rt, "a nested board")
+}
+
 /// The text of the nested board of a level.
 fn nested_text(rt: &impl Abort, alloc: Global, levels: u8, pebbles: u8) -> String
     requires levels { InRange 1 6 levels }
     requires pebbles { InRange 1 6 pebbles }
 {
-    let board = make_board(alloc, levels, pebbles).expect(rt, "a nested board");
+    let board = nested(rt, alloc, levels, pebbles);
     print_board(alloc, &board).expect(rt, "the text of a board")
 }
 
@@ -48,44 +58,53 @@ fn print_again(alloc: Global, text: &str) -> Option<String>
     print(alloc, &board).ok()
 }
 
+/// Asserts the text of the nested board of a level.
+fn assert_text(rt: &impl Abort, alloc: Global, levels: u8, pebbles: u8, wanted: &str)
+    requires levels { InRange 1 6 levels }
+    requires pebbles { InRange 1 6 pebbles }
+{
+    let text = nested_text(rt, alloc, levels, pebbles);
+    assert_eq!(rt; text.as_str(), wanted);
+}
+
 #[test]
 fn the_smallest_levels(rt: HostRuntime) {
-    let alloc = rt.alloc();
-    assert_eq!(rt; nested_text(&rt, alloc, 1, 1).as_str(), LONE_LABEL);
-    assert_eq!(rt; nested_text(&rt, alloc, 2, 2).as_str(), THREE_CYCLE);
-    assert_eq!(rt; nested_text(&rt, alloc, 2, 3).as_str(), THREE_PEBBLES);
+    assert_text(&rt, rt.alloc(), 1, 1, LONE_LABEL);
+    assert_text(&rt, rt.alloc(), 2, 2, THREE_CYCLE);
+    assert_text(&rt, rt.alloc(), 2, 3, THREE_PEBBLES);
 }
 
 #[test]
 fn labels_that_the_first_dominates(rt: HostRuntime) {
-    let board = make_board(rt.alloc(), 3, 3).expect(&rt, "a nested board");
+    let board = nested(&rt, rt.alloc(), 3, 3);
     assert!(rt; board.labels() == 9);
     for label in 0..9 {
         let dominated = [2, 6, 7, 8].contains(&label);
-        assert_eq!(rt; board.beats(0, label), dominated, "{label}");
-        assert_eq!(rt; nested_beats(3, 0, u64::from(label)), dominated, "{label}");
+        assert_same(&rt, ("board", label), board.beats(0, label), dominated);
+        let beats = nested_beats(3, 0, u64::from(label));
+        assert_same(&rt, ("words", label), beats, dominated);
     }
+}
+
+/// Asserts how many lines the text of a nested board has, and how many labels and pebbles the board that is read from it.
+fn assert_lines(rt: &impl Abort, alloc: Global, levels: u8, labels: u16, lines: usize)
+    requires { InRange 1 6 levels }
+{
+    let text = nested_text(rt, alloc, levels, levels);
+    assert_same(rt, ("lines", levels), text.as_str().lines().count(), lines);
+    let board = board_of(rt, alloc, text.as_str());
+    assert_same(rt, ("labels", levels), board.labels(), labels);
+    assert_same(rt, ("pebbles", levels), board.pebbles(), levels);
 }
 
 #[test]
 fn numbers_of_lines(rt: HostRuntime) {
-    for (levels, labels, lines) in [(5, 81, 3_245), (6, 243, 29_408)] {
-        let text = nested_text(&rt, rt.alloc(), levels, levels);
-        assert_eq!(rt; text.as_str().lines().count(), lines, "{levels}");
-        let board = board_of(&rt, rt.alloc(), text.as_str());
-        assert_eq!(rt; board.labels(), labels);
-        assert_eq!(rt; board.pebbles(), levels);
-    }
+    assert_lines(&rt, rt.alloc(), 5, 81, 3_245);
+    assert_lines(&rt, rt.alloc(), 6, 243, 29_408);
 }
 
-#[test]
-fn what_is_printed_is_read_again(rt: HostRuntime) {
-    let made = make_board(rt.alloc(), 4, 4).expect(&rt, "a nested board");
-    let board = read_again(rt.alloc(), &made)
-        .or_else(|| read_again(rt.alloc(), &made))
-        .expect(&rt, "a board of a text");
-    assert_eq!(rt; board.labels(), 27);
-    assert_eq!(rt; board.start(), [0, 0, 0, 0].as_slice());
+/// How many pairs the board has.
+fn count_pairs(board: &Board) -> u32 {
     let mut pairs = 0_u32;
     for x in 0..board.labels() {
         for y in 0..board.labels() {
@@ -94,12 +113,33 @@ fn what_is_printed_is_read_again(rt: HostRuntime) {
             }
         }
     }
-    assert_eq!(rt; pairs, 351);
+    pairs
+}
+
+/// Asserts that the text is printed as it was read.
+fn assert_printed_again(rt: &impl Abort, alloc: Global, text: &str) {
+    let again = print_again(alloc, text)
+        .or_else(|| print_again(alloc, text))
+        .expect(rt, "the text of a board");
+    assert_eq!(rt; again.as_str(), text);
+}
+
+/// The board that is read from the text of this one.
+fn board_again(rt: &impl Abort, alloc: Global, board: &Board) -> Board {
+    read_again(alloc, board)
+        .or_else(|| read_again(alloc, board))
+        .expect(rt, "a board of a text")
+}
+
+#[test]
+fn what_is_printed_is_read_again(rt: HostRuntime) {
+    let made = nested(&rt, rt.alloc(), 4, 4);
+    let board = board_again(&rt, rt.alloc(), &made);
+    assert_same(&rt, "labels", board.labels(), 27);
+    assert_eq!(rt; board.start(), [0, 0, 0, 0].as_slice());
+    assert_same(&rt, "pairs", count_pairs(&board), 351);
     let text = nested_text(&rt, rt.alloc(), 4, 4);
-    let again = print_again(rt.alloc(), text.as_str())
-        .or_else(|| { print_again(rt.alloc(), text.as_str()) })
-        .expect(&rt, "the text of a board");
-    assert_eq!(rt; again.as_str(), text.as_str());
+    assert_printed_again(&rt, rt.alloc(), text.as_str());
 }
 
 #[test]

@@ -1,5 +1,6 @@
 //! Boards that are read, printed and read again.
 
+use crate::assertions::assert_same;
 use crate::texts::{
     CHAIN_OF_THREE, CYCLE_WITH_A_WAY_IN, LONE_LABEL, NO_PAIRS, ONE_PAIR, SHARED_LABEL, THREE_CYCLE,
     THREE_PEBBLES, board_of, largest_text, print_board,
@@ -11,7 +12,7 @@ use std::process::Abort;
 fn assert_printed(rt: &impl Abort, alloc: Global, text: &str) {
     let board = board_of(rt, alloc, text);
     let again = print_board(alloc, &board).expect(rt, "the text of a board");
-    assert_eq!(rt; again.as_str(), text);
+    assert_same(rt, text, again.as_str(), text);
 }
 
 #[test]

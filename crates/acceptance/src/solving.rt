@@ -2,6 +2,7 @@
 //!
 //! A run of the tests may refuse one growth of memory, whichever. So a call that was refused one is made once more.
 
+use crate::assertions::assert_same;
 use crate::texts::{
     CHAIN_OF_THREE, LONE_LABEL, ONE_PAIR, SHARED_LABEL, THREE_CYCLE, THREE_PEBBLES, board_of,
 };
@@ -27,18 +28,14 @@ pub(crate) fn open<S: ListStore + Drop>(
 }
 
 /// The values of a board, after as many rounds as it takes.
-pub(crate) fn solve<S: ListStore + Drop>(
-    rt: &impl Abort,
-    alloc: Global,
-    board: &Board,
-) -> Option<Values> {
+pub(crate) fn solve<S: ListStore + Drop>(rt: &impl Abort, alloc: Global, board: &Board) -> Values {
     let mut solver: Solver<S> = open(rt, alloc, board);
     for _ in 0..=solver.space().configurations() {
         if solver.round() == Progress::Done {
             break;
         }
     }
-    solver.finish().ok()
+    solver.finish().ok().expect(rt, "values")
 }
 
 /// The value that a solver has for a rank, if it is one.
@@ -81,22 +78,35 @@ pub(crate) fn slow_value(board: &Board, space: &Space, rank: u32) -> Option<Valu
     value_at(board, labels.get_mut(..pebbles as usize)?)
 }
 
+/// Asserts the values that a solver has for the ranks from 0 on.
+fn assert_known<S: ListStore>(rt: &impl Abort, solver: &Solver<S>, wanted: [u32; 9]) {
+    for rank in 0..9 {
+        assert_same(rt, rank, known(solver, rank), Some(wanted[rank as usize]));
+    }
+}
+
+/// Asserts what two rounds answer, and whether the solver is done then.
+fn assert_two_rounds<S: ListStore>(
+    rt: &impl Abort,
+    solver: &mut Solver<S>,
+    wanted: [Progress; 2],
+    done: bool,
+) {
+    let rounds = [solver.round(), solver.round()];
+    assert_same(rt, "rounds", (rounds, solver.done()), (wanted, done));
+}
+
 /// A chain of three labels, round by round.
 fn chain<S: ListStore + Drop>(rt: &impl Abort, alloc: Global) {
     let board = board_of(rt, alloc, CHAIN_OF_THREE);
     let mut solver: Solver<S> = open(rt, alloc, &board);
-    assert_eq!(rt; known(&solver, 5), Some(0));
-    assert_eq!(rt; known(&solver, 0), None);
-    assert_eq!(rt; solver.round(), Progress::Filed(3));
-    assert_eq!(rt; solver.round(), Progress::Filed(1));
-    assert!(rt; !solver.done());
-    assert_eq!(rt; solver.round(), Progress::Done);
-    assert_eq!(rt; solver.round(), Progress::Done);
-    assert!(rt; solver.done());
-    assert_eq!(rt; solver.round_number(), 2);
-    for (rank, number) in [2, 1, 0, 1, 1, 0, 0, 0, 0].into_iter().enumerate() {
-        assert_eq!(rt; known(&solver, rank as u32), Some(number));
-    }
+    assert_same(rt, "rank 5 at first", known(&solver, 5), Some(0));
+    assert_same(rt, "rank 0 at first", known(&solver, 0), None);
+    let filed = [Progress::Filed(3), Progress::Filed(1)];
+    assert_two_rounds(rt, &mut solver, filed, false);
+    assert_two_rounds(rt, &mut solver, [Progress::Done, Progress::Done], true);
+    assert_same(rt, "the last round", solver.round_number(), 2);
+    assert_known(rt, &solver, [2, 1, 0, 1, 1, 0, 0, 0, 0]);
 }
 
 #[test]
@@ -105,26 +115,45 @@ fn chain_of_three(rt: HostRuntime) {
     chain::<LinkLists>(&rt, rt.alloc());
 }
 
-#[test]
-fn unfinished(rt: HostRuntime) {
-    let board = board_of(&rt, rt.alloc(), ONE_PAIR);
-    let solver: Solver<LinkLists> = open(&rt, rt.alloc(), &board);
+/// The number of rounds of a solver that isn't done.
+fn unfinished_rounds<S: ListStore + Drop>(solver: Solver<S>) -> Option<u32> {
     match solver.finish() {
-        Ok(_) => panic!(&rt; "it is not done"),
-        Err(unfinished) => assert_eq!(&rt; unfinished.solver.round_number(), 0),
+        Ok(_) => None,
+        Err(unfinished) => Some(unfinished.solver.round_number()),
     }
 }
 
 #[test]
+fn unfinished(rt: HostRuntime) {
+    let board = board_of(&rt, rt.alloc(), ONE_PAIR);
+    let solver: Solver<LinkLists> = open(&rt, rt.alloc(), &board);
+    assert_eq!(&rt; unfinished_rounds(solver), Some(0));
+}
+
+/// The value of the first configuration of the board with this text, and the safe answer of the first gap.
+fn first_value(rt: &impl Abort, alloc: Global, text: &str) -> (Option<Value>, Option<u16>) {
+    let board = board_of(rt, alloc, text);
+    let values = solve::<LinkLists>(rt, alloc, &board);
+    (value(&values, 0), safe(&values, 0))
+}
+
+#[test]
 fn one_label(rt: HostRuntime) {
-    let lone = solve::<LinkLists>(&rt, rt.alloc(), &board_of(&rt, rt.alloc(), LONE_LABEL));
-    let values = lone.expect(&rt, "values");
-    assert_eq!(&rt; value(&values, 0), Some(Value::Forever));
-    assert_eq!(&rt; safe(&values, 0), Some(0));
-    let shared = solve::<LinkLists>(&rt, rt.alloc(), &board_of(&rt, rt.alloc(), SHARED_LABEL));
-    let values = shared.expect(&rt, "values");
-    assert_eq!(&rt; value(&values, 0), Some(Value::Finite(0)));
-    assert_eq!(&rt; safe(&values, 0), None);
+    let lone = first_value(&rt, rt.alloc(), LONE_LABEL);
+    assert_same(&rt, LONE_LABEL, lone, (Some(Value::Forever), Some(0)));
+    let shared = first_value(&rt, rt.alloc(), SHARED_LABEL);
+    assert_same(&rt, SHARED_LABEL, shared, (Some(Value::Finite(0)), None));
+}
+
+/// Asserts that each configuration has the value of the slow program, with both stores.
+pub(crate) fn assert_solved(rt: &impl Abort, alloc: Global, board: &Board) {
+    let linked = solve::<LinkLists>(rt, alloc, board);
+    let plain = solve::<PlainLists>(rt, alloc, board);
+    for rank in 0..linked.space().configurations() {
+        let expected = slow_value(board, linked.space(), rank);
+        assert_same(rt, ("linked", rank), value(&linked, rank), expected);
+        assert_same(rt, ("plain", rank), value(&plain, rank), expected);
+    }
 }
 
 #[test]
@@ -138,12 +167,6 @@ fn small_boards(rt: HostRuntime) {
         THREE_PEBBLES,
     ] {
         let board = board_of(&rt, rt.alloc(), text);
-        let linked = solve::<LinkLists>(&rt, rt.alloc(), &board).expect(&rt, "values");
-        let plain = solve::<PlainLists>(&rt, rt.alloc(), &board).expect(&rt, "values");
-        for rank in 0..linked.space().configurations() {
-            let expected = slow_value(&board, linked.space(), rank);
-            assert_eq!(&rt; value(&linked, rank), expected);
-            assert_eq!(&rt; value(&plain, rank), expected);
-        }
+        assert_solved(&rt, rt.alloc(), &board);
     }
 }

@@ -2,11 +2,12 @@
 //!
 //! A run of the tests may refuse one growth of memory, whichever.
 
+use crate::assertions::assert_same;
+use crate::nested::nested;
 use crate::solving::{open, solve};
 use crate::texts::{CHAIN_OF_THREE, CYCLE_WITH_A_WAY_IN, NO_PAIRS, THREE_PEBBLES, board_of};
 use board_text::Board;
 use index_lists::{LinkLists, ListStore, PlainLists};
-use nested_cycles::nested_board;
 use positions::Value;
 use retro_core::{Progress, SolveFault, Solver, Values};
 use std::alloc::Global;
@@ -62,34 +63,85 @@ fn dominator<S: ListStore>(solver: &Solver<S>, rank: u32) -> Option<u8> {
     }
 }
 
+/// Asserts the first configurations that are filed at values.
+fn assert_filed<S: ListStore>(
+    rt: &impl Abort,
+    solver: &Solver<S>,
+    wanted: &[(u32, [Option<u32>; 6])],
+) {
+    for (value, ranks) in wanted {
+        assert_same(rt, ("filed at", *value), filed(solver, *value), *ranks);
+    }
+}
+
+/// Asserts the first members of gaps without a value.
+fn assert_first_sources<S: ListStore>(
+    rt: &impl Abort,
+    solver: &Solver<S>,
+    wanted: &[(u32, Option<u32>)],
+) {
+    for (gap, rank) in wanted {
+        assert_same(rt, ("first of", *gap), first_source(solver, *gap), *rank);
+    }
+}
+
+/// Asserts what stands behind members of gaps without a value.
+fn assert_next_sources<S: ListStore>(
+    rt: &impl Abort,
+    solver: &Solver<S>,
+    wanted: &[(u32, u32, Option<u32>)],
+) {
+    for (gap, rank, next) in wanted {
+        let found = next_source(solver, *gap, *rank);
+        assert_same(rt, (*gap, *rank), found, *next);
+    }
+}
+
+/// Asserts the counts of gaps.
+fn assert_counts_of_gaps<S: ListStore>(rt: &impl Abort, solver: &Solver<S>, wanted: &[(u32, u32)]) {
+    for (gap, count) in wanted {
+        assert_same(rt, ("count of", *gap), count_of(solver, *gap), Some(*count));
+    }
+}
+
+/// The configurations of the chain of three labels with a request that has no answer.
+const STUCK: [Option<u32>; 6] = [Some(2), Some(5), Some(6), Some(7), Some(8), None];
+
+/// Asserts the lists of a chain of three labels before its first round.
+fn assert_lists_before<S: ListStore>(rt: &impl Abort, solver: &Solver<S>) {
+    assert_same(rt, ("dominator of", 5), dominator(solver, 5), Some(1));
+    assert_same(rt, ("dominator of", 8), dominator(solver, 8), None);
+    assert_filed(rt, solver, &[(0, STUCK), (1, [None; 6])]);
+    // Gap 4 is pebble 1 where pebble 0 is on label 1. Its member with label 2 is stuck.
+    assert_first_sources(rt, solver, &[(4, Some(3))]);
+    assert_next_sources(rt, solver, &[(4, 3, Some(4)), (4, 4, None), (4, 5, None)]);
+    // Rank 0 waits in the gap before, and rank 1 behind it.
+    assert_next_sources(rt, solver, &[(3, 0, Some(1)), (4, 0, None)]);
+    assert_counts_of_gaps(rt, solver, &[(4, 1), (3, 2)]);
+}
+
+/// Asserts the lists of a chain of three labels after its first round.
+fn assert_lists_after<S: ListStore>(rt: &impl Abort, solver: &Solver<S>) {
+    assert_filed(rt, solver, &[(0, STUCK)]);
+    assert_same(
+        rt,
+        "filed at 1",
+        filed(solver, 1).iter().flatten().count(),
+        3,
+    );
+    assert_first_sources(rt, solver, &[(4, None), (3, Some(0))]);
+    assert_next_sources(rt, solver, &[(3, 0, None)]);
+    // One answer leads to a value of at least 1: label 1, which leads to rank 1.
+    assert_counts_of_gaps(rt, solver, &[(4, 0), (3, 1)]);
+}
+
 /// The lists of a chain of three labels, before and after its first round.
 fn lists_of_a_chain<S: ListStore + Drop>(rt: &impl Abort, alloc: Global) {
     let board = board_of(rt, alloc, CHAIN_OF_THREE);
     let mut solver: Solver<S> = open(rt, alloc, &board);
-    assert_eq!(rt; dominator(&solver, 5), Some(1));
-    assert_eq!(rt; dominator(&solver, 8), None);
-    let stuck = [Some(2), Some(5), Some(6), Some(7), Some(8), None];
-    assert_eq!(rt; filed(&solver, 0), stuck);
-    assert_eq!(rt; filed(&solver, 1), [None; 6]);
-    // Gap 4 is pebble 1 where pebble 0 is on label 1. Its member with label 2 is stuck.
-    assert_eq!(rt; first_source(&solver, 4), Some(3));
-    assert_eq!(rt; next_source(&solver, 4, 3), Some(4));
-    assert_eq!(rt; next_source(&solver, 4, 4), None);
-    assert_eq!(rt; next_source(&solver, 4, 5), None);
-    // Rank 0 waits in the gap before, and rank 1 behind it.
-    assert_eq!(rt; next_source(&solver, 3, 0), Some(1));
-    assert_eq!(rt; next_source(&solver, 4, 0), None);
-    assert_eq!(rt; count_of(&solver, 4), Some(1));
-    assert_eq!(rt; count_of(&solver, 3), Some(2));
-    assert_eq!(rt; solver.round(), Progress::Filed(3));
-    assert_eq!(rt; filed(&solver, 0), stuck);
-    assert_eq!(rt; filed(&solver, 1).iter().flatten().count(), 3);
-    assert_eq!(rt; first_source(&solver, 4), None);
-    assert_eq!(rt; first_source(&solver, 3), Some(0));
-    assert_eq!(rt; next_source(&solver, 3, 0), None);
-    // One answer leads to a value of at least 1: label 1, which leads to rank 1.
-    assert_eq!(rt; count_of(&solver, 4), Some(0));
-    assert_eq!(rt; count_of(&solver, 3), Some(1));
+    assert_lists_before(rt, &solver);
+    assert_same(rt, "the first round", solver.round(), Progress::Filed(3));
+    assert_lists_after(rt, &solver);
 }
 
 #[test]
@@ -98,20 +150,29 @@ fn lists(rt: HostRuntime) {
     lists_of_a_chain::<LinkLists>(&rt, rt.alloc());
 }
 
+/// What the first rounds of a solver answer.
+fn first_rounds<S: ListStore + Drop>(
+    alloc: Global,
+    board: &Board,
+) -> Result<[Progress; 3], SolveFault> {
+    let mut solver: Solver<S> = Solver::open(alloc, board)?;
+    Ok([solver.round(), solver.round(), solver.round()])
+}
+
 /// Opens a solver some times. At most one growth of memory is refused, and then that call says so and the others give a solver.
 fn open_in_turn<S: ListStore + Drop>(rt: &impl Abort, alloc: Global, board: &Board) {
+    let wanted = [Progress::Filed(3), Progress::Filed(1), Progress::Done];
     let mut was_refused = false;
     for _ in 0..3 {
-        let opened: Result<Solver<S>, SolveFault> = Solver::open(alloc, board);
-        match opened {
-            Ok(mut solver) => {
-                assert_eq!(rt; solver.round(), Progress::Filed(3));
-                assert_eq!(rt; solver.round(), Progress::Filed(1));
-                assert_eq!(rt; solver.round(), Progress::Done);
-            }
+        match first_rounds::<S>(alloc, board) {
+            Ok(rounds) => assert_same(rt, "rounds", rounds, wanted),
             Err(fault) => {
-                assert_eq!(rt; fault, SolveFault::Memory);
-                assert!(rt; !was_refused);
+                assert_same(
+                    rt,
+                    "a refused call",
+                    (fault, was_refused),
+                    (SolveFault::Memory, false),
+                );
                 was_refused = true;
             }
         }
@@ -129,14 +190,14 @@ fn a_growth_is_refused(rt: HostRuntime) {
 fn assert_counts(rt: &impl Abort, values: &Values, finite: &[(u32, u32)], forever: u32) {
     let mut greatest = None;
     for (number, count) in finite {
-        assert_eq!(rt; values.count(Value::Finite(*number)), *count);
+        assert_same(rt, *number, values.count(Value::Finite(*number)), *count);
         greatest = Some(*number);
     }
     let next = greatest.map_or(0, |number: u32| number.saturating_add(1));
-    assert_eq!(rt; values.count(Value::Finite(next)), 0);
-    assert_eq!(rt; values.count(Value::Finite(u32::MAX)), 0);
-    assert_eq!(rt; values.count(Value::Forever), forever);
-    assert_eq!(rt; values.greatest_finite(), greatest);
+    assert_same(rt, next, values.count(Value::Finite(next)), 0);
+    assert_same(rt, u32::MAX, values.count(Value::Finite(u32::MAX)), 0);
+    assert_same(rt, "forever", values.count(Value::Forever), forever);
+    assert_same(rt, "the greatest", values.greatest_finite(), greatest);
 }
 
 #[test]
@@ -148,15 +209,14 @@ fn counts(rt: HostRuntime) {
         (NO_PAIRS, [(0, 1_048_576)].as_slice(), 0),
     ] {
         let board = board_of(&rt, rt.alloc(), text);
-        let values = solve::<LinkLists>(&rt, rt.alloc(), &board).expect(&rt, "values");
+        let values = solve::<LinkLists>(&rt, rt.alloc(), &board);
         assert_counts(&rt, &values, finite, forever);
     }
 }
 
 #[test]
 fn counts_of_a_nested_board(rt: HostRuntime) {
-    let made = nested_board(rt.alloc(), 3, 3).or_else(|_| nested_board(rt.alloc(), 3, 3));
-    let board = made.ok().expect(&rt, "a nested board");
-    let values = solve::<LinkLists>(&rt, rt.alloc(), &board).expect(&rt, "values");
+    let board = nested(&rt, rt.alloc(), 3, 3);
+    let values = solve::<LinkLists>(&rt, rt.alloc(), &board);
     assert_counts(&rt, &values, &[], 729);
 }

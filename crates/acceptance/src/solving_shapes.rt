@@ -1,10 +1,11 @@
 //! Solving boards of many shapes against the slow program, and the largest boards.
 
-use crate::solving::{slow_value, solve, value};
+use crate::assertions::assert_same;
+use crate::nested::nested;
+use crate::solving::{assert_solved, solve, value};
 use crate::texts::{CHAIN_OF_THREE, CYCLE_WITH_A_WAY_IN, NO_PAIRS, board_of, build_board};
 use board_text::Board;
-use index_lists::{LinkLists, PlainLists};
-use nested_cycles::nested_board;
+use index_lists::{LinkLists, ListStore, PlainLists};
 use positions::{Space, Value};
 use retro_core::Values;
 use std::alloc::{AllocError, Global};
@@ -61,20 +62,9 @@ fn board(rt: &impl Abort, alloc: Global, shape: Shape, labels: u16, pebbles: u8)
         .expect(rt, "a board")
 }
 
-/// Asserts that each configuration has the value of the slow program, with both stores.
-fn assert_solved(rt: &impl Abort, alloc: Global, board: &Board) {
-    let linked = solve::<LinkLists>(rt, alloc, board).expect(rt, "values");
-    let plain = solve::<PlainLists>(rt, alloc, board).expect(rt, "values");
-    for rank in 0..linked.space().configurations() {
-        let expected = slow_value(board, linked.space(), rank);
-        assert_eq!(rt; value(&linked, rank), expected);
-        assert_eq!(rt; value(&plain, rank), expected);
-    }
-}
-
 /// The value of the start.
 fn start_value(rt: &impl Abort, alloc: Global, board: &Board) -> Option<Value> {
-    let values = solve::<LinkLists>(rt, alloc, board)?;
+    let values = solve::<LinkLists>(rt, alloc, board);
     let space = Space::of(board).ok()?;
     value(&values, space.rank(board.start()))
 }
@@ -106,17 +96,22 @@ fn count(values: &Values, wanted: Value) -> usize {
         .count()
 }
 
+/// How many configurations have the values 0, 1 and Forever.
+fn counts<S: ListStore + Drop>(rt: &impl Abort, alloc: Global, board: &Board) -> [usize; 3] {
+    let values = solve::<S>(rt, alloc, board);
+    [
+        count(&values, Value::Finite(0)),
+        count(&values, Value::Finite(1)),
+        count(&values, Value::Forever),
+    ]
+}
+
 #[test]
 fn boards_with_a_cycle(rt: HostRuntime) {
     let board = board_of(&rt, rt.alloc(), CYCLE_WITH_A_WAY_IN);
-    let values = solve::<LinkLists>(&rt, rt.alloc(), &board).expect(&rt, "values");
-    assert_eq!(&rt; count(&values, Value::Finite(0)), 9);
-    assert_eq!(&rt; count(&values, Value::Finite(1)), 7);
-    assert_eq!(&rt; count(&values, Value::Forever), 9);
-    let made = nested_board(rt.alloc(), 3, 3).or_else(|_| nested_board(rt.alloc(), 3, 3));
-    let nested = made.ok().expect(&rt, "a nested board");
-    let values = solve::<PlainLists>(&rt, rt.alloc(), &nested).expect(&rt, "values");
-    assert_eq!(&rt; count(&values, Value::Forever), 729);
+    assert_eq!(&rt; counts::<LinkLists>(&rt, rt.alloc(), &board), [9, 7, 9]);
+    let cycles = nested(&rt, rt.alloc(), 3, 3);
+    assert_eq!(&rt; counts::<PlainLists>(&rt, rt.alloc(), &cycles), [0, 0, 729]);
 }
 
 #[test]
@@ -128,31 +123,46 @@ fn the_chain_of_all_labels(rt: HostRuntime) {
     );
 }
 
+/// Asserts the values of ranks of a board.
+fn assert_values(
+    rt: &impl Abort,
+    alloc: Global,
+    board: &Board,
+    configurations: u32,
+    wanted: &[(u32, Value)],
+) {
+    let values = solve::<LinkLists>(rt, alloc, board);
+    assert_same(
+        rt,
+        "configurations",
+        values.space().configurations(),
+        configurations,
+    );
+    for (rank, expected) in wanted {
+        assert_same(rt, *rank, value(&values, *rank), Some(*expected));
+    }
+}
+
 #[test]
 fn the_nested_board_of_level_four(rt: HostRuntime) {
-    let made = nested_board(rt.alloc(), 4, 4).or_else(|_| nested_board(rt.alloc(), 4, 4));
-    let board = made.ok().expect(&rt, "a nested board");
-    let values = solve::<LinkLists>(&rt, rt.alloc(), &board).expect(&rt, "values");
-    assert_eq!(&rt; value(&values, 0), Some(Value::Forever));
+    let board = nested(&rt, rt.alloc(), 4, 4);
     // Pebbles 1, 2 and 3 are on 0, 9 and 18, the three copies of level 3.
-    assert_eq!(&rt; value(&values, 9 * 27 + 18), Some(Value::Finite(0)));
+    let values = [(0, Value::Forever), (9 * 27 + 18, Value::Finite(0))];
+    assert_values(&rt, rt.alloc(), &board, 531_441, &values);
 }
 
 #[test]
 fn as_many_configurations_as_there_may_be(rt: HostRuntime) {
     let board = board_of(&rt, rt.alloc(), NO_PAIRS);
-    let values = solve::<LinkLists>(&rt, rt.alloc(), &board).expect(&rt, "values");
-    assert_eq!(&rt; values.space().configurations(), 1_048_576);
-    for rank in [0, 1, 524_288, 1_048_575] {
-        assert_eq!(&rt; value(&values, rank), Some(Value::Finite(0)));
-    }
+    let values = [0, 1, 524_288, 1_048_575].map(|rank| (rank, Value::Finite(0)));
+    assert_values(&rt, rt.alloc(), &board, 1_048_576, &values);
 }
 
 #[test]
 fn the_chain_of_three_has_no_safe_answer(rt: HostRuntime) {
     let board = board_of(&rt, rt.alloc(), CHAIN_OF_THREE);
-    let values = solve::<LinkLists>(&rt, rt.alloc(), &board).expect(&rt, "values");
+    let values = solve::<LinkLists>(&rt, rt.alloc(), &board);
     for gap in 0..values.space().gaps() {
-        assert_eq!(&rt; values.safe_answer(gap), None);
+        assert_same(&rt, gap, values.safe_answer(gap), None);
     }
 }

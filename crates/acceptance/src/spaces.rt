@@ -3,12 +3,15 @@
 ghost use Rattle.std.specs.Prelude.{◌≡◌, ◌↔◌, IsTrue};
 ghost use Rattle.board_text.specs.PlainBoard.{IsConfiguration};
 
+use crate::assertions::assert_same;
 use crate::texts::{
     CHAIN_OF_THREE, CYCLE_WITH_A_WAY_IN, LONE_LABEL, NO_PAIRS, ONE_PAIR, SHARED_LABEL, THREE_CYCLE,
     THREE_PEBBLES, board_of, build_board,
 };
 use board_text::Board;
 use positions::{Space, TooLarge, is_legal};
+use std::alloc::Global;
+use std::process::Abort;
 
 /// How many configurations the board has, if a space is made for it.
 fn count_configurations(board: &Board) -> Result<u32, TooLarge> {
@@ -122,23 +125,25 @@ fn answers_by_definition(board: &Board, space: &Space) -> bool
 fn ranks_of_a_chain(rt: HostRuntime) {
     let board = board_of(&rt, rt.alloc(), CHAIN_OF_THREE);
     let space = Space::of(&board).expect(&rt, "a small board");
-    assert_eq!(rt; rank_of(&space, &[1, 2]), Some(5));
     assert!(rt; space.configurations() == 9 && space.pebbles() == 2 && space.labels() == 3);
-    assert_eq!(rt; space.with(5, 0, 2), 8);
-    assert_eq!(rt; space.dominator(&board, 5), Some(1));
-    assert_eq!(rt; space.dominator(&board, 8), None);
+    assert_same(&rt, "rank", rank_of(&space, &[1, 2]), Some(5));
+    assert_same(&rt, "another label", space.with(5, 0, 2), 8);
+    assert_same(&rt, "dominator of 5", space.dominator(&board, 5), Some(1));
+    assert_same(&rt, "dominator of 8", space.dominator(&board, 8), None);
 }
 
 #[test]
 fn gaps_of_a_chain(rt: HostRuntime) {
     let board = board_of(&rt, rt.alloc(), CHAIN_OF_THREE);
     let space = Space::of(&board).expect(&rt, "a small board");
-    assert!(rt; space.configurations() == 9 && space.pebbles() == 2);
-    assert_eq!(rt; space.gap(5, 0), 2);
-    assert_eq!(rt; space.gap(5, 1), 4);
-    assert!(rt; space.gaps() == 6);
-    assert_eq!(rt; space.gap_pebble(2), 0);
-    assert_eq!(rt; space.gap_pebble(4), 1);
+    assert!(rt; space.configurations() == 9 && space.pebbles() == 2 && space.gaps() == 6);
+    assert_same(&rt, "gaps", [space.gap(5, 0), space.gap(5, 1)], [2, 4]);
+    assert_same(
+        &rt,
+        "pebbles",
+        [space.gap_pebble(2), space.gap_pebble(4)],
+        [0, 1],
+    );
 }
 
 #[test]
@@ -146,17 +151,38 @@ fn answers_of_a_chain(rt: HostRuntime) {
     let board = board_of(&rt, rt.alloc(), CHAIN_OF_THREE);
     let space = Space::of(&board).expect(&rt, "a small board");
     assert!(rt; space.gaps() == 6 && space.labels() == 3);
-    assert_eq!(rt; space.member(4, 0), 3);
-    assert_eq!(rt; space.count_answers(&board, 4), 1);
-    assert_eq!(rt; space.next_answer(&board, 4, 0), Some(2));
+    let answers = (
+        space.member(4, 0),
+        space.count_answers(&board, 4),
+        space.next_answer(&board, 4, 0),
+    );
+    assert_same(&rt, "gap 4", answers, (3, 1, Some(2)));
 }
 
 #[test]
 fn sizes(rt: HostRuntime) {
     let board = board_of(&rt, rt.alloc(), NO_PAIRS);
-    assert_eq!(rt; count_configurations(&board), Ok(1_048_576));
+    assert_same(&rt, 32, count_configurations(&board), Ok(1_048_576));
     let board = build_board(rt.alloc(), 33, 4, &[0, 0, 0, 0], &[]).expect(&rt, "parts of a board");
-    assert_eq!(rt; count_configurations(&board), Err(TooLarge));
+    assert_same(&rt, 33, count_configurations(&board), Err(TooLarge));
+}
+
+/// Asserts that the space of a board and the slow program agree about answers.
+fn assert_answers(rt: &impl Abort, alloc: Global, text: &str) {
+    let board = board_of(rt, alloc, text);
+    let space = Space::of(&board).expect(rt, "a small board");
+    assert_same(
+        rt,
+        ("legal", text),
+        legal_by_definition(&board, &space),
+        true,
+    );
+    assert_same(
+        rt,
+        ("answers", text),
+        answers_by_definition(&board, &space),
+        true,
+    );
 }
 
 #[test]
@@ -170,10 +196,7 @@ fn legal_answers(rt: HostRuntime) {
         CYCLE_WITH_A_WAY_IN,
         THREE_PEBBLES,
     ] {
-        let board = board_of(&rt, rt.alloc(), text);
-        let space = Space::of(&board).expect(&rt, "a small board");
-        assert!(rt; legal_by_definition(&board, &space), "{text}");
-        assert!(rt; answers_by_definition(&board, &space), "{text}");
+        assert_answers(&rt, rt.alloc(), text);
     }
 }
 
@@ -188,7 +211,7 @@ fn most_labels_and_most_pebbles(rt: HostRuntime) {
             "parts of a board",
         );
         let space = Space::of(&board).expect(&rt, "a small board");
-        assert_eq!(rt; space.configurations(), configurations);
-        assert!(rt; ranks_lead_back(&space), "{labels} labels");
+        assert_same(&rt, labels, space.configurations(), configurations);
+        assert_same(&rt, labels, ranks_lead_back(&space), true);
     }
 }

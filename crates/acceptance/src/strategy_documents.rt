@@ -6,17 +6,18 @@ ghost use Rattle.std.specs.Prelude.{◌≡◌, IfOk, IfSome};
 ghost use Rattle.positions.specs.Ranks.{configurations};
 ghost use Rattle.proof_text.specs.Proof.{IsDocument};
 
+use crate::assertions::assert_same;
 use crate::documents::{
     CHAIN_VALUE_TWO, CYCLE_FOREVER, PAIR_VALUE_ONE, THREE_PEBBLES_VALUE_ONE, WAY_IN_VALUE_ONE,
     check_document, print_document,
 };
+use crate::nested::nested;
 use crate::texts::{
     CHAIN_OF_THREE, CYCLE_WITH_A_WAY_IN, LONE_LABEL, ONE_PAIR, SHARED_LABEL, THREE_CYCLE,
     THREE_PEBBLES, board_of, build_board,
 };
 use board_text::{Board, Memory};
 use index_lists::LinkLists;
-use nested_cycles::nested_board;
 use proof_check::{CheckFault, Shown};
 use proof_text::{Claim, Proof};
 use retro_core::{Progress, SolveFault, Solver, Values};
@@ -73,6 +74,13 @@ fn document_text(alloc: Global, board: &Board) -> Option<String> {
     print_document(alloc, values.space(), &proof).ok()
 }
 
+/// Asserts that the document of the board with the first text has the second.
+fn assert_document(rt: &impl Abort, alloc: Global, board: &str, text: &str) {
+    let board = board_of(rt, alloc, board);
+    let written = document_text(alloc, &board).expect(rt, "a document");
+    assert_same(rt, text, written.as_str(), text);
+}
+
 #[test]
 fn documents_of_worked_boards(rt: HostRuntime) {
     for (board, text) in [
@@ -84,9 +92,7 @@ fn documents_of_worked_boards(rt: HostRuntime) {
         (CYCLE_WITH_A_WAY_IN, WAY_IN_VALUE_ONE),
         (THREE_PEBBLES, THREE_PEBBLES_VALUE_ONE),
     ] {
-        let board = board_of(&rt, rt.alloc(), board);
-        let written = document_text(rt.alloc(), &board).expect(&rt, "a document");
-        assert_eq!(&rt; written.as_str(), text);
+        assert_document(&rt, rt.alloc(), board, text);
     }
 }
 
@@ -129,6 +135,31 @@ fn at(labels: [u16; 2], answers: [Option<u16>; 2], request: Option<u8>) -> Best 
     }
 }
 
+/// Asserts what is best at a rank.
+fn assert_best_at(rt: &impl Abort, board: &Board, values: &Values, rank: u32, wanted: Best)
+    requires { values.now ≡ board.now }
+{
+    let [of_first, of_second] = wanted.answers;
+    assert_same(
+        rt,
+        ("pebble 0", rank),
+        answer(board, values, rank, 0),
+        Some(of_first),
+    );
+    assert_same(
+        rt,
+        ("pebble 1", rank),
+        answer(board, values, rank, 1),
+        Some(of_second),
+    );
+    assert_same(
+        rt,
+        ("request", rank),
+        request(board, values, rank),
+        Some(wanted.request),
+    );
+}
+
 /// Asserts what is best at configurations of a board of so many labels.
 fn assert_best(rt: &impl Abort, alloc: Global, text: &str, labels: u16, wanted: &[Best]) {
     let board = board_of(rt, alloc, text);
@@ -136,22 +167,7 @@ fn assert_best(rt: &impl Abort, alloc: Global, text: &str, labels: u16, wanted: 
     for best in wanted {
         let [first, second] = best.labels;
         let rank = u32::from(first) * u32::from(labels) + u32::from(second);
-        let [of_first, of_second] = best.answers;
-        assert_eq!(rt;
-            answer(&board, &values, rank, 0),
-            Some(of_first),
-            "at rank {rank}"
-        );
-        assert_eq!(rt;
-            answer(&board, &values, rank, 1),
-            Some(of_second),
-            "at rank {rank}"
-        );
-        assert_eq!(rt;
-            request(&board, &values, rank),
-            Some(best.request),
-            "at rank {rank}"
-        );
+        assert_best_at(rt, &board, &values, rank, *best);
     }
 }
 
@@ -204,7 +220,12 @@ fn checked(
 
 /// Asserts that the checker accepts a board's document with the claim.
 fn assert_accepted(rt: &(impl Abort + Threads + Sync), alloc: Global, board: &Board, claim: Claim) {
-    assert_eq!(rt; checked(rt, alloc, board), Some(Ok(Shown { claim })));
+    assert_same(
+        rt,
+        claim,
+        checked(rt, alloc, board),
+        Some(Ok(Shown { claim })),
+    );
 }
 
 /// The board of 256 labels, each of which dominates all smaller ones, with two pebbles on label 0.
@@ -227,8 +248,7 @@ fn the_document_of_the_chain_of_all_labels(rt: HostRuntime) {
 
 #[test]
 fn the_document_of_the_nested_board_of_level_four(rt: HostRuntime) {
-    let made = nested_board(rt.alloc(), 4, 4).or_else(|_| nested_board(rt.alloc(), 4, 4));
-    let board = made.ok().expect(&rt, "a nested board");
+    let board = nested(&rt, rt.alloc(), 4, 4);
     assert_accepted(&rt, rt.alloc(), &board, Claim::Forever);
 }
 
@@ -239,11 +259,11 @@ fn make_in_turn(rt: &impl Abort, alloc: Global, board: &Board, text: &str) {
     for _ in 0..3 {
         match document(alloc, board, &values) {
             Ok(proof) => {
-                let written = print_document(alloc, values.space(), &proof);
-                assert_eq!(rt; written.expect(rt, "a text").as_str(), text);
+                let written = print_document(alloc, values.space(), &proof).expect(rt, "a text");
+                assert_same(rt, "the text", written.as_str(), text);
             }
             Err(Memory) => {
-                assert!(rt; !was_refused);
+                assert_same(rt, "refused before", was_refused, false);
                 was_refused = true;
             }
         }

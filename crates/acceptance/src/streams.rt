@@ -4,10 +4,12 @@
 
 ghost use Rattle.std.specs.Prelude.{◌≡◌, ◌<◌, false};
 
+use crate::assertions::assert_same;
 use board_text::{Failed, ReadFault, Sink, Source, Through, read_all, write_all};
 use fakes::{Broken, Drip, Failing, Trickle};
 use std::alloc::{AllocError, Global};
-use std::io::Cursor;
+use std::io::{Cursor, Write};
+use std::process::Abort;
 
 const TEXT: &[u8] = b"board 1\nlabels 1\n";
 
@@ -53,26 +55,20 @@ fn is_read_at_once(alloc: Global, text: &[u8], limit: usize) -> Result<bool, Rea
 #[test]
 fn reads_of_one_byte(rt: HostRuntime) {
     for good_calls in 0..TEXT.len() + 1 {
-        let (answer, has_failed) = is_read_slowly(rt.alloc(), good_calls, PLENTY);
-        assert_eq!(rt; answer, Err(ReadFault::Read), "at call {good_calls}");
-        assert!(rt; has_failed, "at call {good_calls}");
+        let answer = is_read_slowly(rt.alloc(), good_calls, PLENTY);
+        assert_same(&rt, good_calls, answer, (Err(ReadFault::Read), true));
     }
     let calls = TEXT.len() + 1;
-    assert_eq!(rt;
+    let answers = [
         is_read_slowly(rt.alloc(), calls, PLENTY),
-        (Ok(true), false)
-    );
-    assert_eq!(rt;
         is_read_slowly(rt.alloc(), calls, TEXT.len()),
-        (Ok(true), false)
-    );
-    assert_eq!(rt;
         is_read_slowly(rt.alloc(), calls, TEXT.len() - 1),
-        (Err(ReadFault::Limit), false)
-    );
-    assert_eq!(rt;
         is_read_slowly(rt.alloc(), calls, 0),
-        (Err(ReadFault::Limit), false)
+    ];
+    let limit = (Err(ReadFault::Limit), false);
+    assert_eq!(rt;
+        answers,
+        [(Ok(true), false), (Ok(true), false), limit, limit]
     );
 }
 
@@ -80,13 +76,16 @@ fn reads_of_one_byte(rt: HostRuntime) {
 fn reads_of_many_bytes(rt: HostRuntime) -> Result<(), AllocError> {
     let text = vec![in rt.alloc(); 7; 20_000].or_else(|_| vec![in rt.alloc(); 7; 20_000])?;
     let text = text.as_slice();
-    assert_eq!(rt; is_read_at_once(rt.alloc(), text, PLENTY), Ok(true));
-    assert_eq!(rt; is_read_at_once(rt.alloc(), text, 20_000), Ok(true));
-    assert_eq!(rt;
+    let answers = [
+        is_read_at_once(rt.alloc(), text, PLENTY),
+        is_read_at_once(rt.alloc(), text, 20_000),
         is_read_at_once(rt.alloc(), text, 19_999),
-        Err(ReadFault::Limit)
+        is_read_at_once(rt.alloc(), &[], 0),
+    ];
+    assert_eq!(rt;
+        answers,
+        [Ok(true), Ok(true), Err(ReadFault::Limit), Ok(true)]
     );
-    assert_eq!(rt; is_read_at_once(rt.alloc(), &[], 0), Ok(true));
     Ok(())
 }
 
@@ -103,36 +102,60 @@ fn a_failing_reader_of_std(rt: HostRuntime) {
     }
 }
 
+/// Asserts what a slow writer answers to a text, and that it has taken so much of it then.
+fn assert_written_slowly(
+    rt: &impl Abort,
+    good_calls: usize,
+    failing: Failing,
+    text: &[u8],
+    wanted: (Result<(), Failed>, bool),
+    taken: &[u8],
+) {
+    let mut writer: Trickle<32> = Trickle::new(good_calls, failing);
+    let answer = write_all(&mut writer, text);
+    assert_eq!(rt;
+        (answer, writer.failed(), writer.taken()),
+        (wanted.0, wanted.1, taken)
+    );
+}
+
 #[test]
 fn writes_of_one_byte(rt: HostRuntime) {
     for failing in [Failing::Refuses, Failing::TakesNothing] {
         for good_calls in 0..TEXT.len() {
-            let mut writer: Trickle<32> = Trickle::new(good_calls, failing);
-            assert_eq!(rt; write_all(&mut writer, TEXT), Err(Failed));
-            assert!(rt; writer.failed());
-            assert_eq!(rt; writer.taken(), &TEXT[..good_calls]);
+            let taken = &TEXT[..good_calls];
+            assert_written_slowly(&rt, good_calls, failing, TEXT, (Err(Failed), true), taken);
         }
-        let mut writer: Trickle<32> = Trickle::new(TEXT.len(), failing);
-        assert_eq!(rt; write_all(&mut writer, TEXT), Ok(()));
-        assert!(rt; !writer.failed());
-        assert_eq!(rt; writer.taken(), TEXT);
+        assert_written_slowly(&rt, TEXT.len(), failing, TEXT, (Ok(()), false), TEXT);
     }
-    let mut writer: Trickle<32> = Trickle::new(0, Failing::Refuses);
-    assert_eq!(rt; write_all(&mut writer, &[]), Ok(()));
-    assert!(rt; !writer.failed());
+    assert_written_slowly(&rt, 0, Failing::Refuses, &[], (Ok(()), false), &[]);
+}
+
+/// What a writer of std answers to the text, whether it has failed then, and the writer.
+fn write_through<W: Write + Drop>(inner: W) -> (Result<(), Failed>, bool, W) {
+    let mut writer = Through::new(inner);
+    let answer = write_all(&mut writer, TEXT);
+    (answer, Sink::failed(&writer), writer.into_inner())
 }
 
 #[test]
 fn writers_of_std(rt: HostRuntime) {
-    let mut writer = Through::new(Broken);
-    assert_eq!(rt; write_all(&mut writer, TEXT), Err(Failed));
-    assert!(rt; Sink::failed(&writer));
-    let mut writer = Through::new(Cursor::new([0; 16]));
-    assert_eq!(rt; write_all(&mut writer, TEXT), Err(Failed));
-    assert!(rt; Sink::failed(&writer));
-    let mut writer = Through::new(Cursor::new([0; 17]));
-    assert_eq!(rt; write_all(&mut writer, TEXT), Ok(()));
-    assert!(rt; !Sink::failed(&writer));
-    let bytes = writer.into_inner().into_inner();
+    let (answer, has_failed, _) = write_through(Broken);
+    assert_same(
+        &rt,
+        "a broken writer",
+        (answer, has_failed),
+        (Err(Failed), true),
+    );
+    let (answer, has_failed, _) = write_through(Cursor::new([0; 16]));
+    assert_same(
+        &rt,
+        "too little room",
+        (answer, has_failed),
+        (Err(Failed), true),
+    );
+    let (answer, has_failed, cursor) = write_through(Cursor::new([0; 17]));
+    assert_same(&rt, "room enough", (answer, has_failed), (Ok(()), false));
+    let bytes = cursor.into_inner();
     assert_eq!(rt; bytes.as_slice(), TEXT);
 }

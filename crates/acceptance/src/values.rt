@@ -1,14 +1,17 @@
 //! The values of small boards, by the slow program.
 
-ghost use Rattle.std.specs.Prelude.{◌↔◌, IsTrue};
+ghost use Rattle.std.specs.Prelude.{◌<◌, ◌↔◌, IsTrue};
 ghost use Rattle.board_text.specs.PlainBoard.{IsConfiguration};
 
+use crate::assertions::assert_same;
 use crate::texts::{
     CHAIN_OF_THREE, CYCLE_WITH_A_WAY_IN, LONE_LABEL, NO_PAIRS, ONE_PAIR, SHARED_LABEL, THREE_CYCLE,
     THREE_PEBBLES, board_of,
 };
 use board_text::Board;
 use positions::{Value, labeller_lasts, value_of};
+use std::alloc::Global;
+use std::process::Abort;
 
 /// Whether the list has a label for each pebble.
 fn is_configuration(board: &Board, configuration: &[u16]) -> bool
@@ -58,29 +61,28 @@ fn starts(rt: HostRuntime) {
         (NO_PAIRS, Value::Finite(0)),
     ] {
         let board = board_of(&rt, rt.alloc(), text);
-        assert_eq!(rt; start_value(&board), Some(value), "{text}");
+        assert_same(&rt, text, start_value(&board), Some(value));
+    }
+}
+
+/// Asserts the values of two pebbles on so many labels, in order of rank.
+fn assert_values(rt: &impl Abort, alloc: Global, text: &str, labels: u16, values: &[Value])
+    requires { 0 < labels }
+{
+    let board = board_of(rt, alloc, text);
+    for rank in 0..labels.saturating_mul(labels) {
+        let found = value_at(&board, &mut [rank / labels, rank % labels]);
+        assert_same(rt, rank, found, values.get(rank as usize).copied());
     }
 }
 
 #[test]
 fn values_in_order_of_rank(rt: HostRuntime) {
-    let board = board_of(&rt, rt.alloc(), CHAIN_OF_THREE);
-    for (rank, value) in [2, 1, 0, 1, 1, 0, 0, 0, 0].iter().enumerate() {
-        let rank = rank as u16;
-        let found = value_at(&board, &mut [rank / 3, rank % 3]);
-        assert_eq!(rt; found, Some(Value::Finite(*value)), "at rank {rank}");
-    }
-    let board = board_of(&rt, rt.alloc(), ONE_PAIR);
-    for (rank, value) in [1, 0, 0, 0].iter().enumerate() {
-        let rank = rank as u16;
-        let found = value_at(&board, &mut [rank / 2, rank % 2]);
-        assert_eq!(rt; found, Some(Value::Finite(*value)), "at rank {rank}");
-    }
-    let board = board_of(&rt, rt.alloc(), THREE_CYCLE);
-    for rank in 0..9 {
-        let found = value_at(&board, &mut [rank / 3, rank % 3]);
-        assert_eq!(rt; found, Some(Value::Forever), "at rank {rank}");
-    }
+    let chain = [2, 1, 0, 1, 1, 0, 0, 0, 0].map(Value::Finite);
+    assert_values(&rt, rt.alloc(), CHAIN_OF_THREE, 3, &chain);
+    let pair = [1, 0, 0, 0].map(Value::Finite);
+    assert_values(&rt, rt.alloc(), ONE_PAIR, 2, &pair);
+    assert_values(&rt, rt.alloc(), THREE_CYCLE, 3, &[Value::Forever; 9]);
 }
 
 #[test]
@@ -94,7 +96,16 @@ fn three_pebbles_on_the_cycle(rt: HostRuntime) {
             0
         };
         let found = value_at(&board, &mut [first, second, third]);
-        assert_eq!(rt; found, Some(Value::Finite(value)), "at rank {rank}");
+        assert_same(&rt, rank, found, Some(Value::Finite(value)));
+    }
+}
+
+/// The value of two pebbles on the cycle with a way in. Nothing dominates 4, and 4 alone dominates 3.
+fn way_in_value(labels: [u16; 2]) -> Option<u32> {
+    match labels {
+        [4, _] | [_, 4] => Some(0),
+        [3, _] | [_, 3] => Some(1),
+        _ => None,
     }
 }
 
@@ -103,19 +114,11 @@ fn a_way_into_the_cycle(rt: HostRuntime) {
     let board = board_of(&rt, rt.alloc(), CYCLE_WITH_A_WAY_IN);
     for rank in 0..25 {
         let mut labels = [rank / 5, rank % 5];
-        // Nothing dominates 4, and 4 alone dominates 3.
-        let value = match labels {
-            [4, _] | [_, 4] => Some(0),
-            [3, _] | [_, 3] => Some(1),
-            _ => None,
-        };
+        let value = way_in_value(labels);
         let requests = value.unwrap_or(10);
-        assert_eq!(rt;
-            lasts(&board, &mut labels, requests),
-            Some(true),
-            "at rank {rank}"
-        );
-        let lasts_longer = lasts(&board, &mut labels, requests + 1);
-        assert_eq!(rt; lasts_longer, Some(value.is_none()), "at rank {rank}");
+        let lasts_so_long = lasts(&board, &mut labels, requests);
+        assert_same(&rt, ("so long", rank), lasts_so_long, Some(true));
+        let lasts_longer = lasts(&board, &mut labels, requests.saturating_add(1));
+        assert_same(&rt, ("longer", rank), lasts_longer, Some(value.is_none()));
     }
 }
