@@ -1,6 +1,6 @@
 //! What the words of command lines ask for.
 
-use command_line::{Job, JobFault, job};
+use command_line::{Job, JobFault, Player, job};
 use std::alloc::Global;
 use std::process::Abort;
 
@@ -109,6 +109,26 @@ fn reports(rt: HostRuntime) {
 }
 
 #[test]
+fn plays(rt: HostRuntime) {
+    for (words, side) in [
+        (
+            ["pebbles", "play", "--side", "labeller", "a"].as_slice(),
+            Player::Labeller,
+        ),
+        (
+            ["pebbles", "play", "--side=adversary", "a"].as_slice(),
+            Player::Adversary,
+        ),
+        (
+            ["pebbles", "play", "a", "--side", "adversary"].as_slice(),
+            Player::Adversary,
+        ),
+    ] {
+        assert_asks(&rt, rt.alloc(), words, Job::Play { side, board: "a" });
+    }
+}
+
+#[test]
 fn wrong_words(rt: HostRuntime) {
     for words in [
         ["pebbles", ""].as_slice(),
@@ -136,6 +156,12 @@ fn wrong_words(rt: HostRuntime) {
         ["pebbles", "report"].as_slice(),
         ["pebbles", "report", "--workers", "17", "a"].as_slice(),
         ["pebbles", "check", "--workers=2", "a", "b"].as_slice(),
+        ["pebbles", "play", "a"].as_slice(),
+        ["pebbles", "play", "--side", "labeller"].as_slice(),
+        ["pebbles", "play", "--side", "person", "a"].as_slice(),
+        ["pebbles", "play", "--side", "Labeller", "a"].as_slice(),
+        ["pebbles", "play", "--side", "", "a"].as_slice(),
+        ["pebbles", "play", "--side=labeller", "--workers=2", "a"].as_slice(),
         ["pebbles", "--version"].as_slice(),
     ] {
         assert_usage(&rt, rt.alloc(), words);

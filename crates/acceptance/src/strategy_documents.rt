@@ -44,7 +44,7 @@ fn solver_of(alloc: Global, board: &Board) -> Result<Solver<LinkLists>, SolveFau
 }
 
 /// The values of a board that isn't too large.
-fn values_of(alloc: Global, board: &Board) -> Option<Values>
+pub(crate) fn values_of(alloc: Global, board: &Board) -> Option<Values>
     ensures { IfSome result (λ values. values ≡ board.now) }
 {
     let mut solver = solver_of(alloc, board).ok()?;
