@@ -9,3 +9,4 @@ pub mod Moves
 pub mod Scans
 pub mod Entries
 pub mod Fields
+pub mod Padding
