@@ -4,9 +4,6 @@ use Rattle.std.proofs.Math.ListN.{get_or-append}
 use Rattle.std.proofs.lemmas.List.{set-append_left, get_or-append-add, get_or-replicate, append_assoc}
 use Rattle.index_lists.specs.Links.{padded}
 
-pub padded-most : (count value n : ℕ) (xs : List ℕ) → length (padded count value xs) ≡ n → n ≡ count → length xs ≤ count
-padded-most count value n xs e f = let both = length-append xs (replicate (count - length xs) value) in omega arith
-
 pub padded-read : (count value i : ℕ) (xs : List ℕ) → i < length xs → slice_index (padded count value xs) i ≡ slice_index xs i
 padded-read count value i xs h = get_or-append xs (replicate (count - length xs) value) 0 i h
 
