@@ -1,16 +1,13 @@
 -- Each call of the links, in the code's own shape.
-use Rattle.std.proofs.Common.{◌≡◌, ℕ, ◌+◌, ◌-◌, ◌<◌, ◌≤◌, ◌==◌, inl, inr, cond, zero, suc, List, [], ◌∷◌, ◌++◌, length, take, refl, sym, ap, subst, ◌∙◌, arith, slice_index, slice_set, get_or-set_same, get_or-set_other, length-set, Option, Some, None, IfSome, slice_get}
-use Rattle.std.proofs.Math.Seq.{take-append_seam}
+use Rattle.std.proofs.Common.{◌≡◌, ℕ, ◌+◌, ◌-◌, ◌<◌, ◌≤◌, ◌==◌, inl, inr, cond, zero, suc, List, [], ◌∷◌, ◌++◌, length, refl, sym, ap, subst, ◌∙◌, arith, slice_index, slice_set, get_or-set_same, get_or-set_other, length-set, Option, Some, None, IfSome, MatchOption, slice_get, slice_index_or, replicate}
+use Rattle.std.proofs.lemmas.List.{get_or-replicate, length-replicate}
 use Rattle.std.proofs.lemmas.Bool.{cases_eq, cases_lt}
-use Rattle.index_lists.specs.Lists.{times, without_node, IsFree, IsIn, AreLists}
+use Rattle.index_lists.specs.Lists.{times, without_node, IsFree, IsIn, IsHome, AreLists}
 use Rattle.index_lists.specs.Links.{follow, IsLinked, IsStore, IsLinks, Chains, listed, unless_none}
 use Rattle.index_lists.proofs.Times.{same_is, differ_is, cond_same, cond_other, length-without}
 use Rattle.index_lists.proofs.Together.{store-are, home-of_free, room, at-home, seen, settle, push-store, unlink-store, from_back, from_forth, at-home-once}
 use Rattle.index_lists.proofs.Links.{tail}
 use Rattle.index_lists.proofs.Shown.{first-read, last-read, after-read, before-read, front-read, unless-below}
-
-pub written : (new rest : List ℕ) (n : ℕ) → length new ≡ n → take n (new ++ rest) ≡ new
-written new rest n e = rw (← e) (take-append_seam new rest)
 
 pub read-set : (xs : List ℕ) (i v x : ℕ) → x < length xs → slice_index (slice_set xs i v) x ≡ cond (x == i) v (slice_index xs x)
 read-set xs i v x h = elim (cases_eq x i) [
@@ -103,6 +100,15 @@ module _ (nodes lists : ℕ) (next prev home first last len : List ℕ) (v : Cha
       pub push-seen : (l : ℕ) → follow (slice_index next') (slice_index first' l) (slice_index (slice_set len to (n + 1)) l) ≡ cond (l == to) (listed v l ++ node ∷ []) (listed v l)
       push-seen = seen nodes lists (slice_index next') (slice_index (slice_set prev node at)) (slice_index (slice_set home node to)) (slice_index first') (slice_index (slice_set last to node)) (slice_index (slice_set len to (n + 1))) (λ l. cond (l == to) (listed v l ++ node ∷ []) (listed v l)) push-all len-past
 
+    -- what the vectors have after the calls of a push
+    pub push-written : (next' prev' home' first' last' len' : List ℕ) → next' ≡ slice_set next at node → prev' ≡ slice_set prev node at → home' ≡ slice_set home node to
+        → first' ≡ cond (at == length next) (slice_set first to node) first → last' ≡ slice_set last to node → len' ≡ slice_set len to (n + 1) → IsLinks nodes lists next' prev' home' first' last' len'
+    push-written next' prev' home' first' last' len' next_is prev_is home_is first_is last_is len_is = rw (prev_is, home_is, last_is, len_is) (push-links next' first' next_is first_is)
+
+    pub push-shown : (next' first' len' : List ℕ) → next' ≡ slice_set next at node → first' ≡ cond (at == length next) (slice_set first to node) first → len' ≡ slice_set len to (n + 1)
+        → (l : ℕ) → follow (slice_index next') (slice_index first' l) (slice_index len' l) ≡ cond (l == to) (listed v l ++ node ∷ []) (listed v l)
+    push-shown next' first' len' next_is first_is len_is l = rw len_is (push-seen next' first' next_is first_is l)
+
   -- an unlink
   module _ (node h p z : ℕ) (node_in : node < v.nodes) (stands : IsIn (listed v) node) (h_is : h ≡ slice_index home node) (p_is : p ≡ slice_index prev node) (z_is : z ≡ slice_index next node) where
     node_here : node < nodes
@@ -179,6 +185,18 @@ module _ (nodes lists : ℕ) (next prev home first last len : List ℕ) (v : Cha
         pub unlink-seen : (l : ℕ) → follow (slice_index (slice_set next' node nodes)) (slice_index first' l) (slice_index (slice_set len h (n - 1)) l) ≡ without_node node (listed v l)
         unlink-seen = seen nodes lists (slice_index (slice_set next' node nodes)) (slice_index (slice_set prev' node nodes)) (slice_index (slice_set home node lists)) (slice_index first') (slice_index last') (slice_index (slice_set len h (n - 1))) (λ l. without_node node (listed v l)) unlink-all left-past
 
+      -- what the vectors have after the calls of an unlink
+      pub unlink-written : (next' prev' home' first' last' len' : List ℕ) → next' ≡ slice_set (slice_set next p z) node nodes → prev' ≡ slice_set (slice_set prev z p) node nodes → home' ≡ slice_set home node lists
+          → first' ≡ cond (p == length next) (slice_set first h z) first → last' ≡ cond (z == length prev) (slice_set last h p) last → len' ≡ slice_set len h (n - 1) → IsLinks nodes lists next' prev' home' first' last' len'
+      unlink-written next' prev' home' first' last' len' next_is prev_is home_is first_is last_is len_is =
+          rw (next_is, prev_is, home_is, len_is) (unlink-links (slice_set next p z) first' (slice_set prev z p) last' refl first_is refl last_is)
+
+      pub unlink-shown : (next' first' last' len' : List ℕ) → next' ≡ slice_set (slice_set next p z) node nodes
+          → first' ≡ cond (p == length next) (slice_set first h z) first → last' ≡ cond (z == length prev) (slice_set last h p) last → len' ≡ slice_set len h (n - 1)
+          → (l : ℕ) → follow (slice_index next') (slice_index first' l) (slice_index len' l) ≡ without_node node (listed v l)
+      unlink-shown next' first' last' len' next_is first_is last_is len_is l =
+          rw (next_is, len_is) (unlink-seen (slice_set next p z) first' (slice_set prev z p) last' refl first_is refl last_is l)
+
   -- what is read
   nothing : unless_none nodes nodes ≡ None
   nothing = cond_same nodes nodes None (Some nodes) refl
@@ -196,6 +214,9 @@ module _ (nodes lists : ℕ) (next prev home first last len : List ℕ) (v : Cha
   first-seen to at h e =
       let i : to < lists = (let d = lists-are in omega arith) in
       first-read nodes (slice_index next) (slice_index prev) (slice_index last to) nodes (slice_index first to) (listed v to) (store_here.linked to i) ∙ ap (unless_none nodes) (sym e)
+
+  pub len-seen : (to n : ℕ) → to < v.lists → n ≡ slice_index len to → n ≡ length (listed v to)
+  len-seen to n h e = e ∙ store_here.sized to (let d = lists-are in omega arith)
 
   pub last-seen : (to at : ℕ) → to < v.lists → at ≡ slice_index last to → slice_get (listed v to) (length (listed v to) - 1) ≡ unless_none nodes at
   last-seen to at h e =
@@ -252,10 +273,62 @@ module _ (nodes lists : ℕ) (next prev home first last len : List ℕ) (v : Cha
   pub prev-none : (node at : ℕ) → node < v.nodes → at ≡ slice_index prev node → IsFree (listed v) node → unless_none nodes at ≡ None
   prev-none node at h e free = cond_same at nodes None (Some at) (e ∙ (loose-here node h free).1)
 
--- the ends of lists that a call was lent and wrote
-pub ends-written : (links given-links ends given-ends new : List ℕ) (node list to : ℕ) → given-links ≡ links → given-ends ≡ ends → new ≡ cond (node == length given-links) (slice_set given-ends list to) given-ends → new ≡ cond (node == length links) (slice_set ends list to) ends
-ends-written links given-links ends given-ends new node list to e f w = rw (← e, ← f) w
+  -- the list of a node
+  pub home-seen : (node at : ℕ) (o : Option ℕ) → node < v.nodes → at ≡ slice_index home node → o ≡ unless_none lists at → MatchOption o (IsFree (listed v) node) (λ found. IsHome v.lists (listed v) node found)
+  home-seen node at o h e f =
+      let i : node < nodes = (let d = nodes-are in omega arith) in
+      elim (cases_lt at lists) [
+        | inl low ↦ subst (λ found. MatchOption found (IsFree (listed v) node) (λ l. IsHome v.lists (listed v) node l)) (sym (f ∙ cond_other at lists None (Some at) (λ same. omega arith))) (record {
+          home_in = let d = lists-are in omega arith;
+          times_is = λ l. elim (cases_lt l lists) [
+            | inl inside ↦ store_here.held l node inside i ∙ ap (λ n. cond (n == l) 1 0) (sym e)
+            | inr beyond ↦ ap (times node) (store_here.beyond l beyond) ∙ sym (cond_other at l 1 0 (λ same. omega arith))
+          ];
+        })
+        | inr high ↦ (
+            let b = store_here.homes node i in
+            let none : at ≡ lists = omega arith in
+            subst (λ found. MatchOption found (IsFree (listed v) node) (λ l. IsHome v.lists (listed v) node l)) (sym (f ∙ cond_same at lists None (Some at) none)) (record {
+              free = λ l. elim (cases_lt l lists) [
+                | inl inside ↦ store_here.held l node inside i ∙ cond_other (slice_index home node) l 1 0 (λ same. omega arith)
+                | inr beyond ↦ ap (times node) (store_here.beyond l beyond)
+              ];
+            }))
+      ]
 
--- the vectors that two calls lent and wrote
-pub links-written : (nodes lists node : ℕ) (home len next first prev last next' first' prev' last' : List ℕ) → next' ≡ next → first' ≡ first → prev' ≡ prev → last' ≡ last → IsLinks nodes lists (slice_set next node nodes) (slice_set prev node nodes) home first last len → IsLinks nodes lists (slice_set next' node nodes) (slice_set prev' node nodes) home first' last' len
-links-written nodes lists node home len next first prev last next' first' prev' last' e f p l c = rw (e, f, p, l) c
+-- a store with nothing in its lists
+replicated : (n i a d : ℕ) → (a ≡ d) → slice_index_or (replicate n a) i d ≡ d
+replicated n i a d e = elim (cases_lt i n) [
+  | inl inside ↦ get_or-replicate n i a d inside ∙ e
+  | inr beyond ↦ past (replicate n a) i (let size = length-replicate n a in omega arith)
+]
+  where
+    past : (xs : List ℕ) (k : ℕ) → length xs ≤ k → slice_index_or xs k d ≡ d
+    past [] k h = refl
+    past (x ∷ xs) zero h = absurd (omega arith)
+    past (x ∷ xs) (suc k) h = past xs k (omega arith)
+
+pub empty-shown : (n l i : ℕ) (next first : List ℕ) → follow (slice_index next) (slice_index first i) (slice_index (replicate l 0) i) ≡ []
+empty-shown n l i next first = rw (replicated l i 0 0 refl) refl
+
+pub empty-seen : (l i : ℕ) (next first len : List ℕ) → len ≡ replicate l 0 → follow (slice_index next) (slice_index first i) (slice_index len i) ≡ []
+empty-seen l i next first len e = rw e (empty-shown l l i next first)
+
+pub empty-links : (n l : ℕ) → IsLinks n l (replicate n n) (replicate n n) (replicate n l) (replicate l n) (replicate l n) (replicate l 0)
+empty-links n l = record {
+  next_length = length-replicate n n;
+  prev_length = length-replicate n n;
+  home_length = length-replicate n l;
+  first_length = length-replicate l n;
+  last_length = length-replicate l n;
+  len_length = length-replicate l 0;
+  store = record {
+    linked = λ i h. subst (λ xs. IsLinked n (slice_index (replicate n n)) (slice_index (replicate n n)) (slice_index (replicate l n) i) n (slice_index (replicate l n) i) xs)
+        (sym (empty-shown n l i (replicate n n) (replicate l n))) (get_or-replicate l i n 0 h, sym (get_or-replicate l i n 0 h));
+    sized = λ i h. replicated l i 0 0 refl ∙ sym (ap length (empty-shown n l i (replicate n n) (replicate l n)));
+    beyond = λ i h. empty-shown n l i (replicate n n) (replicate l n);
+    held = λ i x h j. ap (times x) (empty-shown n l i (replicate n n) (replicate l n)) ∙ sym (cond_other (slice_index (replicate n l) x) i 1 0 (λ e. (let home = get_or-replicate n x l 0 j in omega arith)));
+    homes = λ x j. (let home = get_or-replicate n x l 0 j in omega arith);
+    loose = λ x j e. (get_or-replicate n x n 0 j, get_or-replicate n x n 0 j);
+  };
+}

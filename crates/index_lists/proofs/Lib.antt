@@ -8,3 +8,5 @@ pub mod Calls
 pub mod Moves
 pub mod Scans
 pub mod Entries
+pub mod Fields
+pub mod Padding

@@ -1,42 +1,35 @@
 //! Lists linked both ways by index.
 
-ghost use Rattle.std.specs.Prelude.{◌≡◌, ℕ, ◌+◌, ◌-◌, ◌<◌, ◌≤◌, ◌==◌, ◌++◌, ◌∷◌, [], List, length, slice_get, slice_set, cond};
-ghost use Rattle.index_lists.specs.Links.{Chains, listed, unless_none};
+ghost use Rattle.std.specs.Prelude.{◌≡◌, ℕ, ◌+◌, ◌-◌, ◌<◌, ◌≤◌, ◌==◌, ◌++◌, ◌∷◌, [], List, length, slice_get, slice_index, slice_set, cond, map, vec_capacity};
+ghost use Rattle.index_lists.specs.Links.{Chains, listed, padded, unless_none};
 
 use crate::store::ListStore;
 use board_text::Memory;
 use std::alloc::Global;
 use std::marker::Model;
 
-/// Lists linked both ways by index, in flat vectors. No call but `new` takes memory, and none has a loop.
+/// Lists linked both ways by index, in flat vectors. No call but `new` takes memory. None has a loop but `push_back`, which
+/// goes once through the lists that had no node so far.
 #[derive(Drop)]
 pub struct LinkLists {
     /// How many nodes there are; as a node it stands for none.
     none: u32,
     /// How many lists there are; as a list it stands for none.
     nowhere: u32,
-    /// The node behind each node.
-    next: Vec<u32>,
-    /// The node before each node.
-    prev: Vec<u32>,
-    /// The list of each node.
-    home: Vec<u32>,
-    /// The first node of each list.
-    first: Vec<u32>,
-    /// The last node of each list.
-    last: Vec<u32>,
-    /// How many nodes each list has.
-    len: Vec<u32>,
+    links: Links,
 }
 
 impl Model for LinkLists {
-    ghost use Rattle.index_lists.specs.Links.{Chains, IsLinks};
+    ghost use Rattle.std.specs.Prelude.{◌≤◌, map, vec_capacity};
+    ghost use Rattle.index_lists.specs.Links.{Chains, IsLinks, padded};
 
     ghost Value = { Chains };
 
-    ghost view = { λ s. record { nodes = s.none; lists = s.nowhere; next = s.next.items; first = s.first.items; len = s.len.items } };
+    ghost view = { λ s. record { nodes = s.none; lists = s.nowhere; next = map (λ n. n.next) s.links.nodes.items; first = padded s.nowhere s.none (map (λ e. e.first) s.links.ends.items); len = padded s.nowhere 0 (map (λ e. e.len) s.links.ends.items) } };
 
-    ghost invariant = { λ s. IsLinks s.none s.nowhere s.next.items s.prev.items s.home.items s.first.items s.last.items s.len.items };
+    ghost invariant = { λ s. IsLinks s.none s.nowhere (map (λ n. n.next) s.links.nodes.items) (map (λ n. n.prev) s.links.nodes.items) (map (λ n. n.home) s.links.nodes.items)
+        (padded s.nowhere s.none (map (λ e. e.first) s.links.ends.items)) (padded s.nowhere s.none (map (λ e. e.last) s.links.ends.items)) (padded s.nowhere 0 (map (λ e. e.len) s.links.ends.items))
+        × (s.nowhere ≤ vec_capacity s.links.ends) };
 }
 
 impl ListStore for LinkLists {
@@ -47,67 +40,58 @@ impl ListStore for LinkLists {
     ghost list = { listed };
 
     fn new(alloc: Global, node_count: u32, list_count: u32) -> Result<Self, Memory> {
-        let next = vec![in alloc; node_count; node_count as usize]?;
-        let prev = vec![in alloc; node_count; node_count as usize]?;
-        let home = vec![in alloc; list_count; node_count as usize]?;
-        let first = vec![in alloc; node_count; list_count as usize]?;
-        let last = vec![in alloc; node_count; list_count as usize]?;
-        let len = vec![in alloc; 0; list_count as usize]?;
+        let loose = Node {
+            next: node_count,
+            prev: node_count,
+            home: list_count,
+        };
+        let nodes = vec![in alloc; loose; node_count as usize]?;
+        let ends = Vec::with_capacity(alloc, list_count as usize)?;
         Ok(LinkLists {
             none: node_count,
             nowhere: list_count,
-            next,
-            prev,
-            home,
-            first,
-            last,
-            len,
+            links: Links { nodes, ends },
         })
     }
 
     fn push_back(&mut self, to: u32, node: u32) {
-        let last = self.last[to as usize];
-        point(&mut self.next, &mut self.first, last, to, node);
-        self.prev[node as usize] = last;
-        self.home[node as usize] = to;
-        self.last[to as usize] = node;
-        self.len[to as usize] += 1;
+        self.links.reach(to, self.none);
+        let last = self.links.ends[to as usize].last;
+        self.links.point_next(last, to, node);
+        self.links.place(node, last, to);
+        self.links.append(to, node);
     }
 
     fn unlink(&mut self, node: u32) {
-        let home = self.home[node as usize];
-        let before = self.prev[node as usize];
-        let behind = self.next[node as usize];
-        point(&mut self.next, &mut self.first, before, home, behind);
-        point(&mut self.prev, &mut self.last, behind, home, before);
-        self.next[node as usize] = self.none;
-        self.prev[node as usize] = self.none;
-        self.home[node as usize] = self.nowhere;
-        self.len[home as usize] -= 1;
+        let Node { next, prev, home } = self.links.nodes[node as usize];
+        self.links.point_next(prev, home, next);
+        self.links.point_prev(next, home, prev);
+        self.links.loosen(node, self.none, self.nowhere);
+        self.links.shorten(home);
     }
 
     fn first(&self, of: u32) -> Option<u32> {
-        known(self.none, self.first[of as usize])
+        known(self.none, self.links.ends_of(of, self.none).first)
     }
 
     fn last(&self, of: u32) -> Option<u32> {
-        known(self.none, self.last[of as usize])
+        known(self.none, self.links.ends_of(of, self.none).last)
     }
 
     fn next(&self, node: u32) -> Option<u32> {
-        known(self.none, self.next[node as usize])
+        known(self.none, self.links.nodes[node as usize].next)
     }
 
     fn prev(&self, node: u32) -> Option<u32> {
-        known(self.none, self.prev[node as usize])
+        known(self.none, self.links.nodes[node as usize].prev)
     }
 
     fn home(&self, node: u32) -> Option<u32> {
-        known(self.nowhere, self.home[node as usize])
+        known(self.nowhere, self.links.nodes[node as usize].home)
     }
 
     fn len(&self, of: u32) -> u32 {
-        self.len[of as usize]
+        self.links.ends_of(of, self.none).len
     }
 }
 
@@ -118,16 +102,164 @@ fn known(none: u32, number: u32) -> Option<u32>
     if number == none { None } else { Some(number) }
 }
 
-/// Points the link of a node to another, or, where the node is none, the end of a list.
-fn point(links: &mut [u32], ends: &mut [u32], node: u32, list: u32, to: u32)
-    requires node_in { node ≤ length links.old }
-    requires list_in { list < length ends.old }
-    ensures link { links.new ≡ slice_set links.old node to }
-    ensures end { ends.new ≡ cond (node == length links.old) (slice_set ends.old list to) ends.old }
-{
-    if node as usize == links.len() {
-        ends[list as usize] = to;
-    } else {
-        links[node as usize] = to;
+/// The links of all nodes and lists. Between two calls they may be those of no lists.
+#[derive(Drop)]
+struct Links {
+    /// Where each node stands. A node is read and written as one, so that it is in one place of memory.
+    nodes: Vec<Node>,
+    /// The ends of each list up to the last that ever had a node. It has room for all, and memory is touched as it grows.
+    ends: Vec<Ends>,
+}
+
+/// Where a node stands.
+#[derive(Clone, Copy)]
+struct Node {
+    /// The node behind it.
+    next: u32,
+    /// The node before it.
+    prev: u32,
+    /// Its list.
+    home: u32,
+}
+
+/// The ends of a list.
+#[derive(Clone, Copy)]
+struct Ends {
+    /// The first node.
+    first: u32,
+    /// The last node.
+    last: u32,
+    /// How many nodes there are.
+    len: u32,
+}
+
+impl Links {
+    /// Brings a list into the vector of ends, with those before it.
+    fn reach(&mut self, list: u32, none: u32)
+        requires { list < vec_capacity self.old.ends }
+        ensures reached { list < length self.new.ends.items }
+        ensures capacity { vec_capacity self.old.ends ≤ vec_capacity self.new.ends }
+        ensures nodes { self.new.nodes ≡ self.old.nodes }
+        ensures first { (lists : ℕ) → list < lists → padded lists none (map (λ e. e.first) self.new.ends.items) ≡ padded lists none (map (λ e. e.first) self.old.ends.items) }
+        ensures last { (lists : ℕ) → list < lists → padded lists none (map (λ e. e.last) self.new.ends.items) ≡ padded lists none (map (λ e. e.last) self.old.ends.items) }
+        ensures len { (lists : ℕ) → list < lists → padded lists 0 (map (λ e. e.len) self.new.ends.items) ≡ padded lists 0 (map (λ e. e.len) self.old.ends.items) }
+    {
+        while self.ends.len() <= list as usize {
+            self.ends.push_reserved(Ends {
+                first: none,
+                last: none,
+                len: 0,
+            });
+        }
+    }
+
+    /// The ends of a list. One that isn't in the vector has no nodes.
+    fn ends_of(&self, list: u32, none: u32) -> Ends
+        ensures first { (lists : ℕ) → list < lists → result.first ≡ slice_index (padded lists none (map (λ e. e.first) self.now.ends.items)) list }
+        ensures last { (lists : ℕ) → list < lists → result.last ≡ slice_index (padded lists none (map (λ e. e.last) self.now.ends.items)) list }
+        ensures len { (lists : ℕ) → list < lists → result.len ≡ slice_index (padded lists 0 (map (λ e. e.len) self.now.ends.items)) list }
+    {
+        if list as usize >= self.ends.len() {
+            return Ends {
+                first: none,
+                last: none,
+                len: 0,
+            };
+        }
+        self.ends[list as usize]
+    }
+
+    /// Points the link of a node to the one behind it, or, where the node is none, the list to its first.
+    fn point_next(&mut self, node: u32, list: u32, to: u32)
+        requires node_in { node ≤ length self.old.nodes.items }
+        requires list_in { list < length self.old.ends.items }
+        ensures next { map (λ n. n.next) self.new.nodes.items ≡ slice_set (map (λ n. n.next) self.old.nodes.items) node to }
+        ensures prev { map (λ n. n.prev) self.new.nodes.items ≡ map (λ n. n.prev) self.old.nodes.items }
+        ensures home { map (λ n. n.home) self.new.nodes.items ≡ map (λ n. n.home) self.old.nodes.items }
+        ensures first { map (λ e. e.first) self.new.ends.items ≡ cond (node == length self.old.nodes.items) (slice_set (map (λ e. e.first) self.old.ends.items) list to) (map (λ e. e.first) self.old.ends.items) }
+        ensures last { map (λ e. e.last) self.new.ends.items ≡ map (λ e. e.last) self.old.ends.items }
+        ensures len { map (λ e. e.len) self.new.ends.items ≡ map (λ e. e.len) self.old.ends.items }
+        ensures capacity { vec_capacity self.old.ends ≤ vec_capacity self.new.ends }
+    {
+        if node as usize == self.nodes.len() {
+            self.ends[list as usize].first = to;
+        } else {
+            self.nodes[node as usize].next = to;
+        }
+    }
+
+    /// Points the link of a node to the one before it, or, where the node is none, the list to its last.
+    fn point_prev(&mut self, node: u32, list: u32, to: u32)
+        requires node_in { node ≤ length self.old.nodes.items }
+        requires list_in { list < length self.old.ends.items }
+        ensures next { map (λ n. n.next) self.new.nodes.items ≡ map (λ n. n.next) self.old.nodes.items }
+        ensures prev { map (λ n. n.prev) self.new.nodes.items ≡ slice_set (map (λ n. n.prev) self.old.nodes.items) node to }
+        ensures home { map (λ n. n.home) self.new.nodes.items ≡ map (λ n. n.home) self.old.nodes.items }
+        ensures first { map (λ e. e.first) self.new.ends.items ≡ map (λ e. e.first) self.old.ends.items }
+        ensures last { map (λ e. e.last) self.new.ends.items ≡ cond (node == length self.old.nodes.items) (slice_set (map (λ e. e.last) self.old.ends.items) list to) (map (λ e. e.last) self.old.ends.items) }
+        ensures len { map (λ e. e.len) self.new.ends.items ≡ map (λ e. e.len) self.old.ends.items }
+        ensures capacity { vec_capacity self.old.ends ≤ vec_capacity self.new.ends }
+    {
+        if node as usize == self.nodes.len() {
+            self.ends[list as usize].last = to;
+        } else {
+            self.nodes[node as usize].prev = to;
+        }
+    }
+
+    /// Notes the list of a node and the node before it.
+    fn place(&mut self, node: u32, prev: u32, home: u32)
+        requires { node < length self.old.nodes.items }
+        ensures next { map (λ n. n.next) self.new.nodes.items ≡ map (λ n. n.next) self.old.nodes.items }
+        ensures prev { map (λ n. n.prev) self.new.nodes.items ≡ slice_set (map (λ n. n.prev) self.old.nodes.items) node prev }
+        ensures home { map (λ n. n.home) self.new.nodes.items ≡ slice_set (map (λ n. n.home) self.old.nodes.items) node home }
+        ensures ends { self.new.ends ≡ self.old.ends }
+    {
+        let place = &mut self.nodes[node as usize];
+        place.prev = prev;
+        place.home = home;
+    }
+
+    /// Notes that a node is in no list.
+    fn loosen(&mut self, node: u32, none: u32, nowhere: u32)
+        requires { node < length self.old.nodes.items }
+        ensures next { map (λ n. n.next) self.new.nodes.items ≡ slice_set (map (λ n. n.next) self.old.nodes.items) node none }
+        ensures prev { map (λ n. n.prev) self.new.nodes.items ≡ slice_set (map (λ n. n.prev) self.old.nodes.items) node none }
+        ensures home { map (λ n. n.home) self.new.nodes.items ≡ slice_set (map (λ n. n.home) self.old.nodes.items) node nowhere }
+        ensures ends { self.new.ends ≡ self.old.ends }
+    {
+        self.nodes[node as usize] = Node {
+            next: none,
+            prev: none,
+            home: nowhere,
+        };
+    }
+
+    /// Notes that a list has one node more, which is its last.
+    fn append(&mut self, list: u32, node: u32)
+        requires list_in { list < length self.old.ends.items }
+        requires room { slice_index (map (λ e. e.len) self.old.ends.items) list < 4294967295 }
+        ensures nodes { self.new.nodes ≡ self.old.nodes }
+        ensures first { map (λ e. e.first) self.new.ends.items ≡ map (λ e. e.first) self.old.ends.items }
+        ensures last { map (λ e. e.last) self.new.ends.items ≡ slice_set (map (λ e. e.last) self.old.ends.items) list node }
+        ensures len { map (λ e. e.len) self.new.ends.items ≡ slice_set (map (λ e. e.len) self.old.ends.items) list (slice_index (map (λ e. e.len) self.old.ends.items) list + 1) }
+        ensures capacity { vec_capacity self.old.ends ≤ vec_capacity self.new.ends }
+    {
+        let ends = &mut self.ends[list as usize];
+        ends.last = node;
+        ends.len += 1;
+    }
+
+    /// Notes that a list has one node less.
+    fn shorten(&mut self, list: u32)
+        requires list_in { list < length self.old.ends.items }
+        requires some { 0 < slice_index (map (λ e. e.len) self.old.ends.items) list }
+        ensures nodes { self.new.nodes ≡ self.old.nodes }
+        ensures first { map (λ e. e.first) self.new.ends.items ≡ map (λ e. e.first) self.old.ends.items }
+        ensures last { map (λ e. e.last) self.new.ends.items ≡ map (λ e. e.last) self.old.ends.items }
+        ensures len { map (λ e. e.len) self.new.ends.items ≡ slice_set (map (λ e. e.len) self.old.ends.items) list (slice_index (map (λ e. e.len) self.old.ends.items) list - 1) }
+        ensures capacity { vec_capacity self.old.ends ≤ vec_capacity self.new.ends }
+    {
+        self.ends[list as usize].len -= 1;
     }
 }

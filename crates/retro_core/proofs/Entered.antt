@@ -1,5 +1,5 @@
 -- A configuration entered, and all of them.
-use Rattle.std.proofs.Common.{◌≡◌, ℕ, ◌+◌, ◌<◌, ◌≤◌, ◌==◌, ◌&&◌, ◌||◌, ◌↔◌, not, inl, inr, Bool, true, false, cond, zero, suc, refl, arith, sym, ap, ◌∙◌, subst, List, [], ◌∷◌, Contains, length, slice_index, slice_set, get_or-set_other, get_or-set_same}
+use Rattle.std.proofs.Common.{◌≡◌, ℕ, ◌+◌, ◌<◌, ◌≤◌, ◌==◌, ◌&&◌, ◌↔◌, not, inl, inr, Bool, true, false, cond, zero, suc, refl, arith, sym, ap, ◌∙◌, subst, List, [], ◌∷◌, Contains, length, slice_index, slice_set, get_or-set_other, get_or-set_same}
 use Rattle.std.proofs.Math.ListN.{length-set}
 use Rattle.std.proofs.lemmas.Bool.{cases_lt}
 use Rattle.index_lists.specs.Lists.{times, AreLists}
@@ -10,12 +10,12 @@ use Rattle.positions.proofs.Counting.{size_of, count_below as count_to, count_be
 use Rattle.positions.proofs.Sizes.{same_size, size_zero}
 use Rattle.retro_core.specs.Arena.{Arena, IsArena, count_below, live, next, lasts}
 use Rattle.retro_core.specs.BoardArena.{answers, arena_of}
-use Rattle.retro_core.specs.Tables.{is_open, below, IsCounted, AreSources, AreLive, IsEntered, IsStage}
+use Rattle.retro_core.specs.Tables.{below, IsCounted, AreLive, IsEntered, IsStage}
 use Rattle.retro_core.proofs.BoardArenas.{answers_is}
-use Rattle.retro_core.proofs.Lasting.{both_true, and_true, same_or_not, same_is, differ_is, next-from, next-gives, true_or_false, true_not_false}
+use Rattle.retro_core.proofs.Lasting.{both_true, and_true, same_or_not, differ_is, next-from, next-gives, true_or_false, true_not_false}
 use Rattle.retro_core.proofs.Listed.{filed-pushed, open-after, open-elsewhere, open_word}
 use Rattle.retro_core.proofs.Struck.{AreLive-same}
-use Rattle.retro_core.proofs.Entering.{IsPush, below_is, not_below, below_other, push-ascends, AreSources-same}
+use Rattle.retro_core.proofs.Entering.{IsPush, below_is, push-ascends}
 
 -- ---- counts of answers
 
@@ -104,12 +104,8 @@ next_true : (b : Bool) → false ≡ not b → b ≡ true
 next_true true e = refl
 next_true false e = e
 
-and_false : (b c : Bool) → c ≡ false → b && c ≡ false
-and_false true c e = e
-and_false false c e = refl
-
-module _ (a : Arena) (n : ℕ) (values counts : List ℕ) (bn bl : ℕ) (bucket : ℕ → List ℕ) (sn sl : ℕ) (source : ℕ → List ℕ) (ln ll : ℕ) (living : ℕ → List ℕ)
-    (e : IsEntered a n values counts bn bl bucket sn sl source ln ll living) (i : n < a.configurations) (few : a.configurations ≤ 1048576) where
+module _ (a : Arena) (n : ℕ) (values counts : List ℕ) (bn bl : ℕ) (bucket : ℕ → List ℕ) (ln ll : ℕ) (living : ℕ → List ℕ)
+    (e : IsEntered a n values counts bn bl bucket ln ll living) (i : n < a.configurations) (few : a.configurations ≤ 1048576) where
   -- what is filed at 0 is entered
   filed-below : (x : ℕ) → 0 < times x (bucket 0) → x < n
   filed-below x h = elim (cases_lt x n) [
@@ -124,7 +120,7 @@ module _ (a : Arena) (n : ℕ) (values counts : List ℕ) (bn bl : ℕ) (bucket 
 
   pub entered-stuck : (bn' bl' : ℕ) (bucket' : ℕ → List ℕ) (ln' ll' : ℕ) (living' : ℕ → List ℕ) → true ≡ not (next a (lasts a 0) n)
       → bn' ≡ bn → bl' ≡ bl → AreLists bn' bl' bucket' → IsPush bucket bucket' 0 n → AreLive a (below (n + 1)) ln' ll' living'
-      → IsEntered a (n + 1) (slice_set values n 0) counts bn' bl' bucket' sn sl source ln' ll' living'
+      → IsEntered a (n + 1) (slice_set values n 0) counts bn' bl' bucket' ln' ll' living'
   entered-stuck bn' bl' bucket' ln' ll' living' stuck nodes_same lists_same are pushed lives =
       let place : n < length values = (let s = e.values_length in omega arith) in
       let was_open = e.to_come n i (omega arith) in record {
@@ -141,17 +137,13 @@ module _ (a : Arena) (n : ℕ) (values counts : List ℕ) (bn bl : ℕ) (bucket 
         to_come = λ x j h. open-elsewhere values n 0 x (λ z. omega arith) ∙ e.to_come x j (omega arith);
         filed_are = filed-pushed a.configurations values bn bl bn' bl' bucket bucket' n 0 e.filed_are few e.values_length i (omega arith) was_open nodes_same lists_same are pushed;
         ascending = push-ascends bucket bucket' 0 n 0 pushed filed-below e.ascending;
-        sources_are = AreSources-same a (λ x. is_open values x && below n x) (λ x. is_open (slice_set values n 0) x && below (n + 1) x) sn sl source (λ x j. elim (same_or_not x n) [
-          | inl here ↦ rw here (and_false (is_open values n) (below n n) (not_below n n (omega arith)) ∙ sym (ap (λ b. b && below (n + 1) n) (open-after values n 0 place (λ z. omega arith))))
-          | inr other ↦ sym (ap (λ b. b && below (n + 1) x) (open-elsewhere values n 0 x other) ∙ ap (λ b. is_open values x && b) (below_other n x other))
-        ]) e.sources_are;
         live_are = lives;
       }
 
-  pub entered-waits : (sn' sl' : ℕ) (source' : ℕ → List ℕ) (ln' ll' : ℕ) (living' : ℕ → List ℕ) → false ≡ not (next a (lasts a 0) n)
-      → AreSources a (λ x. x == n || (is_open values x && below n x)) sn' sl' source' → AreLive a (below (n + 1)) ln' ll' living'
-      → IsEntered a (n + 1) values counts bn bl bucket sn' sl' source' ln' ll' living'
-  entered-waits sn' sl' source' ln' ll' living' free sources lives =
+  pub entered-waits : (ln' ll' : ℕ) (living' : ℕ → List ℕ) → false ≡ not (next a (lasts a 0) n)
+      → AreLive a (below (n + 1)) ln' ll' living'
+      → IsEntered a (n + 1) values counts bn bl bucket ln' ll' living'
+  entered-waits ln' ll' living' free lives =
       let was_open = e.to_come n i (omega arith) in record {
         counts_are = e.counts_are;
         values_length = e.values_length;
@@ -163,21 +155,13 @@ module _ (a : Arena) (n : ℕ) (values counts : List ℕ) (bn bl : ℕ) (bucket 
         to_come = λ x j h. e.to_come x j (omega arith);
         filed_are = e.filed_are;
         ascending = e.ascending;
-        sources_are = AreSources-same a (λ x. x == n || (is_open values x && below n x)) (λ x. is_open values x && below (n + 1) x) sn' sl' source' (λ x j. elim (same_or_not x n) [
-          | inl here ↦ rw here (ap (λ b. b || (is_open values n && below n n)) (same_is n n refl) ∙ sym (and_true (is_open values n) (below (n + 1) n) was_open (below_is (n + 1) n (omega arith))))
-          | inr other ↦ ap (λ b. b || (is_open values x && below n x)) (differ_is x n other) ∙ ap (λ b. is_open values x && b) (sym (below_other n x other))
-        ]) sources;
         live_are = lives;
       }
 
-  -- the sources before
-  pub waits-not : (is_open values n && below n n) ≡ false
-  waits-not = and_false (is_open values n) (below n n) (not_below n n (omega arith))
-
 -- all are entered
-pub entered-all : (a : Arena) (values counts : List ℕ) (bn bl : ℕ) (bucket : ℕ → List ℕ) (sn sl : ℕ) (source : ℕ → List ℕ) (ln ll : ℕ) (living : ℕ → List ℕ)
-    → IsEntered a a.configurations values counts bn bl bucket sn sl source ln ll living → IsStage a (lasts a 0) values counts bn bl bucket sn sl source ln ll living
-entered-all a values counts bn bl bucket sn sl source ln ll living e = record {
+pub entered-all : (a : Arena) (values counts : List ℕ) (bn bl : ℕ) (bucket : ℕ → List ℕ) (ln ll : ℕ) (living : ℕ → List ℕ)
+    → IsEntered a a.configurations values counts bn bl bucket ln ll living → IsStage a (lasts a 0) values counts bn bl bucket ln ll living
+entered-all a values counts bn bl bucket ln ll living e = record {
   counts_are = e.counts_are;
   words_are = record {
     values_length = e.values_length;
@@ -186,10 +170,5 @@ entered-all a values counts bn bl bucket sn sl source ln ll living e = record {
     stopping = λ x i shut. rw (e.zeros x i shut) (sym (e.entered x i) ∙ shut);
   };
   filed_are = e.filed_are;
-  sources_are = AreSources-same a (λ x. is_open values x && below a.configurations x) (is_open values) sn sl source (λ x i. both_ways (is_open values x) (below a.configurations x) (below_is a.configurations x i)) e.sources_are;
   live_are = AreLive-same a (below a.configurations) (lasts a 0) ln ll living (λ x i. below_is a.configurations x i) e.live_are;
 }
-  where
-    both_ways : (b c : Bool) → c ≡ true → b && c ≡ b
-    both_ways true c e = e
-    both_ways false c e = refl

@@ -1,5 +1,5 @@
 -- Entering the configurations one after the other, before the first round.
-use Rattle.std.proofs.Common.{◌≡◌, ◌≢◌, ℕ, ◌+◌, ◌*◌, ◌<◌, ◌≤◌, ◌==◌, ◌&&◌, ◌||◌, inl, inr, Bool, true, false, cond, zero, suc, refl, arith, sym, ap, ◌∙◌, subst, List, [], ◌∷◌, ◌++◌, length, get_or}
+use Rattle.std.proofs.Common.{◌≡◌, ◌≢◌, ℕ, ◌+◌, ◌<◌, ◌≤◌, ◌==◌, ◌&&◌, inl, inr, Bool, true, false, cond, zero, suc, refl, arith, sym, ap, ◌∙◌, subst, List, [], ◌∷◌, ◌++◌, length, get_or}
 use Rattle.std.specs.List.{AllPairs}
 use Rattle.std.proofs.lemmas.Bool.{cases_lt}
 use Rattle.std.proofs.lemmas.Bool.Decides.{nat_tests}
@@ -7,9 +7,9 @@ use Rattle.std.proofs.lemmas.List.Quantifiers.{all_pairs_push}
 use Rattle.index_lists.specs.Lists.{times, IsFree, AreLists}
 use Rattle.index_lists.proofs.Times.{cond_same, cond_other, times-here, times-append, times-more}
 use Rattle.retro_core.specs.Arena.{Arena, IsArena, Dominant}
-use Rattle.retro_core.specs.Tables.{below, AreSources, AreLive}
+use Rattle.retro_core.specs.Tables.{below, AreLive}
 use Rattle.retro_core.proofs.Lasting.{both_true, true_or_false, same_or_not, same_is, differ_is}
-use Rattle.retro_core.proofs.Listed.{times_one, times_none, node_parts}
+use Rattle.retro_core.proofs.Listed.{times_one, times_none}
 use Rattle.retro_core.proofs.Struck.{leads-dominant, dominant-leads}
 
 -- ---- numbers below a bound
@@ -148,84 +148,3 @@ live-skipped a is n nodes lists living are alone = record {
       ]
       | inr other ↦ ap (λ b. cond {A = ℕ} (b && (a.gap x (a.pebble g) == g && a.is_answer g (a.label x (a.pebble g)))) 1 0) (sym (below_other n x other))
     ]
-
--- ---- members that wait
-
--- the nodes of a configuration are listed for the first pebbles
-pub record IsListing (a : Arena) (rank p nodes lists : ℕ) (source : ℕ → List ℕ) (nodes' lists' : ℕ) (source' : ℕ → List ℕ) : Type 0 where
-  pub nodes_same : nodes' ≡ nodes
-  pub lists_same : lists' ≡ lists
-  pub are_lists : AreLists nodes' lists' source'
-  pub listed : (g q : ℕ) → q < p → times (q * a.configurations + rank) (source g) ≡ 0 → times (q * a.configurations + rank) (source' g) ≡ cond (g == a.gap rank q) 1 0
-  pub later : (g q : ℕ) → p ≤ q → times (q * a.configurations + rank) (source' g) ≡ times (q * a.configurations + rank) (source g)
-  pub apart : (g q x : ℕ) → x < a.configurations → x ≢ rank → times (q * a.configurations + x) (source' g) ≡ times (q * a.configurations + x) (source g)
-
-pub listing-start : (a : Arena) (rank nodes lists : ℕ) (source : ℕ → List ℕ) → AreLists nodes lists source → IsListing a rank 0 nodes lists source nodes lists source
-listing-start a rank nodes lists source are = record {
-  nodes_same = refl;
-  lists_same = refl;
-  are_lists = are;
-  listed = λ g q h. absurd (omega arith);
-  later = λ g q h. refl;
-  apart = λ g q x i d. refl;
-}
-
--- the node of a pebble is in no list before
-pub source-none : (a : Arena) (waits : ℕ → Bool) (nodes lists : ℕ) (source : ℕ → List ℕ) (rank p : ℕ) → AreSources a waits nodes lists source → waits rank ≡ false → rank < a.configurations → p < a.pebbles
-    → (l : ℕ) → times (p * a.configurations + rank) (source l) ≡ 0
-source-none a waits nodes lists source rank p are out i j l = elim (cases_lt l a.gaps) [
-  | inl in_gaps ↦ are.once l p rank in_gaps j i ∙ ap (λ b. cond {A = ℕ} (b && (a.gap rank p == l)) 1 0) out
-  | inr beyond ↦ ap (times (p * a.configurations + rank)) (are.are_lists.beyond l (let e = are.lists_is in omega arith))
-]
-
-pub listing-free : (a : Arena) (waits : ℕ → Bool) (rank p nodes lists nodes' lists' : ℕ) (source source' : ℕ → List ℕ) → AreSources a waits nodes lists source → waits rank ≡ false → rank < a.configurations → p < a.pebbles
-    → IsListing a rank p nodes lists source nodes' lists' source' → IsFree source' (p * a.configurations + rank)
-listing-free a waits rank p nodes lists nodes' lists' source source' are out i j u = record {
-  free = λ l. u.later l p (omega arith) ∙ source-none a waits nodes lists source rank p are out i j l;
-}
-
-pub listing-step : (a : Arena) (rank p nodes lists nodes' lists' nodes'' lists'' : ℕ) (source source' source'' : ℕ → List ℕ) (to : ℕ) → rank < a.configurations → to ≡ a.gap rank p
-    → nodes'' ≡ nodes' → lists'' ≡ lists' → AreLists nodes'' lists'' source'' → IsPush source' source'' to (p * a.configurations + rank)
-    → IsListing a rank p nodes lists source nodes' lists' source' → IsListing a rank (p + 1) nodes lists source nodes'' lists'' source''
-listing-step a rank p nodes lists nodes' lists' nodes'' lists'' source source' source'' to i to_is nodes_same lists_same are pushed u = record {
-  nodes_same = nodes_same ∙ u.nodes_same;
-  lists_same = lists_same ∙ u.lists_same;
-  are_lists = are;
-  listed = λ g q h none. elim (same_or_not q p) [
-    | inl same ↦ rw same (push-new source' source'' to (p * n + rank) g pushed (u.later g p (omega arith) ∙ ap (λ m. times (m * n + rank) (source g)) (sym same) ∙ none) ∙ ap (λ t. cond {A = ℕ} (g == t) 1 0) to_is)
-    | inr other ↦ push-other source' source'' to (p * n + rank) (q * n + rank) g pushed (λ e. other (node_parts n q p rank rank i i e).0) ∙ u.listed g q (omega arith) none
-  ];
-  later = λ g q h. push-other source' source'' to (p * n + rank) (q * n + rank) g pushed (λ e. (let same : q ≡ p = (node_parts n q p rank rank i i e).0 in omega arith)) ∙ u.later g q (omega arith);
-  apart = λ g q x j d. push-other source' source'' to (p * n + rank) (q * n + x) g pushed (λ e. d (node_parts n q p x rank j i e).1) ∙ u.apart g q x j d;
-}
-  where
-    n : ℕ
-    n = a.configurations
-
-turned : (m n : ℕ) → (m == n) ≡ (n == m)
-turned m n = elim (same_or_not m n) [
-  | inl e ↦ same_is m n e ∙ sym (same_is n m (sym e))
-  | inr d ↦ differ_is m n d ∙ sym (differ_is n m (λ e. d (sym e)))
-]
-
-pub listing-end : (a : Arena) (waits : ℕ → Bool) (rank nodes lists nodes' lists' : ℕ) (source source' : ℕ → List ℕ) → AreSources a waits nodes lists source → waits rank ≡ false → rank < a.configurations
-    → IsListing a rank a.pebbles nodes lists source nodes' lists' source' → AreSources a (λ x. x == rank || waits x) nodes' lists' source'
-listing-end a waits rank nodes lists nodes' lists' source source' are out i u = record {
-  nodes_is = u.nodes_same ∙ are.nodes_is;
-  lists_is = u.lists_same ∙ are.lists_is;
-  are_lists = u.are_lists;
-  once = λ g p x in_gaps j k. elim (same_or_not x rank) [
-    | inl here ↦ rw here (u.listed g p j (source-none a waits nodes lists source rank p are out i j g)
-        ∙ ap (λ b. cond {A = ℕ} b 1 0) (turned g (a.gap rank p))
-        ∙ ap (λ b. cond {A = ℕ} ((b || waits rank) && (a.gap rank p == g)) 1 0) (sym (same_is rank rank refl)))
-    | inr other ↦ u.apart g p x k other ∙ are.once g p x in_gaps j k ∙ ap (λ b. cond {A = ℕ} ((b || waits x) && (a.gap x p == g)) 1 0) (sym (differ_is x rank other))
-  ];
-}
-
-pub AreSources-same : (a : Arena) (waits waits' : ℕ → Bool) (nodes lists : ℕ) (source : ℕ → List ℕ) → ((x : ℕ) → x < a.configurations → waits x ≡ waits' x) → AreSources a waits nodes lists source → AreSources a waits' nodes lists source
-AreSources-same a waits waits' nodes lists source same are = record {
-  nodes_is = are.nodes_is;
-  lists_is = are.lists_is;
-  are_lists = are.are_lists;
-  once = λ g p x i j k. are.once g p x i j k ∙ ap (λ b. cond {A = ℕ} (b && (a.gap x p == g)) 1 0) (same x k);
-}

@@ -11,15 +11,15 @@ use Rattle.retro_core.specs.Tables.{known_word, struck_rounds, AreLive, IsState,
 use Rattle.retro_core.proofs.BoardArenas.{lasts_of_tree}
 use Rattle.retro_core.proofs.Solved.{word-value, open-lasts, forever-of}
 
-module _ (b : PlainBoard) (board_is : IsBoard b) (few : configurations b ≤ 1048576) (dominators : List (Option ℕ)) (values counts : List ℕ) (bn bl : ℕ) (list : ℕ → List ℕ) (sn sl : ℕ) (source : ℕ → List ℕ) (ln ll : ℕ) (living : ℕ → List ℕ) (round : ℕ) (is_done : Bool)
-    (s : IsState b dominators values counts bn bl list sn sl source ln ll living round is_done) (done : is_done ≡ true) where
+module _ (b : PlainBoard) (board_is : IsBoard b) (few : configurations b ≤ 1048576) (dominators : List (Option ℕ)) (values counts : List ℕ) (bn bl : ℕ) (list : ℕ → List ℕ) (ln ll : ℕ) (living : ℕ → List ℕ) (round : ℕ) (is_done : Bool)
+    (s : IsState b dominators values counts bn bl list ln ll living round is_done) (done : is_done ≡ true) where
   pub live-forever : AreForever b ln ll living
   live-forever = record {
     is_board = board_is;
     above = lasts (arena_of b) (suc round);
     live_are = subst (λ d. AreLive (arena_of b) (lasts (arena_of b) (struck_rounds d round)) ln ll living) done s.stage.live_are;
     means = λ x i. (
-      λ e. forever-of b board_is few dominators values counts bn bl list sn sl source ln ll living round is_done s done x i e,
+      λ e. forever-of b board_is few dominators values counts bn bl list ln ll living round is_done s done x i e,
       λ forever. lasts_of_tree b board_is (suc round) x i (forever (suc round)),
     );
   }
@@ -28,8 +28,8 @@ module _ (b : PlainBoard) (board_is : IsBoard b) (few : configurations b ≤ 104
   values-are safe size safest = record {
     values_length = s.stage.words_are.values_length;
     safe_length = size;
-    finite = λ x i shut. word-value b board_is few dominators values counts bn bl list sn sl source ln ll living round is_done s x i shut;
-    forever = λ x i still. forever-of b board_is few dominators values counts bn bl list sn sl source ln ll living round is_done s done x i
-        (open-lasts b board_is few dominators values counts bn bl list sn sl source ln ll living round is_done s x i still);
+    finite = λ x i shut. word-value b board_is few dominators values counts bn bl list ln ll living round is_done s x i shut;
+    forever = λ x i still. forever-of b board_is few dominators values counts bn bl list ln ll living round is_done s done x i
+        (open-lasts b board_is few dominators values counts bn bl list ln ll living round is_done s x i still);
     safest = safest;
   }

@@ -21,14 +21,14 @@ none_of : (xs : List ℕ) → length xs ≡ 0 → xs ≡ []
 none_of [] e = refl
 none_of (x ∷ xs) e = absurd (omega arith)
 
-module _ (b : PlainBoard) (board_is : IsBoard b) (few : configurations b ≤ 1048576) (dominators : List (Option ℕ)) (values counts : List ℕ) (bn bl : ℕ) (list : ℕ → List ℕ) (sn sl : ℕ) (source : ℕ → List ℕ) (ln ll : ℕ) (living : ℕ → List ℕ) (round : ℕ) (is_done : Bool)
-    (s : IsState b dominators values counts bn bl list sn sl source ln ll living round is_done) where
+module _ (b : PlainBoard) (board_is : IsBoard b) (few : configurations b ≤ 1048576) (dominators : List (Option ℕ)) (values counts : List ℕ) (bn bl : ℕ) (list : ℕ → List ℕ) (ln ll : ℕ) (living : ℕ → List ℕ) (round : ℕ) (is_done : Bool)
+    (s : IsState b dominators values counts bn bl list ln ll living round is_done) where
   pub round-below : round < configurations b
   round-below = let some = s.some in let bound = s.bound in omega arith
 
-  pub bucket-starts : is_done ≡ false → IsStage (arena_of b) (alive (arena_of b) round (list round)) values counts bn bl list sn sl source ln ll living
-  bucket-starts going = round-starts (arena_of b) (arena_is b board_is) values counts bn bl list sn sl source ln ll living round few round-below
-      (subst (λ d. IsStage (arena_of b) (lasts (arena_of b) (struck_rounds d round)) values counts bn bl list sn sl source ln ll living) going s.stage)
+  pub bucket-starts : is_done ≡ false → IsStage (arena_of b) (alive (arena_of b) round (list round)) values counts bn bl list ln ll living
+  bucket-starts going = round-starts (arena_of b) (arena_is b board_is) values counts bn bl list ln ll living round few round-below
+      (subst (λ d. IsStage (arena_of b) (lasts (arena_of b) (struck_rounds d round)) values counts bn bl list ln ll living) going s.stage)
 
   pub counts-before : (g : ℕ) → g < gaps b → is_done ≡ false → (count : ℕ) → count ≡ slice_index counts g → HasSize (AnswerLasts b g round) count
   counts-before g i going count count_is =
@@ -45,30 +45,30 @@ module _ (b : PlainBoard) (board_is : IsBoard b) (few : configurations b ≤ 104
       (live-size b g (lasts (arena_of b) (suc round)) (λ v. HasValue b (member_of b g v) Forever) i (λ v j.
       let low = (arena_is b board_is).member_in g v i j in (
         λ e. subst (λ c. HasValue b c Forever) (at_member b g v i j)
-            (forever-of b board_is few dominators values counts bn bl list sn sl source ln ll living round is_done s done (rank_of b (member_of b g v)) low e),
+            (forever-of b board_is few dominators values counts bn bl list ln ll living round is_done s done (rank_of b (member_of b g v)) low e),
         λ forever. lasts_of_tree b board_is (suc round) (rank_of b (member_of b g v)) low (subst (LabellerTree b (suc round)) (sym (at_member b g v i j)) (forever (suc round))),
       )))
 
-  module _ (values' counts' : List ℕ) (bn' bl' : ℕ) (list' : ℕ → List ℕ) (sn' sl' : ℕ) (source' : ℕ → List ℕ) (ln' ll' : ℕ) (living' : ℕ → List ℕ)
-      (stage : IsStage (arena_of b) (alive (arena_of b) round []) values' counts' bn' bl' list' sn' sl' source' ln' ll' living')
+  module _ (values' counts' : List ℕ) (bn' bl' : ℕ) (list' : ℕ → List ℕ) (ln' ll' : ℕ) (living' : ℕ → List ℕ)
+      (stage : IsStage (arena_of b) (alive (arena_of b) round []) values' counts' bn' bl' list' ln' ll' living')
       (others : (v : ℕ) → v ≢ round + 1 → list' v ≡ list v) where
-    after : IsStage (arena_of b) (lasts (arena_of b) (suc round)) values' counts' bn' bl' list' sn' sl' source' ln' ll' living'
-    after = round-ends (arena_of b) (arena_is b board_is) values' counts' bn' bl' list' sn' sl' source' ln' ll' living' round stage
+    after : IsStage (arena_of b) (lasts (arena_of b) (suc round)) values' counts' bn' bl' list' ln' ll' living'
+    after = round-ends (arena_of b) (arena_is b board_is) values' counts' bn' bl' list' ln' ll' living' round stage
 
-    pub last-state : length (list' (round + 1)) ≡ 0 → IsState b dominators values' counts' bn' bl' list' sn' sl' source' ln' ll' living' round true
+    pub last-state : length (list' (round + 1)) ≡ 0 → IsState b dominators values' counts' bn' bl' list' ln' ll' living' round true
     last-state none = record {
       dominators_are = s.dominators_are;
       stage = after;
       some = s.some;
       bound = s.bound;
-      last = λ e. round-last (arena_of b) (arena_is b board_is) values' counts' bn' bl' list' sn' sl' source' ln' ll' living' round round-below after
+      last = λ e. round-last (arena_of b) (arena_is b board_is) values' counts' bn' bl' list' ln' ll' living' round round-below after
           (ap list' (sym (add-one round)) ∙ none_of (list' (round + 1)) none);
       ascending = subst (λ (xs : List ℕ). AllPairs (λ first second. first < second) xs) (sym (others 0 (λ e. omega arith))) s.ascending;
     }
 
-    pub further-state : is_done ≡ false → length (list' (round + 1)) ≢ 0 → IsState b dominators values' counts' bn' bl' list' sn' sl' source' ln' ll' living' (round + 1) is_done
+    pub further-state : is_done ≡ false → length (list' (round + 1)) ≢ 0 → IsState b dominators values' counts' bn' bl' list' ln' ll' living' (round + 1) is_done
     further-state going some =
-        let further = round-further (arena_of b) (arena_is b board_is) values' counts' bn' bl' list' sn' sl' source' ln' ll' living' round few round-below s.bound after
+        let further = round-further (arena_of b) (arena_is b board_is) values' counts' bn' bl' list' ln' ll' living' round few round-below s.bound after
         (λ e. some (ap (λ r. length (list' r)) (add-one round) ∙ e)) in
         rw (going, add-one round) (record {
           dominators_are = s.dominators_are;
@@ -89,11 +89,11 @@ module _ (b : PlainBoard) (board_is : IsBoard b) (few : configurations b ≤ 104
     shown-next = list-shown bl' list' stage.filed_are.are_lists.beyond (suc round) ∙ ap list' (sym (add-one round))
 
 -- the state after opening
-pub start-state : (b : PlainBoard) → IsBoard b → (dominators : List (Option ℕ)) (values counts : List ℕ) (bn bl : ℕ) (list : ℕ → List ℕ) (sn sl : ℕ) (source : ℕ → List ℕ) (ln ll : ℕ) (living : ℕ → List ℕ) → 0 < configurations b
-    → AreDominators b dominators → IsEntered (arena_of b) (configurations b) values counts bn bl list sn sl source ln ll living → IsState b dominators values counts bn bl list sn sl source ln ll living 0 false
-start-state b board_is dominators values counts bn bl list sn sl source ln ll living some are e = record {
+pub start-state : (b : PlainBoard) → IsBoard b → (dominators : List (Option ℕ)) (values counts : List ℕ) (bn bl : ℕ) (list : ℕ → List ℕ) (ln ll : ℕ) (living : ℕ → List ℕ) → 0 < configurations b
+    → AreDominators b dominators → IsEntered (arena_of b) (configurations b) values counts bn bl list ln ll living → IsState b dominators values counts bn bl list ln ll living 0 false
+start-state b board_is dominators values counts bn bl list ln ll living some are e = record {
   dominators_are = are;
-  stage = entered-all (arena_of b) values counts bn bl list sn sl source ln ll living e;
+  stage = entered-all (arena_of b) values counts bn bl list ln ll living e;
   some = count_below-some (configurations b) (lasts (arena_of b) 0) 0 some refl;
   bound = (let most = count_below-bound (configurations b) (lasts (arena_of b) 0) in omega arith);
   last = λ d. absurd (not_true d);

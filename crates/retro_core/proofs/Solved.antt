@@ -1,5 +1,5 @@
 -- What a solver knows between its calls.
-use Rattle.std.proofs.Common.{◌≡◌, ◌≢◌, ℕ, ◌+◌, ◌-◌, ◌*◌, ◌&&◌, ◌<◌, ◌≤◌, ◌↔◌, ◌==◌, not, inl, inr, Bool, true, false, cond, zero, suc, refl, arith, sym, ap, ◌∙◌, subst, List, [], ◌∷◌, length, map, get_or, slice_index, Option, Some, None}
+use Rattle.std.proofs.Common.{◌≡◌, ◌≢◌, ℕ, ◌+◌, ◌&&◌, ◌<◌, ◌≤◌, ◌↔◌, ◌==◌, not, inl, inr, Bool, true, false, cond, zero, suc, refl, arith, sym, ap, ◌∙◌, subst, List, [], ◌∷◌, length, get_or, slice_index, Option, Some, None}
 use Rattle.std.proofs.lemmas.Bool.{cases_lt}
 use Rattle.std.proofs.lemmas.Bool.Decides.{nat_tests}
 use Rattle.std.proofs.lemmas.List.FromFn.{length-map-range_with_len, get_or-map-range_with_len}
@@ -10,18 +10,18 @@ use Rattle.positions.specs.declared.value.Value.TheVariants.{Finite, Forever}
 use Rattle.positions.specs.Game.{LabellerTree}
 use Rattle.positions.specs.Value.{HasValue}
 use Rattle.positions.specs.Ranks.{configurations, rank_of, configuration_at}
-use Rattle.positions.specs.Gaps.{member_of}
+use Rattle.positions.specs.Gaps.{gaps, member_of}
 use Rattle.positions.proofs.Ranks.{rank_below, configuration_at-rank_of}
 use Rattle.retro_core.specs.Arena.{Arena, IsArena, count_below, lasts, IsLast}
 use Rattle.retro_core.specs.BoardArena.{arena_of}
-use Rattle.retro_core.specs.Tables.{is_open, alive, struck_rounds, AreWords, AreFiled, IsStage, IsState}
-use Rattle.retro_core.specs.Solving.{AreOpenMembers, IsSolving, NoneHas, first_lists, rank_in}
+use Rattle.retro_core.specs.Tables.{is_open, open_members, alive, struck_rounds, AreWords, AreFiled, IsStage, IsState}
+use Rattle.retro_core.specs.Solving.{AreOpenMembers, IsSolving, NoneHas, first_lists}
 use Rattle.retro_core.proofs.Counts.{count_below-some, count_below-less}
 use Rattle.retro_core.proofs.Lasting.{both_true, true_or_false, true_not_false, same_or_not, same_is, lasts-less, lasts-at-most}
 use Rattle.retro_core.proofs.Strikes.{lasts-forever}
 use Rattle.retro_core.proofs.BoardArenas.{at_member, arena_is, tree_of_lasts, lasts_of_tree, value_of_lasts, lasts_of_value}
 use Rattle.retro_core.proofs.Listed.{shut_word, times_true}
-use Rattle.retro_core.proofs.Sources.{waits-times, listed-member}
+use Rattle.retro_core.proofs.Sources.{waits-times, members-are}
 use Rattle.retro_core.proofs.Walking.{filed-word, alive-lasts, alive-fails, IsStage-same}
 
 -- ---- the lists as callers see them
@@ -59,10 +59,10 @@ filed-at a values nodes lists list v x f i j e = let once = f.once v x i j in le
 
 -- ---- the start and the end of a round
 
-pub round-starts : (a : Arena) → IsArena a → (values counts : List ℕ) (bn bl : ℕ) (list : ℕ → List ℕ) (sn sl : ℕ) (source : ℕ → List ℕ) (ln ll : ℕ) (living : ℕ → List ℕ) (r : ℕ) → a.configurations ≤ 1048576 → r < a.configurations
-    → IsStage a (lasts a r) values counts bn bl list sn sl source ln ll living → IsStage a (alive a r (list r)) values counts bn bl list sn sl source ln ll living
-round-starts a is values counts bn bl list sn sl source ln ll living r few i s =
-    IsStage-same a is (lasts a r) (alive a r (list r)) values counts bn bl list sn sl source ln ll living (λ x j. elim (true_or_false (lasts a (suc r) x)) [
+pub round-starts : (a : Arena) → IsArena a → (values counts : List ℕ) (bn bl : ℕ) (list : ℕ → List ℕ) (ln ll : ℕ) (living : ℕ → List ℕ) (r : ℕ) → a.configurations ≤ 1048576 → r < a.configurations
+    → IsStage a (lasts a r) values counts bn bl list ln ll living → IsStage a (alive a r (list r)) values counts bn bl list ln ll living
+round-starts a is values counts bn bl list ln ll living r few i s =
+    IsStage-same a is (lasts a r) (alive a r (list r)) values counts bn bl list ln ll living (λ x j. elim (true_or_false (lasts a (suc r) x)) [
       | inl more ↦ lasts-less a is r x j more ∙ sym (alive-lasts a r (list r) x more)
       | inr fails ↦ elim (true_or_false (lasts a r x)) [
         | inl one ↦ (let word = word-at a is (lasts a r) values r x j s.words_are (s.words_are.opened x j ∙ fails) one fails in
@@ -80,19 +80,19 @@ round-starts a is values counts bn bl list sn sl source ln ll living r few i s =
     none_there : (n : ℕ) → n ≡ 0 → not (n == 0) ≡ false
     none_there n e = rw e refl
 
-pub round-ends : (a : Arena) → IsArena a → (values counts : List ℕ) (bn bl : ℕ) (list : ℕ → List ℕ) (sn sl : ℕ) (source : ℕ → List ℕ) (ln ll : ℕ) (living : ℕ → List ℕ) (r : ℕ)
-    → IsStage a (alive a r []) values counts bn bl list sn sl source ln ll living → IsStage a (lasts a (suc r)) values counts bn bl list sn sl source ln ll living
-round-ends a is values counts bn bl list sn sl source ln ll living r s =
-    IsStage-same a is (alive a r []) (lasts a (suc r)) values counts bn bl list sn sl source ln ll living (λ x j. by (lasts a (suc r) x)) s
+pub round-ends : (a : Arena) → IsArena a → (values counts : List ℕ) (bn bl : ℕ) (list : ℕ → List ℕ) (ln ll : ℕ) (living : ℕ → List ℕ) (r : ℕ)
+    → IsStage a (alive a r []) values counts bn bl list ln ll living → IsStage a (lasts a (suc r)) values counts bn bl list ln ll living
+round-ends a is values counts bn bl list ln ll living r s =
+    IsStage-same a is (alive a r []) (lasts a (suc r)) values counts bn bl list ln ll living (λ x j. by (lasts a (suc r) x)) s
   where
     by : (b : Bool) → cond b true (not (0 == 0)) ≡ b
     by true = refl
     by false = refl
 
 -- a round that files nothing is the last
-pub round-last : (a : Arena) → IsArena a → (values counts : List ℕ) (bn bl : ℕ) (list : ℕ → List ℕ) (sn sl : ℕ) (source : ℕ → List ℕ) (ln ll : ℕ) (living : ℕ → List ℕ) (r : ℕ) → r < a.configurations
-    → IsStage a (lasts a (suc r)) values counts bn bl list sn sl source ln ll living → list (suc r) ≡ [] → IsLast a (suc r)
-round-last a is values counts bn bl list sn sl source ln ll living r i s none = record {
+pub round-last : (a : Arena) → IsArena a → (values counts : List ℕ) (bn bl : ℕ) (list : ℕ → List ℕ) (ln ll : ℕ) (living : ℕ → List ℕ) (r : ℕ) → r < a.configurations
+    → IsStage a (lasts a (suc r)) values counts bn bl list ln ll living → list (suc r) ≡ [] → IsLast a (suc r)
+round-last a is values counts bn bl list ln ll living r i s none = record {
   lasting = λ x j one. elim (true_or_false (lasts a (suc (suc r)) x)) [
     | inl more ↦ more
     | inr fails ↦ absurd (
@@ -112,10 +112,10 @@ some_in : (xs : List ℕ) → length xs ≢ 0 → (x : ℕ) × (0 < times x xs)
 some_in [] d = absurd (d refl)
 some_in (x ∷ xs) d = (x, times-here x x xs refl)
 
-pub round-further : (a : Arena) → IsArena a → (values counts : List ℕ) (bn bl : ℕ) (list : ℕ → List ℕ) (sn sl : ℕ) (source : ℕ → List ℕ) (ln ll : ℕ) (living : ℕ → List ℕ) (r : ℕ) → a.configurations ≤ 1048576 → r < a.configurations
+pub round-further : (a : Arena) → IsArena a → (values counts : List ℕ) (bn bl : ℕ) (list : ℕ → List ℕ) (ln ll : ℕ) (living : ℕ → List ℕ) (r : ℕ) → a.configurations ≤ 1048576 → r < a.configurations
     → count_below a.configurations (lasts a r) + r ≤ a.configurations
-    → IsStage a (lasts a (suc r)) values counts bn bl list sn sl source ln ll living → length (list (suc r)) ≢ 0 → IsFurther a r
-round-further a is values counts bn bl list sn sl source ln ll living r few i bound s filed =
+    → IsStage a (lasts a (suc r)) values counts bn bl list ln ll living → length (list (suc r)) ≢ 0 → IsFurther a r
+round-further a is values counts bn bl list ln ll living r few i bound s filed =
     let found = some_in (list (suc r)) filed in
     let x = found.0 in
     let j : x < a.configurations = (let b = s.filed_are.are_lists.below (suc r) x found.1 in let e = s.filed_are.nodes_is in omega arith) in
@@ -134,8 +134,8 @@ round-further a is values counts bn bl list sn sl source ln ll living r few i bo
 -- ---- values, by the words
 
 -- the state of a solver of a board
-module _ (b : PlainBoard) (board_is : IsBoard b) (few : configurations b ≤ 1048576) (dominators : List (Option ℕ)) (values counts : List ℕ) (bn bl : ℕ) (list : ℕ → List ℕ) (sn sl : ℕ) (source : ℕ → List ℕ) (ln ll : ℕ) (living : ℕ → List ℕ) (round : ℕ) (is_done : Bool)
-    (s : IsState b dominators values counts bn bl list sn sl source ln ll living round is_done) where
+module _ (b : PlainBoard) (board_is : IsBoard b) (few : configurations b ≤ 1048576) (dominators : List (Option ℕ)) (values counts : List ℕ) (bn bl : ℕ) (list : ℕ → List ℕ) (ln ll : ℕ) (living : ℕ → List ℕ) (round : ℕ) (is_done : Bool)
+    (s : IsState b dominators values counts bn bl list ln ll living round is_done) where
   abbrev pub a : Arena
   a = arena_of b
 
@@ -218,9 +218,9 @@ module _ (b : PlainBoard) (board_is : IsBoard b) (few : configurations b ≤ 104
         | inr d ↦ absurd (let once = f.once v x low i in let none = cond_other {A = ℕ} (slice_index values x) v 1 0 d in omega arith)
       ]
 
-  -- the lists of members that wait, as callers see them
-  pub source-shown : (g : ℕ) → get_or (first_lists sl (λ gap. map (rank_in b) (source gap))) g [] ≡ map (rank_in b) (source g)
-  source-shown g = list-shown sl (λ gap. map (rank_in b) (source gap)) (λ m h. ap (map (rank_in b)) (s.stage.sources_are.are_lists.beyond m h)) g
+  -- the members that wait, as callers see them
+  pub source-shown : (g : ℕ) → g < gaps b → get_or (first_lists (gaps b) (open_members a values)) g [] ≡ open_members a values g
+  source-shown g i = get_or-map-range_with_len (open_members a values) 0 (gaps b) g g [] i (omega arith)
 
   cond_some : (c d : Bool) → c ≡ true → d ≡ true → 0 < cond {A = ℕ} (c && d) 1 0
   cond_some c d e f = rw (e, f) (omega arith)
@@ -229,35 +229,29 @@ module _ (b : PlainBoard) (board_is : IsBoard b) (few : configurations b ≤ 104
   cond_few true = omega arith
   cond_few false = omega arith
 
-  open-members : AreOpenMembers (record { board = b; rounds = round; is_done = is_done; buckets = first_lists bl list; sources = first_lists sl (λ gap. map (rank_in b) (source gap)) })
+  open-members : AreOpenMembers (record { board = b; rounds = round; is_done = is_done; buckets = first_lists bl list; sources = first_lists (gaps b) (open_members (arena_of b) values) })
   open-members = record {
     listed = λ g v i j.
         let x = rank_of b (member_of b g v) in
         let x_in = is.member_in g v i j in
-        let count = waits-times a is (is_open values) sn sl source s.stage.sources_are g i x x_in in
-        rw (source-shown g) (
+        let count = waits-times a is (is_open values) g i x x_in in
+        rw (source-shown g i) (
           λ h. subst (LabellerTree b (suc round)) (at_member b g v i j)
               (tree_of_lasts b board_is (suc round) x x_in (open-lasts x x_in (both_true (is_open values x) (a.gap x (a.pebble g) == g) (times_true _ _ h count)).0)),
           λ tree. let still = lasts-open x x_in (lasts_of_tree b board_is (suc round) x x_in (subst (LabellerTree b (suc round)) (sym (at_member b g v i j)) tree)) in
               let some = cond_some (is_open values x) (a.gap x (a.pebble g) == g) still (same_is (a.gap x (a.pebble g)) g (is.gap_of_member g v i j)) in
               omega arith,
         );
-    once = λ g x i j. rw (source-shown g)
-        (let count = waits-times a is (is_open values) sn sl source s.stage.sources_are g i x j in
+    once = λ g x i j. rw (source-shown g i)
+        (let count = waits-times a is (is_open values) g i x j in
         let few = cond_few (is_open values x && (a.gap x (a.pebble g) == g)) in omega arith);
-    members = λ g x i. rw (source-shown g) (λ h.
-        let m = listed-member a is (is_open values) sn sl source s.stage.sources_are g i x h in
-        let same : a.pebble g * a.configurations + x - a.pebble g * a.configurations ≡ x = omega arith in
-        let low : x < a.configurations = subst (λ y. y < a.configurations) same m.rank_in in
-        let gap_is : a.gap x (a.pebble g) ≡ g = ap (λ y. a.gap y (a.pebble g)) (sym same) ∙ m.member in
-        let label = a.label x (a.pebble g) in (
-          label,
-          is.label_in x (a.pebble g) low (is.pebble_in g i),
-          sym (ap (λ h'. a.member h' label) (sym gap_is) ∙ is.member_of_gap x (a.pebble g) low (is.pebble_in g i)),
-        ));
+    members = λ g x i. rw (source-shown g i) (λ h.
+        let m = members-are a (is_open values) g 0 a.labels x h in
+        let low = m.below in
+        (m.label, omega arith, sym m.is));
   }
 
-  pub solving_of : IsSolving (record { board = b; rounds = round; is_done = is_done; buckets = first_lists bl list; sources = first_lists sl (λ gap. map (rank_in b) (source gap)) })
+  pub solving_of : IsSolving (record { board = b; rounds = round; is_done = is_done; buckets = first_lists bl list; sources = first_lists (gaps b) (open_members (arena_of b) values) })
   solving_of = record {
     is_board = board_is;
     few = few;

@@ -1,101 +1,147 @@
--- What callers see of the members that wait.
-use Rattle.std.proofs.Common.{◌≡◌, ℕ, zero, suc, ◌+◌, ◌-◌, ◌*◌, ◌%◌, ◌<◌, ◌==◌, ◌&&◌, Bool, cond, inl, inr, refl, sym, ap, ◌∙◌, subst, arith, List, [], ◌∷◌, map, Option, Some, None, slice_get}
-use Rattle.std.proofs.lemmas.Bool.{cases_lt}
-use Rattle.std.proofs.lemmas.Nat.{mod-mul-add}
-use Rattle.index_lists.specs.Lists.{times, IsFree}
-use Rattle.index_lists.proofs.Times.{times-more}
-use Rattle.index_lists.proofs.Places.{place-of, stands-at}
+-- The members of a gap that pass a test, by label.
+use Rattle.std.proofs.Common.{◌≡◌, ℕ, zero, suc, ◌+◌, ◌-◌, ◌<◌, ◌≤◌, ◌==◌, ◌&&◌, Bool, true, false, cond, inl, inr, refl, sym, ap, ◌∙◌, subst, arith, List, ◌∷◌, Some, slice_get}
+use Rattle.index_lists.specs.Lists.{times}
+use Rattle.index_lists.proofs.Times.{times-later}
+use Rattle.index_lists.proofs.Places.{some_is}
 use Rattle.retro_core.specs.Arena.{Arena, IsArena}
-use Rattle.retro_core.specs.Tables.{AreSources}
-use Rattle.retro_core.proofs.Lasting.{same_or_not, same_is, differ_is}
-use Rattle.retro_core.proofs.Listed.{IsMemberNode, source-node}
+use Rattle.retro_core.specs.Tables.{members_from}
+use Rattle.retro_core.proofs.Lasting.{both_true, and_true, true_or_false, true_not_false, same_or_not, same_is, differ_is}
 
-pub first-some : (f : ℕ → ℕ) (xs : List ℕ) (node : ℕ) → slice_get xs 0 ≡ Some node → slice_get (map f xs) 0 ≡ Some (f node)
-first-some f [] node e = absurd (cc e)
-first-some f (x ∷ xs) node e = ap Some (ap f (some_is x node e))
-  where
-    some_is : (m n : ℕ) → Some m ≡ Some n → m ≡ n
-    some_is m n q = cc
+-- a member is left out or comes first
+pub members-skip : (a : Arena) (test : ℕ → Bool) (g from n : ℕ) → test (a.member g from) ≡ false → members_from a test g from (suc n) ≡ members_from a test g (from + 1) n
+members-skip a test g from n e = rw e refl
 
-pub first-none : (f : ℕ → ℕ) (xs : List ℕ) → slice_get xs 0 ≡ None → slice_get (map f xs) 0 ≡ None
-first-none f [] e = refl
-first-none f (x ∷ xs) e = absurd (cc e)
+pub members-take : (a : Arena) (test : ℕ → Bool) (g from n : ℕ) → test (a.member g from) ≡ true → members_from a test g from (suc n) ≡ a.member g from ∷ members_from a test g (from + 1) n
+members-take a test g from n e = rw e refl
 
--- what stands at a place of a mapped list
-pub record StandsBehind (f : ℕ → ℕ) (xs : List ℕ) (place y : ℕ) : Type 0 where
-  pub node : ℕ
-  pub here : slice_get xs place ≡ Some node
-  pub is : f node ≡ y
+-- what stands among the members
+pub record IsMember (a : Arena) (test : ℕ → Bool) (g from n x : ℕ) : Type 0 where
+  pub label : ℕ
+  pub at_least : from ≤ label
+  pub below : label < from + n
+  pub passes : test x ≡ true
+  pub is : a.member g label ≡ x
 
-pub behind-map : (f : ℕ → ℕ) (xs : List ℕ) (place y : ℕ) → slice_get (map f xs) place ≡ Some y → StandsBehind f xs place y
-behind-map f [] place y e = absurd (cc e)
-behind-map f (x ∷ xs) zero y e = record { node = x; here = refl; is = some_is (f x) y e }
-  where
-    some_is : (m n : ℕ) → Some m ≡ Some n → m ≡ n
-    some_is m n q = cc
-behind-map f (x ∷ xs) (suc place) y e = let rest = behind-map f xs place y e in record { node = rest.node; here = rest.here; is = rest.is }
+member-later : (a : Arena) (test : ℕ → Bool) (g from n x : ℕ) → IsMember a test g (from + 1) n x → IsMember a test g from (suc n) x
+member-later a test g from n x rest =
+    let low = rest.at_least in
+    let high = rest.below in
+    record { label = rest.label; at_least = omega arith; below = omega arith; passes = rest.passes; is = rest.is }
 
-pub map-some : (f : ℕ → ℕ) (xs : List ℕ) (place node : ℕ) → slice_get xs place ≡ Some node → slice_get (map f xs) place ≡ Some (f node)
-map-some f [] place node e = absurd (cc e)
-map-some f (x ∷ xs) zero node e = first-some f (x ∷ xs) node e
-map-some f (x ∷ xs) (suc place) node e = map-some f xs place node e
+pub members-are : (a : Arena) (test : ℕ → Bool) (g from n x : ℕ) → 0 < times x (members_from a test g from n) → IsMember a test g from n x
+members-are a test g from zero x h = absurd (omega arith)
+members-are a test g from (suc n) x h = elim (true_or_false (test (a.member g from))) [
+  | inr fails ↦ member-later a test g from n x (members-are a test g (from + 1) n x (subst (λ xs. 0 < times x xs) (members-skip a test g from n fails) h))
+  | inl passes ↦ elim (same_or_not (a.member g from) x) [
+    | inl here ↦ record { label = from; at_least = omega arith; below = omega arith; passes = ap test (sym here) ∙ passes; is = here }
+    | inr other ↦ member-later a test g from n x (members-are a test g (from + 1) n x
+        (let skipped = ap (times x) (members-take a test g from n passes) ∙ times-later (a.member g from) x (members_from a test g (from + 1) n) other in omega arith))
+  ]
+]
 
-pub map-none : (f : ℕ → ℕ) (xs : List ℕ) (place : ℕ) → slice_get xs place ≡ None → slice_get (map f xs) place ≡ None
-map-none f [] place e = refl
-map-none f (x ∷ xs) zero e = absurd (cc e)
-map-none f (x ∷ xs) (suc place) e = map-none f xs place e
+first_more : (x node : ℕ) (xs : List ℕ) → x ≡ node → times node (x ∷ xs) ≡ 1 + times node xs
+first_more x node xs e = rw (same_is x node e) refl
 
--- how often a configuration stands in a list of nodes of one pebble
-pub times-mapped : (n q x : ℕ) (xs : List ℕ) → x < n → ((node : ℕ) → 0 < times node xs → node ≡ q * n + node % n) → times x (map (λ node. node % n) xs) ≡ times (q * n + x) xs
-times-mapped n q x [] i each = refl
-times-mapped n q x (y ∷ ys) i each =
-    let rest = times-mapped n q x ys i (λ node h. each node (times-more y node ys h)) in
-    let here : y ≡ q * n + y % n = each y (let one : times y (y ∷ ys) ≡ 1 + times y ys = rw (same_is y y refl) refl in omega arith) in
-    ap (λ m. cond (y % n == x) 1 0 + m) rest ∙ ap (λ b. cond {A = ℕ} b 1 0 + times (q * n + x) ys) (same_tests here)
-  where
-    same_tests : y ≡ q * n + y % n → (y % n == x) ≡ (y == q * n + x)
-    same_tests here = elim (same_or_not (y % n) x) [
-      | inl e ↦ same_is (y % n) x e ∙ sym (same_is y (q * n + x) (here ∙ ap (λ m. q * n + m) e))
-      | inr d ↦ differ_is (y % n) x d ∙ sym (differ_is y (q * n + x) (λ e. d (ap (λ m. m % n) e ∙ mod-mul-add q n x i)))
-    ]
+module _ (a : Arena) (is : IsArena a) (test : ℕ → Bool) (g : ℕ) (i : g < a.gaps) where
+  one_label : (v w : ℕ) → v < a.labels → w < a.labels → a.member g v ≡ a.member g w → v ≡ w
+  one_label v w low high e = sym (is.label_of_member g v i low) ∙ ap (λ x. a.label x (a.pebble g)) e ∙ is.label_of_member g w i high
 
-module _ (a : Arena) (is : IsArena a) (waits : ℕ → Bool) (nodes lists : ℕ) (source : ℕ → List ℕ) (are : AreSources a waits nodes lists source) (g : ℕ) (i : g < a.gaps) where
-  -- a node of a gap's list, by its configuration
-  pub node-is : (node : ℕ) → 0 < times node (source g) → node ≡ a.pebble g * a.configurations + node % a.configurations
-  node-is node h =
-      let m = source-node a is waits nodes lists source g node are i h in
-      let x = node - a.pebble g * a.configurations in
-      let parts : a.pebble g * a.configurations + x ≡ node = (let low = m.at_least in omega arith) in
-      let rest : node % a.configurations ≡ x = ap (λ k. k % a.configurations) (sym parts) ∙ mod-mul-add (a.pebble g) a.configurations x m.rank_in in
+  -- each member stands once
+  pub member-once : (from n v : ℕ) → from + n ≤ a.labels → from ≤ v → v < from + n → test (a.member g v) ≡ true → times (a.member g v) (members_from a test g from n) ≡ 1
+  member-once from zero v most low high passes = absurd (omega arith)
+  member-once from (suc n) v most low high passes = elim (same_or_not from v) [
+    | inl here ↦ (
+        let first = members-take a test g from n (ap (λ w. test (a.member g w)) here ∙ passes) in
+        let one = ap (times (a.member g v)) first ∙ first_more (a.member g from) (a.member g v) (members_from a test g (from + 1) n) (ap (a.member g) here) in
+        let none : times (a.member g v) (members_from a test g (from + 1) n) ≡ 0 = none_behind v here in
+        omega arith)
+    | inr other ↦ (
+        let rest = member-once (from + 1) n v (omega arith) (omega arith) (omega arith) passes in
+        elim (true_or_false (test (a.member g from))) [
+          | inr fails ↦ ap (times (a.member g v)) (members-skip a test g from n fails) ∙ rest
+          | inl first ↦ ap (times (a.member g v)) (members-take a test g from n first)
+              ∙ times-later (a.member g from) (a.member g v) (members_from a test g (from + 1) n) (λ e. other (one_label from v (omega arith) (omega arith) e)) ∙ rest
+        ])
+  ]
+    where
+      zero_or_some : (k : ℕ) → (0 < k → ⊥) → k ≡ 0
+      zero_or_some zero none = refl
+      zero_or_some (suc k) none = absurd (none (omega arith))
+
+      none_behind : (w : ℕ) → from ≡ w → times (a.member g w) (members_from a test g (from + 1) n) ≡ 0
+      none_behind w here = zero_or_some (times (a.member g w) (members_from a test g (from + 1) n)) (λ some.
+          let found = members-are a test g (from + 1) n (a.member g w) some in
+          let least = found.at_least in
+          let most_label = found.below in
+          let same = one_label found.label w (omega arith) (omega arith) found.is in
+          omega arith)
+
+  -- how often a configuration stands among the members
+  pub waits-times : (x : ℕ) → x < a.configurations → times x (members_from a test g 0 a.labels) ≡ cond (test x && (a.gap x (a.pebble g) == g)) 1 0
+  waits-times x j = elim (true_or_false (test x && (a.gap x (a.pebble g) == g))) [
+    | inl both ↦ (
+        let parts = both_true (test x) (a.gap x (a.pebble g) == g) both in
+        let member = is_same parts.1 in
+        let p_in = is.pebble_in g i in
+        let x_is : a.member g (a.label x (a.pebble g)) ≡ x = ap (λ h. a.member h (a.label x (a.pebble g))) (sym member) ∙ is.member_of_gap x (a.pebble g) j p_in in
+        let low = is.label_in x (a.pebble g) j p_in in
+        ap (λ y. times y (members_from a test g 0 a.labels)) (sym x_is)
+        ∙ member-once 0 a.labels (a.label x (a.pebble g)) (omega arith) (omega arith) (omega arith) (ap test x_is ∙ parts.0)
+        ∙ sym (ap (λ b. cond {A = ℕ} b 1 0) both))
+    | inr not_both ↦ none (times x (members_from a test g 0 a.labels)) (λ some.
+        let found = members-are a test g 0 a.labels x some in
+        let high = found.below in
+        let member : a.gap x (a.pebble g) ≡ g = ap (λ y. a.gap y (a.pebble g)) (sym found.is) ∙ is.gap_of_member g found.label i (omega arith) in
+        true_not_false (test x && (a.gap x (a.pebble g) == g)) (and_true (test x) (a.gap x (a.pebble g) == g) found.passes (same_is (a.gap x (a.pebble g)) g member)) not_both)
+        ∙ sym (ap (λ b. cond {A = ℕ} b 1 0) not_both)
+  ]
+    where
+      none : (k : ℕ) → (0 < k → ⊥) → k ≡ 0
+      none zero h = refl
+      none (suc k) h = absurd (h (omega arith))
+
+      is_same : {m n : ℕ} → (m == n) ≡ true → m ≡ n
+      is_same {m} {n} e = elim (same_or_not m n) [ inl s ↦ s | inr d ↦ absurd (true_not_false (m == n) e (differ_is m n d)) ]
+
+  -- behind a member stands the first of those with a greater label
+  same_rest : (from n v : ℕ) → slice_get (members_from a test g (v + 1) (from + 1 + n - (v + 1))) 0 ≡ slice_get (members_from a test g (v + 1) (from + suc n - (v + 1))) 0
+  same_rest from n v = let e : from + 1 + n - (v + 1) ≡ from + suc n - (v + 1) = omega arith in ap (λ k. slice_get (members_from a test g (v + 1) k) 0) e
+
+  behind_first : (from n v : ℕ) → from + suc n ≤ a.labels → v < a.labels → Some (a.member g from) ≡ Some (a.member g v)
+      → slice_get (members_from a test g (from + 1) n) 0 ≡ slice_get (members_from a test g (v + 1) (from + suc n - (v + 1))) 0
+  behind_first from n v most low here =
+      let same : from ≡ v = one_label from v (omega arith) low (some_is (a.member g from) (a.member g v) here) in
+      let count : n ≡ from + suc n - (v + 1) = omega arith in
+      ap (λ k. slice_get (members_from a test g (from + 1) k) 0) count ∙ ap (λ w. slice_get (members_from a test g (w + 1) (from + suc n - (v + 1))) 0) same
+
+  pub member-behind : (from n v place : ℕ) → from + n ≤ a.labels → v < a.labels → slice_get (members_from a test g from n) place ≡ Some (a.member g v)
+      → slice_get (members_from a test g from n) (suc place) ≡ slice_get (members_from a test g (v + 1) (from + n - (v + 1))) 0
+  member-behind from zero v place most low e = absurd (cc e)
+  member-behind from (suc n) v zero most low e = elim (true_or_false (test (a.member g from))) [
+    | inr fails ↦ (
+        let skip = members-skip a test g from n fails in
+        ap (λ (xs : List ℕ). slice_get xs 1) skip
+        ∙ member-behind (from + 1) n v 0 (omega arith) low (ap (λ (xs : List ℕ). slice_get xs 0) (sym skip) ∙ e)
+        ∙ same_rest from n v)
+    | inl passes ↦ (
+        let take = members-take a test g from n passes in
+        ap (λ (xs : List ℕ). slice_get xs 1) take ∙ behind_first from n v most low (ap (λ (xs : List ℕ). slice_get xs 0) (sym take) ∙ e))
+  ]
+  member-behind from (suc n) v (suc place) most low e = elim (true_or_false (test (a.member g from))) [
+    | inr fails ↦ (
+        let skip = members-skip a test g from n fails in
+        ap (λ (xs : List ℕ). slice_get xs (suc (suc place))) skip
+        ∙ member-behind (from + 1) n v (suc place) (omega arith) low (ap (λ (xs : List ℕ). slice_get xs (suc place)) (sym skip) ∙ e)
+        ∙ same_rest from n v)
+    | inl passes ↦ (
+        let take = members-take a test g from n passes in
+        ap (λ (xs : List ℕ). slice_get xs (suc (suc place))) take
+        ∙ member-behind (from + 1) n v place (omega arith) low (ap (λ (xs : List ℕ). slice_get xs (suc place)) (sym take) ∙ e)
+        ∙ same_rest from n v)
+  ]
+
+  -- an open member stands among the members
+  pub member-stands : (x : ℕ) → x < a.configurations → test x ≡ true → a.gap x (a.pebble g) ≡ g → 0 < times x (members_from a test g 0 a.labels)
+  member-stands x j passes member =
+      let one = waits-times x j ∙ ap (λ b. cond {A = ℕ} b 1 0) (and_true (test x) (a.gap x (a.pebble g) == g) passes (same_is (a.gap x (a.pebble g)) g member)) in
       omega arith
-
-  pub waits-times : (x : ℕ) → x < a.configurations → times x (map (λ node. node % a.configurations) (source g)) ≡ cond (waits x && (a.gap x (a.pebble g) == g)) 1 0
-  waits-times x j = times-mapped a.configurations (a.pebble g) x (source g) j node-is ∙ are.once g (a.pebble g) x i (is.pebble_in g i) j
-
-  pub listed-member : (x : ℕ) → 0 < times x (map (λ node. node % a.configurations) (source g)) → IsMemberNode a waits g (a.pebble g * a.configurations + x)
-  listed-member x h =
-      let place = place-of x (map (λ node. node % a.configurations) (source g)) h in
-      let found = behind-map (λ node. node % a.configurations) (source g) place.0 x place.1 in
-      let here = stands-at place.0 found.node (source g) found.here in
-      let node_is : found.node ≡ a.pebble g * a.configurations + x = node-is found.node here ∙ ap (λ m. a.pebble g * a.configurations + m) found.is in
-      source-node a is waits nodes lists source g (a.pebble g * a.configurations + x) are i (subst (λ m. 0 < times m (source g)) node_is here)
-
-  -- where a configuration stands among the members that wait, its node stands in the list
-  pub node-at : (place rank : ℕ) → slice_get (map (λ node. node % a.configurations) (source g)) place ≡ Some rank → slice_get (source g) place ≡ Some (a.pebble g * a.configurations + rank)
-  node-at place rank e =
-      let found = behind-map (λ node. node % a.configurations) (source g) place rank e in
-      found.here ∙ ap Some (node-is found.node (stands-at place found.node (source g) found.here) ∙ ap (λ m. a.pebble g * a.configurations + m) found.is)
-
-none_times : (n : ℕ) → (0 < n → ⊥) → n ≡ 0
-none_times n none = elim (cases_lt 0 n) [ inl some ↦ absurd (none some) | inr nothing ↦ omega arith ]
-
--- a configuration that is in no list of members has nodes in none
-pub node-free : (n q rank : ℕ) (source : ℕ → List ℕ) → rank < n → ((g place : ℕ) → slice_get (map (λ node. node % n) (source g)) place ≡ Some rank → ⊥) → IsFree source (q * n + rank)
-node-free n q rank source i none = record {
-  free = λ g. none_times (times (q * n + rank) (source g)) (λ some.
-      let place = place-of (q * n + rank) (source g) some in
-      none g place.0 (map-some (λ node. node % n) (source g) place.0 (q * n + rank) place.1 ∙ ap Some (mod-mul-add q n rank i)));
-}
-
-pub none_some : (o : Option ℕ) (x : ℕ) → o ≡ Some x → o ≡ None → ⊥
-none_some o x e f = cc

@@ -10,7 +10,7 @@ use Rattle.positions.specs.Gaps.{IsDominator}
 use Rattle.positions.specs.Counts.{IsSmallest}
 use Rattle.retro_core.specs.Arena.{Arena, IsArena, without, Dominant}
 use Rattle.retro_core.specs.BoardArena.{arena_of}
-use Rattle.retro_core.specs.Tables.{is_open, IsCounted, AreFiled, AreSources, AreLive, AreDominators, IsClosed, IsStage, IsToStrike}
+use Rattle.retro_core.specs.Tables.{IsCounted, AreFiled, AreLive, AreDominators, IsClosed, IsStage, IsToStrike}
 use Rattle.retro_core.proofs.BoardArenas.{dominant_is}
 use Rattle.retro_core.proofs.Lasting.{both_true, and_true, true_or_false, same_or_not, same_is}
 use Rattle.retro_core.proofs.Strikes.{strike-home}
@@ -144,13 +144,12 @@ dominator-some b dominators c p are i e =
 
 -- ---- the three ends
 
-pub stage-alone : (a : Arena) → IsArena a → (above : ℕ → Bool) (values counts : List ℕ) (bn bl : ℕ) (bucket : ℕ → List ℕ) (sn sl : ℕ) (source : ℕ → List ℕ) (ln ll : ℕ) (living : ℕ → List ℕ) (c : ℕ)
-    → ((p : ℕ) → Dominant a c p → ⊥) → IsStage a above values counts bn bl bucket sn sl source ln ll living → IsStage a (without above c) values counts bn bl bucket sn sl source ln ll living
-stage-alone a is above values counts bn bl bucket sn sl source ln ll living c alone s = record {
+pub stage-alone : (a : Arena) → IsArena a → (above : ℕ → Bool) (values counts : List ℕ) (bn bl : ℕ) (bucket : ℕ → List ℕ) (ln ll : ℕ) (living : ℕ → List ℕ) (c : ℕ)
+    → ((p : ℕ) → Dominant a c p → ⊥) → IsStage a above values counts bn bl bucket ln ll living → IsStage a (without above c) values counts bn bl bucket ln ll living
+stage-alone a is above values counts bn bl bucket ln ll living c alone s = record {
   counts_are = counted-alone a is above c counts alone s.counts_are;
   words_are = words-alone a is above c values alone s.words_are;
   filed_are = s.filed_are;
-  sources_are = s.sources_are;
   live_are = live-alone a is above ln ll living c alone s.live_are;
 }
 
@@ -161,31 +160,29 @@ count-left a is above counts c p g i d is_above g_is k =
     let counted = k.counted (a.gap c p) (is.gap_in c p i d.0) in
     rw g_is (omega arith)
 
-pub stage-some : (a : Arena) → IsArena a → (above : ℕ → Bool) (values counts : List ℕ) (bn bl : ℕ) (bucket : ℕ → List ℕ) (sn sl : ℕ) (source : ℕ → List ℕ) (ln ll ln' ll' : ℕ) (living living' : ℕ → List ℕ) (c p g n : ℕ)
+pub stage-some : (a : Arena) → IsArena a → (above : ℕ → Bool) (values counts : List ℕ) (bn bl : ℕ) (bucket : ℕ → List ℕ) (ln ll ln' ll' : ℕ) (living living' : ℕ → List ℕ) (c p g n : ℕ)
     → c < a.configurations → Dominant a c p → above c ≡ true → g ≡ a.gap c p → slice_index counts g ≡ n + 1 → 0 < n
     → ln' ≡ ln → ll' ≡ ll → AreLists ln' ll' living' → ((l : ℕ) → living' l ≡ without_node c (living l))
-    → IsStage a above values counts bn bl bucket sn sl source ln ll living → IsStage a (without above c) values (slice_set counts g n) bn bl bucket sn sl source ln' ll' living'
-stage-some a is above values counts bn bl bucket sn sl source ln ll ln' ll' living living' c p g n i d is_above g_is n_is some nodes_same lists_same are unlinked s =
+    → IsStage a above values counts bn bl bucket ln ll living → IsStage a (without above c) values (slice_set counts g n) bn bl bucket ln' ll' living'
+stage-some a is above values counts bn bl bucket ln ll ln' ll' living living' c p g n i d is_above g_is n_is some nodes_same lists_same are unlinked s =
     let counted = ap (slice_index counts) (sym g_is) ∙ n_is in record {
       counts_are = rw g_is (counted-struck a is above c p n counts i d is_above counted s.counts_are);
       words_are = words-some a is above c p n values i d (home-now a is above c p n counts i d is_above counted s.counts_are) some s.words_are;
       filed_are = s.filed_are;
-      sources_are = s.sources_are;
       live_are = live-struck a above ln ll ln' ll' living living' c s.live_are nodes_same lists_same are unlinked;
     }
 
-pub stage-closed : (a : Arena) → IsArena a → (above : ℕ → Bool) (values values' counts : List ℕ) (bn bl bn' bl' : ℕ) (bucket bucket' : ℕ → List ℕ) (sn sl sn' sl' : ℕ) (source source' : ℕ → List ℕ) (ln ll ln' ll' : ℕ) (living living' : ℕ → List ℕ) (c p g r value n : ℕ)
+pub stage-closed : (a : Arena) → IsArena a → (above : ℕ → Bool) (values values' counts : List ℕ) (bn bl bn' bl' : ℕ) (bucket bucket' : ℕ → List ℕ) (ln ll ln' ll' : ℕ) (living living' : ℕ → List ℕ) (c p g r value n : ℕ)
     → c < a.configurations → Dominant a c p → g ≡ a.gap c p → slice_index counts g ≡ n + 1 → n ≡ 0 → value ≡ suc r → value ≢ 4294967295
     → ln' ≡ ln → ll' ≡ ll → AreLists ln' ll' living' → ((l : ℕ) → living' l ≡ without_node c (living l))
-    → IsClosed a g value values values' → AreFiled a.configurations values' bn' bl' bucket' → AreSources a (is_open values') sn' sl' source'
+    → IsClosed a g value values values' → AreFiled a.configurations values' bn' bl' bucket'
     → IsToStrike a r above c
-    → IsStage a above values counts bn bl bucket sn sl source ln ll living → IsStage a (without above c) values' (slice_set counts g n) bn' bl' bucket' sn' sl' source' ln' ll' living'
-stage-closed a is above values values' counts bn bl bn' bl' bucket bucket' sn sl sn' sl' source source' ln ll ln' ll' living living' c p g r value n i d g_is n_is none value_is small nodes_same lists_same are unlinked closed filed sources todo s =
+    → IsStage a above values counts bn bl bucket ln ll living → IsStage a (without above c) values' (slice_set counts g n) bn' bl' bucket' ln' ll' living'
+stage-closed a is above values values' counts bn bl bn' bl' bucket bucket' ln ll ln' ll' living living' c p g r value n i d g_is n_is none value_is small nodes_same lists_same are unlinked closed filed todo s =
     let counted = ap (slice_index counts) (sym g_is) ∙ n_is in
     let now = home-now a is above c p n counts i d todo.is_above counted s.counts_are ∙ none in record {
       counts_are = rw g_is (counted-struck a is above c p n counts i d todo.is_above counted s.counts_are);
       words_are = words-closed a is above c p r values values' i d now (λ e. small (value_is ∙ e)) todo.between todo.stops (rw (← g_is, ← value_is) closed) s.words_are;
       filed_are = filed;
-      sources_are = sources;
       live_are = live-struck a above ln ll ln' ll' living living' c s.live_are nodes_same lists_same are unlinked;
     }

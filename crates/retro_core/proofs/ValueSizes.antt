@@ -102,8 +102,8 @@ sizes-room n round capacity bucket sizes are low = let sized = are.sized in let 
 
 -- ---- the counts of a solver that is done
 
-module _ (b : PlainBoard) (board_is : IsBoard b) (few : configurations b ≤ 1048576) (dominators : List (Option ℕ)) (values counts : List ℕ) (bn bl : ℕ) (list : ℕ → List ℕ) (sn sl : ℕ) (source : ℕ → List ℕ) (ln ll : ℕ) (living : ℕ → List ℕ) (round : ℕ) (is_done : Bool)
-    (s : IsState b dominators values counts bn bl list sn sl source ln ll living round is_done) where
+module _ (b : PlainBoard) (board_is : IsBoard b) (few : configurations b ≤ 1048576) (dominators : List (Option ℕ)) (values counts : List ℕ) (bn bl : ℕ) (list : ℕ → List ℕ) (ln ll : ℕ) (living : ℕ → List ℕ) (round : ℕ) (is_done : Bool)
+    (s : IsState b dominators values counts bn bl list ln ll living round is_done) where
   pub counts-are : (capacity forever : ℕ) (sizes : List ℕ) → AreSizes (configurations b) round capacity list sizes → forever ≡ count_below (configurations b) (is_open values) → AreCounts (configurations b) values sizes forever
   counts-are capacity forever sizes are forever_is =
       let sized = are.sized in
@@ -113,7 +113,7 @@ module _ (b : PlainBoard) (board_is : IsBoard b) (few : configurations b ≤ 104
         few = omega arith;
         counted = λ v h. are.lengths v (omega arith) ∙ filed-size (configurations b) values bn bl list v s.stage.filed_are (omega arith);
         some = λ v h i. are.some v h (omega arith);
-        inside = λ x i shut. (let most = word-few b board_is few dominators values counts bn bl list sn sl source ln ll living round is_done s x i shut in omega arith);
+        inside = λ x i shut. (let most = word-few b board_is few dominators values counts bn bl list ln ll living round is_done s x i shut in omega arith);
         forever_is = forever_is;
       }
 

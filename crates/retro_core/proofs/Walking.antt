@@ -98,21 +98,20 @@ filed-word a above values nodes lists bucket r x few w f i j h =
       stopping = subst (λ n. lasts a (suc n) x ≡ false) word (w.stopping x j shut);
     }
 
-pub IsStage-same : (a : Arena) → IsArena a → (above above' : ℕ → Bool) (values counts : List ℕ) (bn bl : ℕ) (bucket : ℕ → List ℕ) (sn sl : ℕ) (source : ℕ → List ℕ) (ln ll : ℕ) (living : ℕ → List ℕ)
-    → ((x : ℕ) → x < a.configurations → above x ≡ above' x) → IsStage a above values counts bn bl bucket sn sl source ln ll living → IsStage a above' values counts bn bl bucket sn sl source ln ll living
-IsStage-same a is above above' values counts bn bl bucket sn sl source ln ll living same s = record {
+pub IsStage-same : (a : Arena) → IsArena a → (above above' : ℕ → Bool) (values counts : List ℕ) (bn bl : ℕ) (bucket : ℕ → List ℕ) (ln ll : ℕ) (living : ℕ → List ℕ)
+    → ((x : ℕ) → x < a.configurations → above x ≡ above' x) → IsStage a above values counts bn bl bucket ln ll living → IsStage a above' values counts bn bl bucket ln ll living
+IsStage-same a is above above' values counts bn bl bucket ln ll living same s = record {
   counts_are = IsCounted-same a is above above' counts same s.counts_are;
   words_are = AreWords-same a is above above' values same s.words_are;
   filed_are = s.filed_are;
-  sources_are = s.sources_are;
   live_are = AreLive-same a above above' ln ll living same s.live_are;
 }
 
 -- the first of what is left is to be struck
-pub walk-strikes : (a : Arena) → IsArena a → (values counts : List ℕ) (bn bl : ℕ) (bucket : ℕ → List ℕ) (sn sl : ℕ) (source : ℕ → List ℕ) (ln ll : ℕ) (living : ℕ → List ℕ) (r node : ℕ)
+pub walk-strikes : (a : Arena) → IsArena a → (values counts : List ℕ) (bn bl : ℕ) (bucket : ℕ → List ℕ) (ln ll : ℕ) (living : ℕ → List ℕ) (r node : ℕ)
     → a.configurations ≤ 1048576 → r < a.configurations → 0 < times node (bucket r)
-    → IsStage a (alive a r (rest_from (Some node) (bucket r))) values counts bn bl bucket sn sl source ln ll living → IsToStrike a r (alive a r (rest_from (Some node) (bucket r))) node
-walk-strikes a is values counts bn bl bucket sn sl source ln ll living r node few i h s =
+    → IsStage a (alive a r (rest_from (Some node) (bucket r))) values counts bn bl bucket ln ll living → IsToStrike a r (alive a r (rest_from (Some node) (bucket r))) node
+walk-strikes a is values counts bn bl bucket ln ll living r node few i h s =
     let f = s.filed_are in
     let place = place-of node (bucket r) h in
     let step = rest-step (bucket r) place.0 node (f.are_lists.once r) place.1 in

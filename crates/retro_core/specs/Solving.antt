@@ -1,5 +1,5 @@
 -- A solver as plain data, and what it knows of the game.
-use Rattle.std.specs.Prelude.{◌≡◌, ℕ, suc, ◌<◌, ◌≤◌, ◌↔◌, ◌%◌, Bool, true, List, [], AllPairs, map, slice_index_or}
+use Rattle.std.specs.Prelude.{◌≡◌, ℕ, suc, ◌<◌, ◌≤◌, ◌↔◌, Bool, true, List, [], AllPairs, map, slice_index_or}
 use Rattle.std.specs.List.{range_with_len}
 use Rattle.board_text.specs.PlainBoard.{PlainBoard, IsBoard, IsConfiguration}
 use Rattle.index_lists.specs.Lists.{times}
@@ -66,7 +66,3 @@ AnswerLasts board gap depth label = IsAnswer board gap label × LabellerTree boa
 -- the label is an answer, and a labeller lasts forever after it
 abbrev pub AnswerForever : PlainBoard → ℕ → ℕ → Type 0
 AnswerForever board gap label = IsAnswer board gap label × HasValue board (member_of board gap label) Forever
-
--- the configuration of a node of a list of members
-abbrev pub rank_in : PlainBoard → ℕ → ℕ
-rank_in board node = node % configurations board

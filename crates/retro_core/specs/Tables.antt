@@ -1,5 +1,6 @@
 -- What a solver's tables and lists say of the game.
-use Rattle.std.specs.Prelude.{◌≡◌, ℕ, ◌+◌, ◌*◌, ◌<◌, ◌≤◌, ◌≢◌, ◌↔◌, ◌==◌, ◌&&◌, not, nat_lt, Bool, true, false, cond, suc, List, [], ◌∷◌, length, AllPairs, Option, None, Some, slice_index, slice_index_or}
+use Rattle.std.specs.Prelude.{◌≡◌, ℕ, ◌+◌, ◌<◌, ◌≤◌, ◌≢◌, ◌↔◌, ◌==◌, ◌&&◌, not, nat_lt, Bool, true, false, cond, suc, List, [], ◌∷◌, length, AllPairs, Option, None, Some, slice_index, slice_index_or, map, filter}
+use Rattle.std.specs.List.{range_with_len}
 use Rattle.index_lists.specs.Lists.{times, AreLists}
 use Rattle.board_text.specs.PlainBoard.{PlainBoard, IsBoard}
 use Rattle.positions.specs.Ranks.{configurations, configuration_at}
@@ -14,6 +15,14 @@ use Rattle.retro_core.specs.BoardArena.{arena_of}
 -- the word of a configuration that has no value yet
 abbrev pub is_open : List ℕ → ℕ → Bool
 is_open values x = slice_index values x == 4294967295
+
+-- the members of a gap that pass the test, for so many labels from one on
+abbrev pub members_from : Arena → (ℕ → Bool) → ℕ → ℕ → ℕ → List ℕ
+members_from a test g from count = filter test (map (a.member g) (range_with_len from count))
+
+-- the members of a gap that have no value yet, by label
+abbrev pub open_members : Arena → List ℕ → ℕ → List ℕ
+open_members a values g = members_from a (is_open values) g 0 a.labels
 
 -- each gap's count is the number of its answers that lead to where the test holds
 pub record IsCounted (a : Arena) (above : ℕ → Bool) (counts : List ℕ) : Type 0 where
@@ -63,14 +72,6 @@ pub record AreFiled (n : ℕ) (values : List ℕ) (nodes lists : ℕ) (bucket : 
   pub are_lists : AreLists nodes lists bucket
   pub once : (v x : ℕ) → v ≤ n → x < n → times x (bucket v) ≡ cond (slice_index values x == v) 1 0
 
--- the list of each gap has its members that wait for a value, each once, as nodes of its pebble
-pub record AreSources (a : Arena) (waits : ℕ → Bool) (nodes lists : ℕ) (source : ℕ → List ℕ) : Type 0 where
-  pub nodes_is : nodes ≡ a.pebbles * a.configurations
-  pub lists_is : lists ≡ a.gaps
-  pub are_lists : AreLists nodes lists source
-  pub once : (g p x : ℕ) → g < a.gaps → p < a.pebbles → x < a.configurations
-      → times (p * a.configurations + x) (source g) ≡ cond (waits x && (a.gap x p == g)) 1 0
-
 -- the list of each gap has, ascending, the configurations that its answers lead to and where the test holds
 pub record AreLive (a : Arena) (above : ℕ → Bool) (nodes lists : ℕ) (living : ℕ → List ℕ) : Type 0 where
   pub nodes_is : nodes ≡ a.configurations
@@ -86,11 +87,10 @@ pub record AreDominators (board : PlainBoard) (dominators : List (Option ℕ)) :
   pub each : (c : ℕ) → c < configurations board → IsSmallest (IsDominator board (configuration_at board c)) (slice_index_or dominators c None)
 
 -- all tables and lists together, where the test holds of what is not struck yet
-pub record IsStage (a : Arena) (above : ℕ → Bool) (values counts : List ℕ) (bn bl : ℕ) (bucket : ℕ → List ℕ) (sn sl : ℕ) (source : ℕ → List ℕ) (ln ll : ℕ) (living : ℕ → List ℕ) : Type 0 where
+pub record IsStage (a : Arena) (above : ℕ → Bool) (values counts : List ℕ) (bn bl : ℕ) (bucket : ℕ → List ℕ) (ln ll : ℕ) (living : ℕ → List ℕ) : Type 0 where
   pub counts_are : IsCounted a above counts
   pub words_are : AreWords a above values
   pub filed_are : AreFiled a.configurations values bn bl bucket
-  pub sources_are : AreSources a (is_open values) sn sl source
   pub live_are : AreLive a above ln ll living
 
 -- the configuration is to be struck in round r
@@ -104,7 +104,7 @@ abbrev pub below : ℕ → ℕ → Bool
 below n x = nat_lt x n
 
 -- the configurations below n are entered: those with a request that has no answer are filed at 0, the others wait
-pub record IsEntered (a : Arena) (n : ℕ) (values counts : List ℕ) (bn bl : ℕ) (bucket : ℕ → List ℕ) (sn sl : ℕ) (source : ℕ → List ℕ) (ln ll : ℕ) (living : ℕ → List ℕ) : Type 0 where
+pub record IsEntered (a : Arena) (n : ℕ) (values counts : List ℕ) (bn bl : ℕ) (bucket : ℕ → List ℕ) (ln ll : ℕ) (living : ℕ → List ℕ) : Type 0 where
   pub counts_are : IsCounted a (lasts a 0) counts
   pub values_length : length values ≡ a.configurations
   pub entered : (x : ℕ) → x < n → is_open values x ≡ next a (lasts a 0) x
@@ -112,7 +112,6 @@ pub record IsEntered (a : Arena) (n : ℕ) (values counts : List ℕ) (bn bl : �
   pub to_come : (x : ℕ) → x < a.configurations → n ≤ x → is_open values x ≡ true
   pub filed_are : AreFiled a.configurations values bn bl bucket
   pub ascending : AllPairs (λ first second. first < second) (bucket 0)
-  pub sources_are : AreSources a (λ x. is_open values x && below n x) sn sl source
   pub live_are : AreLive a (below n) ln ll living
 
 -- how many rounds have struck their value
@@ -120,9 +119,9 @@ abbrev pub struck_rounds : Bool → ℕ → ℕ
 struck_rounds is_done round = cond is_done (suc round) round
 
 -- a solver between its calls
-pub record IsState (board : PlainBoard) (dominators : List (Option ℕ)) (values counts : List ℕ) (bn bl : ℕ) (bucket : ℕ → List ℕ) (sn sl : ℕ) (source : ℕ → List ℕ) (ln ll : ℕ) (living : ℕ → List ℕ) (round : ℕ) (is_done : Bool) : Type 0 where
+pub record IsState (board : PlainBoard) (dominators : List (Option ℕ)) (values counts : List ℕ) (bn bl : ℕ) (bucket : ℕ → List ℕ) (ln ll : ℕ) (living : ℕ → List ℕ) (round : ℕ) (is_done : Bool) : Type 0 where
   pub dominators_are : AreDominators board dominators
-  pub stage : IsStage (arena_of board) (lasts (arena_of board) (struck_rounds is_done round)) values counts bn bl bucket sn sl source ln ll living
+  pub stage : IsStage (arena_of board) (lasts (arena_of board) (struck_rounds is_done round)) values counts bn bl bucket ln ll living
   pub some : 0 < count_below (configurations board) (lasts (arena_of board) round)
   pub bound : count_below (configurations board) (lasts (arena_of board) round) + round ≤ configurations board
   pub last : is_done ≡ true → IsLast (arena_of board) (suc round)

@@ -1,13 +1,13 @@
 //! The answers of all gaps, in one pass.
 
-ghost use Rattle.std.specs.Prelude.{◌≡◌, ℕ, ◌+◌, ◌*◌, ◌<◌, IfOk};
-ghost use Rattle.board_text.specs.PlainBoard.{places};
+ghost use Rattle.std.specs.Prelude.{◌≡◌, ◌+◌, ◌*◌, ◌<◌, IfOk};
 ghost use Rattle.positions.specs.Gaps.{gaps};
 ghost use Rattle.retro_core.specs.Arena.{lasts};
 ghost use Rattle.retro_core.specs.BoardArena.{arena_of};
 ghost use Rattle.retro_core.specs.Opening.{AreAnswers, AreNoted};
 ghost use Rattle.retro_core.specs.Tables.{IsCounted, AreDominators};
 
+use crate::members::member_step;
 use board_text::{Board, Memory};
 use positions::{AnswerSet, Space};
 use std::alloc::Global;
@@ -52,17 +52,5 @@ fn note_dominator(dominators: &mut [Option<u8>], space: &Space, gap: u32, answer
     while let Some(label) = answers.first_from(from) {
         dominators[(first + label as u32 * step) as usize] = Some(pebble);
         from = label + 1;
-    }
-}
-
-/// What a step of the label adds to the rank of a gap's member.
-fn member_step(space: &Space, gap: u32) -> u32
-    requires { gap < gaps space.now }
-    ensures { (label : ℕ) → label < places space.now → (arena_of space.now).member gap label ≡ (arena_of space.now).member gap 0 + label * result }
-{
-    if space.labels() == 1 {
-        0
-    } else {
-        space.member(gap, 1) - space.member(gap, 0)
     }
 }

@@ -3,6 +3,7 @@
 
 mod answering;
 mod fault;
+mod members;
 mod opening;
 mod progress;
 mod row;

@@ -5,7 +5,7 @@ ghost use Rattle.board_text.specs.PlainBoard.{places};
 ghost use Rattle.retro_core.specs.Arena.{lasts, next};
 ghost use Rattle.retro_core.specs.BoardArena.{arena_of};
 ghost use Rattle.retro_core.specs.Opening.{IsRow, IsInRow};
-ghost use Rattle.retro_core.specs.Tables.{below, IsCounted, AreSources, AreLive, AreDominators, IsEntered};
+ghost use Rattle.retro_core.specs.Tables.{below, IsCounted, AreLive, AreDominators, IsEntered};
 
 use crate::row::Row;
 use crate::tables::{OPEN, Tables};
@@ -19,19 +19,17 @@ impl<S: ListStore + Drop> Tables<S> {
     pub(crate) fn new(alloc: Global, space: &Space, counts: Vec<u32>) -> Result<Tables<S>, Memory>
         requires counts { IsCounted (arena_of space.now) (lasts (arena_of space.now) 0) counts.items }
         ensures { IfOk result (λ tables. IsEntered (arena_of space.now) 0 tables.values.items tables.counts.items (S.nodes tables.buckets) (S.lists tables.buckets) (S.list tables.buckets)
-            (S.nodes tables.sources) (S.lists tables.sources) (S.list tables.sources) (S.nodes tables.living) (S.lists tables.living) (S.list tables.living)) }
+            (S.nodes tables.living) (S.lists tables.living) (S.list tables.living)) }
     {
         let configurations = space.configurations();
         let gaps = space.gaps();
         let values = vec![in alloc; OPEN; configurations as usize]?;
         let buckets = S::new(alloc, configurations, configurations + 1)?;
-        let sources = S::new(alloc, space.pebbles() as u32 * configurations, gaps)?;
         let living = S::new(alloc, configurations, gaps)?;
         Ok(Tables {
             values,
             counts,
             buckets,
-            sources,
             living,
         })
     }
@@ -42,9 +40,9 @@ impl<S: ListStore> Tables<S> {
     pub(crate) fn enter_all(&mut self, space: &Space, dominators: &[Option<u8>])
         requires dominators { AreDominators space.now dominators.now }
         requires entered { IsEntered (arena_of space.now) 0 self.old.values.items self.old.counts.items (S.nodes self.old.buckets) (S.lists self.old.buckets) (S.list self.old.buckets)
-            (S.nodes self.old.sources) (S.lists self.old.sources) (S.list self.old.sources) (S.nodes self.old.living) (S.lists self.old.living) (S.list self.old.living) }
+            (S.nodes self.old.living) (S.lists self.old.living) (S.list self.old.living) }
         ensures entered { IsEntered (arena_of space.now) (arena_of space.now).configurations self.new.values.items self.new.counts.items (S.nodes self.new.buckets) (S.lists self.new.buckets) (S.list self.new.buckets)
-            (S.nodes self.new.sources) (S.lists self.new.sources) (S.list self.new.sources) (S.nodes self.new.living) (S.lists self.new.living) (S.list self.new.living) }
+            (S.nodes self.new.living) (S.lists self.new.living) (S.list self.new.living) }
     {
         let labels = space.labels() as u32;
         for place in 0..space.configurations() / labels {
@@ -58,9 +56,9 @@ impl<S: ListStore> Tables<S> {
         requires row { IsRow space.now row.now.first row.now.gaps }
         requires dominators { AreDominators space.now dominators.now }
         requires entered { IsEntered (arena_of space.now) row.now.first self.old.values.items self.old.counts.items (S.nodes self.old.buckets) (S.lists self.old.buckets) (S.list self.old.buckets)
-            (S.nodes self.old.sources) (S.lists self.old.sources) (S.list self.old.sources) (S.nodes self.old.living) (S.lists self.old.living) (S.list self.old.living) }
+            (S.nodes self.old.living) (S.lists self.old.living) (S.list self.old.living) }
         ensures entered { IsEntered (arena_of space.now) (row.now.first + places space.now) self.new.values.items self.new.counts.items (S.nodes self.new.buckets) (S.lists self.new.buckets) (S.list self.new.buckets)
-            (S.nodes self.new.sources) (S.lists self.new.sources) (S.list self.new.sources) (S.nodes self.new.living) (S.lists self.new.living) (S.list self.new.living) }
+            (S.nodes self.new.living) (S.lists self.new.living) (S.list self.new.living) }
     {
         let labels = space.labels() as u32;
         for rank in row.first..row.first + labels {
@@ -68,23 +66,21 @@ impl<S: ListStore> Tables<S> {
         }
     }
 
-    /// Enters a configuration: it is filed at 0 if a request has no answer, else it waits in the gap of each pebble.
+    /// Enters a configuration: it is filed at 0 if a request has no answer, and else stays open.
     fn enter(&mut self, space: &Space, row: &Row, dominators: &[Option<u8>], rank: u32)
         requires rank_in { rank < (arena_of space.now).configurations }
         requires row { IsInRow space.now row.now.first row.now.gaps rank }
         requires dominators { AreDominators space.now dominators.now }
         requires entered { IsEntered (arena_of space.now) rank self.old.values.items self.old.counts.items (S.nodes self.old.buckets) (S.lists self.old.buckets) (S.list self.old.buckets)
-            (S.nodes self.old.sources) (S.lists self.old.sources) (S.list self.old.sources) (S.nodes self.old.living) (S.lists self.old.living) (S.list self.old.living) }
+            (S.nodes self.old.living) (S.lists self.old.living) (S.list self.old.living) }
         ensures entered { IsEntered (arena_of space.now) (rank + 1) self.new.values.items self.new.counts.items (S.nodes self.new.buckets) (S.lists self.new.buckets) (S.list self.new.buckets)
-            (S.nodes self.new.sources) (S.lists self.new.sources) (S.list self.new.sources) (S.nodes self.new.living) (S.lists self.new.living) (S.list self.new.living) }
+            (S.nodes self.new.living) (S.lists self.new.living) (S.list self.new.living) }
     {
         let _ = space.configurations();
         enter_live(&mut self.living, space, row, dominators, rank);
         if is_stuck(&self.counts, space, row, rank) {
             self.values[rank as usize] = 0;
             self.buckets.push_back(0, rank);
-        } else {
-            enter_sources(&mut self.sources, space, row, rank);
         }
     }
 }
@@ -122,19 +118,4 @@ fn is_stuck(counts: &[u32], space: &Space, row: &Row, rank: u32) -> bool
         }
     }
     false
-}
-
-/// Puts a configuration behind the members that wait in the gap of each pebble.
-fn enter_sources<S: ListStore>(sources: &mut S, space: &Space, row: &Row, rank: u32)
-    requires rank_in { rank < (arena_of space.now).configurations }
-    requires row { IsInRow space.now row.now.first row.now.gaps rank }
-    requires sources { (waits : ℕ → Bool) × (waits rank ≡ false) × AreSources (arena_of space.now) waits (S.nodes sources.old) (S.lists sources.old) (S.list sources.old) }
-    ensures sources { (waits : ℕ → Bool) → waits rank ≡ false → AreSources (arena_of space.now) waits (S.nodes sources.old) (S.lists sources.old) (S.list sources.old)
-        → AreSources (arena_of space.now) (λ x. x == rank || waits x) (S.nodes sources.new) (S.lists sources.new) (S.list sources.new) }
-{
-    let configurations = space.configurations();
-    for pebble in 0..space.pebbles() {
-        let gap = row.gap(space, rank, pebble);
-        sources.push_back(gap, pebble as u32 * configurations + rank);
-    }
 }

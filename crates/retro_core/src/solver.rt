@@ -1,7 +1,6 @@
 //! The solver.
 
 ghost use Rattle.std.specs.Prelude.{◌≡◌, ℕ, ◌+◌, ◌<◌, ◌≤◌, ◌↔◌, true, false, suc, length, slice_get, IfOk, IfErr, Err, Some, None, IsTrue};
-ghost use Rattle.index_lists.specs.Lists.{times};
 ghost use Rattle.positions.specs.declared.value.Value.TheVariants.{Finite};
 ghost use Rattle.positions.specs.Value.{HasValue};
 ghost use Rattle.positions.specs.Ranks.{configurations, configuration_at};
@@ -11,6 +10,7 @@ ghost use Rattle.retro_core.specs.Solving.{IsSolving, bucket, source, NoneHas, A
 
 use crate::answering::Answering;
 use crate::fault::SolveFault;
+use crate::members::open_member;
 use crate::progress::Progress;
 use crate::sizes::{count_open, put};
 use crate::tables::{OPEN, Tables};
@@ -37,18 +37,20 @@ pub struct Solver<S: ListStore> {
 }
 
 impl<S: ListStore> Model for Solver<S> {
-    ghost use Rattle.std.specs.Prelude.{map, vec_capacity};
+    ghost use Rattle.std.specs.Prelude.{vec_capacity};
     ghost use Rattle.positions.specs.Ranks.{configurations};
-    ghost use Rattle.retro_core.specs.Solving.{Solving, rank_in, first_lists};
+    ghost use Rattle.positions.specs.Gaps.{gaps};
+    ghost use Rattle.retro_core.specs.BoardArena.{arena_of};
+    ghost use Rattle.retro_core.specs.Solving.{Solving, first_lists};
     ghost use Rattle.retro_core.specs.Sizes.{AreSizes};
-    ghost use Rattle.retro_core.specs.Tables.{IsState};
+    ghost use Rattle.retro_core.specs.Tables.{open_members, IsState};
 
     ghost Value = { Solving };
 
-    ghost view = { λ s. record { board = s.space; rounds = s.round; is_done = s.done; buckets = first_lists (S.lists s.tables.buckets) (S.list s.tables.buckets); sources = first_lists (S.lists s.tables.sources) (λ gap. map (rank_in s.space) (S.list s.tables.sources gap)) } };
+    ghost view = { λ s. record { board = s.space; rounds = s.round; is_done = s.done; buckets = first_lists (S.lists s.tables.buckets) (S.list s.tables.buckets); sources = first_lists (gaps s.space) (open_members (arena_of s.space) s.tables.values.items) } };
 
     ghost invariant = { λ s. IsState s.space s.dominators.items s.tables.values.items s.tables.counts.items (S.nodes s.tables.buckets) (S.lists s.tables.buckets) (S.list s.tables.buckets)
-        (S.nodes s.tables.sources) (S.lists s.tables.sources) (S.list s.tables.sources) (S.nodes s.tables.living) (S.lists s.tables.living) (S.list s.tables.living) s.round s.done
+        (S.nodes s.tables.living) (S.lists s.tables.living) (S.list s.tables.living) s.round s.done
         × AreSizes (configurations s.space) s.round (vec_capacity s.sizes) (S.list s.tables.buckets) s.sizes.items };
 }
 
@@ -197,11 +199,8 @@ impl<S: ListStore> Solver<S> {
         requires { gap < gaps self.now.board }
         ensures first { result ≡ slice_get (source self.now gap) 0 }
     {
-        let configurations = self.space.configurations();
-        match self.tables.sources.first(gap) {
-            Some(node) => Some(node % configurations),
-            None => None,
-        }
+        let _ = self.space.configurations();
+        open_member(&self.tables.values, &self.space, gap, 0)
     }
 
     /// The member behind one of a gap, among those that have no value of at most the number of rounds. What isn't such
@@ -212,26 +211,13 @@ impl<S: ListStore> Solver<S> {
         ensures behind { (place : ℕ) → slice_get (source self.now gap) place ≡ Some rank → result ≡ slice_get (source self.now gap) (place + 1) }
         ensures not_listed { ((place : ℕ) → slice_get (source self.now gap) place ≡ Some rank → ⊥) → result ≡ None }
     {
-        let configurations = self.space.configurations();
-        let node = self.space.gap_pebble(gap) as u32 * configurations + rank;
-        if !stands_in(&self.tables.sources, gap, node) {
+        let _ = self.space.configurations();
+        let pebble = self.space.gap_pebble(gap);
+        if self.space.gap(rank, pebble) != gap || self.tables.values[rank as usize] != OPEN {
             return None;
         }
-        match self.tables.sources.next(node) {
-            Some(next) => Some(next % configurations),
-            None => None,
-        }
-    }
-}
-
-/// Whether a node stands in a list.
-fn stands_in<S: ListStore>(lists: &S, list: u32, node: u32) -> bool
-    requires { node < S.nodes lists.now }
-    ensures { IsTrue result ↔ (0 < times node (S.list lists.now list)) }
-{
-    match lists.home(node) {
-        Some(home) => home == list,
-        None => false,
+        let label = self.space.label_at(rank, pebble);
+        open_member(&self.tables.values, &self.space, gap, label + 1)
     }
 }
 

@@ -3,15 +3,16 @@
 ghost use Rattle.std.specs.Prelude.{◌≡◌, ◌≢◌, ℕ, ◌+◌, ◌*◌, ◌<◌, ◌≤◌, true, false, suc, Bool, [], length, slice_set};
 ghost use Rattle.retro_core.specs.Arena.{without};
 ghost use Rattle.retro_core.specs.BoardArena.{arena_of};
-ghost use Rattle.retro_core.specs.Tables.{is_open, alive, rest_from, AreFiled, AreSources, IsClosed, IsStage, IsToStrike};
+ghost use Rattle.retro_core.specs.Tables.{is_open, alive, rest_from, AreFiled, IsClosed, IsStage, IsToStrike};
 
+use crate::members::member_step;
 use index_lists::ListStore;
 use positions::Space;
 
 /// The word of a configuration that has no value yet.
 pub(crate) const OPEN: u32 = u32::MAX;
 
-/// A word for each configuration and each gap, and three stores of lists.
+/// A word for each configuration and each gap, and two stores of lists.
 #[derive(Drop)]
 pub(crate) struct Tables<S> {
     /// The value of each configuration that has one, else `OPEN`.
@@ -20,8 +21,6 @@ pub(crate) struct Tables<S> {
     pub(crate) counts: Vec<u32>,
     /// For each value the ranks that are filed at it.
     pub(crate) buckets: S,
-    /// For each gap its members without a value, as nodes `pebble * configurations + rank`.
-    pub(crate) sources: S,
     /// For each gap the ranks that its answers lead to and that are not struck, ascending.
     pub(crate) living: S,
 }
@@ -34,20 +33,15 @@ impl<S: ListStore> Tables<S> {
         requires values_length { length self.old.values.items ≡ (arena_of space.now).configurations }
         requires was_open { is_open self.old.values.items rank ≡ true }
         requires filed { AreFiled (arena_of space.now).configurations self.old.values.items (S.nodes self.old.buckets) (S.lists self.old.buckets) (S.list self.old.buckets) }
-        requires sources { AreSources (arena_of space.now) (is_open self.old.values.items) (S.nodes self.old.sources) (S.lists self.old.sources) (S.list self.old.sources) }
         ensures values { self.new.values.items ≡ slice_set self.old.values.items rank value }
         ensures filed { AreFiled (arena_of space.now).configurations self.new.values.items (S.nodes self.new.buckets) (S.lists self.new.buckets) (S.list self.new.buckets) }
-        ensures sources { AreSources (arena_of space.now) (is_open self.new.values.items) (S.nodes self.new.sources) (S.lists self.new.sources) (S.list self.new.sources) }
         ensures other_buckets { (v : ℕ) → v ≢ value → S.list self.new.buckets v ≡ S.list self.old.buckets v }
         ensures same_counts { self.new.counts ≡ self.old.counts }
         ensures same_living { self.new.living ≡ self.old.living }
     {
-        let configurations = space.configurations();
+        let _ = space.configurations();
         self.values[rank as usize] = value;
         self.buckets.push_back(value, rank);
-        for pebble in 0..space.pebbles() {
-            self.sources.unlink(pebble as u32 * configurations + rank);
-        }
     }
 
     /// Files the open members of a gap at a value.
@@ -56,18 +50,20 @@ impl<S: ListStore> Tables<S> {
         requires value_in { value ≤ (arena_of space.now).configurations }
         requires values_length { length self.old.values.items ≡ (arena_of space.now).configurations }
         requires filed { AreFiled (arena_of space.now).configurations self.old.values.items (S.nodes self.old.buckets) (S.lists self.old.buckets) (S.list self.old.buckets) }
-        requires sources { AreSources (arena_of space.now) (is_open self.old.values.items) (S.nodes self.old.sources) (S.lists self.old.sources) (S.list self.old.sources) }
         ensures closed { IsClosed (arena_of space.now) gap value self.old.values.items self.new.values.items }
         ensures filed { AreFiled (arena_of space.now).configurations self.new.values.items (S.nodes self.new.buckets) (S.lists self.new.buckets) (S.list self.new.buckets) }
-        ensures sources { AreSources (arena_of space.now) (is_open self.new.values.items) (S.nodes self.new.sources) (S.lists self.new.sources) (S.list self.new.sources) }
         ensures other_buckets { (v : ℕ) → v ≢ value → S.list self.new.buckets v ≡ S.list self.old.buckets v }
         ensures same_counts { self.new.counts ≡ self.old.counts }
         ensures same_living { self.new.living ≡ self.old.living }
     {
-        let configurations = space.configurations();
-        let first = space.gap_pebble(gap) as u32 * configurations;
-        while let Some(node) = self.sources.first(gap) {
-            self.file(space, node - first, value);
+        let _ = space.configurations();
+        let first = space.member(gap, 0);
+        let step = member_step(space, gap);
+        for label in 0..space.labels() as u32 {
+            let rank = first + label * step;
+            if self.values[rank as usize] == OPEN {
+                self.file(space, rank, value);
+            }
         }
     }
 
@@ -78,12 +74,12 @@ impl<S: ListStore> Tables<S> {
         requires round_in { round < (arena_of space.now).configurations }
         requires to_strike { (above : ℕ → Bool) × IsToStrike (arena_of space.now) round above rank
             × IsStage (arena_of space.now) above self.old.values.items self.old.counts.items (S.nodes self.old.buckets) (S.lists self.old.buckets) (S.list self.old.buckets)
-            (S.nodes self.old.sources) (S.lists self.old.sources) (S.list self.old.sources) (S.nodes self.old.living) (S.lists self.old.living) (S.list self.old.living) }
+            (S.nodes self.old.living) (S.lists self.old.living) (S.list self.old.living) }
         ensures struck { (above : ℕ → Bool) → IsToStrike (arena_of space.now) round above rank
             → IsStage (arena_of space.now) above self.old.values.items self.old.counts.items (S.nodes self.old.buckets) (S.lists self.old.buckets) (S.list self.old.buckets)
-            (S.nodes self.old.sources) (S.lists self.old.sources) (S.list self.old.sources) (S.nodes self.old.living) (S.lists self.old.living) (S.list self.old.living)
+            (S.nodes self.old.living) (S.lists self.old.living) (S.list self.old.living)
             → IsStage (arena_of space.now) (without above rank) self.new.values.items self.new.counts.items (S.nodes self.new.buckets) (S.lists self.new.buckets) (S.list self.new.buckets)
-            (S.nodes self.new.sources) (S.lists self.new.sources) (S.list self.new.sources) (S.nodes self.new.living) (S.lists self.new.living) (S.list self.new.living) }
+            (S.nodes self.new.living) (S.lists self.new.living) (S.list self.new.living) }
         ensures other_buckets { (v : ℕ) → v ≢ round + 1 → S.list self.new.buckets v ≡ S.list self.old.buckets v }
     {
         let _ = space.configurations();
@@ -102,9 +98,9 @@ impl<S: ListStore> Tables<S> {
     pub(crate) fn strike_bucket(&mut self, space: &Space, round: u32)
         requires round_in { round < (arena_of space.now).configurations }
         requires stage { IsStage (arena_of space.now) (alive (arena_of space.now) round (S.list self.old.buckets round)) self.old.values.items self.old.counts.items (S.nodes self.old.buckets) (S.lists self.old.buckets) (S.list self.old.buckets)
-            (S.nodes self.old.sources) (S.lists self.old.sources) (S.list self.old.sources) (S.nodes self.old.living) (S.lists self.old.living) (S.list self.old.living) }
+            (S.nodes self.old.living) (S.lists self.old.living) (S.list self.old.living) }
         ensures stage { IsStage (arena_of space.now) (alive (arena_of space.now) round []) self.new.values.items self.new.counts.items (S.nodes self.new.buckets) (S.lists self.new.buckets) (S.list self.new.buckets)
-            (S.nodes self.new.sources) (S.lists self.new.sources) (S.list self.new.sources) (S.nodes self.new.living) (S.lists self.new.living) (S.list self.new.living) }
+            (S.nodes self.new.living) (S.lists self.new.living) (S.list self.new.living) }
         ensures other_buckets { (v : ℕ) → v ≢ round + 1 → S.list self.new.buckets v ≡ S.list self.old.buckets v }
     {
         let _ = space.configurations();

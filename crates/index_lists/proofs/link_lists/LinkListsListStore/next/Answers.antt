@@ -1,16 +1,19 @@
-use Rattle.std.proofs.Common.{◌∙◌, ◌≡◌, ap, sym, arith, slice_index}
-use Rattle.std.proofs.lemmas.List.{get_or_read}
+use Rattle.std.proofs.Common.{◌∙◌, ap, sym, arith}
+use Rattle.std.proofs.lemmas.List.{length-map}
+use Rattle.index_lists.proofs.Fields.{field-read}
 use Rattle.index_lists.proofs.Calls.{lists-kept, next-seen, next-none, next-below, link-below}
 use Rattle.index_lists.proofs.link_lists.LinkListsListStore.next.Goals as goal
 
 pub returns : goal.returns
 returns c =
-    let i = c.self.inside in
+    let items = c.self.inside.links.nodes.items in
     let view = ap (λ w. w.nodes) c.self.view_is in
-    let e : c.index.result.now ≡ slice_index i.next.items c.args.node = get_or_read i.next.items c.args.node c.index.result.now (omega arith) c.index.ensures 0 in
+    let size = c.self.invariant.0.next_length in
+    let all = length-map items (λ n. n.next) in
+    let e = field-read (λ n. n.next) items c.args.node c.index.result.now (omega arith) c.index.ensures in
     record {
-      behind = λ l place stands. c.known.ensures ∙ sym (next-seen _ _ _ _ _ _ _ _ _ c.self.view_is c.self.invariant c.args.node c.index.result.now e l place stands);
-      free = λ free. c.known.ensures ∙ next-none _ _ _ _ _ _ _ _ _ c.self.view_is c.self.invariant c.args.node c.index.result.now c.requires e free;
-      below = link-below _ _ _ _ _ _ _ _ _ c.self.view_is c.self.invariant c.index.result.now _ _ (next-below _ _ _ _ _ _ _ _ _ c.self.view_is c.self.invariant c.args.node c.requires) e c.known.ensures;
-      kept = lists-kept _ _ _ _ _ _ _ _ _ c.self.view_is c.self.invariant;
+      behind = λ l place stands. c.known.ensures ∙ sym (next-seen _ _ _ _ _ _ _ _ _ c.self.view_is c.self.invariant.0 c.args.node c.index.result.now.next e l place stands);
+      free = λ free. c.known.ensures ∙ next-none _ _ _ _ _ _ _ _ _ c.self.view_is c.self.invariant.0 c.args.node c.index.result.now.next c.requires e free;
+      below = link-below _ _ _ _ _ _ _ _ _ c.self.view_is c.self.invariant.0 c.index.result.now.next _ _ (next-below _ _ _ _ _ _ _ _ _ c.self.view_is c.self.invariant.0 c.args.node c.requires) e c.known.ensures;
+      kept = lists-kept _ _ _ _ _ _ _ _ _ c.self.view_is c.self.invariant.0;
     }

@@ -1,102 +1,195 @@
-use Rattle.std.proofs.Common.{◌∙◌, ◌≡◌, ◌<◌, ◌≤◌, ap, arith, length, drop, slice_index, slice_set, cond, ◌==◌}
-use Rattle.std.proofs.lemmas.List.{get_or_read}
+use Rattle.std.proofs.Common.{◌≡◌, ◌<◌, ◌≤◌, ◌-◌, ◌==◌, inl, inr, List, ℕ, refl, sym, ap, ◌∙◌, arith, length, map, cond, slice_index, slice_set}
+use Rattle.std.specs.Prelude.{vec_capacity}
+use Rattle.std.proofs.lemmas.List.{length-map}
+use Rattle.std.proofs.lemmas.Bool.{cases_lt}
+use Rattle.index_lists.specs.Links.{padded}
+use Rattle.index_lists.proofs.Padding.{padded-read, padded-past, padded-set, padded-end}
+use Rattle.index_lists.specs.declared.link_lists.Node.{Node}
+use Rattle.index_lists.specs.declared.link_lists.Ends.{Ends}
+use Rattle.index_lists.proofs.Fields.{field-read}
 use Rattle.index_lists.proofs.Kept.{renumbered, unlinked-are}
-use Rattle.index_lists.proofs.Calls.{lists-kept, written, ends-written, links-written, home-in, before-in, behind-in, some-left, unlink-links, unlink-seen}
+use Rattle.index_lists.proofs.Calls.{lists-kept, home-in, before-in, behind-in, some-left, unlink-written, unlink-shown}
 use Rattle.index_lists.proofs.link_lists.LinkListsListStore.unlink.Goals as goal
-use Rattle.index_lists.proofs.link_lists.LinkListsListStore.unlink.Goals.{After-index-behind, After-index_mut-4}
+use Rattle.index_lists.proofs.link_lists.LinkListsListStore.unlink.Goals.{After-index, After-shorten}
 
--- what was read: the node's list, the node before it and the node behind it
-home-is : (c : After-index-behind) → c.index-home.result.now ≡ slice_index c.self.inside.home.items c.args.node
-home-is c = let view = ap (λ w. w.nodes) c.self.view_is in get_or_read c.self.inside.home.items c.args.node c.index-home.result.now (omega arith) c.index-home.ensures 0
+-- what was read, and that it is in range
+module _ (c : After-index) where
+  abbrev nodes : List Node
+  nodes = c.self.inside.links.nodes.items
 
-before-is : (c : After-index-behind) → c.index-before.result.now ≡ slice_index c.self.inside.prev.items c.args.node
-before-is c = let view = ap (λ w. w.nodes) c.self.view_is in get_or_read c.self.inside.prev.items c.args.node c.index-before.result.now (omega arith) c.index-before.ensures 0
+  abbrev ends : List Ends
+  ends = c.self.inside.links.ends.items
 
-behind-is : (c : After-index-behind) → c.index-behind.result.now ≡ slice_index c.self.inside.next.items c.args.node
-behind-is c = let view = ap (λ w. w.nodes) c.self.view_is in get_or_read c.self.inside.next.items c.args.node c.index-behind.result.now (omega arith) c.index-behind.ensures 0
+  abbrev next : ℕ
+  next = c.index.result.now.next
 
--- they are in range
-home-in-range : (c : After-index-behind) → c.index-home.result.now < c.self.inside.nowhere
-home-in-range c = home-in _ _ _ _ _ _ _ _ _ c.self.view_is c.self.invariant c.args.node _ _ _ c.requires.node_in c.requires.stands (home-is c) (before-is c) (behind-is c)
+  abbrev prev : ℕ
+  prev = c.index.result.now.prev
 
-before-in-range : (c : After-index-behind) → c.index-before.result.now ≤ c.self.inside.none
-before-in-range c = before-in _ _ _ _ _ _ _ _ _ c.self.view_is c.self.invariant c.args.node _ _ _ c.requires.node_in c.requires.stands (home-is c) (before-is c) (behind-is c)
+  abbrev home : ℕ
+  home = c.index.result.now.home
 
-behind-in-range : (c : After-index-behind) → c.index-behind.result.now ≤ c.self.inside.none
-behind-in-range c = behind-in _ _ _ _ _ _ _ _ _ c.self.view_is c.self.invariant c.args.node _ _ _ c.requires.node_in c.requires.stands (home-is c) (before-is c) (behind-is c)
+  node-in : c.args.node < length nodes
+  node-in =
+      let view = ap (λ w. w.nodes) c.self.view_is in
+      let size = c.self.invariant.0.next_length in
+      let all = length-map nodes (λ (n : Node). n.next) in
+      let low = c.requires.node_in in
+      omega arith
 
-pub point-requires-clause-node_in : goal.point-requires-clause-node_in
-point-requires-clause-node_in c =
-    let b = before-in-range (goal.at.point-requires-clause-node_in c).After-index-behind in
-    let d = ap length c.deref_mut.ensures.value in
+  next-is : next ≡ slice_index (map (λ (n : Node). n.next) nodes) c.args.node
+  next-is = field-read (λ (n : Node). n.next) nodes c.args.node c.index.result.now node-in c.index.ensures
+
+  prev-is : prev ≡ slice_index (map (λ (n : Node). n.prev) nodes) c.args.node
+  prev-is = field-read (λ (n : Node). n.prev) nodes c.args.node c.index.result.now node-in c.index.ensures
+
+  home-is : home ≡ slice_index (map (λ (n : Node). n.home) nodes) c.args.node
+  home-is = field-read (λ (n : Node). n.home) nodes c.args.node c.index.result.now node-in c.index.ensures
+
+  home-within : home < c.self.inside.nowhere
+  home-within = home-in _ _ _ _ _ _ _ _ _ c.self.view_is c.self.invariant.0 c.args.node _ _ _ c.requires.node_in c.requires.stands home-is prev-is next-is
+
+  padded-some : 0 < slice_index (padded c.self.inside.nowhere 0 (map (λ (e : Ends). e.len) ends)) home
+  padded-some = some-left _ _ _ _ _ _ _ _ _ c.self.view_is c.self.invariant.0 c.args.node _ _ _ c.requires.node_in c.requires.stands home-is prev-is next-is _ refl
+
+  -- a list with a node is in the vector
+  home-below : home < length ends
+  home-below = elim (cases_lt home (length ends)) [
+    | inl low ↦ low
+    | inr past ↦ absurd (
+        let all = length-map ends (λ (e : Ends). e.len) in
+        let none = padded-past c.self.inside.nowhere 0 home (map (λ (e : Ends). e.len) ends) (omega arith) home-within in
+        let left = padded-some in
+        omega arith)
+  ]
+
+  within : (f : Ends → ℕ) → home < length (map f ends)
+  within f = let all = length-map ends f in let low = home-below in omega arith
+
+  prev-most : prev ≤ length nodes
+  prev-most =
+      let size = c.self.invariant.0.next_length in
+      let all = length-map nodes (λ (n : Node). n.next) in
+      let low = before-in _ _ _ _ _ _ _ _ _ c.self.view_is c.self.invariant.0 c.args.node _ _ _ c.requires.node_in c.requires.stands home-is prev-is next-is in
+      omega arith
+
+  next-most : next ≤ length nodes
+  next-most =
+      let size = c.self.invariant.0.next_length in
+      let all = length-map nodes (λ (n : Node). n.next) in
+      let low = behind-in _ _ _ _ _ _ _ _ _ c.self.view_is c.self.invariant.0 c.args.node _ _ _ c.requires.node_in c.requires.stands home-is prev-is next-is in
+      omega arith
+
+  some : 0 < slice_index (map (λ (e : Ends). e.len) ends) home
+  some =
+      let left = padded-some in
+      let same = padded-read c.self.inside.nowhere 0 home (map (λ (e : Ends). e.len) ends) (within (λ (e : Ends). e.len)) in
+      omega arith
+
+-- as many as before
+alike : {A : Type 0} (f : A → ℕ) (xs ys : List A) → map f xs ≡ map f ys → length xs ≡ length ys
+alike f xs ys e = sym (length-map xs f) ∙ ap length e ∙ length-map ys f
+
+pub point_next-requires-clause-node_in : goal.point_next-requires-clause-node_in
+point_next-requires-clause-node_in c = prev-most (goal.at.point_next-requires-clause-node_in c).After-index
+
+pub point_next-requires-clause-list_in : goal.point_next-requires-clause-list_in
+point_next-requires-clause-list_in c = home-below (goal.at.point_next-requires-clause-list_in c).After-index
+
+pub point_prev-requires-clause-node_in : goal.point_prev-requires-clause-node_in
+point_prev-requires-clause-node_in c =
+    let low = next-most (goal.at.point_prev-requires-clause-node_in c).After-index in
+    let size = alike (λ (n : Node). n.home) _ _ c.point_next.ensures.home in
     omega arith
 
-pub point-requires-clause-list_in : goal.point-requires-clause-list_in
-point-requires-clause-list_in c =
-    let b = home-in-range (goal.at.point-requires-clause-list_in c).After-index-behind in
-    let d = ap length c.deref_mut-2.ensures.value in
+pub point_prev-requires-clause-list_in : goal.point_prev-requires-clause-list_in
+point_prev-requires-clause-list_in c =
+    let low = home-below (goal.at.point_prev-requires-clause-list_in c).After-index in
+    let size = alike (λ (e : Ends). e.len) _ _ c.point_next.ensures.len in
     omega arith
 
-pub point-requires-2-clause-node_in : goal.point-requires-2-clause-node_in
-point-requires-2-clause-node_in c =
-    let b = behind-in-range (goal.at.point-requires-2-clause-node_in c).After-index-behind in
-    let d = ap length c.deref_mut-3.ensures.value in
+pub loosen-requires : goal.loosen-requires
+loosen-requires c =
+    let low = node-in (goal.at.loosen-requires c).After-index in
+    let size = alike (λ (n : Node). n.home) _ _ c.point_next.ensures.home in
+    let then = alike (λ (n : Node). n.home) _ _ c.point_prev.ensures.home in
     omega arith
 
-pub point-requires-2-clause-list_in : goal.point-requires-2-clause-list_in
-point-requires-2-clause-list_in c =
-    let b = home-in-range (goal.at.point-requires-2-clause-list_in c).After-index-behind in
-    let d = ap length c.deref_mut-4.ensures.value in
+pub shorten-requires-clause-list_in : goal.shorten-requires-clause-list_in
+shorten-requires-clause-list_in c =
+    let low = home-below (goal.at.shorten-requires-clause-list_in c).After-index in
+    let size = alike (λ (e : Ends). e.len) _ _ (ap (λ v. map (λ (e : Ends). e.len) v.items) c.loosen.ensures.ends ∙ c.point_prev.ensures.len ∙ c.point_next.ensures.len) in
     omega arith
 
-pub index_mut-requires-4 : goal.index_mut-requires-4
-index_mut-requires-4 c =
-    let b = home-in-range (goal.at.index_mut-requires-4 c).After-index-behind in
+pub shorten-requires-clause-some : goal.shorten-requires-clause-some
+shorten-requires-clause-some c =
+    let left = some (goal.at.shorten-requires-clause-some c).After-index in
+    let same = ap (λ xs. slice_index xs c.index.result.now.home) (ap (λ v. map (λ (e : Ends). e.len) v.items) c.loosen.ensures.ends ∙ c.point_prev.ensures.len ∙ c.point_next.ensures.len) in
     omega arith
 
--- the length that is lowered
-left-is : (c : After-index_mut-4) → c.index-home.result.now < c.self.inside.nowhere → c.index_mut-4.result.now ≡ slice_index c.self.inside.len.items c.index-home.result.now
-left-is c b = get_or_read c.self.inside.len.items c.index-home.result.now c.index_mut-4.result.now (omega arith) c.index_mut-4.ensures.value 0
+-- what the calls wrote
+module _ (c : After-shorten) where
+  abbrev was : List Node
+  was = c.self.inside.links.nodes.items
 
-pub overflow_sub-index_mut : goal.overflow_sub-index_mut
-overflow_sub-index_mut c =
-    let read = (goal.at.overflow_sub-index_mut c).After-index-behind in
-    let left = left-is (goal.at.overflow_sub-index_mut c).After-index_mut-4 (home-in-range read) in
-    let some = some-left _ _ _ _ _ _ _ _ _ c.self.view_is c.self.invariant c.args.node _ _ _ c.requires.node_in c.requires.stands (home-is read) (before-is read) (behind-is read) _ left in
-    omega arith
+  abbrev had : List Ends
+  had = c.self.inside.links.ends.items
 
--- what the two calls wrote
-nexts-are : (c : After-index_mut-4) → c.point.new.links ≡ slice_set c.self.inside.next.items c.index-before.result.now c.index-behind.result.now
-nexts-are c = c.point.ensures.link ∙ ap (λ xs. slice_set xs c.index-before.result.now c.index-behind.result.now) c.deref_mut.ensures.value
+  abbrev to : ℕ
+  to = c.index.result.now.next
 
-firsts-are : (c : After-index_mut-4) → c.point.new.ends ≡ cond (c.index-before.result.now == length c.self.inside.next.items) (slice_set c.self.inside.first.items c.index-home.result.now c.index-behind.result.now) c.self.inside.first.items
-firsts-are c = ends-written _ _ _ _ _ _ _ _ c.deref_mut.ensures.value c.deref_mut-2.ensures.value c.point.ensures.end
+  abbrev before : ℕ
+  before = c.index.result.now.prev
 
-prevs-are : (c : After-index_mut-4) → c.point-2.new.links ≡ slice_set c.self.inside.prev.items c.index-behind.result.now c.index-before.result.now
-prevs-are c = c.point-2.ensures.link ∙ ap (λ xs. slice_set xs c.index-behind.result.now c.index-before.result.now) c.deref_mut-3.ensures.value
+  abbrev list : ℕ
+  list = c.index.result.now.home
 
-lasts-are : (c : After-index_mut-4) → c.point-2.new.ends ≡ cond (c.index-behind.result.now == length c.self.inside.prev.items) (slice_set c.self.inside.last.items c.index-home.result.now c.index-before.result.now) c.self.inside.last.items
-lasts-are c = ends-written _ _ _ _ _ _ _ _ c.deref_mut-3.ensures.value c.deref_mut-4.ensures.value c.point-2.ensures.end
+  nexts-are : map (λ (n : Node). n.next) c.shorten.new.self.nodes.items ≡ slice_set (slice_set (map (λ (n : Node). n.next) was) before to) c.args.node c.self.inside.none
+  nexts-are = ap (λ v. map (λ (n : Node). n.next) v.items) c.shorten.ensures.nodes ∙ c.loosen.ensures.next ∙ ap (λ xs. slice_set xs c.args.node c.self.inside.none) (c.point_prev.ensures.next ∙ c.point_next.ensures.next)
+
+  prevs-are : map (λ (n : Node). n.prev) c.shorten.new.self.nodes.items ≡ slice_set (slice_set (map (λ (n : Node). n.prev) was) to before) c.args.node c.self.inside.none
+  prevs-are = ap (λ v. map (λ (n : Node). n.prev) v.items) c.shorten.ensures.nodes ∙ c.loosen.ensures.prev
+      ∙ ap (λ xs. slice_set xs c.args.node c.self.inside.none) (c.point_prev.ensures.prev ∙ ap (λ xs. slice_set xs to before) c.point_next.ensures.prev)
+
+  homes-are : map (λ (n : Node). n.home) c.shorten.new.self.nodes.items ≡ slice_set (map (λ (n : Node). n.home) was) c.args.node c.self.inside.nowhere
+  homes-are = ap (λ v. map (λ (n : Node). n.home) v.items) c.shorten.ensures.nodes ∙ c.loosen.ensures.home ∙ ap (λ xs. slice_set xs c.args.node c.self.inside.nowhere) (c.point_prev.ensures.home ∙ c.point_next.ensures.home)
+
+  abbrev read : After-index
+  read = (goal.at.After-shorten c).After-index
+
+  firsts-are : padded c.self.inside.nowhere c.self.inside.none (map (λ (e : Ends). e.first) c.shorten.new.self.ends.items) ≡ cond (before == length (map (λ (n : Node). n.next) was)) (slice_set (padded c.self.inside.nowhere c.self.inside.none (map (λ (e : Ends). e.first) had)) list to) (padded c.self.inside.nowhere c.self.inside.none (map (λ (e : Ends). e.first) had))
+  firsts-are = ap (padded c.self.inside.nowhere c.self.inside.none) (c.shorten.ensures.first ∙ ap (λ v. map (λ (e : Ends). e.first) v.items) c.loosen.ensures.ends ∙ c.point_prev.ensures.first ∙ c.point_next.ensures.first
+      ∙ ap (λ n. cond (before == n) (slice_set (map (λ (e : Ends). e.first) had) list to) (map (λ (e : Ends). e.first) had)) (sym (length-map was (λ (n : Node). n.next))))
+      ∙ padded-end c.self.inside.nowhere c.self.inside.none list to (before == length (map (λ (n : Node). n.next) was)) (map (λ (e : Ends). e.first) had) (within read (λ (e : Ends). e.first))
+
+  lasts-are : padded c.self.inside.nowhere c.self.inside.none (map (λ (e : Ends). e.last) c.shorten.new.self.ends.items) ≡ cond (to == length (map (λ (n : Node). n.prev) was)) (slice_set (padded c.self.inside.nowhere c.self.inside.none (map (λ (e : Ends). e.last) had)) list before) (padded c.self.inside.nowhere c.self.inside.none (map (λ (e : Ends). e.last) had))
+  lasts-are = ap (padded c.self.inside.nowhere c.self.inside.none) (c.shorten.ensures.last ∙ ap (λ v. map (λ (e : Ends). e.last) v.items) c.loosen.ensures.ends ∙ c.point_prev.ensures.last
+      ∙ ap (λ xs. cond (to == length c.point_next.new.self.nodes.items) (slice_set xs list before) xs) c.point_next.ensures.last
+      ∙ ap (λ n. cond (to == n) (slice_set (map (λ (e : Ends). e.last) had) list before) (map (λ (e : Ends). e.last) had))
+      (alike (λ (n : Node). n.home) _ _ c.point_next.ensures.home ∙ sym (length-map was (λ (n : Node). n.prev))))
+      ∙ padded-end c.self.inside.nowhere c.self.inside.none list before (to == length (map (λ (n : Node). n.prev) was)) (map (λ (e : Ends). e.last) had) (within read (λ (e : Ends). e.last))
+
+  lens-are : padded c.self.inside.nowhere 0 (map (λ (e : Ends). e.len) c.shorten.new.self.ends.items) ≡ slice_set (padded c.self.inside.nowhere 0 (map (λ (e : Ends). e.len) had)) list (slice_index (padded c.self.inside.nowhere 0 (map (λ (e : Ends). e.len) had)) list - 1)
+  lens-are = ap (padded c.self.inside.nowhere 0) (c.shorten.ensures.len ∙ ap (λ xs. slice_set xs list (slice_index xs list - 1)) (ap (λ v. map (λ (e : Ends). e.len) v.items) c.loosen.ensures.ends ∙ c.point_prev.ensures.len ∙ c.point_next.ensures.len))
+      ∙ padded-set c.self.inside.nowhere 0 list (slice_index (map (λ (e : Ends). e.len) had) list - 1) (map (λ (e : Ends). e.len) had) (within read (λ (e : Ends). e.len))
+      ∙ ap (λ n. slice_set (padded c.self.inside.nowhere 0 (map (λ (e : Ends). e.len) had)) list (n - 1)) (sym (padded-read c.self.inside.nowhere 0 list (map (λ (e : Ends). e.len) had) (within read (λ (e : Ends). e.len))))
 
 pub invariant_of-self : goal.invariant_of-self
 invariant_of-self c =
-    let i = c.self.inside in
-    let read = (goal.at.invariant_of-self c).After-index-behind in
-    let done = (goal.at.invariant_of-self c).After-index_mut-4 in
-    links-written _ _ _ _ _ _ _ _ _ _ _ _ _
-    (written c.point.new.links (drop (length c.point.new.links) i.next.items) _ (c.point.auto.links ∙ c.deref_mut.ensures.len))
-    (written c.point.new.ends (drop (length c.point.new.ends) i.first.items) _ (c.point.auto.ends ∙ c.deref_mut-2.ensures.len))
-    (written c.point-2.new.links (drop (length c.point-2.new.links) i.prev.items) _ (c.point-2.auto.links ∙ c.deref_mut-3.ensures.len))
-    (written c.point-2.new.ends (drop (length c.point-2.new.ends) i.last.items) _ (c.point-2.auto.ends ∙ c.deref_mut-4.ensures.len))
-    (unlink-links _ _ _ _ _ _ _ _ _ c.self.view_is c.self.invariant c.args.node _ _ _ c.requires.node_in c.requires.stands (home-is read) (before-is read) (behind-is read) _ (left-is done (home-in-range read)) _ _ _ _ (nexts-are done) (firsts-are done) (prevs-are done) (lasts-are done))
+    let read = (goal.at.invariant_of-self c).After-index in
+    let done = (goal.at.invariant_of-self c).After-shorten in (
+      unlink-written _ _ _ _ _ _ _ _ _ c.self.view_is c.self.invariant.0 c.args.node _ _ _ c.requires.node_in c.requires.stands (home-is read) (prev-is read) (next-is read) _ refl _ _ _ _ _ _
+          (nexts-are done) (prevs-are done) (homes-are done) (firsts-are done) (lasts-are done) (lens-are done),
+      (let was = c.self.invariant.1 in let a = c.point_next.ensures.capacity in let b = c.point_prev.ensures.capacity in let d = ap vec_capacity c.loosen.ensures.ends in let e = c.shorten.ensures.capacity in omega arith),
+    )
 
 pub returns-clause-unlinked : goal.returns-clause-unlinked
 returns-clause-unlinked c =
-    let read = (goal.at.returns-clause-unlinked c).After-index-behind in
-    let done = (goal.at.returns-clause-unlinked c).After-index_mut-4 in
-    rw (written c.point.new.links _ _ (c.point.auto.links ∙ c.deref_mut.ensures.len), written c.point.new.ends _ _ (c.point.auto.ends ∙ c.deref_mut-2.ensures.len))
-    (unlink-seen _ _ _ _ _ _ _ _ _ c.self.view_is c.self.invariant c.args.node _ _ _ c.requires.node_in c.requires.stands (home-is read) (before-is read) (behind-is read) _ (left-is done (home-in-range read)) _ _ _ _ (nexts-are done) (firsts-are done) (prevs-are done) (lasts-are done))
+    let read = (goal.at.returns-clause-unlinked c).After-index in
+    let done = (goal.at.returns-clause-unlinked c).After-shorten in
+    unlink-shown _ _ _ _ _ _ _ _ _ c.self.view_is c.self.invariant.0 c.args.node _ _ _ c.requires.node_in c.requires.stands (home-is read) (prev-is read) (next-is read) _ refl _ _ _ _
+    (nexts-are done) (firsts-are done) (lasts-are done) (lens-are done)
 
 pub returns-clause-kept : goal.returns-clause-kept
 returns-clause-kept c =
-    renumbered _ _ _ _ _ (ap (λ w. w.nodes) c.self.view_is) (ap (λ w. w.lists) c.self.view_is) (unlinked-are _ _ _ (lists-kept _ _ _ _ _ _ _ _ _ c.self.view_is c.self.invariant) _ c.args.node (returns-clause-unlinked c))
+    renumbered _ _ _ _ _ (ap (λ w. w.nodes) c.self.view_is) (ap (λ w. w.lists) c.self.view_is) (unlinked-are _ _ _ (lists-kept _ _ _ _ _ _ _ _ _ c.self.view_is c.self.invariant.0) _ c.args.node (returns-clause-unlinked c))

@@ -13,7 +13,7 @@ returns-clause-before g c =
     let size = c.self.invariant.0.stage.counts_are.counts_length in
     let word = get_or_read c.self.inside.tables.counts.items c.args.gap c.index.result.now (omega arith) c.index.ensures 0 in
     subst (λ (v : Solving). v.is_done ≡ false → HasSize (AnswerLasts v.board c.args.gap v.rounds) c.index.result.now) c.self.view_is
-    (λ going. counts-before _ e.is_board e.few _ _ _ _ _ _ _ _ _ _ _ _ _ _ c.self.invariant.0 c.args.gap i going c.index.result.now word)
+    (λ going. counts-before _ e.is_board e.few _ _ _ _ _ _ _ _ _ _ _ c.self.invariant.0 c.args.gap i going c.index.result.now word)
 
 pub returns-clause-after : goal.returns-clause-after
 returns-clause-after g c =
@@ -22,4 +22,4 @@ returns-clause-after g c =
     let size = c.self.invariant.0.stage.counts_are.counts_length in
     let word = get_or_read c.self.inside.tables.counts.items c.args.gap c.index.result.now (omega arith) c.index.ensures 0 in
     subst (λ (v : Solving). v.is_done ≡ true → HasSize (AnswerForever v.board c.args.gap) c.index.result.now) c.self.view_is
-    (λ done. counts-after _ e.is_board e.few _ _ _ _ _ _ _ _ _ _ _ _ _ _ c.self.invariant.0 c.args.gap i done c.index.result.now word)
+    (λ done. counts-after _ e.is_board e.few _ _ _ _ _ _ _ _ _ _ _ c.self.invariant.0 c.args.gap i done c.index.result.now word)

@@ -6,12 +6,12 @@ use Rattle.retro_core.proofs.solver.Solver.first_filed.Goals as goal
 pub returns-then-value-configurations-clause-kept : goal.returns-then-value-configurations-clause-kept
 returns-then-value-configurations-clause-kept g c =
     let e = c.configurations.ensures in
-    rw (← c.self.view_is) (solving_of _ e.is_board e.few _ _ _ _ _ _ _ _ _ _ _ _ _ _ c.self.invariant.0)
+    rw (← c.self.view_is) (solving_of _ e.is_board e.few _ _ _ _ _ _ _ _ _ _ _ c.self.invariant.0)
 
 pub returns-clause-kept : goal.returns-clause-kept
 returns-clause-kept g c =
     let e = c.configurations.ensures in
-    rw (← c.self.view_is) (solving_of _ e.is_board e.few _ _ _ _ _ _ _ _ _ _ _ _ _ _ c.self.invariant.0)
+    rw (← c.self.view_is) (solving_of _ e.is_board e.few _ _ _ _ _ _ _ _ _ _ _ c.self.invariant.0)
 
 pub returns-then-value-configurations-clause-first : goal.returns-then-value-configurations-clause-first
 returns-then-value-configurations-clause-first g c =

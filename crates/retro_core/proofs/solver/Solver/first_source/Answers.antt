@@ -1,24 +1,17 @@
-use Rattle.std.proofs.Common.{◌≡◌, ◌%◌, ℕ, List, Some, None, slice_get, sym, ap, ◌∙◌, subst}
-use Rattle.retro_core.specs.Solving.{Solving, source, rank_in}
-use Rattle.retro_core.proofs.Sources.{first-some, first-none}
+use Rattle.std.proofs.Common.{◌≡◌, ◌<◌, ◌-◌, List, slice_get, sym, ap, ◌∙◌, subst, arith}
+use Rattle.positions.specs.Gaps.{gaps}
+use Rattle.retro_core.specs.Solving.{Solving, source}
 use Rattle.retro_core.proofs.Solved.{source-shown}
 use Rattle.retro_core.proofs.solver.Solver.first_source.Goals as goal
 
-pub returns-in-Some : goal.returns-in-Some
-returns-in-Some g c =
-    let e = c.configurations-configurations.ensures in
+pub returns : goal.returns
+returns g c =
+    let e = c.configurations.ensures in
+    let b = c.self.inside.space in
+    let i : c.args.gap < gaps b = rw (← c.self.view_is) at c.requires in
+    let shown = source-shown _ e.is_board e.few _ _ _ _ _ _ _ _ _ _ _ c.self.invariant.0 c.args.gap i in
+    let all : b.labels - 0 ≡ b.labels = omega arith in
     record {
-      first = subst (λ (v : Solving). Some (c.in-Some.node % c.configurations-configurations.result) ≡ slice_get (source v c.args.gap) 0) c.self.view_is
-          (ap (λ n. Some (c.in-Some.node % n)) c.configurations-configurations.ensures.value
-          ∙ sym (first-some (rank_in c.self.inside.space) _ c.in-Some.node (sym c.first.ensures.first ∙ c.in-Some.is))
-          ∙ ap (λ (xs : List ℕ). slice_get xs 0) (sym (source-shown _ e.is_board e.few _ _ _ _ _ _ _ _ _ _ _ _ _ _ c.self.invariant.0 c.args.gap)));
-    }
-
-pub returns-in-None : goal.returns-in-None
-returns-in-None g c =
-    let e = c.configurations-configurations.ensures in
-    record {
-      first = subst (λ (v : Solving). None ≡ slice_get (source v c.args.gap) 0) c.self.view_is
-          (sym (first-none (rank_in c.self.inside.space) _ (sym c.first.ensures.first ∙ c.in-None.is))
-          ∙ ap (λ (xs : List ℕ). slice_get xs 0) (sym (source-shown _ e.is_board e.few _ _ _ _ _ _ _ _ _ _ _ _ _ _ c.self.invariant.0 c.args.gap)));
+      first = subst (λ (v : Solving). c.open_member.result ≡ slice_get (source v c.args.gap) 0) c.self.view_is
+          ((rw (c.deref.ensures.value, all) at c.open_member.ensures) ∙ ap (λ (xs : List _). slice_get xs 0) (sym shown));
     }

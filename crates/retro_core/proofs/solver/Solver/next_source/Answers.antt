@@ -1,74 +1,85 @@
-use Rattle.std.proofs.Common.{IsTrue, ◌≡◌, ◌<◌, ◌%◌, ◌+◌, ◌*◌, ℕ, List, Some, None, slice_get, sym, ap, ◌∙◌, subst}
-use Rattle.std.proofs.lemmas.Nat.{mod-mul-add}
+use Rattle.std.proofs.Common.{◌≡◌, ◌<◌, ◌+◌, ◌-◌, ℕ, List, Some, None, slice_get, sym, ap, ◌∙◌, subst, add-one, arith}
+use Rattle.std.proofs.lemmas.List.{get_or_read}
 use Rattle.index_lists.proofs.Places.{place-of, stands-at}
 use Rattle.positions.specs.Ranks.{configurations}
 use Rattle.positions.specs.Gaps.{gaps}
 use Rattle.retro_core.specs.BoardArena.{arena_of}
-use Rattle.retro_core.specs.Solving.{Solving, source, rank_in}
+use Rattle.retro_core.specs.Tables.{is_open, members_from, open_members}
+use Rattle.retro_core.specs.Solving.{Solving, source}
 use Rattle.retro_core.proofs.BoardArenas.{arena_is}
-use Rattle.retro_core.proofs.Sources.{map-some, map-none, node-at}
+use Rattle.retro_core.proofs.Lasting.{same_is, true_not_false}
+use Rattle.retro_core.proofs.Listed.{shut_word}
+use Rattle.retro_core.proofs.Sources.{members-are, member-behind, member-stands}
 use Rattle.retro_core.proofs.Solved.{source-shown}
-use Rattle.retro_core.proofs.Lasting.{true_not_false}
 use Rattle.retro_core.proofs.solver.Solver.next_source.Goals as goal
+use Rattle.retro_core.proofs.solver.Solver.next_source.Goals.{then-gap-via-then-gap, then-gap-via-else-gap+then-index}
 
-pub returns-in-Some-clause-behind : goal.returns-in-Some-clause-behind
-returns-in-Some-clause-behind g c =
-    let e = c.configurations-configurations.ensures in
+pub returns-then-gap-clause-behind : goal.returns-then-gap-clause-behind
+returns-then-gap-clause-behind g c =
+    let e = c.configurations.ensures in
     let b = c.self.inside.space in
+    let is = arena_is b e.is_board in
     let i : c.args.gap < gaps b = rw (← c.self.view_is) at c.requires.gap in
-    let xs : List ℕ = g.S.ListStore.list c.self.inside.tables.sources c.args.gap in
-    let shown = source-shown _ e.is_board e.few _ _ _ _ _ _ _ _ _ _ _ _ _ _ c.self.invariant.0 c.args.gap in
-    subst (λ (v : Solving). (place : ℕ) → slice_get (source v c.args.gap) place ≡ Some c.args.rank → Some (c.in-Some.next % c.configurations-configurations.result) ≡ slice_get (source v c.args.gap) (place + 1)) c.self.view_is
-    (λ place here.
-    let at = node-at (arena_of b) (arena_is b e.is_board) _ _ _ _ c.self.invariant.0.stage.sources_are c.args.gap i place c.args.rank (ap (λ (ys : List ℕ). slice_get ys place) (sym shown) ∙ here) in
-    let own : slice_get xs place ≡ Some (c.gap_pebble.result * c.configurations-configurations.result + c.args.rank) = rw (c.gap_pebble.ensures.pebble, e.value) at in
-    let next = c.next.ensures.behind c.args.gap place own in
-    ap (λ n. Some (c.in-Some.next % n)) e.value
-    ∙ sym (map-some (rank_in b) xs (place + 1) c.in-Some.next (sym next ∙ c.in-Some.is))
-    ∙ ap (λ (ys : List ℕ). slice_get ys (place + 1)) (sym shown))
-
-pub returns-in-None-clause-behind : goal.returns-in-None-clause-behind
-returns-in-None-clause-behind g c =
-    let e = c.configurations-configurations.ensures in
-    let b = c.self.inside.space in
-    let i : c.args.gap < gaps b = rw (← c.self.view_is) at c.requires.gap in
-    let xs : List ℕ = g.S.ListStore.list c.self.inside.tables.sources c.args.gap in
-    let shown = source-shown _ e.is_board e.few _ _ _ _ _ _ _ _ _ _ _ _ _ _ c.self.invariant.0 c.args.gap in
-    subst (λ (v : Solving). (place : ℕ) → slice_get (source v c.args.gap) place ≡ Some c.args.rank → None ≡ slice_get (source v c.args.gap) (place + 1)) c.self.view_is
-    (λ place here.
-    let at = node-at (arena_of b) (arena_is b e.is_board) _ _ _ _ c.self.invariant.0.stage.sources_are c.args.gap i place c.args.rank (ap (λ (ys : List ℕ). slice_get ys place) (sym shown) ∙ here) in
-    let own : slice_get xs place ≡ Some (c.gap_pebble.result * c.configurations-configurations.result + c.args.rank) = rw (c.gap_pebble.ensures.pebble, e.value) at in
-    let next = c.next.ensures.behind c.args.gap place own in
-    sym (map-none (rank_in b) xs (place + 1) (sym next ∙ c.in-None.is))
-    ∙ ap (λ (ys : List ℕ). slice_get ys (place + 1)) (sym shown))
-
-pub returns-in-Some-clause-not_listed : goal.returns-in-Some-clause-not_listed
-returns-in-Some-clause-not_listed g c =
-    let e = c.configurations-configurations.ensures in
-    let b = c.self.inside.space in
     let low : c.args.rank < configurations b = rw (← c.self.view_is) at c.requires.rank in
-    let xs : List ℕ = g.S.ListStore.list c.self.inside.tables.sources c.args.gap in
-    let shown = source-shown _ e.is_board e.few _ _ _ _ _ _ _ _ _ _ _ _ _ _ c.self.invariant.0 c.args.gap in
-    let stands = c.stands_in.ensures.0 c.if-not-stands_in.false in
-    let place = place-of (c.gap_pebble.result * c.configurations-configurations.result + c.args.rank) xs stands in
-    let rank_is : (c.gap_pebble.result * c.configurations-configurations.result + c.args.rank) % configurations b ≡ c.args.rank =
-    ap (λ n. (c.gap_pebble.result * n + c.args.rank) % configurations b) e.value ∙ mod-mul-add c.gap_pebble.result (configurations b) c.args.rank low in
-    subst (λ (v : Solving). ((place : ℕ) → slice_get (source v c.args.gap) place ≡ Some c.args.rank → ⊥) → Some (c.in-Some.next % c.configurations-configurations.result) ≡ None) c.self.view_is
-    (λ none. absurd (none place.0 (
-    ap (λ (ys : List ℕ). slice_get ys place.0) shown
-    ∙ map-some (rank_in b) xs place.0 (c.gap_pebble.result * c.configurations-configurations.result + c.args.rank) place.1
-    ∙ ap Some rank_is)))
-
-pub returns-then-not-stands_in-clause-behind : goal.returns-then-not-stands_in-clause-behind
-returns-then-not-stands_in-clause-behind g c =
-    let e = c.configurations-configurations.ensures in
-    let b = c.self.inside.space in
-    let i : c.args.gap < gaps b = rw (← c.self.view_is) at c.requires.gap in
-    let xs : List ℕ = g.S.ListStore.list c.self.inside.tables.sources c.args.gap in
-    let shown = source-shown _ e.is_board e.few _ _ _ _ _ _ _ _ _ _ _ _ _ _ c.self.invariant.0 c.args.gap in
+    let values : List ℕ = c.self.inside.tables.values.items in
+    let shown = source-shown _ e.is_board e.few _ _ _ _ _ _ _ _ _ _ _ c.self.invariant.0 c.args.gap i in
     subst (λ (v : Solving). (place : ℕ) → slice_get (source v c.args.gap) place ≡ Some c.args.rank → None ≡ slice_get (source v c.args.gap) (place + 1)) c.self.view_is
     (λ place here.
-    let at = node-at (arena_of b) (arena_is b e.is_board) _ _ _ _ c.self.invariant.0.stage.sources_are c.args.gap i place c.args.rank (ap (λ (ys : List ℕ). slice_get ys place) (sym shown) ∙ here) in
-    let own : slice_get xs place ≡ Some (c.gap_pebble.result * c.configurations-configurations.result + c.args.rank) = rw (c.gap_pebble.ensures.pebble, e.value) at in
-    let stands : IsTrue c.stands_in.result = c.stands_in.ensures.1 (stands-at place _ xs own) in
-    absurd (true_not_false c.stands_in.result stands c.if-not-stands_in.true))
+    let inside = stands-at place c.args.rank (open_members (arena_of b) values c.args.gap) (ap (λ (ys : List ℕ). slice_get ys place) (sym shown) ∙ here) in
+    let m = members-are (arena_of b) (is_open values) c.args.gap 0 b.labels c.args.rank inside in
+    let high = m.below in
+    let gap_is : (arena_of b).gap c.args.rank ((arena_of b).pebble c.args.gap) ≡ c.args.gap =
+    ap (λ x. (arena_of b).gap x ((arena_of b).pebble c.args.gap)) (sym m.is) ∙ is.gap_of_member c.args.gap m.label i (omega arith) in
+    let own : c.gap.result ≡ c.args.gap = c.gap.ensures.gap ∙ ap ((arena_of b).gap c.args.rank) c.gap_pebble-pebble.ensures.pebble ∙ gap_is in
+    elim c.then-gap.branch [
+      | then-gap-via-then-gap w ↦ absurd (w.if-gap.true own)
+      | then-gap-via-else-gap+then-index w ↦ absurd (
+          let size = c.self.invariant.0.stage.words_are.values_length in
+          let word = get_or_read values c.args.rank w.index.result.now (omega arith) w.index.ensures 0 in
+          true_not_false (is_open values c.args.rank) m.passes (shut_word values c.args.rank (λ same. w.if-index.true (word ∙ same))))
+    ])
+
+pub returns-clause-behind : goal.returns-clause-behind
+returns-clause-behind g c =
+    let e = c.configurations.ensures in
+    let b = c.self.inside.space in
+    let is = arena_is b e.is_board in
+    let i : c.args.gap < gaps b = rw (← c.self.view_is) at c.requires.gap in
+    let low : c.args.rank < configurations b = rw (← c.self.view_is) at c.requires.rank in
+    let values : List ℕ = c.self.inside.tables.values.items in
+    let shown = source-shown _ e.is_board e.few _ _ _ _ _ _ _ _ _ _ _ c.self.invariant.0 c.args.gap i in
+    let gap_is : (arena_of b).gap c.args.rank ((arena_of b).pebble c.args.gap) ≡ c.args.gap =
+    ap ((arena_of b).gap c.args.rank) (sym c.gap_pebble-pebble.ensures.pebble) ∙ sym c.gap.ensures.gap ∙ c.if-gap.false in
+    let label_is : c.label_at-label.result ≡ (arena_of b).label c.args.rank ((arena_of b).pebble c.args.gap) =
+    c.label_at-label.ensures.label ∙ ap ((arena_of b).label c.args.rank) c.gap_pebble-pebble.ensures.pebble in
+    let p_in = is.pebble_in c.args.gap i in
+    let member : (arena_of b).member c.args.gap c.label_at-label.result ≡ c.args.rank =
+    ap ((arena_of b).member c.args.gap) label_is ∙ ap (λ h. (arena_of b).member h ((arena_of b).label c.args.rank ((arena_of b).pebble c.args.gap))) (sym gap_is)
+    ∙ is.member_of_gap c.args.rank ((arena_of b).pebble c.args.gap) low p_in in
+    let all : 0 + b.labels ≡ b.labels = omega arith in
+    subst (λ (v : Solving). (place : ℕ) → slice_get (source v c.args.gap) place ≡ Some c.args.rank → c.open_member.result ≡ slice_get (source v c.args.gap) (place + 1)) c.self.view_is
+    (λ place here.
+    let at = ap (λ (ys : List ℕ). slice_get ys place) (sym shown) ∙ here ∙ ap Some (sym member) in
+    (rw c.deref.ensures.value at c.open_member.ensures)
+    ∙ ap (λ n. slice_get (members_from (arena_of b) (is_open values) c.args.gap (c.label_at-label.result + 1) (n - (c.label_at-label.result + 1))) 0) (sym all)
+    ∙ sym (member-behind (arena_of b) is (is_open values) c.args.gap i 0 b.labels c.label_at-label.result place (omega arith) c.label_at-label.ensures.place at)
+    ∙ ap (slice_get (open_members (arena_of b) values c.args.gap)) (sym (add-one place))
+    ∙ ap (λ (ys : List ℕ). slice_get ys (place + 1)) (sym shown))
+
+pub returns-clause-not_listed : goal.returns-clause-not_listed
+returns-clause-not_listed g c =
+    let e = c.configurations.ensures in
+    let b = c.self.inside.space in
+    let is = arena_is b e.is_board in
+    let i : c.args.gap < gaps b = rw (← c.self.view_is) at c.requires.gap in
+    let low : c.args.rank < configurations b = rw (← c.self.view_is) at c.requires.rank in
+    let values : List ℕ = c.self.inside.tables.values.items in
+    let shown = source-shown _ e.is_board e.few _ _ _ _ _ _ _ _ _ _ _ c.self.invariant.0 c.args.gap i in
+    let gap_is : (arena_of b).gap c.args.rank ((arena_of b).pebble c.args.gap) ≡ c.args.gap =
+    ap ((arena_of b).gap c.args.rank) (sym c.gap_pebble-pebble.ensures.pebble) ∙ sym c.gap.ensures.gap ∙ c.if-gap.false in
+    let size = c.self.invariant.0.stage.words_are.values_length in
+    let word = get_or_read values c.args.rank c.index.result.now (omega arith) c.index.ensures 0 in
+    let still = same_is _ 4294967295 (sym word ∙ c.if-index.false) in
+    let place = place-of c.args.rank (open_members (arena_of b) values c.args.gap) (member-stands (arena_of b) is (is_open values) c.args.gap i c.args.rank low still gap_is) in
+    subst (λ (v : Solving). ((place : ℕ) → slice_get (source v c.args.gap) place ≡ Some c.args.rank → ⊥) → c.open_member.result ≡ None) c.self.view_is
+    (λ none. absurd (none place.0 (ap (λ (ys : List ℕ). slice_get ys place.0) shown ∙ place.1)))

@@ -18,7 +18,7 @@ invariant_of-result g c =
     let b = c.args.space in
     let e = c.configurations.ensures in
     let w = c.in_ok-sizes.ensures in (
-      start-state b e.is_board _ _ _ _ _ _ _ _ _ _ _ _ (one-le-pow b.pebbles (places b) e.is_board.labels.0) c.in_ok-counts.ensures.dominators c.enter_all.ensures.entered,
+      start-state b e.is_board _ _ _ _ _ _ _ _ _ (one-le-pow b.pebbles (places b) e.is_board.labels.0) c.in_ok-counts.ensures.dominators c.enter_all.ensures.entered,
       sizes-start _ _ c.len.result _ _ (c.put.ensures.items ∙ ap (λ (l : List ℕ). l ++ c.len.result ∷ []) w.items) c.len.ensures.len (omega (arith, w.capacity, c.put.ensures.capacity, c.configurations-2.ensures.value)),
     )
 
@@ -26,5 +26,5 @@ pub returns-clause-kept : goal.returns-clause-kept
 returns-clause-kept g c =
     let b = c.args.space in
     let e = c.configurations.ensures in
-    solving_of b e.is_board e.few _ _ _ _ _ _ _ _ _ _ _ _ _ _
-    (start-state b e.is_board _ _ _ _ _ _ _ _ _ _ _ _ (one-le-pow b.pebbles (places b) e.is_board.labels.0) c.in_ok-counts.ensures.dominators c.enter_all.ensures.entered)
+    solving_of b e.is_board e.few _ _ _ _ _ _ _ _ _ _ _
+    (start-state b e.is_board _ _ _ _ _ _ _ _ _ (one-le-pow b.pebbles (places b) e.is_board.labels.0) c.in_ok-counts.ensures.dominators c.enter_all.ensures.entered)

@@ -1,68 +1,110 @@
-use Rattle.std.proofs.Common.{refl, arith, sym, ◌∙◌}
+use Rattle.std.proofs.Common.{◌≡◌, ◌+◌, ◌*◌, ◌<◌, refl, arith, length, sym, ap, ◌∙◌}
+use Rattle.std.proofs.lemmas.List.{get_or_read}
 use Rattle.retro_core.specs.BoardArena.{arena_of}
 use Rattle.retro_core.proofs.BoardArenas.{arena_is}
-use Rattle.retro_core.proofs.Listed.{source-head, source-end, closing-start, closing-step, closing-end, fewer-open}
+use Rattle.retro_core.proofs.Lasting.{same_is}
+use Rattle.retro_core.proofs.Listed.{shut_word, closing-start, closing-step, closing-end, shut-more, shut-same, all-shut}
 use Rattle.retro_core.proofs.tables.Tables.close_gap.Goals as goal
+use Rattle.retro_core.proofs.tables.Tables.close_gap.Goals.{then-index, else-index}
 
-pub loop-node-init : goal.loop-node-init
-loop-node-init g c = record {
+pub loop-label-init : goal.loop-label-init
+loop-label-init g c = record {
   closing = closing-start _ _ _ _;
+  shut = λ v h. absurd (omega arith);
   filed = c.requires.filed;
-  sources = c.requires.sources;
   others = λ v d. refl;
   same_counts = refl;
   same_living = refl;
 }
 
-pub overflow_sub-node : goal.overflow_sub-node
-overflow_sub-node g c =
+pub overflow_mul-rank : goal.overflow_mul-rank
+overflow_mul-rank g c =
     let b = c.args.space.now in
-    let m = source-head (arena_of b) (arena_is b c.configurations-configurations.ensures.is_board) _ _ _ _ _ _ c.loop-node.invariant.sources c.requires.gap_in (sym c.first.ensures.first ∙ c.in-Some.is) in
-    rw (c.gap_pebble.ensures.pebble, c.configurations-configurations.ensures.value) m.at_least
+    let low : c.loop-label.label < b.labels = omega (arith, c.loop-label-test.true, c.labels-label-end.ensures.value) in
+    let rank_is = c.member_step-step.ensures c.loop-label.label low in
+    let below = (arena_is b c.configurations.ensures.is_board).member_in c.args.gap c.loop-label.label c.requires.gap_in low in
+    omega (arith, rank_is, below, c.configurations.ensures.few)
+
+pub overflow_add-rank : goal.overflow_add-rank
+overflow_add-rank g c =
+    let b = c.args.space.now in
+    let low : c.loop-label.label < b.labels = omega (arith, c.loop-label-test.true, c.labels-label-end.ensures.value) in
+    let rank_is = c.member_step-step.ensures c.loop-label.label low in
+    let below = (arena_is b c.configurations.ensures.is_board).member_in c.args.gap c.loop-label.label c.requires.gap_in low in
+    omega (arith, c.member-first.ensures.rank, rank_is, below, c.configurations.ensures.few)
+
+pub index-requires : goal.index-requires
+index-requires g c =
+    let b = c.args.space.now in
+    let low : c.loop-label.label < b.labels = omega (arith, c.loop-label-test.true, c.labels-label-end.ensures.value) in
+    let rank_is = c.member_step-step.ensures c.loop-label.label low in
+    let below = (arena_is b c.configurations.ensures.is_board).member_in c.args.gap c.loop-label.label c.requires.gap_in low in
+    let size = c.loop-label.invariant.closing.same_length in
+    omega (arith, c.member-first.ensures.rank, rank_is, below, size, c.requires.values_length)
 
 pub file-requires-clause-rank_in : goal.file-requires-clause-rank_in
 file-requires-clause-rank_in g c =
     let b = c.args.space.now in
-    let m = source-head (arena_of b) (arena_is b c.configurations-configurations.ensures.is_board) _ _ _ _ _ _ c.loop-node.invariant.sources c.requires.gap_in (sym c.first.ensures.first ∙ c.in-Some.is) in
-    rw (c.gap_pebble.ensures.pebble, c.configurations-configurations.ensures.value) m.rank_in
+    let low : c.loop-label.label < b.labels = omega (arith, c.loop-label-test.true, c.labels-label-end.ensures.value) in
+    let rank_is = c.member_step-step.ensures c.loop-label.label low in
+    let below = (arena_is b c.configurations.ensures.is_board).member_in c.args.gap c.loop-label.label c.requires.gap_in low in
+    omega (arith, c.member-first.ensures.rank, rank_is, below)
 
 pub file-requires-clause-was_open : goal.file-requires-clause-was_open
 file-requires-clause-was_open g c =
     let b = c.args.space.now in
-    let m = source-head (arena_of b) (arena_is b c.configurations-configurations.ensures.is_board) _ _ _ _ _ _ c.loop-node.invariant.sources c.requires.gap_in (sym c.first.ensures.first ∙ c.in-Some.is) in
-    rw (c.gap_pebble.ensures.pebble, c.configurations-configurations.ensures.value) m.waiting
+    let low : c.loop-label.label < b.labels = omega (arith, c.loop-label-test.true, c.labels-label-end.ensures.value) in
+    let rank_is = c.member_step-step.ensures c.loop-label.label low in
+    let below = (arena_is b c.configurations.ensures.is_board).member_in c.args.gap c.loop-label.label c.requires.gap_in low in
+    let size = c.loop-label.invariant.closing.same_length in
+    let within : c.member-first.result + c.loop-label.label * c.member_step-step.result < length c.loop-label.self.values.items =
+    omega (arith, c.member-first.ensures.rank, rank_is, below, size, c.requires.values_length) in
+    let word = get_or_read c.loop-label.self.values.items _ c.index.result.now within c.index.ensures 0 in
+    same_is _ 4294967295 (sym word ∙ c.if-index.true)
 
-pub loop-node-preserved : goal.loop-node-preserved
-loop-node-preserved g c =
+pub loop-label-preserved : goal.loop-label-preserved
+loop-label-preserved g c =
     let b = c.args.space.now in
-    let few = c.configurations-configurations.ensures.few in
-    let low = c.requires.value_in in
-    let i = c.loop-node.invariant in
-    let f = c.file.ensures in
-    let m = source-head (arena_of b) (arena_is b c.configurations-configurations.ensures.is_board) _ _ _ _ _ _ i.sources c.requires.gap_in (sym c.first.ensures.first ∙ c.in-Some.is) in record {
-      closing = rw (f.values, c.gap_pebble.ensures.pebble, c.configurations-configurations.ensures.value)
-          (closing-step (arena_of b) c.args.gap c.args.value c.args.self.now.values.items c.loop-node.self.values.items _ m.rank_in c.requires.values_length (λ e. omega arith) m.waiting m.member i.closing);
-      filed = f.filed;
-      sources = f.sources;
-      others = λ v d. f.other_buckets v d ∙ i.others v d;
-      same_counts = f.same_counts ∙ i.same_counts;
-      same_living = f.same_living ∙ i.same_living;
-    }
-
-pub loop-node-smaller : goal.loop-node-smaller
-loop-node-smaller g c =
-    let b = c.args.space.now in
-    let few = c.configurations-configurations.ensures.few in
-    let low = c.requires.value_in in
-    let i = c.loop-node.invariant in
-    let m = source-head (arena_of b) (arena_is b c.configurations-configurations.ensures.is_board) _ _ _ _ _ _ i.sources c.requires.gap_in (sym c.first.ensures.first ∙ c.in-Some.is) in
-    rw (c.file.ensures.values, c.gap_pebble.ensures.pebble, c.configurations-configurations.ensures.value)
-    (fewer-open (arena_of b).configurations c.loop-node.self.values.items _ c.args.value m.rank_in (i.closing.same_length ∙ c.requires.values_length) (λ e. omega arith) m.waiting)
+    let is = arena_is b c.configurations.ensures.is_board in
+    let few = c.configurations.ensures.few in
+    let value_low = c.requires.value_in in
+    let low : c.loop-label.label < b.labels = omega (arith, c.loop-label-test.true, c.labels-label-end.ensures.value) in
+    let rank_is : (arena_of b).member c.args.gap c.loop-label.label ≡ c.member-first.result + c.loop-label.label * c.member_step-step.result =
+    omega (arith, c.member-first.ensures.rank, c.member_step-step.ensures c.loop-label.label low) in
+    let below = is.member_in c.args.gap c.loop-label.label c.requires.gap_in low in
+    let i = c.loop-label.invariant in
+    let size = i.closing.same_length in
+    let all = c.requires.values_length in
+    let within : c.member-first.result + c.loop-label.label * c.member_step-step.result < length c.loop-label.self.values.items = omega arith in
+    let word = get_or_read c.loop-label.self.values.items _ c.index.result.now within c.index.ensures 0 in
+    elim c.if-index.branch [
+      | then-index w ↦ (
+          let f = w.file.ensures in
+          let was_open = same_is _ 4294967295 (sym word ∙ w.if-index.true) in
+          let member = ap (λ y. (arena_of b).gap y ((arena_of b).pebble c.args.gap)) (sym rank_is) ∙ is.gap_of_member c.args.gap c.loop-label.label c.requires.gap_in low in
+          rw w.self-is (record {
+            closing = rw f.values (closing-step (arena_of b) c.args.gap c.args.value _ _ _ (omega arith) all (λ e. omega arith) was_open member i.closing);
+            shut = shut-more (arena_of b) c.args.gap c.loop-label.label _ _ _ c.args.value within (λ e. omega arith) rank_is f.values i.shut;
+            filed = f.filed;
+            others = λ v d. f.other_buckets v d ∙ i.others v d;
+            same_counts = f.same_counts ∙ i.same_counts;
+            same_living = f.same_living ∙ i.same_living;
+          }))
+      | else-index w ↦ rw w.self-is (record {
+        closing = i.closing;
+        shut = shut-same (arena_of b) c.args.gap c.loop-label.label _ _ rank_is (shut_word c.loop-label.self.values.items _ (λ e. w.if-index.false (word ∙ e))) i.shut;
+        filed = i.filed;
+        others = i.others;
+        same_counts = i.same_counts;
+        same_living = i.same_living;
+      })
+    ]
 
 pub returns-clause-closed : goal.returns-clause-closed
 returns-clause-closed g c =
     let b = c.args.space.now in
-    let i = c.loop-node.invariant in
+    let i = c.loop-label.invariant in
     closing-end (arena_of b) _ _ _ _
-    (source-end (arena_of b) (arena_is b c.configurations-configurations.ensures.is_board) _ _ _ _ _ i.sources c.requires.gap_in (sym c.first.ensures.first ∙ c.in_default.is))
+    (all-shut (arena_of b) (arena_is b c.configurations.ensures.is_board) c.args.gap c.loop-label.self.values.items c.requires.gap_in
+    (λ v h. i.shut v (omega (arith, h, c.loop-label-test.false, c.labels-label-end.ensures.value))))
     i.closing

@@ -9,7 +9,7 @@ pub returns-in_default-clause-struck : goal.returns-in_default-clause-struck
 returns-in_default-clause-struck g c =
     let b = c.args.space.now in
     λ above todo stage.
-    stage-alone (arena_of b) (arena_is b c.configurations-left.ensures.is_board) above _ _ _ _ _ _ _ _ _ _ _ c.args.rank
+    stage-alone (arena_of b) (arena_is b c.configurations-left.ensures.is_board) above _ _ _ _ _ _ _ _ c.args.rank
     (live-loose (arena_of b) (arena_is b c.configurations-left.ensures.is_board) above _ _ _ c.args.rank stage.live_are c.requires.rank_in todo.is_above c.in_default.ensures.home) stage
 
 pub unlink-requires-clause-stands : goal.unlink-requires-clause-stands
@@ -49,7 +49,7 @@ returns-else-left-eq0-clause-struck g c =
     let within : c.in-Some.gap < length c.args.self.now.counts.items = (let size = stage.counts_are.counts_length in let below = led.gap_in in omega arith) in
     let read = get_or_read c.args.self.now.counts.items c.in-Some.gap c.index.result.now within c.index.ensures 0 in
     let other = c.if-left-eq0.false in
-    stage-some (arena_of b) is above _ _ _ _ _ _ _ _ _ _ _ _ _ _ c.args.rank _ c.in-Some.gap (c.index.result.now - 1)
+    stage-some (arena_of b) is above _ _ _ _ _ _ _ _ _ _ _ c.args.rank _ c.in-Some.gap (c.index.result.now - 1)
     c.requires.rank_in led.dominant todo.is_above led.gap_is (omega arith) (omega arith) u.nodes_same u.lists_same u.kept u.unlinked stage
 
 pub returns-then-left-eq0-clause-struck : goal.returns-then-left-eq0-clause-struck
@@ -68,5 +68,5 @@ returns-then-left-eq0-clause-struck g c =
     let read = get_or_read c.args.self.now.counts.items c.in-Some.gap c.index.result.now within c.index.ensures 0 in
     let none = c.if-left-eq0.true in
     rw (f.same_counts, f.same_living)
-    (stage-closed (arena_of b) is above _ _ _ _ _ _ _ _ _ _ _ _ _ _ _ _ _ _ _ _ _ c.args.rank _ c.in-Some.gap c.args.round (c.args.round + 1) (c.index.result.now - 1)
-    c.requires.rank_in led.dominant led.gap_is (omega arith) none (omega arith) (λ e. omega arith) u.nodes_same u.lists_same u.kept u.unlinked f.closed f.filed f.sources todo stage)
+    (stage-closed (arena_of b) is above _ _ _ _ _ _ _ _ _ _ _ _ _ _ _ c.args.rank _ c.in-Some.gap c.args.round (c.args.round + 1) (c.index.result.now - 1)
+    c.requires.rank_in led.dominant led.gap_is (omega arith) none (omega arith) (λ e. omega arith) u.nodes_same u.lists_same u.kept u.unlinked f.closed f.filed todo stage)

@@ -33,7 +33,7 @@ strike-requires-clause-to_strike g c =
     let here = inside_some _ _ _ c.in-Some.is i.inside in
     let stage = rw c.in-Some.is at i.stage in (
       alive (arena_of b) c.args.round (rest_from (Some c.in-Some.rank) xs),
-      walk-strikes (arena_of b) (arena_is b c.configurations.ensures.is_board) _ _ _ _ _ _ _ _ _ _ _ c.args.round c.in-Some.rank c.configurations.ensures.few c.requires.round_in here stage,
+      walk-strikes (arena_of b) (arena_is b c.configurations.ensures.is_board) _ _ _ _ _ _ _ _ c.args.round c.in-Some.rank c.configurations.ensures.few c.requires.round_in here stage,
       stage,
     )
 
@@ -43,7 +43,7 @@ next-at-requires g c =
     let i = c.loop-at.invariant in
     let here = inside_some _ _ _ c.in-Some.is i.inside in
     let stage = rw c.in-Some.is at i.stage in
-    let todo = walk-strikes (arena_of b) (arena_is b c.configurations.ensures.is_board) _ _ _ _ _ _ _ _ _ _ _ c.args.round c.in-Some.rank c.configurations.ensures.few c.requires.round_in here stage in
+    let todo = walk-strikes (arena_of b) (arena_is b c.configurations.ensures.is_board) _ _ _ _ _ _ _ _ c.args.round c.in-Some.rank c.configurations.ensures.few c.requires.round_in here stage in
     let after = c.strike.ensures.struck _ todo stage in
     let below = stage.filed_are.are_lists.below c.args.round c.in-Some.rank here in
     let before = stage.filed_are.nodes_is in
@@ -58,12 +58,12 @@ loop-at-preserved g c =
     let xs : List ℕ = g.S.ListStore.list c.loop-at.self.buckets c.args.round in
     let here = inside_some _ _ _ c.in-Some.is i.inside in
     let stage = rw c.in-Some.is at i.stage in
-    let todo = walk-strikes (arena_of b) is _ _ _ _ _ _ _ _ _ _ _ c.args.round c.in-Some.rank c.configurations.ensures.few c.requires.round_in here stage in
+    let todo = walk-strikes (arena_of b) is _ _ _ _ _ _ _ _ c.args.round c.in-Some.rank c.configurations.ensures.few c.requires.round_in here stage in
     let after = c.strike.ensures.struck _ todo stage in
     let place = place-of c.in-Some.rank xs here in
     let same : g.S.ListStore.list c.strike.new.self.buckets c.args.round ≡ xs = c.strike.ensures.other_buckets c.args.round (λ e. omega arith) in
     let next = c.next-at.ensures.behind c.args.round place.0 (ap (λ (ys : List ℕ). slice_get ys place.0) same ∙ place.1) in record {
-      stage = IsStage-same (arena_of b) is _ _ _ _ _ _ _ _ _ _ _ _ _
+      stage = IsStage-same (arena_of b) is _ _ _ _ _ _ _ _ _ _
           (λ x j. alive-on (arena_of b) c.args.round c.in-Some.rank place.0 xs _ _ (stage.filed_are.are_lists.once c.args.round) place.1 todo.stops same next x) after;
       inside = inside-on xs _ place.0 _ next;
       others = λ v d. c.strike.ensures.other_buckets v d ∙ i.others v d;

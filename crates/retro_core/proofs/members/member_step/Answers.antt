@@ -2,7 +2,7 @@ use Rattle.std.proofs.Common.{◌≡◌, ◌+◌, ◌*◌, ◌-◌, ap, ◌∙�
 use Rattle.positions.specs.Ranks.{rank_of}
 use Rattle.positions.specs.Gaps.{member_of}
 use Rattle.retro_core.proofs.RowGaps.{member_line}
-use Rattle.retro_core.proofs.answering.member_step.Goals as goal
+use Rattle.retro_core.proofs.members.member_step.Goals as goal
 
 pub overflow_sub-result : goal.overflow_sub-result
 overflow_sub-result c =

@@ -1,0 +1,10 @@
+use Rattle.std.proofs.Common.{◌≡◌, ◌-◌, slice_get}
+use Rattle.retro_core.specs.BoardArena.{arena_of}
+use Rattle.retro_core.specs.Tables.{is_open, members_from}
+use Rattle.retro_core.proofs.members.open_member.Given as goal
+
+abbrev pub invariant-loop-label : goal.invariant-loop-label
+invariant-loop-label l = record {
+  rest : slice_get (members_from (arena_of l.space) (is_open l.values) l.gap l.from ((arena_of l.space).labels - l.from)) 0
+      ≡ slice_get (members_from (arena_of l.space) (is_open l.values) l.gap l.label ((arena_of l.space).labels - l.label)) 0;
+}
