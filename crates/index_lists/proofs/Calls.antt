@@ -215,9 +215,6 @@ module _ (nodes lists : ℕ) (next prev home first last len : List ℕ) (v : Cha
       let i : to < lists = (let d = lists-are in omega arith) in
       first-read nodes (slice_index next) (slice_index prev) (slice_index last to) nodes (slice_index first to) (listed v to) (store_here.linked to i) ∙ ap (unless_none nodes) (sym e)
 
-  pub len-seen : (to n : ℕ) → to < v.lists → n ≡ slice_index len to → n ≡ length (listed v to)
-  len-seen to n h e = e ∙ store_here.sized to (let d = lists-are in omega arith)
-
   pub last-seen : (to at : ℕ) → to < v.lists → at ≡ slice_index last to → slice_get (listed v to) (length (listed v to) - 1) ≡ unless_none nodes at
   last-seen to at h e =
       let i : to < lists = (let d = lists-are in omega arith) in

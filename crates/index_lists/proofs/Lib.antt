@@ -9,4 +9,3 @@ pub mod Moves
 pub mod Scans
 pub mod Entries
 pub mod Fields
-pub mod Padding

@@ -1,5 +1,5 @@
 -- Lists kept by links.
-use Rattle.std.specs.Prelude.{◌≡◌, ℕ, ◌-◌, ◌<◌, ◌≤◌, ◌==◌, cond, List, [], ◌∷◌, ◌++◌, replicate, zero, suc, length, slice_index, Option, None, Some}
+use Rattle.std.specs.Prelude.{◌≡◌, ℕ, ◌<◌, ◌≤◌, ◌==◌, cond, List, [], ◌∷◌, zero, suc, length, slice_index, Option, None, Some}
 use Rattle.index_lists.specs.Lists.{times}
 
 -- n nodes from a node on, along the links
@@ -45,10 +45,6 @@ pub record Chains : Type 0 where
 
 abbrev pub listed : Chains → ℕ → List ℕ
 listed c l = follow (slice_index c.next) (slice_index c.first l) (slice_index c.len l)
-
--- a list that is filled up with a value to so many
-abbrev pub padded : ℕ → ℕ → List ℕ → List ℕ
-padded count value xs = xs ++ replicate (count - length xs) value
 
 -- a number that may stand for none
 abbrev pub unless_none : ℕ → ℕ → Option ℕ

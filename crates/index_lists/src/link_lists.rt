@@ -1,15 +1,14 @@
 //! Lists linked both ways by index.
 
-ghost use Rattle.std.specs.Prelude.{◌≡◌, ℕ, ◌+◌, ◌-◌, ◌<◌, ◌≤◌, ◌==◌, ◌++◌, ◌∷◌, [], List, length, slice_get, slice_index, slice_set, cond, map, vec_capacity};
-ghost use Rattle.index_lists.specs.Links.{Chains, listed, padded, unless_none};
+ghost use Rattle.std.specs.Prelude.{◌≡◌, ℕ, ◌+◌, ◌-◌, ◌<◌, ◌≤◌, ◌==◌, ◌++◌, ◌∷◌, [], List, length, slice_get, slice_index, slice_set, cond, map};
+ghost use Rattle.index_lists.specs.Links.{Chains, listed, unless_none};
 
 use crate::store::ListStore;
 use board_text::Memory;
 use std::alloc::Global;
 use std::marker::Model;
 
-/// Lists linked both ways by index, in flat vectors. No call but `new` takes memory. None has a loop but `push_back`, which
-/// goes once through the lists that had no node so far.
+/// Lists linked both ways by index, in flat vectors. No call but `new` takes memory, and none has a loop.
 #[derive(Drop)]
 pub struct LinkLists {
     /// How many nodes there are; as a node it stands for none.
@@ -20,16 +19,15 @@ pub struct LinkLists {
 }
 
 impl Model for LinkLists {
-    ghost use Rattle.std.specs.Prelude.{◌≤◌, map, vec_capacity};
-    ghost use Rattle.index_lists.specs.Links.{Chains, IsLinks, padded};
+    ghost use Rattle.std.specs.Prelude.{map};
+    ghost use Rattle.index_lists.specs.Links.{Chains, IsLinks};
 
     ghost Value = { Chains };
 
-    ghost view = { λ s. record { nodes = s.none; lists = s.nowhere; next = map (λ n. n.next) s.links.nodes.items; first = padded s.nowhere s.none (map (λ e. e.first) s.links.ends.items); len = padded s.nowhere 0 (map (λ e. e.len) s.links.ends.items) } };
+    ghost view = { λ s. record { nodes = s.none; lists = s.nowhere; next = map (λ n. n.next) s.links.nodes.items; first = map (λ e. e.first) s.links.ends.items; len = map (λ e. e.len) s.links.ends.items } };
 
     ghost invariant = { λ s. IsLinks s.none s.nowhere (map (λ n. n.next) s.links.nodes.items) (map (λ n. n.prev) s.links.nodes.items) (map (λ n. n.home) s.links.nodes.items)
-        (padded s.nowhere s.none (map (λ e. e.first) s.links.ends.items)) (padded s.nowhere s.none (map (λ e. e.last) s.links.ends.items)) (padded s.nowhere 0 (map (λ e. e.len) s.links.ends.items))
-        × (s.nowhere ≤ vec_capacity s.links.ends) };
+        (map (λ e. e.first) s.links.ends.items) (map (λ e. e.last) s.links.ends.items) (map (λ e. e.len) s.links.ends.items) };
 }
 
 impl ListStore for LinkLists {
@@ -45,8 +43,13 @@ impl ListStore for LinkLists {
             prev: node_count,
             home: list_count,
         };
+        let empty = Ends {
+            first: node_count,
+            last: node_count,
+            len: 0,
+        };
         let nodes = vec![in alloc; loose; node_count as usize]?;
-        let ends = Vec::with_capacity(alloc, list_count as usize)?;
+        let ends = vec![in alloc; empty; list_count as usize]?;
         Ok(LinkLists {
             none: node_count,
             nowhere: list_count,
@@ -55,7 +58,6 @@ impl ListStore for LinkLists {
     }
 
     fn push_back(&mut self, to: u32, node: u32) {
-        self.links.reach(to, self.none);
         let last = self.links.ends[to as usize].last;
         self.links.point_next(last, to, node);
         self.links.place(node, last, to);
@@ -71,11 +73,11 @@ impl ListStore for LinkLists {
     }
 
     fn first(&self, of: u32) -> Option<u32> {
-        known(self.none, self.links.ends_of(of, self.none).first)
+        known(self.none, self.links.ends[of as usize].first)
     }
 
     fn last(&self, of: u32) -> Option<u32> {
-        known(self.none, self.links.ends_of(of, self.none).last)
+        known(self.none, self.links.ends[of as usize].last)
     }
 
     fn next(&self, node: u32) -> Option<u32> {
@@ -91,7 +93,7 @@ impl ListStore for LinkLists {
     }
 
     fn len(&self, of: u32) -> u32 {
-        self.links.ends_of(of, self.none).len
+        self.links.ends[of as usize].len
     }
 }
 
@@ -107,7 +109,7 @@ fn known(none: u32, number: u32) -> Option<u32>
 struct Links {
     /// Where each node stands. A node is read and written as one, so that it is in one place of memory.
     nodes: Vec<Node>,
-    /// The ends of each list up to the last that ever had a node. It has room for all, and memory is touched as it grows.
+    /// The ends of each list.
     ends: Vec<Ends>,
 }
 
@@ -134,41 +136,6 @@ struct Ends {
 }
 
 impl Links {
-    /// Brings a list into the vector of ends, with those before it.
-    fn reach(&mut self, list: u32, none: u32)
-        requires { list < vec_capacity self.old.ends }
-        ensures reached { list < length self.new.ends.items }
-        ensures capacity { vec_capacity self.old.ends ≤ vec_capacity self.new.ends }
-        ensures nodes { self.new.nodes ≡ self.old.nodes }
-        ensures first { (lists : ℕ) → list < lists → padded lists none (map (λ e. e.first) self.new.ends.items) ≡ padded lists none (map (λ e. e.first) self.old.ends.items) }
-        ensures last { (lists : ℕ) → list < lists → padded lists none (map (λ e. e.last) self.new.ends.items) ≡ padded lists none (map (λ e. e.last) self.old.ends.items) }
-        ensures len { (lists : ℕ) → list < lists → padded lists 0 (map (λ e. e.len) self.new.ends.items) ≡ padded lists 0 (map (λ e. e.len) self.old.ends.items) }
-    {
-        while self.ends.len() <= list as usize {
-            self.ends.push_reserved(Ends {
-                first: none,
-                last: none,
-                len: 0,
-            });
-        }
-    }
-
-    /// The ends of a list. One that isn't in the vector has no nodes.
-    fn ends_of(&self, list: u32, none: u32) -> Ends
-        ensures first { (lists : ℕ) → list < lists → result.first ≡ slice_index (padded lists none (map (λ e. e.first) self.now.ends.items)) list }
-        ensures last { (lists : ℕ) → list < lists → result.last ≡ slice_index (padded lists none (map (λ e. e.last) self.now.ends.items)) list }
-        ensures len { (lists : ℕ) → list < lists → result.len ≡ slice_index (padded lists 0 (map (λ e. e.len) self.now.ends.items)) list }
-    {
-        if list as usize >= self.ends.len() {
-            return Ends {
-                first: none,
-                last: none,
-                len: 0,
-            };
-        }
-        self.ends[list as usize]
-    }
-
     /// Points the link of a node to the one behind it, or, where the node is none, the list to its first.
     fn point_next(&mut self, node: u32, list: u32, to: u32)
         requires node_in { node ≤ length self.old.nodes.items }
@@ -179,7 +146,6 @@ impl Links {
         ensures first { map (λ e. e.first) self.new.ends.items ≡ cond (node == length self.old.nodes.items) (slice_set (map (λ e. e.first) self.old.ends.items) list to) (map (λ e. e.first) self.old.ends.items) }
         ensures last { map (λ e. e.last) self.new.ends.items ≡ map (λ e. e.last) self.old.ends.items }
         ensures len { map (λ e. e.len) self.new.ends.items ≡ map (λ e. e.len) self.old.ends.items }
-        ensures capacity { vec_capacity self.old.ends ≤ vec_capacity self.new.ends }
     {
         if node as usize == self.nodes.len() {
             self.ends[list as usize].first = to;
@@ -198,7 +164,6 @@ impl Links {
         ensures first { map (λ e. e.first) self.new.ends.items ≡ map (λ e. e.first) self.old.ends.items }
         ensures last { map (λ e. e.last) self.new.ends.items ≡ cond (node == length self.old.nodes.items) (slice_set (map (λ e. e.last) self.old.ends.items) list to) (map (λ e. e.last) self.old.ends.items) }
         ensures len { map (λ e. e.len) self.new.ends.items ≡ map (λ e. e.len) self.old.ends.items }
-        ensures capacity { vec_capacity self.old.ends ≤ vec_capacity self.new.ends }
     {
         if node as usize == self.nodes.len() {
             self.ends[list as usize].last = to;
@@ -243,7 +208,6 @@ impl Links {
         ensures first { map (λ e. e.first) self.new.ends.items ≡ map (λ e. e.first) self.old.ends.items }
         ensures last { map (λ e. e.last) self.new.ends.items ≡ slice_set (map (λ e. e.last) self.old.ends.items) list node }
         ensures len { map (λ e. e.len) self.new.ends.items ≡ slice_set (map (λ e. e.len) self.old.ends.items) list (slice_index (map (λ e. e.len) self.old.ends.items) list + 1) }
-        ensures capacity { vec_capacity self.old.ends ≤ vec_capacity self.new.ends }
     {
         let ends = &mut self.ends[list as usize];
         ends.last = node;
@@ -258,7 +222,6 @@ impl Links {
         ensures first { map (λ e. e.first) self.new.ends.items ≡ map (λ e. e.first) self.old.ends.items }
         ensures last { map (λ e. e.last) self.new.ends.items ≡ map (λ e. e.last) self.old.ends.items }
         ensures len { map (λ e. e.len) self.new.ends.items ≡ slice_set (map (λ e. e.len) self.old.ends.items) list (slice_index (map (λ e. e.len) self.old.ends.items) list - 1) }
-        ensures capacity { vec_capacity self.old.ends ≤ vec_capacity self.new.ends }
     {
         self.ends[list as usize].len -= 1;
     }

@@ -1,16 +1,20 @@
-use Rattle.std.proofs.Common.{◌<◌, ap, sym, ◌∙◌, arith}
+use Rattle.std.proofs.Common.{◌∙◌, ap, sym, arith}
+use Rattle.std.proofs.lemmas.List.{length-map}
+use Rattle.index_lists.proofs.Fields.{field-read}
 use Rattle.index_lists.proofs.Places.{read-below}
-use Rattle.index_lists.proofs.Calls.{lists-kept, first-seen}
+use Rattle.index_lists.proofs.Calls.{first-seen, lists-kept}
 use Rattle.index_lists.proofs.link_lists.LinkListsListStore.first.Goals as goal
 
 pub returns : goal.returns
 returns c =
+    let items = c.self.inside.links.ends.items in
     let view = ap (λ w. w.lists) c.self.view_is in
-    let wanted = c.requires in
-    let low : c.args.of < c.self.inside.nowhere = omega arith in
-    let shows = c.known.ensures ∙ sym (first-seen _ _ _ _ _ _ _ _ _ c.self.view_is c.self.invariant.0 c.args.of _ c.requires (c.ends_of.ensures.first c.self.inside.nowhere low)) in
+    let size = c.self.invariant.first_length in
+    let all = length-map items (λ e. e.first) in
+    let e = field-read (λ e. e.first) items c.args.of c.index.result.now (omega arith) c.index.ensures in
+    let shows = c.known.ensures ∙ sym (first-seen _ _ _ _ _ _ _ _ _ c.self.view_is c.self.invariant c.args.of c.index.result.now.first c.requires e) in
     record {
       first = shows;
-      below = read-below _ _ _ c.args.of 0 _ (lists-kept _ _ _ _ _ _ _ _ _ c.self.view_is c.self.invariant.0) shows;
-      kept = lists-kept _ _ _ _ _ _ _ _ _ c.self.view_is c.self.invariant.0;
+      below = read-below _ _ _ c.args.of 0 _ (lists-kept _ _ _ _ _ _ _ _ _ c.self.view_is c.self.invariant) shows;
+      kept = lists-kept _ _ _ _ _ _ _ _ _ c.self.view_is c.self.invariant;
     }

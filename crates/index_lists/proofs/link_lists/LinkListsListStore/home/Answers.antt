@@ -8,10 +8,10 @@ pub returns-clause-home : goal.returns-clause-home
 returns-clause-home c =
     let items = c.self.inside.links.nodes.items in
     let view = ap (λ w. w.nodes) c.self.view_is in
-    let size = c.self.invariant.0.home_length in
+    let size = c.self.invariant.home_length in
     let all = length-map items (λ n. n.home) in
     let e = field-read (λ n. n.home) items c.args.node c.index.result.now (omega arith) c.index.ensures in
-    home-seen _ _ _ _ _ _ _ _ _ c.self.view_is c.self.invariant.0 c.args.node c.index.result.now.home c.known.result c.requires e c.known.ensures
+    home-seen _ _ _ _ _ _ _ _ _ c.self.view_is c.self.invariant c.args.node c.index.result.now.home c.known.result c.requires e c.known.ensures
 
 pub returns-clause-kept : goal.returns-clause-kept
-returns-clause-kept c = lists-kept _ _ _ _ _ _ _ _ _ c.self.view_is c.self.invariant.0
+returns-clause-kept c = lists-kept _ _ _ _ _ _ _ _ _ c.self.view_is c.self.invariant

@@ -1,15 +1,18 @@
-use Rattle.std.proofs.Common.{◌<◌, ap, sym, ◌∙◌, arith}
+use Rattle.std.proofs.Common.{◌∙◌, ap, sym, arith}
+use Rattle.std.proofs.lemmas.List.{length-map}
+use Rattle.index_lists.proofs.Fields.{field-read}
 use Rattle.index_lists.proofs.Calls.{lists-kept, last-seen, last-in, link-below}
 use Rattle.index_lists.proofs.link_lists.LinkListsListStore.last.Goals as goal
 
 pub returns : goal.returns
 returns c =
+    let items = c.self.inside.links.ends.items in
     let view = ap (λ w. w.lists) c.self.view_is in
-    let wanted = c.requires in
-    let low : c.args.of < c.self.inside.nowhere = omega arith in
-    let e = c.ends_of.ensures.last c.self.inside.nowhere low in
+    let size = c.self.invariant.last_length in
+    let all = length-map items (λ e. e.last) in
+    let e = field-read (λ e. e.last) items c.args.of c.index.result.now (omega arith) c.index.ensures in
     record {
-      last = c.known.ensures ∙ sym (last-seen _ _ _ _ _ _ _ _ _ c.self.view_is c.self.invariant.0 c.args.of _ c.requires e);
-      below = link-below _ _ _ _ _ _ _ _ _ c.self.view_is c.self.invariant.0 _ _ _ (last-in _ _ _ _ _ _ _ _ _ c.self.view_is c.self.invariant.0 c.args.of c.requires) e c.known.ensures;
-      kept = lists-kept _ _ _ _ _ _ _ _ _ c.self.view_is c.self.invariant.0;
+      last = c.known.ensures ∙ sym (last-seen _ _ _ _ _ _ _ _ _ c.self.view_is c.self.invariant c.args.of c.index.result.now.last c.requires e);
+      below = link-below _ _ _ _ _ _ _ _ _ c.self.view_is c.self.invariant c.index.result.now.last _ _ (last-in _ _ _ _ _ _ _ _ _ c.self.view_is c.self.invariant c.args.of c.requires) e c.known.ensures;
+      kept = lists-kept _ _ _ _ _ _ _ _ _ c.self.view_is c.self.invariant;
     }

@@ -8,12 +8,12 @@ pub returns : goal.returns
 returns c =
     let items = c.self.inside.links.nodes.items in
     let view = ap (λ w. w.nodes) c.self.view_is in
-    let size = c.self.invariant.0.next_length in
+    let size = c.self.invariant.next_length in
     let all = length-map items (λ n. n.next) in
     let e = field-read (λ n. n.next) items c.args.node c.index.result.now (omega arith) c.index.ensures in
     record {
-      behind = λ l place stands. c.known.ensures ∙ sym (next-seen _ _ _ _ _ _ _ _ _ c.self.view_is c.self.invariant.0 c.args.node c.index.result.now.next e l place stands);
-      free = λ free. c.known.ensures ∙ next-none _ _ _ _ _ _ _ _ _ c.self.view_is c.self.invariant.0 c.args.node c.index.result.now.next c.requires e free;
-      below = link-below _ _ _ _ _ _ _ _ _ c.self.view_is c.self.invariant.0 c.index.result.now.next _ _ (next-below _ _ _ _ _ _ _ _ _ c.self.view_is c.self.invariant.0 c.args.node c.requires) e c.known.ensures;
-      kept = lists-kept _ _ _ _ _ _ _ _ _ c.self.view_is c.self.invariant.0;
+      behind = λ l place stands. c.known.ensures ∙ sym (next-seen _ _ _ _ _ _ _ _ _ c.self.view_is c.self.invariant c.args.node c.index.result.now.next e l place stands);
+      free = λ free. c.known.ensures ∙ next-none _ _ _ _ _ _ _ _ _ c.self.view_is c.self.invariant c.args.node c.index.result.now.next c.requires e free;
+      below = link-below _ _ _ _ _ _ _ _ _ c.self.view_is c.self.invariant c.index.result.now.next _ _ (next-below _ _ _ _ _ _ _ _ _ c.self.view_is c.self.invariant c.args.node c.requires) e c.known.ensures;
+      kept = lists-kept _ _ _ _ _ _ _ _ _ c.self.view_is c.self.invariant;
     }

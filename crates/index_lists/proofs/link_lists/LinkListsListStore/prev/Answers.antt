@@ -8,13 +8,13 @@ pub returns : goal.returns
 returns c =
     let items = c.self.inside.links.nodes.items in
     let view = ap (λ w. w.nodes) c.self.view_is in
-    let size = c.self.invariant.0.prev_length in
+    let size = c.self.invariant.prev_length in
     let all = length-map items (λ n. n.prev) in
     let e = field-read (λ n. n.prev) items c.args.node c.index.result.now (omega arith) c.index.ensures in
     record {
-      before = λ l place stands. c.known.ensures ∙ sym (prev-seen _ _ _ _ _ _ _ _ _ c.self.view_is c.self.invariant.0 c.args.node c.index.result.now.prev e l place stands);
-      first = λ l stands. c.known.ensures ∙ prev-front _ _ _ _ _ _ _ _ _ c.self.view_is c.self.invariant.0 c.args.node c.index.result.now.prev e l stands;
-      free = λ free. c.known.ensures ∙ prev-none _ _ _ _ _ _ _ _ _ c.self.view_is c.self.invariant.0 c.args.node c.index.result.now.prev c.requires e free;
-      below = link-below _ _ _ _ _ _ _ _ _ c.self.view_is c.self.invariant.0 c.index.result.now.prev _ _ (prev-below _ _ _ _ _ _ _ _ _ c.self.view_is c.self.invariant.0 c.args.node c.requires) e c.known.ensures;
-      kept = lists-kept _ _ _ _ _ _ _ _ _ c.self.view_is c.self.invariant.0;
+      before = λ l place stands. c.known.ensures ∙ sym (prev-seen _ _ _ _ _ _ _ _ _ c.self.view_is c.self.invariant c.args.node c.index.result.now.prev e l place stands);
+      first = λ l stands. c.known.ensures ∙ prev-front _ _ _ _ _ _ _ _ _ c.self.view_is c.self.invariant c.args.node c.index.result.now.prev e l stands;
+      free = λ free. c.known.ensures ∙ prev-none _ _ _ _ _ _ _ _ _ c.self.view_is c.self.invariant c.args.node c.index.result.now.prev c.requires e free;
+      below = link-below _ _ _ _ _ _ _ _ _ c.self.view_is c.self.invariant c.index.result.now.prev _ _ (prev-below _ _ _ _ _ _ _ _ _ c.self.view_is c.self.invariant c.args.node c.requires) e c.known.ensures;
+      kept = lists-kept _ _ _ _ _ _ _ _ _ c.self.view_is c.self.invariant;
     }

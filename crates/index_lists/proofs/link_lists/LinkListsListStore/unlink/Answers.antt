@@ -1,9 +1,5 @@
-use Rattle.std.proofs.Common.{◌≡◌, ◌<◌, ◌≤◌, ◌-◌, ◌==◌, inl, inr, List, ℕ, refl, sym, ap, ◌∙◌, arith, length, map, cond, slice_index, slice_set}
-use Rattle.std.specs.Prelude.{vec_capacity}
+use Rattle.std.proofs.Common.{◌≡◌, ◌<◌, ◌≤◌, ◌-◌, ◌==◌, List, ℕ, refl, sym, ap, ◌∙◌, arith, length, map, cond, slice_index, slice_set}
 use Rattle.std.proofs.lemmas.List.{length-map}
-use Rattle.std.proofs.lemmas.Bool.{cases_lt}
-use Rattle.index_lists.specs.Links.{padded}
-use Rattle.index_lists.proofs.Padding.{padded-read, padded-past, padded-set, padded-end}
 use Rattle.index_lists.specs.declared.link_lists.Node.{Node}
 use Rattle.index_lists.specs.declared.link_lists.Ends.{Ends}
 use Rattle.index_lists.proofs.Fields.{field-read}
@@ -32,7 +28,7 @@ module _ (c : After-index) where
   node-in : c.args.node < length nodes
   node-in =
       let view = ap (λ w. w.nodes) c.self.view_is in
-      let size = c.self.invariant.0.next_length in
+      let size = c.self.invariant.next_length in
       let all = length-map nodes (λ (n : Node). n.next) in
       let low = c.requires.node_in in
       omega arith
@@ -46,45 +42,29 @@ module _ (c : After-index) where
   home-is : home ≡ slice_index (map (λ (n : Node). n.home) nodes) c.args.node
   home-is = field-read (λ (n : Node). n.home) nodes c.args.node c.index.result.now node-in c.index.ensures
 
-  home-within : home < c.self.inside.nowhere
-  home-within = home-in _ _ _ _ _ _ _ _ _ c.self.view_is c.self.invariant.0 c.args.node _ _ _ c.requires.node_in c.requires.stands home-is prev-is next-is
-
-  padded-some : 0 < slice_index (padded c.self.inside.nowhere 0 (map (λ (e : Ends). e.len) ends)) home
-  padded-some = some-left _ _ _ _ _ _ _ _ _ c.self.view_is c.self.invariant.0 c.args.node _ _ _ c.requires.node_in c.requires.stands home-is prev-is next-is _ refl
-
-  -- a list with a node is in the vector
   home-below : home < length ends
-  home-below = elim (cases_lt home (length ends)) [
-    | inl low ↦ low
-    | inr past ↦ absurd (
-        let all = length-map ends (λ (e : Ends). e.len) in
-        let none = padded-past c.self.inside.nowhere 0 home (map (λ (e : Ends). e.len) ends) (omega arith) home-within in
-        let left = padded-some in
-        omega arith)
-  ]
-
-  within : (f : Ends → ℕ) → home < length (map f ends)
-  within f = let all = length-map ends f in let low = home-below in omega arith
+  home-below =
+      let size = c.self.invariant.first_length in
+      let all = length-map ends (λ (e : Ends). e.first) in
+      let low = home-in _ _ _ _ _ _ _ _ _ c.self.view_is c.self.invariant c.args.node _ _ _ c.requires.node_in c.requires.stands home-is prev-is next-is in
+      omega arith
 
   prev-most : prev ≤ length nodes
   prev-most =
-      let size = c.self.invariant.0.next_length in
+      let size = c.self.invariant.next_length in
       let all = length-map nodes (λ (n : Node). n.next) in
-      let low = before-in _ _ _ _ _ _ _ _ _ c.self.view_is c.self.invariant.0 c.args.node _ _ _ c.requires.node_in c.requires.stands home-is prev-is next-is in
+      let low = before-in _ _ _ _ _ _ _ _ _ c.self.view_is c.self.invariant c.args.node _ _ _ c.requires.node_in c.requires.stands home-is prev-is next-is in
       omega arith
 
   next-most : next ≤ length nodes
   next-most =
-      let size = c.self.invariant.0.next_length in
+      let size = c.self.invariant.next_length in
       let all = length-map nodes (λ (n : Node). n.next) in
-      let low = behind-in _ _ _ _ _ _ _ _ _ c.self.view_is c.self.invariant.0 c.args.node _ _ _ c.requires.node_in c.requires.stands home-is prev-is next-is in
+      let low = behind-in _ _ _ _ _ _ _ _ _ c.self.view_is c.self.invariant c.args.node _ _ _ c.requires.node_in c.requires.stands home-is prev-is next-is in
       omega arith
 
   some : 0 < slice_index (map (λ (e : Ends). e.len) ends) home
-  some =
-      let left = padded-some in
-      let same = padded-read c.self.inside.nowhere 0 home (map (λ (e : Ends). e.len) ends) (within (λ (e : Ends). e.len)) in
-      omega arith
+  some = some-left _ _ _ _ _ _ _ _ _ c.self.view_is c.self.invariant c.args.node _ _ _ c.requires.node_in c.requires.stands home-is prev-is next-is _ refl
 
 -- as many as before
 alike : {A : Type 0} (f : A → ℕ) (xs ys : List A) → map f xs ≡ map f ys → length xs ≡ length ys
@@ -154,42 +134,33 @@ module _ (c : After-shorten) where
   homes-are : map (λ (n : Node). n.home) c.shorten.new.self.nodes.items ≡ slice_set (map (λ (n : Node). n.home) was) c.args.node c.self.inside.nowhere
   homes-are = ap (λ v. map (λ (n : Node). n.home) v.items) c.shorten.ensures.nodes ∙ c.loosen.ensures.home ∙ ap (λ xs. slice_set xs c.args.node c.self.inside.nowhere) (c.point_prev.ensures.home ∙ c.point_next.ensures.home)
 
-  abbrev read : After-index
-  read = (goal.at.After-shorten c).After-index
+  firsts-are : map (λ (e : Ends). e.first) c.shorten.new.self.ends.items ≡ cond (before == length (map (λ (n : Node). n.next) was)) (slice_set (map (λ (e : Ends). e.first) had) list to) (map (λ (e : Ends). e.first) had)
+  firsts-are = c.shorten.ensures.first ∙ ap (λ v. map (λ (e : Ends). e.first) v.items) c.loosen.ensures.ends ∙ c.point_prev.ensures.first ∙ c.point_next.ensures.first
+      ∙ ap (λ n. cond (before == n) (slice_set (map (λ (e : Ends). e.first) had) list to) (map (λ (e : Ends). e.first) had)) (sym (length-map was (λ (n : Node). n.next)))
 
-  firsts-are : padded c.self.inside.nowhere c.self.inside.none (map (λ (e : Ends). e.first) c.shorten.new.self.ends.items) ≡ cond (before == length (map (λ (n : Node). n.next) was)) (slice_set (padded c.self.inside.nowhere c.self.inside.none (map (λ (e : Ends). e.first) had)) list to) (padded c.self.inside.nowhere c.self.inside.none (map (λ (e : Ends). e.first) had))
-  firsts-are = ap (padded c.self.inside.nowhere c.self.inside.none) (c.shorten.ensures.first ∙ ap (λ v. map (λ (e : Ends). e.first) v.items) c.loosen.ensures.ends ∙ c.point_prev.ensures.first ∙ c.point_next.ensures.first
-      ∙ ap (λ n. cond (before == n) (slice_set (map (λ (e : Ends). e.first) had) list to) (map (λ (e : Ends). e.first) had)) (sym (length-map was (λ (n : Node). n.next))))
-      ∙ padded-end c.self.inside.nowhere c.self.inside.none list to (before == length (map (λ (n : Node). n.next) was)) (map (λ (e : Ends). e.first) had) (within read (λ (e : Ends). e.first))
-
-  lasts-are : padded c.self.inside.nowhere c.self.inside.none (map (λ (e : Ends). e.last) c.shorten.new.self.ends.items) ≡ cond (to == length (map (λ (n : Node). n.prev) was)) (slice_set (padded c.self.inside.nowhere c.self.inside.none (map (λ (e : Ends). e.last) had)) list before) (padded c.self.inside.nowhere c.self.inside.none (map (λ (e : Ends). e.last) had))
-  lasts-are = ap (padded c.self.inside.nowhere c.self.inside.none) (c.shorten.ensures.last ∙ ap (λ v. map (λ (e : Ends). e.last) v.items) c.loosen.ensures.ends ∙ c.point_prev.ensures.last
+  lasts-are : map (λ (e : Ends). e.last) c.shorten.new.self.ends.items ≡ cond (to == length (map (λ (n : Node). n.prev) was)) (slice_set (map (λ (e : Ends). e.last) had) list before) (map (λ (e : Ends). e.last) had)
+  lasts-are = c.shorten.ensures.last ∙ ap (λ v. map (λ (e : Ends). e.last) v.items) c.loosen.ensures.ends ∙ c.point_prev.ensures.last
       ∙ ap (λ xs. cond (to == length c.point_next.new.self.nodes.items) (slice_set xs list before) xs) c.point_next.ensures.last
       ∙ ap (λ n. cond (to == n) (slice_set (map (λ (e : Ends). e.last) had) list before) (map (λ (e : Ends). e.last) had))
-      (alike (λ (n : Node). n.home) _ _ c.point_next.ensures.home ∙ sym (length-map was (λ (n : Node). n.prev))))
-      ∙ padded-end c.self.inside.nowhere c.self.inside.none list before (to == length (map (λ (n : Node). n.prev) was)) (map (λ (e : Ends). e.last) had) (within read (λ (e : Ends). e.last))
+      (alike (λ (n : Node). n.home) _ _ c.point_next.ensures.home ∙ sym (length-map was (λ (n : Node). n.prev)))
 
-  lens-are : padded c.self.inside.nowhere 0 (map (λ (e : Ends). e.len) c.shorten.new.self.ends.items) ≡ slice_set (padded c.self.inside.nowhere 0 (map (λ (e : Ends). e.len) had)) list (slice_index (padded c.self.inside.nowhere 0 (map (λ (e : Ends). e.len) had)) list - 1)
-  lens-are = ap (padded c.self.inside.nowhere 0) (c.shorten.ensures.len ∙ ap (λ xs. slice_set xs list (slice_index xs list - 1)) (ap (λ v. map (λ (e : Ends). e.len) v.items) c.loosen.ensures.ends ∙ c.point_prev.ensures.len ∙ c.point_next.ensures.len))
-      ∙ padded-set c.self.inside.nowhere 0 list (slice_index (map (λ (e : Ends). e.len) had) list - 1) (map (λ (e : Ends). e.len) had) (within read (λ (e : Ends). e.len))
-      ∙ ap (λ n. slice_set (padded c.self.inside.nowhere 0 (map (λ (e : Ends). e.len) had)) list (n - 1)) (sym (padded-read c.self.inside.nowhere 0 list (map (λ (e : Ends). e.len) had) (within read (λ (e : Ends). e.len))))
+  lens-are : map (λ (e : Ends). e.len) c.shorten.new.self.ends.items ≡ slice_set (map (λ (e : Ends). e.len) had) list (slice_index (map (λ (e : Ends). e.len) had) list - 1)
+  lens-are = c.shorten.ensures.len ∙ ap (λ xs. slice_set xs list (slice_index xs list - 1)) (ap (λ v. map (λ (e : Ends). e.len) v.items) c.loosen.ensures.ends ∙ c.point_prev.ensures.len ∙ c.point_next.ensures.len)
 
 pub invariant_of-self : goal.invariant_of-self
 invariant_of-self c =
     let read = (goal.at.invariant_of-self c).After-index in
-    let done = (goal.at.invariant_of-self c).After-shorten in (
-      unlink-written _ _ _ _ _ _ _ _ _ c.self.view_is c.self.invariant.0 c.args.node _ _ _ c.requires.node_in c.requires.stands (home-is read) (prev-is read) (next-is read) _ refl _ _ _ _ _ _
-          (nexts-are done) (prevs-are done) (homes-are done) (firsts-are done) (lasts-are done) (lens-are done),
-      (let was = c.self.invariant.1 in let a = c.point_next.ensures.capacity in let b = c.point_prev.ensures.capacity in let d = ap vec_capacity c.loosen.ensures.ends in let e = c.shorten.ensures.capacity in omega arith),
-    )
+    let done = (goal.at.invariant_of-self c).After-shorten in
+    unlink-written _ _ _ _ _ _ _ _ _ c.self.view_is c.self.invariant c.args.node _ _ _ c.requires.node_in c.requires.stands (home-is read) (prev-is read) (next-is read) _ refl _ _ _ _ _ _
+    (nexts-are done) (prevs-are done) (homes-are done) (firsts-are done) (lasts-are done) (lens-are done)
 
 pub returns-clause-unlinked : goal.returns-clause-unlinked
 returns-clause-unlinked c =
     let read = (goal.at.returns-clause-unlinked c).After-index in
     let done = (goal.at.returns-clause-unlinked c).After-shorten in
-    unlink-shown _ _ _ _ _ _ _ _ _ c.self.view_is c.self.invariant.0 c.args.node _ _ _ c.requires.node_in c.requires.stands (home-is read) (prev-is read) (next-is read) _ refl _ _ _ _
+    unlink-shown _ _ _ _ _ _ _ _ _ c.self.view_is c.self.invariant c.args.node _ _ _ c.requires.node_in c.requires.stands (home-is read) (prev-is read) (next-is read) _ refl _ _ _ _
     (nexts-are done) (firsts-are done) (lasts-are done) (lens-are done)
 
 pub returns-clause-kept : goal.returns-clause-kept
 returns-clause-kept c =
-    renumbered _ _ _ _ _ (ap (λ w. w.nodes) c.self.view_is) (ap (λ w. w.lists) c.self.view_is) (unlinked-are _ _ _ (lists-kept _ _ _ _ _ _ _ _ _ c.self.view_is c.self.invariant.0) _ c.args.node (returns-clause-unlinked c))
+    renumbered _ _ _ _ _ (ap (λ w. w.nodes) c.self.view_is) (ap (λ w. w.lists) c.self.view_is) (unlinked-are _ _ _ (lists-kept _ _ _ _ _ _ _ _ _ c.self.view_is c.self.invariant) _ c.args.node (returns-clause-unlinked c))
