@@ -45,7 +45,8 @@ fn assert_play(
 
 #[test]
 fn a_person_asks(rt: HostRuntime) {
-    let written = b"value 2\nat 0 0\npebble 1 takes 1\nat 0 1\nnot a request\npebble 0 takes 2\nat 2 1\nno label for pebble 1 after 2 requests\n";
+    let written =
+        b"value 2\nat 0 0\npebble 1 takes 1\nat 0 1\nnot a request\npebble 0 takes 2\nat 2 1\nno label for pebble 1 after 2 requests\n";
     let stuck = PlayEnd::Stuck { requests: 2 };
     assert_play(
         &rt,
@@ -60,7 +61,8 @@ fn a_person_asks(rt: HostRuntime) {
 
 #[test]
 fn a_person_asks_on_the_cycle(rt: HostRuntime) {
-    let written = b"forever\nat 0 0\npebble 0 takes 1\nat 1 0\npebble 0 takes 1\nat 1 0\npebble 1 takes 2\nat 1 2\nstopped after 3 requests\n";
+    let written =
+        b"forever\nat 0 0\npebble 0 takes 1\nat 1 0\npebble 0 takes 1\nat 1 0\npebble 1 takes 2\nat 1 2\nstopped after 3 requests\n";
     let stopped = PlayEnd::Stopped { requests: 3 };
     assert_play(
         &rt,
@@ -75,7 +77,8 @@ fn a_person_asks_on_the_cycle(rt: HostRuntime) {
 
 #[test]
 fn a_person_answers(rt: HostRuntime) {
-    let written = b"value 2\nat 0 0\nask 0\nnot an answer\nat 1 0\nask 1\nat 1 2\nask 0\nno label for pebble 0 after 2 requests\n";
+    let written =
+        b"value 2\nat 0 0\nask 0\nnot an answer\nat 1 0\nask 1\nat 1 2\nask 0\nno label for pebble 0 after 2 requests\n";
     let stuck = PlayEnd::Stuck { requests: 2 };
     assert_play(
         &rt,

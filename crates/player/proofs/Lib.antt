@@ -7,3 +7,4 @@ pub mod Moving
 pub mod Requests
 pub mod Answering
 pub mod Lasting
+pub mod Unique

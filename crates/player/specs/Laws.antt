@@ -29,6 +29,11 @@ IsNoLater board (Stuck requests) = IsWithin board requests
 IsNoLater board (Stopped requests) = IsWithin board requests
 IsNoLater board NoStrategy = HasValue board board.start Forever
 
+-- the board that is played on
+abbrev pub board_of : Game → PlainBoard
+board_of (PersonAsks board) = board
+board_of (PersonAnswers board) = board
+
 -- an end of the play that its value allows
 abbrev pub KeepsToValue : Game → PlayEnd → Type 0
 KeepsToValue (PersonAsks board) end = IsNoSooner board end

@@ -1,11 +1,11 @@
 //! Laws of plays, each the contract of a function without a body.
 
 ghost use Rattle.std.specs.Prelude.{◌≡◌, ℕ, List};
-ghost use Rattle.board_text.specs.PlainBoard.{PlainBoard, IsConfiguration};
+ghost use Rattle.board_text.specs.PlainBoard.{PlainBoard, IsBoard, IsConfiguration};
 ghost use Rattle.positions.specs.declared.value.Value.TheVariants.{Finite};
 ghost use Rattle.positions.specs.Value.{HasValue};
-ghost use Rattle.player.specs.Laws.{IsWithin, IsNoSooner, IsNoLater, EndsBestPlay};
-ghost use Rattle.player.specs.Transcript.{Going, PersonAsks, PersonAnswers, IsPlayed, IsTranscript};
+ghost use Rattle.player.specs.Laws.{board_of, IsWithin, IsNoSooner, IsNoLater, EndsBestPlay};
+ghost use Rattle.player.specs.Transcript.{Game, Going, PersonAsks, PersonAnswers, IsPlayed, IsTranscript};
 ghost use Rattle.player.specs.declared.end.PlayEnd.{PlayEnd as End};
 
 /// Against a person who is the adversary the labeller's side is stuck only after as many answered requests as the start's value,
@@ -18,6 +18,12 @@ pub fn plays_last_by_the_value()
         → IsTranscript (PersonAnswers board) lines text end → IsNoLater board end }
     ensures going { (board : PlainBoard) → (lines : List (List ℕ)) → (text : List ℕ) → (at : List ℕ) → (requests : ℕ)
         → IsPlayed (PersonAnswers board) lines text (Going at requests) → IsWithin board requests }
+{}
+
+/// Lines have one transcript at most, which tells one end.
+pub fn one_transcript()
+    ensures { (game : Game) → (lines : List (List ℕ)) → (first : List ℕ) → (second : List ℕ) → (end : End) → (other : End) → IsBoard (board_of game)
+        → IsTranscript game lines first end → IsTranscript game lines second other → (first ≡ second) × (end ≡ other) }
 {}
 
 /// Best requests and best answers end a play after exactly as many answers as the value, where that is finite.

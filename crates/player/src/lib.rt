@@ -14,4 +14,4 @@ mod writing;
 pub use adversary_side::play_adversary_side;
 pub use end::{PlayEnd, PlayFault};
 pub use labeller_side::play_labeller_side;
-pub use laws::{best_play_ends_by_the_value, plays_last_by_the_value};
+pub use laws::{best_play_ends_by_the_value, one_transcript, plays_last_by_the_value};

@@ -1,0 +1,5 @@
+use Rattle.player.proofs.Unique.{one_transcript}
+use Rattle.player.proofs.laws.one_transcript.Goals as goal
+
+pub returns : goal.returns
+returns c = one_transcript
