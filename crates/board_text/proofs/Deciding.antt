@@ -5,7 +5,8 @@ use Rattle.std.proofs.lemmas.List.{nil_from_length, get_or_at, length_push, take
 use Rattle.std.proofs.lemmas.List.Elements.{All-nil, All-cons, All-head, All-tail}
 use Rattle.board_text.specs.LineForms.{Lacks}
 use Rattle.board_text.specs.Ranges.{InRange, AreNumbers}
-use Rattle.board_text.specs.PlainBoard.{AreLabels, Precedes, IsNext}
+use Rattle.board_text.specs.PlainBoard.{AreLabels, Precedes, IsNext, IsStart, version_of}
+use Rattle.board_text.specs.BoardText.{start_line}
 
 -- the fact or its negation
 abbrev pub Decided : Type 0 → Type 0
@@ -82,11 +83,12 @@ number_stands low high form text =
       | inr none ↦ inr (λ n more is e. none (n, omega (arith, is.1), (is.0, (more, e))))
     ]
 
-pub list_stands : (count bound : ℕ) (form : List ℕ → List ℕ) (text : List ℕ) → Stands (List ℕ) (AreNumbers count bound) form text ⊎ Lacks (AreNumbers count bound) form text
-list_stands count bound form text =
-    elim (lists count bound (λ ns. (more : List ℕ) × (text ≡ form ns ++ more)) (λ ns. begins (form ns) text)) [
-      | inl h ↦ inl (record { value = h.0; more = h.2.0; is = h.1; spelled = h.2.1 })
-      | inr none ↦ inr (λ ns more are e. none (ns, are, (more, e)))
+pub start_stands : (version labels pebbles : ℕ) (text : List ℕ) → Stands (List ℕ) (IsStart version labels pebbles) (start_line labels) text ⊎ Lacks (IsStart version labels pebbles) (start_line labels) text
+start_stands version labels pebbles text =
+    elim (lists pebbles (labels + 1) (λ ns. (version_of labels ns ≡ version) × ((more : List ℕ) × (text ≡ start_line labels ns ++ more)))
+    (λ ns. both (version_of labels ns ≡ version) ((more : List ℕ) × (text ≡ start_line labels ns ++ more)) (cases_eq (version_of labels ns) version) (begins (start_line labels ns) text))) [
+      | inl h ↦ inl (record { value = h.0; more = h.2.1.0; is = (h.1, h.2.0); spelled = h.2.1.1 })
+      | inr none ↦ inr (λ ns more is e. none (ns, is.0, (is.1, (more, e))))
     ]
 
 pub pair_stands : (labels : ℕ) (form : ℕ × ℕ → List ℕ) (text : List ℕ) → Stands (ℕ × ℕ) (AreLabels labels) form text ⊎ Lacks (AreLabels labels) form text

@@ -4,7 +4,7 @@ use Rattle.std.specs.List.{flat_map}
 use Rattle.std.proofs.lemmas.List.{append-nil, take_at}
 use Rattle.board_text.specs.declared.fault.BoardKind.{BoardKind}
 use Rattle.board_text.specs.declared.fault.BoardKind.TheVariants.{Version, Labels, Pebbles, Start, Beats, SelfBeat, TwoWay, Order, End, Trailing, Memory}
-use Rattle.board_text.specs.PlainBoard.{plain_board, PlainBoard, IsBoard}
+use Rattle.board_text.specs.PlainBoard.{plain_board, PlainBoard, IsBoard, version_of}
 use Rattle.board_text.specs.BoardText.{version_line, labels_line, pebbles_line, start_line, beats_line, end_line, head, front, board_text}
 use Rattle.board_text.specs.BoardFaults.{PairFault, HasFault}
 
@@ -12,9 +12,12 @@ regroup_head : (a b c d x : List ℕ) → a ++ (b ++ (c ++ (d ++ x))) ≡ (a ++ 
 regroup_head a b c d x = simp append_assoc
 
 -- the four lines at the head, as they are taken
-pub head_taken : (labels pebbles : ℕ) (start text rest more : List ℕ) → text ≡ version_line ++ (labels_line labels ++ (pebbles_line pebbles ++ rest)) → rest ≡ start_line start ++ more → text ≡ head labels pebbles start ++ more
-head_taken labels pebbles start text rest more e f =
-    e ∙ ap (λ (t : List ℕ). version_line ++ (labels_line labels ++ (pebbles_line pebbles ++ t))) f ∙ regroup_head version_line (labels_line labels) (pebbles_line pebbles) (start_line start) more
+pub head_taken : (version labels pebbles : ℕ) (start text rest more : List ℕ) → version_of labels start ≡ version → text ≡ version_line version ++ (labels_line labels ++ (pebbles_line pebbles ++ rest)) → rest ≡ start_line labels start ++ more
+    → text ≡ head labels pebbles start ++ more
+head_taken version labels pebbles start text rest more same e f =
+    e ∙ ap (λ v. version_line v ++ (labels_line labels ++ (pebbles_line pebbles ++ rest))) (sym same)
+    ∙ ap (λ (t : List ℕ). version_line (version_of labels start) ++ (labels_line labels ++ (pebbles_line pebbles ++ t))) f
+    ∙ regroup_head (version_line (version_of labels start)) (labels_line labels) (pebbles_line pebbles) (start_line labels start) more
 
 pub front_taken : (b : PlainBoard) (text rest more : List ℕ) → text ≡ head b.labels b.pebbles b.start ++ rest → rest ≡ flat_map beats_line b.pairs ++ more → text ≡ front b ++ more
 front_taken b text rest more e f =

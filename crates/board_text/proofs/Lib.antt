@@ -1,6 +1,7 @@
 pub mod Numbers
 pub mod Lines
 pub mod NumeralLemmas
+pub mod PlaceLemmas
 pub mod DominationPairs
 pub mod BitRows
 pub mod PairLines
@@ -13,3 +14,4 @@ pub mod Endings
 pub mod Misfitting
 pub mod OneReading
 pub mod Moves
+pub mod Places

@@ -1,24 +1,23 @@
 -- From the parts of a board to the fault of their text.
-use Rattle.std.proofs.Common.{◌≡◌, ℕ, suc, ◌+◌, ◌^◌, ◌<◌, ◌≤◌, List, [], ◌∷◌, ◌++◌, length, All, get_or, take, drop, refl, sym, ap, ◌∙◌, append_assoc, arith, inl, inr, take-append-drop, drop-cons, length-take-le}
+use Rattle.std.proofs.Common.{◌≡◌, ℕ, suc, ◌+◌, ◌^◌, ◌<◌, ◌≤◌, List, ◌∷◌, ◌++◌, length, All, get_or, take, drop, refl, sym, ap, ◌∙◌, append_assoc, arith, take-append-drop, drop-cons, length-take-le}
 use Rattle.std.specs.Prelude.{codes}
 use Rattle.std.specs.List.{flat_map, AllByRecursion}
-use Rattle.std.proofs.lemmas.Bool.{cases_lt}
-use Rattle.std.proofs.lemmas.List.{append-nil}
 use Rattle.std.proofs.lemmas.List.Concat.{flat_map-append}
 use Rattle.std.proofs.lemmas.List.Elements.{recursion_from_All}
 use Rattle.board_text.specs.Ranges.{InRange, AreNumbers}
-use Rattle.board_text.specs.LineForms.{NoDigit, spaced}
-use Rattle.board_text.specs.PlainBoard.{PlainBoard, plain_board, IsBoard, ArePairs, AreLabels}
+use Rattle.board_text.specs.PlainBoard.{PlainBoard, plain_board, IsBoard, ArePairs, AreLabels, version_of}
 use Rattle.board_text.specs.BoardText.{version_line, labels_line, pebbles_line, start_line, beats_line, end_line, head, board_text}
 use Rattle.board_text.specs.BoardFaults.{PairFault, HasFault}
 use Rattle.board_text.specs.Misfits.{Misfits, HasMisfit}
 use Rattle.board_text.specs.declared.fault.BoardFault.{BoardFault}
 use Rattle.board_text.specs.declared.fault.BoardKind.{BoardKind}
 use Rattle.board_text.specs.declared.fault.BoardKind.TheVariants.{Version, Labels, Pebbles, Start, Beats, SelfBeat, TwoWay, Order, End, Trailing, Memory}
-use Rattle.board_text.proofs.Lines.{number_line_unique, numbers_line_parts, numbers_line_numbers, spaced_split}
+use Rattle.board_text.proofs.Lines.{number_line_unique}
+use Rattle.board_text.proofs.PlaceLemmas.{places_line_unique}
 use Rattle.board_text.proofs.BeatsLines.{same_line, not_end}
 use Rattle.board_text.proofs.Endings.{is_cut_pair}
 use Rattle.board_text.proofs.Faults.{has_pair_fault}
+use Rattle.board_text.proofs.Places.{start_from_numbers, version_in_range}
 
 -- a misfit in a line of its own is a fault
 pub misfit_fault : (labels : ℕ) (pairs : List (ℕ × ℕ)) (p : ℕ × ℕ) (rest more : List ℕ) (kind : BoardKind) → AreLabels labels p → rest ≡ beats_line p ++ more → Misfits labels pairs p kind → PairFault labels pairs rest kind
@@ -39,70 +38,55 @@ misfit_fault labels pairs p rest more Memory are e h = absurd h
 regroup : (a b c d e f : List ℕ) → ((a ++ (b ++ (c ++ d))) ++ e) ++ f ≡ a ++ (b ++ (c ++ (d ++ (e ++ f))))
 regroup a b c d e f = simp append_assoc
 
-spread : (b : PlainBoard) → board_text b ≡ version_line ++ (labels_line b.labels ++ (pebbles_line b.pebbles ++ (start_line b.start ++ (flat_map beats_line b.pairs ++ end_line))))
-spread b = regroup version_line (labels_line b.labels) (pebbles_line b.pebbles) (start_line b.start) (flat_map beats_line b.pairs) end_line
+spread : (b : PlainBoard) → board_text b ≡ version_line (version_of b.labels b.start) ++ (labels_line b.labels ++ (pebbles_line b.pebbles ++ (start_line b.labels b.start ++ (flat_map beats_line b.pairs ++ end_line))))
+spread b = regroup (version_line (version_of b.labels b.start)) (labels_line b.labels) (pebbles_line b.pebbles) (start_line b.labels b.start) (flat_map beats_line b.pairs) end_line
 
 pub labels_fault : (b : PlainBoard) → b.labels < 2 ^ 16 → (InRange 1 256 b.labels → ⊥) → HasFault (board_text b) 2 Labels
 labels_fault b small outside = (
   refl,
+  version_of b.labels b.start,
   _,
+  version_in_range b.labels b.start,
   spread b,
   λ n more in_range e.
-      let s = number_line_unique (codes "labels") b.labels n (pebbles_line b.pebbles ++ (start_line b.start ++ (flat_map beats_line b.pairs ++ end_line))) more (omega arith) (omega (arith, in_range.1)) e in
+      let s = number_line_unique (codes "labels") b.labels n (pebbles_line b.pebbles ++ (start_line b.labels b.start ++ (flat_map beats_line b.pairs ++ end_line))) more (omega arith) (omega (arith, in_range.1)) e in
       outside (rw s.0 in_range),
 )
 
 pub pebbles_fault : (b : PlainBoard) → InRange 1 256 b.labels → b.pebbles < 2 ^ 16 → (InRange 1 6 b.pebbles → ⊥) → HasFault (board_text b) 3 Pebbles
 pebbles_fault b in_labels small outside = (
   refl,
+  version_of b.labels b.start,
   b.labels,
   _,
+  version_in_range b.labels b.start,
   in_labels,
   spread b,
   λ n more in_range e.
-      let s = number_line_unique (codes "pebbles") b.pebbles n (start_line b.start ++ (flat_map beats_line b.pairs ++ end_line)) more (omega arith) (omega (arith, in_range.1)) e in
+      let s = number_line_unique (codes "pebbles") b.pebbles n (start_line b.labels b.start ++ (flat_map beats_line b.pairs ++ end_line)) more (omega arith) (omega (arith, in_range.1)) e in
       outside (rw s.0 in_range),
 )
 
 pub memory_fault : (b : PlainBoard) → InRange 1 256 b.labels → InRange 1 6 b.pebbles → HasFault (board_text b) 0 Memory
-memory_fault b in_labels in_pebbles = (refl, b.labels, b.pebbles, _, in_labels, in_pebbles, spread b)
-
-no_digit : (more : List ℕ) → NoDigit (10 ∷ more)
-no_digit more = λ h. omega (arith, h.0)
+memory_fault b in_labels in_pebbles = (refl, version_of b.labels b.start, b.labels, b.pebbles, _, version_in_range b.labels b.start, in_labels, in_pebbles, spread b)
 
 few_bits : (ns : List ℕ) → All (λ n. n < 2 ^ 16) ns → AllByRecursion (λ n. n < 2 ^ 32) ns
 few_bits ns small = recursion_from_All (λ n. n < 2 ^ 32) ns (λ k d lt. let h : get_or ns k d < 2 ^ 16 = small k d lt in omega arith)
 
-no_others : (others x y : List ℕ) → 10 ∷ x ≡ spaced others ++ 10 ∷ y → others ≡ []
-no_others [] x y e = refl
-no_others (n ∷ others) x y e = let heads : 10 ≡ 32 = ap (λ (t : List ℕ). get_or t 0 0) e in absurd (omega (arith, heads))
-
--- numbers that fill a line are all that it has, however many are asked for
-longer_line : (ms ns x y : List ℕ) → length ms ≤ length ns → All (λ n. n < 2 ^ 16) ms → All (λ n. n < 2 ^ 16) ns → spaced ms ++ 10 ∷ x ≡ spaced ns ++ 10 ∷ y → ms ≡ ns
-longer_line ms ns x y fits small_ms small_ns e =
-    let l = spaced_split ms ns (10 ∷ x) (10 ∷ y) fits (few_bits ms small_ms) (few_bits ns small_ns) (λ h. no_digit x) (no_digit y) e in
-    sym (l.parts ∙ ap (λ (o : List ℕ). ms ++ o) (no_others l.others x y l.spelled) ∙ append-nil ms)
-
-same_numbers : (ms ns x y : List ℕ) → All (λ n. n < 2 ^ 16) ms → All (λ n. n < 2 ^ 16) ns → start_line ms ++ x ≡ start_line ns ++ y → ms ≡ ns
-same_numbers ms ns x y small_ms small_ns e =
-    let both : spaced ms ++ 10 ∷ x ≡ spaced ns ++ 10 ∷ y = numbers_line_numbers (codes "start") ns (start_line ms ++ x) (spaced ms ++ 10 ∷ x) y (numbers_line_parts (codes "start") ms x) e in
-    elim (cases_lt (length ns) (length ms)) [
-      | inl fewer ↦ sym (longer_line ns ms y x (omega arith) small_ns small_ms (sym both))
-      | inr more ↦ longer_line ms ns x y more small_ms small_ns both
-    ]
-
-pub start_fault : (b : PlainBoard) → InRange 1 256 b.labels → InRange 1 6 b.pebbles → All (λ n. n < 2 ^ 16) b.start → (AreNumbers b.pebbles b.labels b.start → ⊥) → HasFault (board_text b) 4 Start
+pub start_fault : (b : PlainBoard) → InRange 1 256 b.labels → InRange 1 6 b.pebbles → All (λ n. n < 2 ^ 16) b.start → (AreNumbers b.pebbles (b.labels + 1) b.start → ⊥) → HasFault (board_text b) 4 Start
 start_fault b in_labels in_pebbles small outside = (
   refl,
+  version_of b.labels b.start,
   b.labels,
   b.pebbles,
   _,
+  version_in_range b.labels b.start,
   in_labels,
   in_pebbles,
   spread b,
-  λ ns more are e.
-      let small_ns : All (λ n. n < 2 ^ 16) ns = λ k d lt. let h : get_or ns k d < b.labels = are.1 k d lt in omega (arith, h, in_labels.1) in
-      outside (rw (same_numbers b.start ns (flat_map beats_line b.pairs ++ end_line) more small small_ns e) are),
+  λ ns more is e.
+      let small_ns : All (λ n. n < 2 ^ 16) ns = λ k d lt. let h : get_or ns k d < b.labels + 1 = is.0.1 k d lt in omega (arith, h, in_labels.1) in
+      outside (rw (places_line_unique b.labels (codes "start") b.start ns (flat_map beats_line b.pairs ++ end_line) more (few_bits b.start small) (few_bits ns small_ns) e).0 is.0),
 )
 
 -- ---- the pairs
@@ -136,11 +120,11 @@ cut_at : (a : List ℕ) (before : List (ℕ × ℕ)) (p : ℕ × ℕ) (after : L
 cut_at a before p after z = rw (flat_map-append beats_line before (p ∷ after)) (five a (flat_map beats_line before) (beats_line p) (flat_map beats_line after) z)
 
 -- a misfit among the parts of a board is a fault of their text
-pub parts_fault : (b : PlainBoard) (f : BoardFault) → InRange 1 256 b.labels → InRange 1 6 b.pebbles → AreNumbers b.pebbles b.labels b.start → HasMisfit b.labels b.pairs f → HasFault (board_text b) f.line f.kind
+pub parts_fault : (b : PlainBoard) (f : BoardFault) → InRange 1 256 b.labels → InRange 1 6 b.pebbles → AreNumbers b.pebbles (b.labels + 1) b.start → HasMisfit b.labels b.pairs f → HasFault (board_text b) f.line f.kind
 parts_fault b f in_labels in_pebbles are (before, p, after, are_before, parts, number, h) =
     let front_board = plain_board b.labels b.pebbles b.start before in
     let rest = beats_line p ++ (flat_map beats_line after ++ end_line) in
-    let is : IsBoard front_board = record { labels = in_labels; pebbles = in_pebbles; start = record { each_pebble = are.0; each_label = are.1 }; pairs = are_before } in
+    let is : IsBoard front_board = record { labels = in_labels; pebbles = in_pebbles; start = start_from_numbers front_board are; pairs = are_before } in
     has_pair_fault (board_text b) f.line f.kind front_board rest is
     (ap (λ (ps : List (ℕ × ℕ)). (head b.labels b.pebbles b.start ++ flat_map beats_line ps) ++ end_line) parts ∙ cut_at (head b.labels b.pebbles b.start) before p after end_line)
     number (misfit_found b.labels before p rest (flat_map beats_line after ++ end_line) f.kind in_labels.1 refl h)

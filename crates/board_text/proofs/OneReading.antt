@@ -1,17 +1,18 @@
 -- A text is read in one way only: as one board, or with one fault.
-use Rattle.std.proofs.Common.{◌≡◌, ◌≢◌, ℕ, ◌+◌, ◌≤◌, ◌⊎◌, List, [], ◌∷◌, ◌++◌, length, Result, Ok, Err, refl, sym, ap, ◌∙◌, append_assoc, arith, inl, inr}
+use Rattle.std.proofs.Common.{◌≡◌, ◌≢◌, ℕ, ◌+◌, ◌≤◌, ◌⊎◌, List, [], ◌∷◌, ◌++◌, length, Result, Ok, Err, refl, subst, sym, ap, ◌∙◌, append_assoc, arith, inl, inr}
 use Rattle.std.specs.Prelude.{codes, IfOk, IfErr, MatchResult}
 use Rattle.std.specs.List.{flat_map}
-use Rattle.std.proofs.lemmas.List.{append_cancel_left}
-use Rattle.board_text.specs.Ranges.{InRange, AreNumbers}
+use Rattle.board_text.specs.Ranges.{InRange}
 use Rattle.board_text.specs.LineForms.{Lacks}
-use Rattle.board_text.specs.PlainBoard.{PlainBoard, plain_board, IsBoard, ArePairs}
+use Rattle.board_text.specs.PlainBoard.{PlainBoard, plain_board, IsBoard, IsStart, ArePairs, version_of}
 use Rattle.board_text.specs.BoardText.{version_line, labels_line, pebbles_line, start_line, beats_line, end_line, front, board_text}
 use Rattle.board_text.specs.BoardFaults.{InPairs, HasFault}
 use Rattle.board_text.specs.declared.fault.BoardFault.{BoardFault}
 use Rattle.board_text.specs.declared.fault.BoardKind.{BoardKind}
 use Rattle.board_text.specs.declared.fault.BoardKind.TheVariants.{Version, Labels, Pebbles, Start, Beats, SelfBeat, TwoWay, Order, End, Trailing, Memory}
-use Rattle.board_text.proofs.Lines.{number_line_unique, numbers_line_unique}
+use Rattle.board_text.proofs.Lines.{number_line_unique, small_numbers}
+use Rattle.board_text.proofs.PlaceLemmas.{places_line_unique}
+use Rattle.board_text.proofs.Places.{numbers_from_start, version_in_range}
 use Rattle.board_text.proofs.BeatsLines.{same, more_right, more_left, aligned}
 use Rattle.board_text.proofs.Endings.{Finding, board, fault, Ending, at_end, one_ending, no_more, pair_ending}
 
@@ -20,25 +21,25 @@ abbrev AfterStart : ℕ → ℕ → List ℕ → List ℕ → Finding → Type 0
 AfterStart labels pebbles start rest found =
     (pairs : List (ℕ × ℕ)) × (more : List ℕ) × ArePairs labels pairs × (rest ≡ flat_map beats_line pairs ++ more) × Ending (plain_board labels pebbles start pairs) more found
 
-abbrev AfterPebbles : ℕ → ℕ → List ℕ → Finding → Type 0
-AfterPebbles labels pebbles rest found =
-    (Lacks (AreNumbers pebbles labels) start_line rest × (found ≡ fault 4 Start))
-    ⊎ ((start : List ℕ) × (more : List ℕ) × AreNumbers pebbles labels start × (rest ≡ start_line start ++ more) × AfterStart labels pebbles start more found)
+abbrev AfterPebbles : ℕ → ℕ → ℕ → List ℕ → Finding → Type 0
+AfterPebbles version labels pebbles rest found =
+    (Lacks (IsStart version labels pebbles) (start_line labels) rest × (found ≡ fault 4 Start))
+    ⊎ ((start : List ℕ) × (more : List ℕ) × IsStart version labels pebbles start × (rest ≡ start_line labels start ++ more) × AfterStart labels pebbles start more found)
 
-abbrev AfterLabels : ℕ → List ℕ → Finding → Type 0
-AfterLabels labels rest found =
+abbrev AfterLabels : ℕ → ℕ → List ℕ → Finding → Type 0
+AfterLabels version labels rest found =
     (Lacks (InRange 1 6) pebbles_line rest × (found ≡ fault 3 Pebbles))
-    ⊎ ((pebbles : ℕ) × (more : List ℕ) × InRange 1 6 pebbles × (rest ≡ pebbles_line pebbles ++ more) × AfterPebbles labels pebbles more found)
+    ⊎ ((pebbles : ℕ) × (more : List ℕ) × InRange 1 6 pebbles × (rest ≡ pebbles_line pebbles ++ more) × AfterPebbles version labels pebbles more found)
 
-abbrev AfterVersion : List ℕ → Finding → Type 0
-AfterVersion rest found =
+abbrev AfterVersion : ℕ → List ℕ → Finding → Type 0
+AfterVersion version rest found =
     (Lacks (InRange 1 256) labels_line rest × (found ≡ fault 2 Labels))
-    ⊎ ((labels : ℕ) × (more : List ℕ) × InRange 1 256 labels × (rest ≡ labels_line labels ++ more) × AfterLabels labels more found)
+    ⊎ ((labels : ℕ) × (more : List ℕ) × InRange 1 256 labels × (rest ≡ labels_line labels ++ more) × AfterLabels version labels more found)
 
 abbrev Reading : List ℕ → Finding → Type 0
 Reading text found =
-    (Lacks (λ (u : Unit {0}). Unit {0}) (λ u. version_line) text × (found ≡ fault 1 Version))
-    ⊎ ((more : List ℕ) × (text ≡ version_line ++ more) × AfterVersion more found)
+    (Lacks (InRange 1 2) version_line text × (found ≡ fault 1 Version))
+    ⊎ ((version : ℕ) × (more : List ℕ) × InRange 1 2 version × (text ≡ version_line version ++ more) × AfterVersion version more found)
 
 -- ---- one reading
 
@@ -50,37 +51,37 @@ one_after_start labels pebbles start rest v w few (ps, x, are_ps, e, h) (qs, y, 
       | more_left p more longer begins ↦ absurd (no_more (plain_board labels pebbles start qs) y w p more _ few (rw longer at are_ps) begins g)
     ]
 
-one_after_pebbles : (labels pebbles : ℕ) (rest : List ℕ) (v w : Finding) → labels ≤ 256 → AfterPebbles labels pebbles rest v → AfterPebbles labels pebbles rest w → v ≡ w
-one_after_pebbles labels pebbles rest v w few (inl a) (inl b) = a.1 ∙ sym b.1
-one_after_pebbles labels pebbles rest v w few (inl a) (inr b) = absurd (a.0 b.0 b.1 b.2 b.3)
-one_after_pebbles labels pebbles rest v w few (inr a) (inl b) = absurd (b.0 a.0 a.1 a.2 a.3)
-one_after_pebbles labels pebbles rest v w few (inr a) (inr b) =
-    let s = numbers_line_unique pebbles labels (codes "start") a.0 b.0 a.1 b.1 (omega (arith, few)) a.2 b.2 (sym a.3 ∙ b.3) in
+one_after_pebbles : (version labels pebbles : ℕ) (rest : List ℕ) (v w : Finding) → labels ≤ 256 → AfterPebbles version labels pebbles rest v → AfterPebbles version labels pebbles rest w → v ≡ w
+one_after_pebbles version labels pebbles rest v w few (inl a) (inl b) = a.1 ∙ sym b.1
+one_after_pebbles version labels pebbles rest v w few (inl a) (inr b) = absurd (a.0 b.0 b.1 b.2 b.3)
+one_after_pebbles version labels pebbles rest v w few (inr a) (inl b) = absurd (b.0 a.0 a.1 a.2 a.3)
+one_after_pebbles version labels pebbles rest v w few (inr a) (inr b) =
+    let s = places_line_unique labels (codes "start") a.0 b.0 a.1 b.1 (small_numbers (labels + 1) a.0 (omega (arith, few)) a.2.0.1) (small_numbers (labels + 1) b.0 (omega (arith, few)) b.2.0.1) (sym a.3 ∙ b.3) in
     one_after_start labels pebbles b.0 b.1 v w few (rw (← s.0, ← s.1) a.4) b.4
 
-one_after_labels : (labels : ℕ) (rest : List ℕ) (v w : Finding) → labels ≤ 256 → AfterLabels labels rest v → AfterLabels labels rest w → v ≡ w
-one_after_labels labels rest v w few (inl a) (inl b) = a.1 ∙ sym b.1
-one_after_labels labels rest v w few (inl a) (inr b) = absurd (a.0 b.0 b.1 b.2 b.3)
-one_after_labels labels rest v w few (inr a) (inl b) = absurd (b.0 a.0 a.1 a.2 a.3)
-one_after_labels labels rest v w few (inr a) (inr b) =
+one_after_labels : (version labels : ℕ) (rest : List ℕ) (v w : Finding) → labels ≤ 256 → AfterLabels version labels rest v → AfterLabels version labels rest w → v ≡ w
+one_after_labels version labels rest v w few (inl a) (inl b) = a.1 ∙ sym b.1
+one_after_labels version labels rest v w few (inl a) (inr b) = absurd (a.0 b.0 b.1 b.2 b.3)
+one_after_labels version labels rest v w few (inr a) (inl b) = absurd (b.0 a.0 a.1 a.2 a.3)
+one_after_labels version labels rest v w few (inr a) (inr b) =
     let s = number_line_unique (codes "pebbles") a.0 b.0 a.1 b.1 (omega (arith, a.2.1)) (omega (arith, b.2.1)) (sym a.3 ∙ b.3) in
-    one_after_pebbles labels b.0 b.1 v w few (rw (← s.0, ← s.1) a.4) b.4
+    one_after_pebbles version labels b.0 b.1 v w few (rw (← s.0, ← s.1) a.4) b.4
 
-one_after_version : (rest : List ℕ) (v w : Finding) → AfterVersion rest v → AfterVersion rest w → v ≡ w
-one_after_version rest v w (inl a) (inl b) = a.1 ∙ sym b.1
-one_after_version rest v w (inl a) (inr b) = absurd (a.0 b.0 b.1 b.2 b.3)
-one_after_version rest v w (inr a) (inl b) = absurd (b.0 a.0 a.1 a.2 a.3)
-one_after_version rest v w (inr a) (inr b) =
+one_after_version : (version : ℕ) (rest : List ℕ) (v w : Finding) → AfterVersion version rest v → AfterVersion version rest w → v ≡ w
+one_after_version version rest v w (inl a) (inl b) = a.1 ∙ sym b.1
+one_after_version version rest v w (inl a) (inr b) = absurd (a.0 b.0 b.1 b.2 b.3)
+one_after_version version rest v w (inr a) (inl b) = absurd (b.0 a.0 a.1 a.2 a.3)
+one_after_version version rest v w (inr a) (inr b) =
     let s = number_line_unique (codes "labels") a.0 b.0 a.1 b.1 (omega (arith, a.2.1)) (omega (arith, b.2.1)) (sym a.3 ∙ b.3) in
-    one_after_labels b.0 b.1 v w b.2.1 (rw (← s.0, ← s.1) a.4) b.4
+    one_after_labels version b.0 b.1 v w b.2.1 (subst (λ l. AfterLabels version l b.1 v) s.0 (subst (λ (more : List ℕ). AfterLabels version a.0 more v) s.1 a.4)) b.4
 
 one_reading : (text : List ℕ) (v w : Finding) → Reading text v → Reading text w → v ≡ w
 one_reading text v w (inl a) (inl b) = a.1 ∙ sym b.1
-one_reading text v w (inl a) (inr b) = absurd (a.0 tt b.0 tt b.1)
-one_reading text v w (inr a) (inl b) = absurd (b.0 tt a.0 tt a.1)
+one_reading text v w (inl a) (inr b) = absurd (a.0 b.0 b.1 b.2 b.3)
+one_reading text v w (inr a) (inl b) = absurd (b.0 a.0 a.1 a.2 a.3)
 one_reading text v w (inr a) (inr b) =
-    let s = append_cancel_left version_line a.0 b.0 (sym a.1 ∙ b.1) in
-    one_after_version b.0 v w (rw (← s) a.2) b.2
+    let s = number_line_unique (codes "board") a.0 b.0 a.1 b.1 (omega (arith, a.2.1)) (omega (arith, b.2.1)) (sym a.3 ∙ b.3) in
+    one_after_version b.0 b.1 v w (rw (← s.0, ← s.1) a.4) b.4
 
 -- ---- faults and boards as readings
 
@@ -90,8 +91,10 @@ regroup a b c d e x = simp append_assoc
 read_on : (text : List ℕ) (b : PlainBoard) (rest : List ℕ) (found : Finding) → IsBoard b → text ≡ front b ++ rest → Ending b rest found → Reading text found
 read_on text b rest found is e h =
     inr (
+      version_of b.labels b.start,
       _,
-      e ∙ regroup version_line (labels_line b.labels) (pebbles_line b.pebbles) (start_line b.start) (flat_map beats_line b.pairs) rest,
+      version_in_range b.labels b.start,
+      e ∙ regroup (version_line (version_of b.labels b.start)) (labels_line b.labels) (pebbles_line b.pebbles) (start_line b.labels b.start) (flat_map beats_line b.pairs) rest,
       inr (
         b.labels,
         _,
@@ -105,7 +108,7 @@ read_on text b rest found is e h =
           inr (
             b.start,
             _,
-            (is.start.each_pebble, is.start.each_label),
+            (numbers_from_start b is.start, refl),
             refl,
             (b.pairs, rest, is.pairs, refl, h),
           ),
@@ -122,11 +125,11 @@ pair_reading text line kind (b, rest, is, e, number, h) =
 
 fault_reading : (text : List ℕ) (line : ℕ) (kind : BoardKind) → kind ≢ Memory → HasFault text line kind → Reading text (fault line kind)
 fault_reading text line Version not h = inl (h.1, ap (λ (l : ℕ). fault l Version) h.0)
-fault_reading text line Labels not h = inr (h.1, h.2, inl (h.3, ap (λ (l : ℕ). fault l Labels) h.0))
+fault_reading text line Labels not h = inr (h.1, h.2, h.3, h.4, inl (h.5, ap (λ (l : ℕ). fault l Labels) h.0))
 fault_reading text line Pebbles not h =
-    inr (_, h.4, inr (h.1, h.2, h.3, refl, inl (h.5, ap (λ (l : ℕ). fault l Pebbles) h.0)))
+    inr (h.1, _, h.4, h.6, inr (h.2, h.3, h.5, refl, inl (h.7, ap (λ (l : ℕ). fault l Pebbles) h.0)))
 fault_reading text line Start not h =
-    inr (_, h.6, inr (h.1, _, h.4, refl, inr (h.2, h.3, h.5, refl, inl (h.7, ap (λ (l : ℕ). fault l Start) h.0))))
+    inr (h.1, _, h.5, h.8, inr (h.2, _, h.6, refl, inr (h.3, h.4, h.7, refl, inl (h.9, ap (λ (l : ℕ). fault l Start) h.0))))
 fault_reading text line Trailing not (b, first, more, is, e, number) =
     rw number (read_on text b (end_line ++ first ∷ more) (fault (6 + length b.pairs) Trailing) is (e ∙ append_assoc (front b) end_line (first ∷ more)) (at_end (first ∷ more) refl refl))
 fault_reading text line Memory not h = absurd (not refl)

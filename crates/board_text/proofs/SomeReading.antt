@@ -6,15 +6,16 @@ use Rattle.std.proofs.lemmas.List.Elements.{All-nil}
 use Rattle.std.specs.List.{flat_map}
 use Rattle.board_text.specs.Ranges.{InRange, AreNumbers}
 use Rattle.board_text.specs.PlainBoard.{PlainBoard, plain_board, IsBoard, ArePairs, AreLabels}
-use Rattle.board_text.specs.BoardText.{version_line, labels_line, pebbles_line, start_line, beats_line, end_line, head, front, board_text}
+use Rattle.board_text.specs.BoardText.{version_line, labels_line, pebbles_line, beats_line, end_line, head, front, board_text}
 use Rattle.board_text.specs.BoardFaults.{NotEnd, IsCut, PairFault}
 use Rattle.board_text.specs.Parsing.{CanFollow}
 use Rattle.board_text.specs.Readings.{IsBoardText, IsFaulty}
 use Rattle.board_text.specs.declared.fault.BoardKind.{BoardKind}
 use Rattle.board_text.specs.declared.fault.BoardKind.TheVariants.{Version, Labels, Pebbles, Start, Beats, SelfBeat, TwoWay, Order, End, Trailing}
-use Rattle.board_text.proofs.Deciding.{Decided, begins, number_stands, list_stands, pair_stands, contained, next}
+use Rattle.board_text.proofs.Deciding.{Decided, begins, number_stands, start_stands, pair_stands, contained, next}
 use Rattle.board_text.proofs.PairLemmas.{pairs_push, line_push}
 use Rattle.board_text.proofs.Faults.{head_taken, front_taken, has_pair_fault}
+use Rattle.board_text.proofs.Places.{start_from_numbers, numbers_from_start}
 
 -- what stands after the pairs so far: the line `end`, a fault, or a pair more
 data NextLine (labels : ℕ) (pairs : List (ℕ × ℕ)) (rest : List ℕ) : Type 0 where
@@ -82,7 +83,7 @@ from_line size text b rest fits is e (fault kind h) =
 from_line zero text b rest fits is e (pair p more can f) = absurd (omega (arith, shorter p rest more f, fits))
 from_line (suc size) text b rest fits is e (pair p more can f) =
     let longer = plain_board b.labels b.pebbles b.start (b.pairs ++ p ∷ []) in
-    let is_longer : IsBoard longer = record { labels = is.labels; pebbles = is.pebbles; start = record { each_pebble = is.start.each_pebble; each_label = is.start.each_label }; pairs = pairs_push b.labels b.pairs p is.pairs can } in
+    let is_longer : IsBoard longer = record { labels = is.labels; pebbles = is.pebbles; start = start_from_numbers longer (numbers_from_start b is.start); pairs = pairs_push b.labels b.pairs p is.pairs can } in
     from_line size text longer more (omega (arith, shorter p rest more f, fits)) is_longer (one_more b p text rest more e f) (next_line b.labels (b.pairs ++ p ∷ []) more)
 
 -- ---- the first four lines
@@ -94,36 +95,37 @@ no_pairs labels = record {
   one_way = λ x y h g. omega (arith, h.1);
 }
 
-after_start : (text : List ℕ) (labels pebbles : ℕ) (start rest : List ℕ) → InRange 1 256 labels → InRange 1 6 pebbles → AreNumbers pebbles labels start → text ≡ head labels pebbles start ++ rest → IsBoardText text ⊎ IsFaulty text
+after_start : (text : List ℕ) (labels pebbles : ℕ) (start rest : List ℕ) → InRange 1 256 labels → InRange 1 6 pebbles → AreNumbers pebbles (labels + 1) start → text ≡ head labels pebbles start ++ rest → IsBoardText text ⊎ IsFaulty text
 after_start text labels pebbles start rest in_labels in_pebbles are e =
     let b = plain_board labels pebbles start [] in
-    let is : IsBoard b = record { labels = in_labels; pebbles = in_pebbles; start = record { each_pebble = are.0; each_label = are.1 }; pairs = no_pairs labels } in
+    let is : IsBoard b = record { labels = in_labels; pebbles = in_pebbles; start = start_from_numbers b are; pairs = no_pairs labels } in
     from_line (length rest) text b rest (omega arith) is (front_taken b text rest rest e refl) (next_line labels [] rest)
 
-after_pebbles : (text : List ℕ) (labels pebbles : ℕ) (rest : List ℕ) → InRange 1 256 labels → InRange 1 6 pebbles → text ≡ version_line ++ (labels_line labels ++ (pebbles_line pebbles ++ rest)) → IsBoardText text ⊎ IsFaulty text
-after_pebbles text labels pebbles rest in_labels in_pebbles e =
-    elim (list_stands pebbles labels start_line rest) [
-      | inl s ↦ after_start text labels pebbles s.value s.more in_labels in_pebbles s.is (head_taken labels pebbles s.value text rest s.more e s.spelled)
-      | inr lacks ↦ inr (4, Start, λ f. cc, (refl, labels, pebbles, rest, in_labels, in_pebbles, e, lacks))
+after_pebbles : (text : List ℕ) (version labels pebbles : ℕ) (rest : List ℕ) → InRange 1 2 version → InRange 1 256 labels → InRange 1 6 pebbles → text ≡ version_line version ++ (labels_line labels ++ (pebbles_line pebbles ++ rest))
+    → IsBoardText text ⊎ IsFaulty text
+after_pebbles text version labels pebbles rest in_versions in_labels in_pebbles e =
+    elim (start_stands version labels pebbles rest) [
+      | inl s ↦ after_start text labels pebbles s.value s.more in_labels in_pebbles s.is.0 (head_taken version labels pebbles s.value text rest s.more s.is.1 e s.spelled)
+      | inr lacks ↦ inr (4, Start, λ f. cc, (refl, version, labels, pebbles, rest, in_versions, in_labels, in_pebbles, e, lacks))
     ]
 
-after_labels : (text : List ℕ) (labels : ℕ) (rest : List ℕ) → InRange 1 256 labels → text ≡ version_line ++ (labels_line labels ++ rest) → IsBoardText text ⊎ IsFaulty text
-after_labels text labels rest in_labels e =
+after_labels : (text : List ℕ) (version labels : ℕ) (rest : List ℕ) → InRange 1 2 version → InRange 1 256 labels → text ≡ version_line version ++ (labels_line labels ++ rest) → IsBoardText text ⊎ IsFaulty text
+after_labels text version labels rest in_versions in_labels e =
     elim (number_stands 1 6 pebbles_line rest) [
-      | inl s ↦ after_pebbles text labels s.value s.more in_labels s.is (e ∙ ap (λ (t : List ℕ). version_line ++ (labels_line labels ++ t)) s.spelled)
-      | inr lacks ↦ inr (3, Pebbles, λ f. cc, (refl, labels, rest, in_labels, e, lacks))
+      | inl s ↦ after_pebbles text version labels s.value s.more in_versions in_labels s.is (e ∙ ap (λ (t : List ℕ). version_line version ++ (labels_line labels ++ t)) s.spelled)
+      | inr lacks ↦ inr (3, Pebbles, λ f. cc, (refl, version, labels, rest, in_versions, in_labels, e, lacks))
     ]
 
-after_version : (text rest : List ℕ) → text ≡ version_line ++ rest → IsBoardText text ⊎ IsFaulty text
-after_version text rest e =
+after_version : (text : List ℕ) (version : ℕ) (rest : List ℕ) → InRange 1 2 version → text ≡ version_line version ++ rest → IsBoardText text ⊎ IsFaulty text
+after_version text version rest in_versions e =
     elim (number_stands 1 256 labels_line rest) [
-      | inl s ↦ after_labels text s.value s.more s.is (e ∙ ap (λ (t : List ℕ). version_line ++ t) s.spelled)
-      | inr lacks ↦ inr (2, Labels, λ f. cc, (refl, rest, e, lacks))
+      | inl s ↦ after_labels text version s.value s.more in_versions s.is (e ∙ ap (λ (t : List ℕ). version_line version ++ t) s.spelled)
+      | inr lacks ↦ inr (2, Labels, λ f. cc, (refl, version, rest, in_versions, e, lacks))
     ]
 
 pub board_or_fault : (text : List ℕ) → IsBoardText text ⊎ IsFaulty text
 board_or_fault text =
-    elim (begins version_line text) [
-      | inl h ↦ after_version text h.0 h.1
-      | inr never ↦ inr (1, Version, λ f. cc, (refl, λ u more all e. never (more, e)))
+    elim (number_stands 1 2 version_line text) [
+      | inl s ↦ after_version text s.value s.more s.is s.spelled
+      | inr lacks ↦ inr (1, Version, λ f. cc, (refl, lacks))
     ]

@@ -1,8 +1,8 @@
 -- The faults of a board's text, as the table of the format has them.
 use Rattle.std.specs.Prelude.{◌≡◌, ◌≢◌, ℕ, ◌+◌, ◌⊎◌, List, [], ◌∷◌, ◌++◌, length, Contains}
 use Rattle.board_text.specs.LineForms.{Lacks}
-use Rattle.board_text.specs.Ranges.{InRange, AreNumbers}
-use Rattle.board_text.specs.PlainBoard.{PlainBoard, IsBoard, AreLabels, IsNext}
+use Rattle.board_text.specs.Ranges.{InRange}
+use Rattle.board_text.specs.PlainBoard.{PlainBoard, IsBoard, IsStart, AreLabels, IsNext}
 use Rattle.board_text.specs.BoardText.{version_line, labels_line, pebbles_line, start_line, beats_line, end_line, front, board_text}
 use Rattle.board_text.specs.declared.fault.BoardKind.{BoardKind}
 use Rattle.board_text.specs.declared.fault.BoardKind.TheVariants.{Version, Labels, Pebbles, Start, Beats, SelfBeat, TwoWay, Order, End, Trailing, Memory}
@@ -35,13 +35,13 @@ InPairs text line kind = (b : PlainBoard) × (rest : List ℕ) × IsBoard b × (
 -- All lines before this one are faultless, and this one has the fault and none before it in the table.
 -- Memory may be wanting once the first three lines are faultless.
 abbrev pub HasFault : List ℕ → ℕ → BoardKind → Type 0
-HasFault text line Version = (line ≡ 1) × Lacks (λ (u : Unit {0}). Unit {0}) (λ u. version_line) text
-HasFault text line Labels = (line ≡ 2) × (rest : List ℕ) × (text ≡ version_line ++ rest) × Lacks (InRange 1 256) labels_line rest
-HasFault text line Pebbles = (line ≡ 3) × (labels : ℕ) × (rest : List ℕ) × InRange 1 256 labels
-    × (text ≡ version_line ++ (labels_line labels ++ rest)) × Lacks (InRange 1 6) pebbles_line rest
-HasFault text line Start = (line ≡ 4) × (labels pebbles : ℕ) × (rest : List ℕ) × InRange 1 256 labels × InRange 1 6 pebbles
-    × (text ≡ version_line ++ (labels_line labels ++ (pebbles_line pebbles ++ rest))) × Lacks (AreNumbers pebbles labels) start_line rest
+HasFault text line Version = (line ≡ 1) × Lacks (InRange 1 2) version_line text
+HasFault text line Labels = (line ≡ 2) × (version : ℕ) × (rest : List ℕ) × InRange 1 2 version × (text ≡ version_line version ++ rest) × Lacks (InRange 1 256) labels_line rest
+HasFault text line Pebbles = (line ≡ 3) × (version labels : ℕ) × (rest : List ℕ) × InRange 1 2 version × InRange 1 256 labels
+    × (text ≡ version_line version ++ (labels_line labels ++ rest)) × Lacks (InRange 1 6) pebbles_line rest
+HasFault text line Start = (line ≡ 4) × (version labels pebbles : ℕ) × (rest : List ℕ) × InRange 1 2 version × InRange 1 256 labels × InRange 1 6 pebbles
+    × (text ≡ version_line version ++ (labels_line labels ++ (pebbles_line pebbles ++ rest))) × Lacks (IsStart version labels pebbles) (start_line labels) rest
 HasFault text line Trailing = (b : PlainBoard) × (first : ℕ) × (more : List ℕ) × IsBoard b × (text ≡ board_text b ++ first ∷ more) × (line ≡ 6 + length b.pairs)
-HasFault text line Memory = (line ≡ 0) × (labels pebbles : ℕ) × (rest : List ℕ) × InRange 1 256 labels × InRange 1 6 pebbles
-    × (text ≡ version_line ++ (labels_line labels ++ (pebbles_line pebbles ++ rest)))
+HasFault text line Memory = (line ≡ 0) × (version labels pebbles : ℕ) × (rest : List ℕ) × InRange 1 2 version × InRange 1 256 labels × InRange 1 6 pebbles
+    × (text ≡ version_line version ++ (labels_line labels ++ (pebbles_line pebbles ++ rest)))
 HasFault text line kind = InPairs text line kind

@@ -2,10 +2,11 @@
 use Rattle.std.specs.Prelude.{ℕ, List, [], ◌∷◌, ◌++◌, codes}
 use Rattle.std.specs.List.{flat_map}
 use Rattle.board_text.specs.LineForms.{closed, number_line, numbers_line}
-use Rattle.board_text.specs.PlainBoard.{PlainBoard}
+use Rattle.board_text.specs.PlaceForms.{places_line}
+use Rattle.board_text.specs.PlainBoard.{PlainBoard, version_of}
 
-abbrev pub version_line : List ℕ
-version_line = closed (codes "board 1")
+abbrev pub version_line : ℕ → List ℕ
+version_line version = number_line (codes "board") version
 
 abbrev pub labels_line : ℕ → List ℕ
 labels_line labels = number_line (codes "labels") labels
@@ -13,8 +14,8 @@ labels_line labels = number_line (codes "labels") labels
 abbrev pub pebbles_line : ℕ → List ℕ
 pebbles_line pebbles = number_line (codes "pebbles") pebbles
 
-abbrev pub start_line : List ℕ → List ℕ
-start_line start = numbers_line (codes "start") start
+abbrev pub start_line : ℕ → List ℕ → List ℕ
+start_line labels start = places_line labels (codes "start") start
 
 abbrev pub beats_line : ℕ × ℕ → List ℕ
 beats_line pair = numbers_line (codes "beats") (pair.0 ∷ pair.1 ∷ [])
@@ -24,7 +25,7 @@ end_line = closed (codes "end")
 
 -- the first four lines
 abbrev pub head : ℕ → ℕ → List ℕ → List ℕ
-head labels pebbles start = version_line ++ (labels_line labels ++ (pebbles_line pebbles ++ start_line start))
+head labels pebbles start = version_line (version_of labels start) ++ (labels_line labels ++ (pebbles_line pebbles ++ start_line labels start))
 
 -- the text up to its last pair
 abbrev pub front : PlainBoard → List ℕ

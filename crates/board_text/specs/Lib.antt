@@ -2,6 +2,7 @@ pub mod Ranges
 pub mod PlainBoard
 pub mod LineForms
 pub mod Numerals
+pub mod PlaceForms
 pub mod BoardText
 pub mod Domination
 pub mod BoardFaults

@@ -1,5 +1,5 @@
 -- Texts of digits, whether or not they spell a number.
-use Rattle.std.specs.Prelude.{◌≡◌, ◌≢◌, ℕ, ◌^◌, ◌<◌, ◌≤◌, Bool, true, false, List, ◌∷◌, ◌++◌, length, map, All, Option, Some, None}
+use Rattle.std.specs.Prelude.{◌≡◌, ◌≢◌, ℕ, ◌^◌, ◌<◌, ◌≤◌, List, ◌∷◌, ◌++◌, Option, Some, None}
 use Rattle.std.specs.List.{flat_map}
 use Rattle.std.specs.Fmt.{decimal}
 use Rattle.std.specs.Str.Parse.{IsNumeral}
@@ -21,24 +21,10 @@ abbrev pub TakesNumeral : Option Numeral → List ℕ → List ℕ → Type 0
 TakesNumeral None old new = (digits more : List ℕ) → IsNumeral 10 digits → old ≢ digits ++ more
 TakesNumeral (Some numeral) old new = (digits : List ℕ) × IsNumeral 10 digits × (old ≡ digits ++ new) × NoDigit new × Says digits numeral
 
--- texts of digits, each with a space before it
+-- texts, each with a space before it
 abbrev pub spaced_texts : List (List ℕ) → List ℕ
 spaced_texts ws = flat_map (λ w. 32 ∷ w) ws
-
-abbrev pub AreTexts : ℕ → List (List ℕ) → Type 0
-AreTexts count ws = (length ws ≡ count) × All (IsNumeral 10) ws
 
 -- the digits spell a number below the bound
 abbrev pub SpellsBelow : ℕ → List ℕ → Type 0
 SpellsBelow bound text = (number : ℕ) × (number < bound) × (text ≡ decimal number)
-
--- whether each text spells a number below the bound, and then which
-abbrev pub SpellNumbers : ℕ → List (List ℕ) → Bool → List ℕ → Type 0
-SpellNumbers bound texts true numbers = All (λ n. n < bound) numbers × (texts ≡ map decimal numbers)
-SpellNumbers bound texts false numbers = All (SpellsBelow bound) texts → ⊥
-
--- Texts of digits, each with a space before it, were taken, with the numbers below the bound that they spell, if they do.
-abbrev pub TakesNumerals : ℕ → ℕ → Option (Bool × List ℕ) → List ℕ → List ℕ → Type 0
-TakesNumerals count bound None old new = (texts : List (List ℕ)) (more : List ℕ) → AreTexts count texts → NoDigit more → old ≢ spaced_texts texts ++ more
-TakesNumerals count bound (Some (are, numbers)) old new =
-    (texts : List (List ℕ)) × AreTexts count texts × (old ≡ spaced_texts texts ++ new) × NoDigit new × SpellNumbers bound texts are numbers

@@ -31,6 +31,7 @@ PairsFault labels old fault = (pairs : List (ℕ × ℕ)) × (rest : List ℕ) �
     × (fault.line ≡ 5 + length pairs) × PairFault labels pairs rest fault.kind
 
 -- The first three lines were taken, with their numbers, or have a fault.
-abbrev pub HeadRead : Result (ℕ × ℕ) BoardFault → List ℕ → List ℕ → Type 0
-HeadRead (Ok (labels, pebbles)) old new = InRange 1 256 labels × InRange 1 6 pebbles × (old ≡ version_line ++ (labels_line labels ++ (pebbles_line pebbles ++ new)))
+abbrev pub HeadRead : Result (ℕ × ℕ × ℕ) BoardFault → List ℕ → List ℕ → Type 0
+HeadRead (Ok (version, labels, pebbles)) old new =
+    InRange 1 2 version × InRange 1 256 labels × InRange 1 6 pebbles × (old ≡ version_line version ++ (labels_line labels ++ (pebbles_line pebbles ++ new)))
 HeadRead (Err fault) old new = HasFault old fault.line fault.kind

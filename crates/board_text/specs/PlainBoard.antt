@@ -1,8 +1,10 @@
 -- What a board is: labels, pebbles, which label beats which, and where the pebbles start.
-use Rattle.std.specs.Prelude.{◌≡◌, ℕ, ◌<◌, ◌⊎◌, List, [], ◌∷◌, ◌++◌, length, All, AllPairs, Contains}
-use Rattle.board_text.specs.Ranges.{InRange}
+use Rattle.std.specs.Prelude.{◌≡◌, ℕ, ◌+◌, ◌<◌, ◌==◌, ◌⊎◌, if◌then◌else◌, Bool, List, [], ◌∷◌, ◌++◌, length, All, AllPairs, Contains}
+use Rattle.std.specs.List.{list_any}
+use Rattle.board_text.specs.Ranges.{InRange, AreNumbers}
 
--- a board as plain data: numbers of labels and pebbles, the pairs (x, y) with x beating y, and a label for each pebble
+-- a board as plain data: numbers of labels and pebbles, the pairs (x, y) with x beating y, and a place for each pebble:
+-- its label, or the number of labels where it holds none
 pub record PlainBoard : Type 0 where
   pub labels : ℕ
   pub pebbles : ℕ
@@ -17,14 +19,26 @@ plain_board labels pebbles start pairs = record { labels = labels; pebbles = peb
 abbrev pub Beats : PlainBoard → ℕ → ℕ → Type 0
 Beats board x y = Contains board.pairs (x, y)
 
--- how many values the place of a pebble in a configuration can have
-abbrev pub places : PlainBoard → ℕ
-places board = board.labels
+-- whether some pebble holds no label
+abbrev pub some_blank : ℕ → List ℕ → Bool
+some_blank labels configuration = list_any (λ place. place == labels) configuration
 
--- a list with one label for each pebble
+-- 2 where some pebble holds no label at the start, else 1
+abbrev pub version_of : ℕ → List ℕ → ℕ
+version_of labels start = if some_blank labels start then 2 else 1
+
+-- how many values the place of a pebble can have: the labels, and in version 2 the number of labels, which stands for none
+unfoldable pub places : PlainBoard → ℕ
+places board = if some_blank board.labels board.start then board.labels + 1 else board.labels
+
+-- the label dominates what a place holds: its label, if it holds one
+abbrev pub BeatsPlace : PlainBoard → ℕ → ℕ → Type 0
+BeatsPlace board label place = place < board.labels → Beats board label place
+
+-- a list with one place for each pebble
 pub record IsConfiguration (board : PlainBoard) (configuration : List ℕ) : Type 0 where
   pub each_pebble : length configuration ≡ board.pebbles
-  pub each_label : All (λ label. label < places board) configuration
+  pub each_place : All (λ place. place < places board) configuration
 
 -- both are labels
 abbrev pub AreLabels : ℕ → ℕ × ℕ → Type 0
@@ -47,6 +61,10 @@ pub record ArePairs (labels : ℕ) (pairs : List (ℕ × ℕ)) : Type 0 where
 -- no label beats itself, and no two labels beat each other
 abbrev pub IsAntisymmetric : PlainBoard → Type 0
 IsAntisymmetric board = (x y : ℕ) → Beats board x y → Beats board y x → ⊥
+
+-- a place for each pebble, of which some hold no label in version 2, and none in version 1
+abbrev pub IsStart : ℕ → ℕ → ℕ → List ℕ → Type 0
+IsStart version labels pebbles start = AreNumbers pebbles (labels + 1) start × (version_of labels start ≡ version)
 
 -- a board within the limits
 pub record IsBoard (board : PlainBoard) : Type 0 where

@@ -1,6 +1,6 @@
 //! Making a board of its parts.
 
-ghost use Rattle.std.specs.Prelude.{◌≡◌, ◌↔◌, IsTrue, [], MatchResult, IfOk, IfErr, OnOk};
+ghost use Rattle.std.specs.Prelude.{◌≡◌, ◌+◌, ◌↔◌, IsTrue, [], MatchResult, IfOk, IfErr, OnOk};
 ghost use Rattle.board_text.specs.Ranges.{AreNumbers};
 ghost use Rattle.board_text.specs.PlainBoard.{plain_board, IsBoard, ArePairs};
 ghost use Rattle.board_text.specs.BoardText.{board_text};
@@ -67,11 +67,11 @@ fn build_parts(
     })
 }
 
-/// Whether the list has a label for each pebble.
+/// Whether the list has a place for each pebble.
 fn is_start(labels: u16, pebbles: u8, start: &[u16]) -> bool
-    ensures { IsTrue result ↔ AreNumbers pebbles labels start.now }
+    ensures { IsTrue result ↔ AreNumbers pebbles (labels + 1) start.now }
 {
-    start.len() == usize::from(pebbles) && start.iter().all(|label| *label < labels)
+    start.len() == usize::from(pebbles) && start.iter().all(|place| *place <= labels)
 }
 
 /// Lets the first label of each pair beat the second, unless a pair can't follow those before it.

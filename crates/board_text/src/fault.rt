@@ -8,13 +8,13 @@ use std::alloc::AllocError;
 /// What is wrong with a line of a board's text.
 #[derive(Clone, Copy, Debug, PartialEq, Eq)]
 pub enum BoardKind {
-    /// The first line isn't `board 1`.
+    /// The first line isn't `board 1` or `board 2`.
     Version = 1,
     /// The second line isn't `labels` and a number from 1 to 256.
     Labels,
     /// The third line isn't `pebbles` and a number from 1 to 6.
     Pebbles,
-    /// The fourth line isn't `start` and a label for each pebble.
+    /// The fourth line isn't `start` and a label for each pebble, or, in `board 2`, a label or `-`, of which one at least.
     Start,
     /// A line among the pairs isn't `beats` and two labels.
     Beats,

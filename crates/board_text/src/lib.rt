@@ -22,7 +22,7 @@ pub use fault::{BoardFault, BoardKind};
 pub use laws::{board_or_fault, one_board, one_fault};
 pub use memory::Memory;
 pub use parsing::parse;
-pub use printing::{print, write_numbers};
+pub use printing::{print, write_place, write_places};
 pub use sink::Sink;
 pub use source::{Failed, Source};
 pub use through::Through;

@@ -1,6 +1,6 @@
 //! Reading lines, words and numbers from the front of a text.
 
-ghost use Rattle.std.specs.Prelude.{◌≡◌, ◌≢◌, ℕ, ◌≤◌, ◌<◌, ◌^◌, ◌++◌, ◌∷◌, [], List, length, slice_index, IsTrue, ◌↔◌, MatchOption, option_map};
+ghost use Rattle.std.specs.Prelude.{◌≡◌, ◌≢◌, ℕ, ◌+◌, ◌≤◌, ◌<◌, ◌^◌, ◌++◌, ◌∷◌, [], List, length, slice_index, IsTrue, ◌↔◌, MatchOption, option_map};
 ghost use Rattle.std.specs.Char.{is_ascii_digit};
 ghost use Rattle.std.specs.Str.Parse.{AllDigits};
 ghost use Rattle.std.specs.Fmt.{decimal};
@@ -62,7 +62,8 @@ impl<'a> Model for LineReader<'a> {
 }
 
 impl<'a> LineReader<'a> {
-    ghost use Rattle.board_text.specs.Numerals.{TakesNumeral, TakesNumerals};
+    ghost use Rattle.board_text.specs.Numerals.{TakesNumeral};
+    ghost use Rattle.board_text.specs.PlaceForms.{places_line, TakesPlace, TakesPlaces};
 
     /// A reader of all these bytes.
     pub fn new(bytes: &'a [u8]) -> Self
@@ -134,20 +135,35 @@ impl<'a> LineReader<'a> {
         }
     }
 
-    /// Takes as many texts of digits as there is room for, each with a space before it, and says whether each spells a number below the bound. If so, these numbers are written.
-    pub fn numerals(&mut self, numbers: &mut [u16], bound: u16) -> Option<bool>
-        requires { 0 < length numbers.old }
-        ensures { TakesNumerals (length numbers.old) bound (option_map (λ are. (are, numbers.new)) result) self.old self.new }
+    /// Takes as many texts of places as there is room for, each with a space before it, and says whether each spells a place below the bound. If so, these are written.
+    pub fn places(&mut self, places: &mut [u16], labels: u16, bound: u16) -> Option<bool>
+        requires some { 0 < length places.old }
+        requires bound { (labels ≤ bound) × (bound ≤ labels + 1) }
+        ensures { TakesPlaces (length places.old) labels bound (option_map (λ are. (are, places.new)) result) self.old self.new }
     {
-        let mut are_numbers = true;
-        for number in numbers.iter_mut() {
+        let mut are_places = true;
+        for place in places.iter_mut() {
             self.take(b" ")?;
-            match self.numeral()?.below(bound) {
-                Some(n) => *number = n,
-                None => are_numbers = false,
+            match self.place(labels, bound)? {
+                Some(n) => *place = n,
+                None => are_places = false,
             }
         }
-        Some(are_numbers)
+        Some(are_places)
+    }
+
+    /// Takes the text of a place: digits, or a hyphen if the number of labels is below the bound. Gives the place that it spells, if that is below the bound.
+    fn place(&mut self, labels: u16, bound: u16) -> Option<Option<u16>>
+        requires { (labels ≤ bound) × (bound ≤ labels + 1) }
+        ensures { TakesPlace labels bound result self.old self.new }
+    {
+        if labels < bound && self.take(b"-").is_some() {
+            if !self.digits().is_empty() {
+                return None;
+            }
+            return Some(Some(labels));
+        }
+        Some(self.numeral()?.below(labels))
     }
 
     /// Takes a line of this word, a space and a number in the range.
@@ -169,6 +185,20 @@ impl<'a> LineReader<'a> {
     {
         self.take(word)?;
         self.numbers(numbers, bound)?;
+        self.take(b"\n")?;
+        Some(())
+    }
+
+    /// Takes a line of this word and as many places as there is room for, each with a space before it.
+    pub fn places_line(&mut self, word: &[u8], places: &mut [u16], labels: u16) -> Option<()>
+        requires some { 0 < length places.old }
+        requires few { labels ≤ 256 }
+        ensures { Takes (AreNumbers (length places.old) (labels + 1)) (places_line labels word.now) (option_map (λ _. places.new) result) self.old self.new }
+    {
+        self.take(word)?;
+        if !self.places(places, labels, labels + 1)? {
+            return None;
+        }
         self.take(b"\n")?;
         Some(())
     }

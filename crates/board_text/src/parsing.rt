@@ -1,14 +1,14 @@
 //! Reading a board's text.
 
-ghost use Rattle.std.specs.Prelude.{◌≡◌, ◌≢◌, ℕ, ◌+◌, ◌-◌, ◌*◌, ◌≤◌, ◌<◌, ◌++◌, ◌∷◌, [], List, length, MatchOption, MatchResult, IfOk, IfErr};
+ghost use Rattle.std.specs.Prelude.{◌≡◌, ◌≢◌, ℕ, ◌+◌, ◌-◌, ◌*◌, ◌≤◌, ◌<◌, ◌++◌, ◌∷◌, [], List, length, option_map, MatchOption, MatchResult, IfOk, IfErr};
 ghost use Rattle.board_text.specs.LineForms.{Takes};
-ghost use Rattle.board_text.specs.PlainBoard.{PlainBoard, AreLabels, IsBoard, ArePairs};
-ghost use Rattle.board_text.specs.BoardText.{beats_line, board_text};
+ghost use Rattle.board_text.specs.PlainBoard.{PlainBoard, AreLabels, IsBoard, IsStart, ArePairs};
+ghost use Rattle.board_text.specs.BoardText.{start_line, beats_line, board_text};
 ghost use Rattle.board_text.specs.declared.fault.BoardKind.TheVariants.{Memory as OutOfMemory};
 ghost use Rattle.board_text.specs.BoardFaults.{HasFault};
 ghost use Rattle.board_text.specs.Parsing.{NextPair, PairsRead, PairsFault, HeadRead};
 
-use crate::board::Board;
+use crate::board::{Board, version_of};
 use crate::domination::Domination;
 use crate::fault::{BoardFault, BoardKind};
 use crate::line_reader::LineReader;
@@ -63,11 +63,11 @@ fn read_pairs(text: &mut LineReader<'_>, beats: &mut Domination) -> Result<u32, 
     }
 }
 
-/// Takes the first three lines, with the numbers of labels and pebbles.
-fn read_head(text: &mut LineReader<'_>) -> Result<(u16, u8), BoardFault>
+/// Takes the first three lines, with the version and the numbers of labels and pebbles.
+fn read_head(text: &mut LineReader<'_>) -> Result<(u8, u16, u8), BoardFault>
     ensures { HeadRead result text.old text.new }
 {
-    let Some(()) = text.take(b"board 1\n") else {
+    let Some(version) = text.number_line(b"board", 1, 2) else {
         return Err(BoardFault::at(1, BoardKind::Version));
     };
     let Some(labels) = text.number_line(b"labels", 1, 256) else {
@@ -76,7 +76,21 @@ fn read_head(text: &mut LineReader<'_>) -> Result<(u16, u8), BoardFault>
     let Some(pebbles) = text.number_line(b"pebbles", 1, 6) else {
         return Err(BoardFault::at(3, BoardKind::Pebbles));
     };
-    Ok((labels as u16, pebbles as u8))
+    Ok((version as u8, labels as u16, pebbles as u8))
+}
+
+/// Takes the line of the start.
+fn take_start(text: &mut LineReader<'_>, version: u8, labels: u16, start: &mut [u16]) -> Option<()>
+    requires some { 0 < length start.old }
+    requires few { labels ≤ 256 }
+    ensures { Takes (IsStart version labels (length start.old)) (start_line labels) (option_map (λ _. start.new) result) text.old text.new }
+{
+    text.places_line(b"start", start, labels)?;
+    if version_of(labels, start) == version {
+        Some(())
+    } else {
+        None
+    }
 }
 
 /// The board that the bytes are the text of, or the first fault. Memory is taken after the third line.
@@ -96,10 +110,10 @@ fn read(alloc: Global, bytes: &[u8]) -> Result<Board, BoardFault>
     ensures fault { IfErr result (λ fault. HasFault bytes.now fault.line fault.kind) }
 {
     let mut text = LineReader::new(bytes);
-    let (labels, pebbles) = read_head(&mut text)?;
+    let (version, labels, pebbles) = read_head(&mut text)?;
     let mut beats = Domination::new(alloc, labels)?;
     let mut start = vec![in alloc; 0; usize::from(pebbles)]?;
-    let Some(()) = text.numbers_line(b"start", &mut start, labels) else {
+    let Some(()) = take_start(&mut text, version, labels, &mut start) else {
         return Err(BoardFault::at(4, BoardKind::Start));
     };
     let last = read_pairs(&mut text, &mut beats)?;

@@ -1,8 +1,8 @@
 //! Writing a board's text.
 
-ghost use Rattle.std.specs.Prelude.{◌≡◌, ◌++◌, IfOk, OnOk, string_bytes};
-ghost use Rattle.board_text.specs.LineForms.{spaced};
-ghost use Rattle.board_text.specs.BoardText.{board_text};
+ghost use Rattle.std.specs.Prelude.{◌≡◌, ◌++◌, ◌∷◌, IfOk, OnOk, string_bytes};
+ghost use Rattle.board_text.specs.PlaceForms.{place_word, spaced_places};
+ghost use Rattle.board_text.specs.BoardText.{head, board_text};
 
 use crate::board::Board;
 use crate::memory::Memory;
@@ -18,22 +18,44 @@ pub fn print(alloc: Global, board: &Board) -> Result<String, Memory>
 {
     let size = board.beats.size_of_lines().saturating_add(SIZE_OF_FRAME);
     let mut text = String::with_capacity(alloc, size)?;
-    let labels = board.labels();
-    let pebbles = board.pebbles();
-    write!(text, "board 1\nlabels {labels}\npebbles {pebbles}\nstart")?;
-    write_numbers(&mut text, board.start())?;
-    text.push_str("\n")?;
+    write_head(&mut text, board)?;
     board.beats.write_lines(&mut text)?;
     text.push_str("end\n")?;
     Ok(text)
 }
 
-/// Writes numbers, each with a space before it.
-pub fn write_numbers(text: &mut String, numbers: &[u16]) -> Result<(), AllocError>
-    ensures { OnOk result (string_bytes text.new ≡ string_bytes text.old ++ spaced numbers.now) }
+/// Writes the first four lines of a board's text.
+fn write_head(text: &mut String, board: &Board) -> Result<(), AllocError>
+    ensures { OnOk result (string_bytes text.new ≡ string_bytes text.old ++ head board.now.labels board.now.pebbles board.now.start) }
 {
-    for number in numbers {
-        write!(text, " {number}")?;
+    let version = board.version();
+    let labels = board.labels();
+    let pebbles = board.pebbles();
+    write!(
+        text,
+        "board {version}\nlabels {labels}\npebbles {pebbles}\nstart"
+    )?;
+    write_places(text, labels, board.start())?;
+    text.push_str("\n")
+}
+
+/// Writes places, each with a space before it.
+pub fn write_places(text: &mut String, labels: u16, places: &[u16]) -> Result<(), AllocError>
+    ensures { OnOk result (string_bytes text.new ≡ string_bytes text.old ++ spaced_places labels places.now) }
+{
+    for place in places {
+        write_place(text, labels, *place)?;
     }
     Ok(())
+}
+
+/// Writes a place with a space before it: its label, or a hyphen for the number of labels, which stands for none.
+pub fn write_place(text: &mut String, labels: u16, place: u16) -> Result<(), AllocError>
+    ensures { OnOk result (string_bytes text.new ≡ string_bytes text.old ++ 32 ∷ place_word labels place) }
+{
+    if place == labels {
+        text.push_str(" -")
+    } else {
+        write!(text, " {place}")
+    }
 }

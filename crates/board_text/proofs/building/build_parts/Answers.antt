@@ -1,8 +1,9 @@
-use Rattle.std.proofs.Common.{◌^◌, ◌<◌, arith, inl, inr}
+use Rattle.std.proofs.Common.{◌≡◌, ◌^◌, ◌<◌, ◌∙◌, refl, arith, inl, inr}
 use Rattle.std.proofs.lemmas.Bool.{both_ways}
 use Rattle.std.proofs.lemmas.List.Elements.{All-from_get_or}
 use Rattle.std.proofs.lemmas.Result.{err_from_is_err_and}
 use Rattle.board_text.specs.PlainBoard.{plain_board}
+use Rattle.board_text.proofs.Places.{board_from_parts}
 use Rattle.board_text.proofs.Misfitting.{labels_fault, pebbles_fault, memory_fault, start_fault, parts_fault}
 use Rattle.board_text.proofs.building.build_parts.Goals as goal
 
@@ -40,3 +41,16 @@ returns-in_err-push_pairs-clause-fault c =
     let b = plain_board c.args.labels c.args.pebbles c.args.start.now c.args.pairs.now in
     let p = err_from_is_err_and c.from_residual-in_err-push_pairs.result c.from_residual-in_err-push_pairs.ensures.1 in
     rw (p.1, p.2) (parts_fault b c.in_err-push_pairs.field-0.0 (omega arith, omega arith) (omega arith, omega arith) (c.is_start.ensures.0 c.if-not-is_start.false) (rw c.in_ok-beats.ensures.0 at c.in_err-push_pairs.ensures.fault))
+
+pub invariant_of-result : goal.invariant_of-result
+invariant_of-result c =
+    let labels : c.push_pairs.new.beats.labels ≡ c.args.labels = c.push_pairs.ensures.labels ∙ c.in_ok-beats.ensures.0 in
+    let pushed = rw c.in_ok-beats.ensures.0 at c.in_ok-push_pairs.ensures.pushed in
+    rw (labels, c.copy_from_slice.ensures.items, pushed.1)
+    (board_from_parts c.args.labels c.args.pebbles c.args.start.now c.args.pairs.now (omega arith, omega arith) (omega arith, omega arith) (c.is_start.ensures.0 c.if-not-is_start.false) pushed.0)
+
+pub returns-clause-found : goal.returns-clause-found
+returns-clause-found c =
+    let labels : c.push_pairs.new.beats.labels ≡ c.args.labels = c.push_pairs.ensures.labels ∙ c.in_ok-beats.ensures.0 in
+    let pushed = c.in_ok-push_pairs.ensures.pushed in
+    (invariant_of-result c, rw (labels, c.copy_from_slice.ensures.items, pushed.1) refl)

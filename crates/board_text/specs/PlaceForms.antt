@@ -1,0 +1,47 @@
+-- The texts of places: of each its label, or a hyphen where it holds none.
+use Rattle.std.specs.Prelude.{◌≡◌, ◌≢◌, ℕ, ◌<◌, ◌==◌, ◌⊎◌, if◌then◌else◌, Bool, true, false, List, ◌++◌, length, map, All, Option, Some, None, MatchOption, codes}
+use Rattle.std.specs.Fmt.{decimal}
+use Rattle.std.specs.Str.Parse.{IsNumeral}
+use Rattle.board_text.specs.LineForms.{closed, NoDigit}
+use Rattle.board_text.specs.Numerals.{spaced_texts}
+
+-- the text of a place, where the number of labels stands for none
+abbrev pub place_word : ℕ → ℕ → List ℕ
+place_word labels place = if place == labels then codes "-" else decimal place
+
+-- places, each with a space before it
+abbrev pub spaced_places : ℕ → List ℕ → List ℕ
+spaced_places labels places = spaced_texts (map (place_word labels) places)
+
+-- a word and places, in a line of their own
+abbrev pub places_line : ℕ → List ℕ → List ℕ → List ℕ
+places_line labels word places = closed (word ++ spaced_places labels places)
+
+-- a text that has the form of a place below the bound, whether or not it spells one: digits, or a hyphen
+abbrev pub IsPlaceText : ℕ → ℕ → List ℕ → Type 0
+IsPlaceText labels bound text = IsNumeral 10 text ⊎ ((labels < bound) × (text ≡ codes "-"))
+
+abbrev pub ArePlaceTexts : ℕ → ℕ → ℕ → List (List ℕ) → Type 0
+ArePlaceTexts count labels bound texts = (length texts ≡ count) × All (IsPlaceText labels bound) texts
+
+-- the text spells a place below the bound
+abbrev pub SpellsPlace : ℕ → ℕ → List ℕ → Type 0
+SpellsPlace labels bound text = (place : ℕ) × (place < bound) × (text ≡ place_word labels place)
+
+-- whether each text spells a place below the bound, and then which
+abbrev pub SpellPlaces : ℕ → ℕ → List (List ℕ) → Bool → List ℕ → Type 0
+SpellPlaces labels bound texts true places = All (λ place. place < bound) places × (texts ≡ map (place_word labels) places)
+SpellPlaces labels bound texts false places = All (SpellsPlace labels bound) texts → ⊥
+
+-- A text of this form was taken, with the place that it spells, if it does; nothing only where there is none.
+abbrev pub TakesPlace : ℕ → ℕ → Option (Option ℕ) → List ℕ → List ℕ → Type 0
+TakesPlace labels bound None old new = (text more : List ℕ) → IsPlaceText labels bound text → NoDigit more → old ≢ text ++ more
+TakesPlace labels bound (Some place) old new =
+    (text : List ℕ) × IsPlaceText labels bound text × (old ≡ text ++ new) × NoDigit new
+    × MatchOption place (SpellsPlace labels bound text → ⊥) (λ p. (p < bound) × (text ≡ place_word labels p))
+
+-- The same for texts with a space before each.
+abbrev pub TakesPlaces : ℕ → ℕ → ℕ → Option (Bool × List ℕ) → List ℕ → List ℕ → Type 0
+TakesPlaces count labels bound None old new = (texts : List (List ℕ)) (more : List ℕ) → ArePlaceTexts count labels bound texts → NoDigit more → old ≢ spaced_texts texts ++ more
+TakesPlaces count labels bound (Some (are, places)) old new =
+    (texts : List (List ℕ)) × ArePlaceTexts count labels bound texts × (old ≡ spaced_texts texts ++ new) × NoDigit new × SpellPlaces labels bound texts are places
