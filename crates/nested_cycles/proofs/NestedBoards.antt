@@ -1,10 +1,11 @@
 -- The nested board of its parts.
-use Rattle.std.proofs.Common.{◌≡◌, ◌⊎◌, ℕ, zero, suc, ◌-◌, ◌*◌, ◌^◌, ◌<◌, ◌≤◌, List, [], ◌∷◌, take, replicate, AllPairs, Contains, refl, sym, ap, ◌∙◌, subst, arith, inl, inr}
+use Rattle.std.proofs.Common.{◌≡◌, ◌⊎◌, ℕ, zero, suc, ◌+◌, ◌-◌, ◌*◌, ◌^◌, ◌<◌, ◌≤◌, List, [], ◌∷◌, take, replicate, AllPairs, Contains, refl, sym, ap, ◌∙◌, subst, arith, inl, inr}
 use Rattle.std.proofs.Math.Nat.{pow-le-pow_right, one-le-pow}
 use Rattle.std.proofs.lemmas.List.{length-replicate, take-replicate}
 use Rattle.std.proofs.lemmas.List.Elements.{All-replicate, All-contains}
 use Rattle.board_text.specs.Ranges.{InRange}
 use Rattle.board_text.specs.PlainBoard.{PlainBoard, plain_board, IsBoard, AreLabels, Precedes}
+use Rattle.board_text.proofs.Places.{board_from_parts}
 use Rattle.nested_cycles.specs.Domination.{labels_of}
 use Rattle.nested_cycles.specs.Pairs.{AreNestedPairs}
 use Rattle.nested_cycles.specs.NestedBoard.{IsNestedBoard}
@@ -50,15 +51,9 @@ pub parts_are : (levels pebbles labels : ℕ) (start : List ℕ) (pairs : List (
 parts_are levels pebbles labels start pairs parts =
     let few = few_labels levels parts.level.1 in
     let some = some_labels levels in
-    record {
-      labels = (omega (arith, parts.labels_are, some), omega (arith, parts.labels_are, few));
-      pebbles = parts.pebbles_in_range;
-      start = record {
-        each_pebble = rw parts.start_is (length-replicate pebbles 0);
-        each_label = rw parts.start_is (All-replicate (λ label. label < labels) pebbles 0 (omega (arith, parts.labels_are, some)));
-      };
-      pairs = rw parts.labels_are (are_pairs levels (labels * labels) pairs parts.pairs_are);
-    }
+    board_from_parts labels pebbles start pairs (omega (arith, parts.labels_are, some), omega (arith, parts.labels_are, few)) parts.pebbles_in_range
+    (rw parts.start_is (length-replicate pebbles 0), rw parts.start_is (All-replicate (λ place. place < labels + 1) pebbles 0 (omega arith)))
+    (rw parts.labels_are (are_pairs levels (labels * labels) pairs parts.pairs_are))
 
 pub is_nested : (levels pebbles labels : ℕ) (start : List ℕ) (pairs : List (ℕ × ℕ)) → Parts levels pebbles labels start pairs → IsNestedBoard levels pebbles (plain_board labels pebbles start pairs)
 is_nested levels pebbles labels start pairs parts = record {
