@@ -6,7 +6,7 @@ use Rattle.std.proofs.lemmas.Nat.{div-mul-add, mod-mul-add, mul-add-lt, div_belo
 use Rattle.std.proofs.lemmas.List.{take-append-drop, set_split, set-get_or, take_at, drop_at, drop-drop, length-take-le, get_or-set_other}
 use Rattle.std.proofs.lemmas.List.Edits.{length-insert, length-remove, get_or-insert_at, get_or-insert_below, get_or-insert_above}
 use Rattle.std.proofs.lemmas.List.Elements.{All-take, All-drop, All-append, All-cons, All-from_get_or, All-get_or}
-use Rattle.board_text.specs.PlainBoard.{PlainBoard, IsConfiguration, IsAntisymmetric, Beats, places}
+use Rattle.board_text.specs.PlainBoard.{PlainBoard, IsConfiguration, IsAntisymmetric, BeatsPlace, places}
 use Rattle.positions.specs.Game.{Legal, Dominates, moved}
 use Rattle.positions.specs.Ranks.{number_of, digits_of}
 use Rattle.positions.specs.Gaps.{gaps_each, gaps, gap_of, pebble_of, others_of, member_of, IsAnswer, IsDominator}
@@ -51,8 +51,8 @@ others_at board configuration pebble is inside =
     record {
       size = omega (arith, length-remove configuration pebble within);
       below = All-append (λ label. label < places board) (take pebble configuration) (drop (suc pebble) configuration)
-          (All-take (λ label. label < places board) pebble configuration is.each_label)
-          (All-drop (λ label. label < places board) (suc pebble) configuration is.each_label);
+          (All-take (λ label. label < places board) pebble configuration is.each_place)
+          (All-drop (λ label. label < places board) (suc pebble) configuration is.each_place);
     }
 
 others_below : (board : PlainBoard) (labels : List ℕ) → AreOthers board labels → number_of (places board) labels < gaps_each board
@@ -131,7 +131,7 @@ member_is board gap label below low =
     let longer : length (insert others pebble label) ≡ length others + 1 = length-insert others pebble label (has_place board gap below) in
     record {
       each_pebble = omega arith;
-      each_label = All-append (λ l. l < places board) (take pebble others) (label ∷ drop pebble others)
+      each_place = All-append (λ l. l < places board) (take pebble others) (label ∷ drop pebble others)
           (All-take (λ l. l < places board) pebble others are.below)
           (All-cons (λ l. l < places board) label (drop pebble others) low (All-drop (λ l. l < places board) pebble others are.below));
     }
@@ -156,12 +156,12 @@ legal_after_move board configuration pebble old label = (
   λ legal. record {
     is_label = legal.is_label;
     dominates = λ other below differs.
-        subst (Beats board label) (sym (get_or-set_other configuration pebble other old 0 differs)) (legal.dominates other below differs);
+        subst (BeatsPlace board label) (sym (get_or-set_other configuration pebble other old 0 differs)) (legal.dominates other below differs);
   },
   λ legal. record {
     is_label = legal.is_label;
     dominates = λ other below differs.
-        subst (Beats board label) (get_or-set_other configuration pebble other old 0 differs) (legal.dominates other below differs);
+        subst (BeatsPlace board label) (get_or-set_other configuration pebble other old 0 differs) (legal.dominates other below differs);
   },
 )
 
@@ -177,26 +177,26 @@ legal_is_answer board configuration pebble label is inside =
           (subst (λ (p : ℕ). Legal board (member_of board (gap_of board configuration pebble) label) p label) same answer)),
     )
 
--- an answer is a label that beats the labels of all other pebbles
+-- an answer is a label that beats the places of all other pebbles
 pub answer_beats_others : (board : PlainBoard) (gap label : ℕ) → gap < gaps board
-    → IsAnswer board gap label ↔ ((label < board.labels) × All (Beats board label) (others_of board gap))
+    → IsAnswer board gap label ↔ ((label < board.labels) × All (BeatsPlace board label) (others_of board gap))
 answer_beats_others board gap label below = (
   λ answer. (
     answer.is_label,
-    All-from_get_or (Beats board label) others 0 (λ k inside. elim (cases_lt k pebble) [
-      | inl before ↦ subst (Beats board label) (get_or-insert_below others pebble label 0 k before place) (answer.dominates k (omega (arith, size)) (omega arith))
-      | inr behind ↦ subst (Beats board label) (get_or-insert_above others pebble label 0 k behind place) (answer.dominates (k + 1) (omega (arith, size)) (omega arith))
+    All-from_get_or (BeatsPlace board label) others 0 (λ k inside. elim (cases_lt k pebble) [
+      | inl before ↦ subst (BeatsPlace board label) (get_or-insert_below others pebble label 0 k before place) (answer.dominates k (omega (arith, size)) (omega arith))
+      | inr behind ↦ subst (BeatsPlace board label) (get_or-insert_above others pebble label 0 k behind place) (answer.dominates (k + 1) (omega (arith, size)) (omega arith))
     ]),
   ),
   λ all. record {
     is_label = all.0;
     dominates = λ other inside differs. elim (cases_lt other pebble) [
-      | inl before ↦ subst (Beats board label) (sym (get_or-insert_below others pebble label 0 other before place))
-          (All-get_or (Beats board label) others other 0 (omega (arith, size, place)) all.1)
+      | inl before ↦ subst (BeatsPlace board label) (sym (get_or-insert_below others pebble label 0 other before place))
+          (All-get_or (BeatsPlace board label) others other 0 (omega (arith, size, place)) all.1)
       | inr behind ↦
           let one_more : other - 1 + 1 ≡ other = omega arith in
-          subst (Beats board label) (sym (get_or-insert_above others pebble label 0 (other - 1) (omega arith) place) ∙ ap (λ (k : ℕ). get_or (insert others pebble label) k 0) one_more)
-          (All-get_or (Beats board label) others (other - 1) 0 (omega (arith, size, place)) all.1)
+          subst (BeatsPlace board label) (sym (get_or-insert_above others pebble label 0 (other - 1) (omega arith) place) ∙ ap (λ (k : ℕ). get_or (insert others pebble label) k 0) one_more)
+          (All-get_or (BeatsPlace board label) others (other - 1) 0 (omega (arith, size, place)) all.1)
     ];
   },
 )
@@ -213,20 +213,26 @@ answer_beats_others board gap label below = (
     size : length others ≡ board.pebbles - 1
     size = (others_of_gap board gap below).size
 
+-- at the member that an answer leads to, the gap's pebble dominates
+answer_dominates : (board : PlainBoard) (gap label : ℕ) → gap < gaps board → IsAnswer board gap label → IsDominator board (member_of board gap label) (pebble_of board gap)
+answer_dominates board gap label below answer =
+    let held = label_of_member board gap label below in
+    record {
+      is_pebble = pebble_below board gap below;
+      has_label = subst (λ l. l < board.labels) (sym held) answer.is_label;
+      dominates = subst (Dominates board (member_of board gap label) (pebble_of board gap)) (sym held) answer.dominates;
+    }
+
 -- a configuration is an answer's member of one gap at most
 pub one_gap : (board : PlainBoard) (first second one other : ℕ) → IsAntisymmetric board → first < gaps board → second < gaps board
     → IsAnswer board first one → IsAnswer board second other → member_of board first one ≡ member_of board second other → first ≡ second
 one_gap board first second one other antisymmetric first_is second_is answer other_answer same =
     let c : List ℕ = member_of board first one in
-    let label = label_of_member board first one first_is in
-    let other_label = label_of_member board second other second_is in
-    let dominates : Dominates board c (pebble_of board first) (get_or c (pebble_of board first) 0) =
-    subst (Dominates board c (pebble_of board first)) (sym label) answer.dominates in
-    let also : Dominates board c (pebble_of board second) (get_or c (pebble_of board second) 0) =
-    subst (λ (d : List ℕ). Dominates board d (pebble_of board second) (get_or d (pebble_of board second) 0)) (sym same)
-    (subst (Dominates board (member_of board second other) (pebble_of board second)) (sym other_label) other_answer.dominates) in
+    let dominates : IsDominator board c (pebble_of board first) = answer_dominates board first one first_is answer in
+    let also : IsDominator board c (pebble_of board second) =
+    subst (λ (d : List ℕ). IsDominator board d (pebble_of board second)) (sym same) (answer_dominates board second other second_is other_answer) in
     let pebbles : pebble_of board first ≡ pebble_of board second =
-    same_dominator board c (pebble_of board first) (pebble_of board second) antisymmetric (pebble_below board first first_is) (pebble_below board second second_is) dominates also in
+    same_dominator board c (pebble_of board first) (pebble_of board second) antisymmetric dominates also in
     sym (gap_of-member_of board first one first_is)
     ∙ ap (λ (d : List ℕ). gap_of board d (pebble_of board first)) same
     ∙ ap (gap_of board (member_of board second other)) pebbles
@@ -236,11 +242,7 @@ one_gap board first second one other antisymmetric first_is second_is answer oth
 pub dominator_is_answer : (board : PlainBoard) (configuration : List ℕ) (pebble : ℕ) → IsConfiguration board configuration → pebble < board.pebbles
     → IsDominator board configuration pebble ↔ IsAnswer board (gap_of board configuration pebble) (get_or configuration pebble 0)
 dominator_is_answer board configuration pebble is inside =
-    let legal = legal_is_answer board configuration pebble (get_or configuration pebble 0) is inside in
-    let within : pebble < length configuration = omega (arith, is.each_pebble) in (
-      λ dominator. legal.0 (record {
-        is_label = All-get_or (λ label. label < places board) configuration pebble 0 within is.each_label;
-        dominates = dominator.dominates;
-      }),
-      λ answer. record { is_pebble = inside; dominates = (legal.1 answer).dominates },
+    let legal = legal_is_answer board configuration pebble (get_or configuration pebble 0) is inside in (
+      λ dominator. legal.0 (record { is_label = dominator.has_label; dominates = dominator.dominates }),
+      λ answer. record { is_pebble = inside; has_label = (legal.1 answer).is_label; dominates = (legal.1 answer).dominates },
     )

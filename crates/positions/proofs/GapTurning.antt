@@ -2,6 +2,7 @@
 use Rattle.std.proofs.Common.{◌≡◌, ℕ, ◌+◌, ◌-◌, ◌*◌, ◌/◌, ◌%◌, ◌^◌, ◌<◌, ◌≤◌, List, get_or, refl, sym, ap, ◌∙◌, subst, arith, mod-lt, mul-le-mul_right}
 use Rattle.std.proofs.Math.Nat.{pow-le-pow_right}
 use Rattle.board_text.specs.PlainBoard.{PlainBoard, places}
+use Rattle.board_text.proofs.Places.{some_places}
 use Rattle.positions.specs.Ranks.{configurations, rank_of, configuration_at}
 use Rattle.positions.specs.Gaps.{gaps_each, gaps, gap_of, pebble_of, others_of, member_of}
 use Rattle.positions.specs.Weights.{AreNumbersOf, weight_of}
@@ -22,7 +23,7 @@ first_weight board base weights are =
 pub gaps_few : {labels pebbles size : ℕ} {words : List ℕ} (board : PlainBoard) (base : ℕ) (weights : List ℕ)
     → AreNumbersOf board labels pebbles base size weights words → gaps board ≤ 6291456
 gaps_few board base weights are =
-    let most : gaps_each board ≤ configurations board = pow-le-pow_right are.is_board.labels.0 (omega arith) in
+    let most : gaps_each board ≤ configurations board = pow-le-pow_right (some_places board are.is_board) (omega arith) in
     let few : configurations board ≤ 1048576 = are.few in
     let product : board.pebbles * gaps_each board ≤ 6 * gaps_each board = mul-le-mul_right (gaps_each board) are.is_board.pebbles.1 in
     omega arith

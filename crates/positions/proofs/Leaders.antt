@@ -1,7 +1,7 @@
 -- Of the pebbles up to one, at most one can dominate all others.
 use Rattle.std.proofs.Common.{◌≡◌, ◌≢◌, ℕ, ◌+◌, ◌<◌, get_or, sym, subst, inl, inr, arith}
 use Rattle.std.proofs.lemmas.Bool.{cases_eq}
-use Rattle.board_text.specs.PlainBoard.{PlainBoard, Beats, IsAntisymmetric}
+use Rattle.board_text.specs.PlainBoard.{PlainBoard, BeatsPlace, IsAntisymmetric}
 use Rattle.positions.specs.Game.{Legal}
 use Rattle.positions.specs.Ranks.{configuration_at}
 use Rattle.positions.specs.Gaps.{IsDominator}
@@ -21,27 +21,27 @@ first_leads board rank label is = record {
   only = λ other low differs dominator. differs (omega arith);
 }
 
--- the leader's label beats that of the next pebble
+-- the leader's label beats what the next pebble holds
 pub still_leads : (board : PlainBoard) (rank count leader label next : ℕ) → IsAntisymmetric board → count < board.pebbles
-    → next ≡ get_or (configuration_at board rank) count 0 → Beats board label next → IsLeader board rank count leader label
+    → next ≡ get_or (configuration_at board rank) count 0 → label < board.labels → BeatsPlace board label next → IsLeader board rank count leader label
     → IsLeader board rank (count + 1) leader label
-still_leads board rank count leader label next one_way inside is beats leads =
+still_leads board rank count leader label next one_way inside is is_label beats leads =
     let first : leader < count = leads.first in record {
       first = omega arith;
       held = leads.held;
       only = λ other low differs dominator. elim (cases_eq other count) [
         | inl same ↦
             let dominates = subst (λ p. IsDominator board (configuration_at board rank) p) same dominator in
-            one_way label next beats
-            (subst (λ l. Beats board next l) (sym leads.held) (subst (λ l. Beats board l (get_or (configuration_at board rank) leader 0)) (sym is)
-            (dominates.dominates leader (omega arith) (omega arith))))
+            one_way label next (beats (subst (λ l. l < board.labels) (sym is) dominates.has_label))
+            (subst (λ l. BeatsPlace board next l) (sym leads.held) (subst (λ l. BeatsPlace board l (get_or (configuration_at board rank) leader 0)) (sym is)
+            (dominates.dominates leader (omega arith) (omega arith))) is_label)
         | inr other_one ↦ leads.only other (omega arith) differs dominator
       ];
     }
 
--- the leader's label does not beat that of the next pebble
+-- the leader holds no label that beats what the next pebble holds
 pub next_leads : (board : PlainBoard) (rank count leader label next : ℕ) → count < board.pebbles
-    → next ≡ get_or (configuration_at board rank) count 0 → (Beats board label next → ⊥) → IsLeader board rank count leader label
+    → next ≡ get_or (configuration_at board rank) count 0 → (label < board.labels → BeatsPlace board label next → ⊥) → IsLeader board rank count leader label
     → IsLeader board rank (count + 1) count next
 next_leads board rank count leader label next inside is fails leads =
     let first : leader < count = leads.first in record {
@@ -50,7 +50,8 @@ next_leads board rank count leader label next inside is fails leads =
       only = λ other low differs dominator. elim (cases_eq other leader) [
         | inl same ↦
             let dominates = subst (λ p. IsDominator board (configuration_at board rank) p) same dominator in
-            fails (subst (λ l. Beats board label l) (sym is) (subst (λ l. Beats board l (get_or (configuration_at board rank) count 0)) (sym leads.held)
+            fails (subst (λ l. l < board.labels) (sym leads.held) dominates.has_label)
+            (subst (λ l. BeatsPlace board label l) (sym is) (subst (λ l. BeatsPlace board l (get_or (configuration_at board rank) count 0)) (sym leads.held)
             (dominates.dominates count inside (omega arith))))
         | inr other_one ↦ leads.only other (omega arith) other_one dominator
       ];
@@ -62,7 +63,8 @@ pub leader_dominates : (board : PlainBoard) (rank leader label : ℕ) → IsLead
 leader_dominates board rank leader label leads legal = (
   record {
     is_pebble = leads.first;
-    dominates = subst (λ l. (other : ℕ) → other < board.pebbles → other ≢ leader → Beats board l (get_or (configuration_at board rank) other 0)) leads.held legal.dominates;
+    has_label = subst (λ l. l < board.labels) leads.held legal.is_label;
+    dominates = subst (λ l. (other : ℕ) → other < board.pebbles → other ≢ leader → BeatsPlace board l (get_or (configuration_at board rank) other 0)) leads.held legal.dominates;
   },
   λ other dominator. elim (cases_eq other leader) [
     | inl same ↦ omega arith
@@ -70,14 +72,14 @@ leader_dominates board rank leader label leads legal = (
   ],
 )
 
-pub none_dominates : (board : PlainBoard) (rank leader label : ℕ) → label < board.labels → IsLeader board rank board.pebbles leader label
+pub none_dominates : (board : PlainBoard) (rank leader label : ℕ) → IsLeader board rank board.pebbles leader label
     → (Legal board (configuration_at board rank) leader label → ⊥) → IsSmallest (IsDominator board (configuration_at board rank)) None
-none_dominates board rank leader label low leads fails = λ other dominator. elim (cases_eq other leader) [
+none_dominates board rank leader label leads fails = λ other dominator. elim (cases_eq other leader) [
   | inl same ↦
       let dominates = subst (λ p. IsDominator board (configuration_at board rank) p) same dominator in
       fails (record {
-        is_label = low;
-        dominates = subst (λ l. (q : ℕ) → q < board.pebbles → q ≢ leader → Beats board l (get_or (configuration_at board rank) q 0)) (sym leads.held) dominates.dominates;
+        is_label = subst (λ l. l < board.labels) (sym leads.held) dominates.has_label;
+        dominates = subst (λ l. (q : ℕ) → q < board.pebbles → q ≢ leader → BeatsPlace board l (get_or (configuration_at board rank) q 0)) (sym leads.held) dominates.dominates;
       })
   | inr differs ↦ leads.only other dominator.is_pebble differs dominator
 ]

@@ -4,6 +4,7 @@ use Rattle.std.proofs.Math.Nat.{one-le-pow, pow-le-pow_right}
 use Rattle.std.proofs.lemmas.List.{take_more, length-take-le, take_all}
 use Rattle.std.proofs.lemmas.List.Elements.{All-take}
 use Rattle.board_text.specs.PlainBoard.{PlainBoard, IsConfiguration, places}
+use Rattle.board_text.proofs.Places.{some_places}
 use Rattle.positions.specs.Game.{moved}
 use Rattle.positions.specs.Ranks.{number_of, configurations, rank_of, configuration_at}
 use Rattle.positions.specs.Weights.{AreNumbersOf}
@@ -16,7 +17,7 @@ use Rattle.positions.proofs.Ranks.{rank_of-configuration_at, configuration_at_is
 pub weight_positive : {labels pebbles size : ℕ} {words : List ℕ} (board : PlainBoard) (base : ℕ) (weights : List ℕ) (pebble : ℕ)
     → AreNumbersOf board labels pebbles base size weights words → pebble < board.pebbles → 0 < get_or weights pebble 0
 weight_positive board base weights pebble are inside =
-    subst (λ w. 0 < w) (sym (are.weighs pebble inside)) (one-le-pow (board.pebbles - 1 - pebble) (places board) are.is_board.labels.0)
+    subst (λ w. 0 < w) (sym (are.weighs pebble inside)) (one-le-pow (board.pebbles - 1 - pebble) (places board) (some_places board are.is_board))
 
 -- the parts of a rank by a pebble, with its weight
 pub rank_parts : {labels pebbles size : ℕ} {words : List ℕ} (board : PlainBoard) (base : ℕ) (weights : List ℕ) (rank pebble : ℕ)
@@ -25,7 +26,7 @@ pub rank_parts : {labels pebbles size : ℕ} {words : List ℕ} (board : PlainBo
 rank_parts board base weights rank pebble are below inside =
     let is = configuration_at_is board rank below in
     subst (λ w. Parts (places board) (configuration_at board rank) pebble w) (sym (are.weighs pebble inside))
-    (parts_at (places board) (configuration_at board rank) pebble board.pebbles is.each_label is.each_pebble inside)
+    (parts_at (places board) (configuration_at board rank) pebble board.pebbles is.each_place is.each_pebble inside)
 
 -- the label of a pebble
 pub held_is : {labels pebbles size : ℕ} {words : List ℕ} (board : PlainBoard) (base : ℕ) (weights : List ℕ) (rank pebble : ℕ)
@@ -46,7 +47,7 @@ pub record IsWith (board : PlainBoard) (base : ℕ) (weight rank pebble label : 
   pub few : rank - rank / weight % base * weight + label * weight ≤ 1048576
 
 pub with_label : {labels pebbles size : ℕ} {words : List ℕ} (board : PlainBoard) (base : ℕ) (weights : List ℕ) (rank pebble label : ℕ)
-    → AreNumbersOf board labels pebbles base size weights words → rank < configurations board → pebble < board.pebbles → label < places board
+    → AreNumbersOf board labels pebbles base size weights words → rank < configurations board → pebble < board.pebbles → label < board.labels
     → IsWith board base (get_or weights pebble 0) rank pebble label
 with_label board base weights rank pebble label are below inside low =
     let held : ℕ = get_or (configuration_at board rank) pebble 0 in
@@ -76,7 +77,7 @@ pub rank_rest_next : {labels pebbles size : ℕ} {words : List ℕ} (board : Pla
     → AreNumbersOf board labels pebbles base size weights words → place < board.pebbles → IsRankRest board rank place rest
     → IsNextRest (places board) board.pebbles (configuration_at board rank) place (rest / get_or weights place 0) (rest % get_or weights place 0)
 rank_rest_next board base weights rank place rest are inside is =
-    rest_next (places board) board.pebbles (configuration_at board rank) place rest (get_or weights place 0) are.is_board.labels.0
+    rest_next (places board) board.pebbles (configuration_at board rank) place rest (get_or weights place 0) (some_places board are.is_board)
     (length-digits_of (places board) board.pebbles rank) inside (are.weighs place inside) is
 
 -- ---- the rank of a list, label by label
@@ -94,7 +95,7 @@ pub front_more : {labels pebbles size : ℕ} {words : List ℕ} (board : PlainBo
     → IsFrontNumber board configuration index number → IsNextFront board configuration index (number * base + get_or configuration index 0)
 front_more board base weights configuration index number are is inside front =
     let label : ℕ = get_or configuration index 0 in
-    let some : 1 ≤ places board = are.is_board.labels.0 in
+    let some : 1 ≤ places board = some_places board are.is_board in
     let front_list : List ℕ = take (index + 1) configuration in
     let longer : front_list ≡ take index configuration ++ label ∷ [] = take_more configuration index 0 inside in
     let same : number * base + label ≡ number_of (places board) front_list =
@@ -103,7 +104,7 @@ front_more board base weights configuration index number are is inside front =
     ∙ sym (ap (number_of (places board)) longer ∙ number_of-push (places board) (take index configuration) label) in
     let short : length front_list ≡ index + 1 = length-take-le (index + 1) configuration (omega arith) in
     let low : number_of (places board) front_list < places board ^ length front_list =
-    number_below (places board) front_list (All-take (λ l. l < places board) (index + 1) configuration is.each_label) in
+    number_below (places board) front_list (All-take (λ l. l < places board) (index + 1) configuration is.each_place) in
     let long : length front_list ≤ board.pebbles = omega (arith, is.each_pebble) in
     let most : places board ^ length front_list ≤ configurations board = pow-le-pow_right some long in
     let few : configurations board ≤ 1048576 = are.few in

@@ -4,6 +4,7 @@ use Rattle.std.proofs.Math.Nat.{pow-suc, pow-le-pow_right}
 use Rattle.std.proofs.lemmas.Bool.{cases_eq}
 use Rattle.std.proofs.lemmas.List.{length-set, get_or-set_same, get_or-set_other}
 use Rattle.board_text.specs.PlainBoard.{PlainBoard, IsBoard, places}
+use Rattle.board_text.proofs.Places.{some_places}
 use Rattle.positions.specs.Ranks.{configurations}
 use Rattle.positions.specs.Weights.{weight_of}
 
@@ -43,7 +44,7 @@ pub too_large : (board : PlainBoard) (weights : List ℕ) (pebble next : ℕ) �
     → IsWeighed board weights (pebble + 1) next → 1048576 < configurations board
 too_large board weights pebble next is inside large weighed =
     let power : next * places board ≡ places board ^ (board.pebbles - pebble) = next_power board pebble next inside weighed.power in
-    let most : places board ^ (board.pebbles - pebble) ≤ configurations board = pow-le-pow_right is.labels.0 (omega arith) in
+    let most : places board ^ (board.pebbles - pebble) ≤ configurations board = pow-le-pow_right (some_places board is) (omega arith) in
     omega arith
 
 pub all_weighed : (board : PlainBoard) (weights : List ℕ) (pebble next : ℕ) → pebble ≡ 0 → IsWeighed board weights pebble next → next ≡ configurations board

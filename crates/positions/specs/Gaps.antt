@@ -1,4 +1,4 @@
--- Gaps: a pebble, with labels for all other pebbles.
+-- Gaps: a pebble, with places for all other pebbles.
 use Rattle.std.specs.Prelude.{ℕ, ◌+◌, ◌-◌, ◌*◌, ◌/◌, ◌%◌, ◌^◌, ◌<◌, List, slice_index}
 use Rattle.std.specs.List.{remove, insert}
 use Rattle.board_text.specs.PlainBoard.{PlainBoard, places}
@@ -13,7 +13,7 @@ gaps_each board = places board ^ (board.pebbles - 1)
 abbrev pub gaps : PlainBoard → ℕ
 gaps board = board.pebbles * gaps_each board
 
--- the gap of a pebble at a configuration: behind the pebble, the other pebbles' labels, in order, read in base V
+-- the gap of a pebble at a configuration: behind the pebble, the other pebbles' places, in order, read in base `places`
 abbrev pub gap_of : PlainBoard → List ℕ → ℕ → ℕ
 gap_of board configuration pebble = pebble * gaps_each board + number_of (places board) (remove configuration pebble)
 
@@ -21,19 +21,20 @@ gap_of board configuration pebble = pebble * gaps_each board + number_of (places
 abbrev pub pebble_of : PlainBoard → ℕ → ℕ
 pebble_of board gap = gap / gaps_each board
 
--- the labels of the other pebbles
+-- the places of the other pebbles
 abbrev pub others_of : PlainBoard → ℕ → List ℕ
 others_of board gap = digits_of (places board) (board.pebbles - 1) (gap % gaps_each board)
 
--- the member of a gap that has the label in the place of its pebble
+-- the member of a gap that has this place for its pebble
 abbrev pub member_of : PlainBoard → ℕ → ℕ → List ℕ
-member_of board gap label = insert (others_of board gap) (pebble_of board gap) label
+member_of board gap place = insert (others_of board gap) (pebble_of board gap) place
 
 -- the label may answer a request of the gap's pebble at the gap's members
 abbrev pub IsAnswer : PlainBoard → ℕ → ℕ → Type 0
 IsAnswer board gap label = Legal board (member_of board gap label) (pebble_of board gap) label
 
--- the pebble dominates all others at the configuration
+-- the pebble holds a label that dominates all others at the configuration
 pub record IsDominator (board : PlainBoard) (configuration : List ℕ) (pebble : ℕ) : Type 0 where
   pub is_pebble : pebble < board.pebbles
+  pub has_label : slice_index configuration pebble < board.labels
   pub dominates : Dominates board configuration pebble (slice_index configuration pebble)

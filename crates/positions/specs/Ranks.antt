@@ -2,10 +2,10 @@
 use Rattle.std.specs.Prelude.{◌≡◌, ℕ, zero, suc, ◌+◌, ◌*◌, ◌/◌, ◌%◌, ◌^◌, ◌<◌, List, [], ◌∷◌, length, take, slice_index}
 use Rattle.board_text.specs.PlainBoard.{PlainBoard, places}
 
--- the labels read in a base, the first most significant
+-- the places read in a base, the first most significant
 abbrev pub number_of : ℕ → List ℕ → ℕ
 number_of base [] = 0
-number_of base (label ∷ others) = label * base ^ length others + number_of base others
+number_of base (place ∷ others) = place * base ^ length others + number_of base others
 
 -- so many digits of a number in a base, the most significant first
 abbrev pub digits_of : ℕ → ℕ → ℕ → List ℕ
@@ -16,7 +16,7 @@ digits_of base (suc count) number = number / base ^ count ∷ digits_of base cou
 abbrev pub configurations : PlainBoard → ℕ
 configurations board = places board ^ board.pebbles
 
--- the rank of a configuration: its labels read in base V, pebble 0 most significant
+-- the rank of a configuration: its places read in base `places`, pebble 0 most significant
 abbrev pub rank_of : PlainBoard → List ℕ → ℕ
 rank_of board configuration = number_of (places board) configuration
 

@@ -4,7 +4,7 @@ use Rattle.board_text.specs.PlainBoard.{PlainBoard, IsBoard, places}
 use Rattle.board_text.specs.Domination.{has_bit}
 use Rattle.positions.specs.Ranks.{configurations}
 
--- what one step of a pebble's label adds to a rank
+-- what one step of a pebble's place adds to a rank
 abbrev pub weight_of : PlainBoard → ℕ → ℕ
 weight_of board pebble = places board ^ (board.pebbles - 1 - pebble)
 
@@ -15,6 +15,7 @@ pub record AreNumbersOf (board : PlainBoard) (labels pebbles base size : ℕ) (w
   pub labels_is : labels ≡ board.labels
   pub pebbles_is : pebbles ≡ board.pebbles
   pub base_is : base ≡ places board
+  pub base_few : base ≤ 257
   pub size_is : size ≡ configurations board
   pub weighs : (pebble : ℕ) → pebble < board.pebbles → slice_index weights pebble ≡ weight_of board pebble
   pub each_label : (label : ℕ) → label < 256 → (has_bit words label ≡ true) ↔ (label < board.labels)

@@ -3,7 +3,8 @@
 ghost use Rattle.std.specs.Prelude.{◌≡◌, ◌≢◌, ℕ, suc, ◌<◌, ◌≤◌, ◌↔◌, List, slice_index};
 ghost use Rattle.board_text.specs.PlainBoard.{PlainBoard, IsAntisymmetric, IsConfiguration};
 ghost use Rattle.positions.specs.declared.value.Value.{Value as Worth};
-ghost use Rattle.positions.specs.Game.{LabellerTree, AdversaryTree, Dominates};
+ghost use Rattle.positions.specs.Game.{LabellerTree, AdversaryTree};
+ghost use Rattle.positions.specs.Gaps.{IsDominator};
 ghost use Rattle.positions.specs.Value.{HasValue, HasValueAtMost};
 ghost use Rattle.positions.specs.Table.{AnswerRow, RequestRow, Answers, IsClosed, IsListed, StopsAfter};
 ghost use Rattle.positions.specs.declared.claim.Claim.{Claim as Assertion};
@@ -49,15 +50,12 @@ pub fn values_occur()
     ensures smaller { (board : PlainBoard) → (less : ℕ) → (more : ℕ) → less ≤ more → Occurs board more → Occurs board less }
 {}
 
-/// At most one pebble dominates all others, and a lone one does.
+/// At most one pebble dominates all others, and a lone one does where it holds a label.
 pub fn one_dominator()
     ensures several { (board : PlainBoard) → (configuration : List ℕ) → (first : ℕ) → (second : ℕ) → IsAntisymmetric board
-        → first < board.pebbles → second < board.pebbles
-        → Dominates board configuration first (slice_index configuration first)
-        → Dominates board configuration second (slice_index configuration second)
-        → first ≡ second }
-    ensures lone { (board : PlainBoard) → (configuration : List ℕ) → (label : ℕ) → board.pebbles ≡ 1
-        → Dominates board configuration 0 label }
+        → IsDominator board configuration first → IsDominator board configuration second → first ≡ second }
+    ensures lone { (board : PlainBoard) → (configuration : List ℕ) → board.pebbles ≡ 1
+        → IsDominator board configuration 0 ↔ (slice_index configuration 0 < board.labels) }
 {}
 
 /// What tables show holds.

@@ -5,16 +5,16 @@ use Rattle.positions.proofs.Ranks.{rank_below}
 use Rattle.positions.proofs.Turning.{front_more, front_all}
 use Rattle.positions.proofs.space.Space.rank.Goals as goal
 
-pub loop-label-preserved : goal.loop-label-preserved
-loop-label-preserved c =
+pub loop-place-preserved : goal.loop-place-preserved
+loop-place-preserved c =
     let s = c.self.inside in
     let are = numbers c.args.self.now s c.self.view_is c.self.invariant in
-    (front_more c.args.self.now s.places s.weights c.args.configuration.now c.loop-label.label-index c.loop-label.rank are c.requires (omega arith) c.loop-label.invariant).front
+    (front_more c.args.self.now s.places s.weights c.args.configuration.now c.loop-place.place-index c.loop-place.rank are c.requires (omega arith) c.loop-place.invariant).front
 
 pub returns-clause-below : goal.returns-clause-below
 returns-clause-below c =
     let s = c.self.inside in
     let are = numbers c.args.self.now s c.self.view_is c.self.invariant in
-    let same = front_all c.args.self.now c.args.configuration.now c.loop-label.label-index c.loop-label.rank (omega arith) c.loop-label.invariant in
+    let same = front_all c.args.self.now c.args.configuration.now c.loop-place.place-index c.loop-place.rank (omega arith) c.loop-place.invariant in
     let low : rank_of c.args.self.now c.args.configuration.now < configurations c.args.self.now = rank_below c.args.self.now c.args.configuration.now c.requires in
     omega (arith, same)

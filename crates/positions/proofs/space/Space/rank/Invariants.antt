@@ -1,5 +1,5 @@
 use Rattle.positions.proofs.Turning.{IsFrontNumber}
 use Rattle.positions.proofs.space.Space.rank.Given as goal
 
-abbrev pub invariant-loop-label : goal.invariant-loop-label
-invariant-loop-label l = IsFrontNumber l.self l.configuration l.label-index l.rank
+abbrev pub invariant-loop-place : goal.invariant-loop-place
+invariant-loop-place l = IsFrontNumber l.self l.configuration l.place-index l.rank
