@@ -1,21 +1,24 @@
--- The game of a board on ranks is the game on lists of labels.
-use Rattle.std.proofs.Common.{◌≡◌, ℕ, ◌<◌, ◌↔◌, ◌==◌, ◌&&◌, inl, inr, true, false, zero, suc, refl, sym, ap, ◌∙◌, subst, arith, List, get_or}
+-- The game of a board on ranks is the game on lists of places.
+use Rattle.std.proofs.Common.{◌≡◌, ℕ, ◌<◌, ◌↔◌, ◌==◌, ◌&&◌, ◌||◌, not, nat_lt, Bool, inl, inr, true, false, zero, suc, refl, sym, ap, ◌∙◌, subst, arith, List, get_or}
+use Rattle.std.proofs.lemmas.Bool.{cases_lt, lt-ltb, ltb-true, le-ltb}
 use Rattle.std.proofs.lemmas.Bool.Decides.{nat_tests}
+use Rattle.std.specs.List.{list_all}
 use Rattle.std.proofs.lemmas.List.Elements.{All-from_get_or, All-get_or, All-weaker}
 use Rattle.std.proofs.lemmas.List.Folds.{list_any_at, list_any_none}
 use Rattle.std.proofs.lemmas.List.Sums.{AllPass-from_list_all, list_all-from_AllPass}
-use Rattle.board_text.specs.PlainBoard.{PlainBoard, IsBoard, IsConfiguration, Beats, places}
+use Rattle.board_text.specs.PlainBoard.{PlainBoard, IsBoard, IsConfiguration, Beats, BeatsPlace, places}
 use Rattle.positions.specs.declared.value.Value.TheVariants.{Finite}
 use Rattle.positions.specs.Game.{LabellerTree, AdversaryTree, moved}
 use Rattle.positions.specs.Value.{HasValue}
 use Rattle.positions.specs.Ranks.{configurations, rank_of, configuration_at}
 use Rattle.positions.specs.Gaps.{gaps, gap_of, pebble_of, others_of, member_of, IsAnswer, IsDominator}
+use Rattle.board_text.proofs.Places.{label_is_place}
 use Rattle.positions.proofs.Trees.{some_tree, not_both_trees}
 use Rattle.positions.proofs.BoundedSearch.{beats_or_not}
 use Rattle.positions.proofs.Ranks.{rank_below, rank_of-configuration_at, configuration_at-rank_of, configuration_at_is}
 use Rattle.positions.proofs.GapLaws.{gap_below, pebble_of-gap_of, member_of-gap_of, own_member, pebble_below, member_is, label_of_member, gap_of-member_of, legal_is_answer, answer_beats_others, one_gap}
 use Rattle.retro_core.specs.Arena.{IsArena, lasts, Dominant}
-use Rattle.retro_core.specs.BoardArena.{beats, answers, arena_of}
+use Rattle.retro_core.specs.BoardArena.{beats, beats_place, answers, arena_of}
 use Rattle.retro_core.proofs.Counts.{some_below, count_below-some}
 use Rattle.retro_core.proofs.Lasting.{both_true, and_true, true_or_false, true_not_false, next-gives, next-from, same_is}
 
@@ -45,37 +48,51 @@ beats_is b x y = (
   λ found. list_any_at (λ pair. pair.0 == x && pair.1 == y) b.pairs found.0 (x, y) found.1 (pair_test (get_or b.pairs found.0 (x, y)) (x, y) found.2),
 )
 
-pub answers_is : (b : PlainBoard) (g v : ℕ) → g < gaps b → v < b.labels → (answers b g v ≡ true) ↔ IsAnswer b g v
-answers_is b g v i j =
+pub beats_place_is : (b : PlainBoard) (label place : ℕ) → (beats_place b label place ≡ true) ↔ BeatsPlace b label place
+beats_place_is b label place = elim (cases_lt place b.labels) [
+  | inl held ↦ subst (λ (t : Bool). (not t || beats b label place ≡ true) ↔ BeatsPlace b label place) (sym (lt-ltb place b.labels held)) (
+    λ e _. (beats_is b label place).0 e,
+    λ beaten. (beats_is b label place).1 (beaten held),
+  )
+  | inr blank ↦ subst (λ (t : Bool). (not t || beats b label place ≡ true) ↔ BeatsPlace b label place) (sym (le-ltb place b.labels blank)) (
+    λ e held. absurd (omega arith),
+    λ beaten. refl,
+  )
+]
+
+pub answers_is : (b : PlainBoard) (g v : ℕ) → g < gaps b → (answers b g v ≡ true) ↔ IsAnswer b g v
+answers_is b g v i =
     let both = answer_beats_others b g v i in (
-      λ e. both.1 (j, All-weaker (λ y. beats b v y ≡ true) (Beats b v) (λ y h. (beats_is b v y).0 h) (others_of b g) (AllPass-from_list_all (beats b v) (others_of b g) e)),
-      λ answer. list_all-from_AllPass (beats b v) (others_of b g)
-          (All-weaker (Beats b v) (λ y. beats b v y ≡ true) (λ y h. (beats_is b v y).1 h) (others_of b g) (both.0 answer).1),
+      λ e.
+          let parts = both_true (nat_lt v b.labels) (list_all (beats_place b v) (others_of b g)) e in
+          both.1 (ltb-true v b.labels parts.0, All-weaker (λ y. beats_place b v y ≡ true) (BeatsPlace b v) (λ y h. (beats_place_is b v y).0 h) (others_of b g) (AllPass-from_list_all (beats_place b v) (others_of b g) parts.1)),
+      λ answer. and_true (nat_lt v b.labels) (list_all (beats_place b v) (others_of b g)) (lt-ltb v b.labels answer.is_label) (list_all-from_AllPass (beats_place b v) (others_of b g)
+          (All-weaker (BeatsPlace b v) (λ y. beats_place b v y ≡ true) (λ y h. (beats_place_is b v y).1 h) (others_of b g) (both.0 answer).1)),
     )
 
 -- ---- ranks and gaps
 
-pub label_below : (b : PlainBoard) (c : List ℕ) (p : ℕ) → IsConfiguration b c → p < b.pebbles → get_or c p 0 < b.labels
-label_below b c p is i = All-get_or (λ label. label < places b) c p 0 (omega (arith, is.each_pebble)) is.each_label
+pub place_below : (b : PlainBoard) (c : List ℕ) (p : ℕ) → IsConfiguration b c → p < b.pebbles → get_or c p 0 < places b
+place_below b c p is i = All-get_or (λ place. place < places b) c p 0 (omega (arith, is.each_pebble)) is.each_place
 
-pub at_member : (b : PlainBoard) (g v : ℕ) → g < gaps b → v < b.labels → configuration_at b (rank_of b (member_of b g v)) ≡ member_of b g v
+pub at_member : (b : PlainBoard) (g v : ℕ) → g < gaps b → v < places b → configuration_at b (rank_of b (member_of b g v)) ≡ member_of b g v
 at_member b g v i j = configuration_at-rank_of b (member_of b g v) (member_is b g v i j)
 
 pub arena_is : (b : PlainBoard) → IsBoard b → IsArena (arena_of b)
 arena_is b is = record {
   gap_in = λ c p i j. gap_below b (configuration_at b c) p (configuration_at_is b c i) j;
-  label_in = λ c p i j. label_below b (configuration_at b c) p (configuration_at_is b c i) j;
+  place_in = λ c p i j. place_below b (configuration_at b c) p (configuration_at_is b c i) j;
   pebble_in = λ g i. pebble_below b g i;
   member_in = λ g v i j. rank_below b (member_of b g v) (member_is b g v i j);
   gap_of_member = λ g v i j. ap (λ (c : List ℕ). gap_of b c (pebble_of b g)) (at_member b g v i j) ∙ gap_of-member_of b g v i;
-  label_of_member = λ g v i j. ap (λ (c : List ℕ). get_or c (pebble_of b g) 0) (at_member b g v i j) ∙ label_of_member b g v i;
+  place_of_member = λ g v i j. ap (λ (c : List ℕ). get_or c (pebble_of b g) 0) (at_member b g v i j) ∙ label_of_member b g v i;
   member_of_gap = λ c p i j. ap (rank_of b) (own_member b (configuration_at b c) p (configuration_at_is b c i) j) ∙ rank_of-configuration_at b c i;
   pebble_of_gap = λ c p i j. pebble_of-gap_of b (configuration_at b c) p (configuration_at_is b c i) j;
   one_dominator = λ c p q i j k e f.
       let at = configuration_at b c in
       let ok = configuration_at_is b c i in
-      let one = (answers_is b (gap_of b at p) (get_or at p 0) (gap_below b at p ok j) (label_below b at p ok j)).0 e in
-      let other = (answers_is b (gap_of b at q) (get_or at q 0) (gap_below b at q ok k) (label_below b at q ok k)).0 f in
+      let one = (answers_is b (gap_of b at p) (get_or at p 0) (gap_below b at p ok j)).0 e in
+      let other = (answers_is b (gap_of b at q) (get_or at q 0) (gap_below b at q ok k)).0 f in
       let same = one_gap b (gap_of b at p) (gap_of b at q) (get_or at p 0) (get_or at q 0) is.pairs.one_way (gap_below b at p ok j) (gap_below b at q ok k) one other
       (own_member b at p ok j ∙ sym (own_member b at q ok k)) in
       sym (pebble_of-gap_of b at p ok j) ∙ ap (pebble_of b) same ∙ pebble_of-gap_of b at q ok k;
@@ -84,7 +101,7 @@ arena_is b is = record {
 -- ---- trees
 
 -- the configuration that an answer of a gap leads to
-after_answer : (b : PlainBoard) (c p v : ℕ) → c < configurations b → p < b.pebbles → v < b.labels
+after_answer : (b : PlainBoard) (c p v : ℕ) → c < configurations b → p < b.pebbles → v < places b
     → configuration_at b (rank_of b (member_of b (gap_of b (configuration_at b c) p) v)) ≡ moved (configuration_at b c) p v
 after_answer b c p v i j k =
     let ok = configuration_at_is b c i in
@@ -97,10 +114,10 @@ tree_of_lasts b is (suc k) c i e = λ p j.
     let arena = arena_is b is in
     let g = gap_of b (configuration_at b c) p in
     let in_gaps = arena.gap_in c p i j in
-    let w = some_below b.labels (λ v. a.is_answer g v && lasts a k (a.member g v)) (next-gives a (lasts a k) c p e j) in
+    let w = some_below (places b) (λ v. a.is_answer g v && lasts a k (a.member g v)) (next-gives a (lasts a k) c p e j) in
     let both = both_true _ _ w.2 in (
       w.0,
-      (legal_is_answer b (configuration_at b c) p w.0 (configuration_at_is b c i) j).1 ((answers_is b g w.0 in_gaps w.1).0 both.0),
+      (legal_is_answer b (configuration_at b c) p w.0 (configuration_at_is b c i) j).1 ((answers_is b g w.0 in_gaps).0 both.0),
       subst (LabellerTree b k) (after_answer b c p w.0 i j w.1) (tree_of_lasts b is k (a.member g w.0) (arena.member_in g w.0 in_gaps w.1) both.1),
     )
 
@@ -112,9 +129,9 @@ lasts_of_tree b is (suc k) c i tree = next-from (arena_of b) (lasts (arena_of b)
     let g = gap_of b (configuration_at b c) p in
     let in_gaps = arena.gap_in c p i j in
     let t = tree p j in
-    let low : t.0 < b.labels = t.1.is_label in
-    count_below-some b.labels (λ v. a.is_answer g v && lasts a k (a.member g v)) t.0 low
-    (and_true _ _ ((answers_is b g t.0 in_gaps low).1 ((legal_is_answer b (configuration_at b c) p t.0 (configuration_at_is b c i) j).0 t.1))
+    let low = label_is_place b t.0 t.1.is_label in
+    count_below-some (places b) (λ v. a.is_answer g v && lasts a k (a.member g v)) t.0 low
+    (and_true _ _ ((answers_is b g t.0 in_gaps).1 ((legal_is_answer b (configuration_at b c) p t.0 (configuration_at_is b c i) j).0 t.1))
     (lasts_of_tree b is k (a.member g t.0) (arena.member_in g t.0 in_gaps low) (subst (LabellerTree b k) (sym (after_answer b c p t.0 i j low)) t.2))))
 
 pub stops_of_fails : (b : PlainBoard) → IsBoard b → (k c : ℕ) → c < configurations b → lasts (arena_of b) k c ≡ false → AdversaryTree b k (configuration_at b c)
@@ -147,9 +164,14 @@ dominant_is b c p i j =
     let ok = configuration_at_is b c i in
     let g = gap_of b at p in
     let in_gaps = gap_below b at p ok j in
-    let low = label_below b at p ok j in
     let legal = legal_is_answer b at p (get_or at p 0) ok j in
-    let test = answers_is b g (get_or at p 0) in_gaps low in (
-      λ dominator. (j, test.1 (legal.0 (record { is_label = low; dominates = dominator.dominates }))),
-      λ dominant. record { is_pebble = j; dominates = (legal.1 (test.0 dominant.1)).dominates },
+    let test = answers_is b g (get_or at p 0) in_gaps in (
+      λ dominator. (j, test.1 (legal.0 (record { is_label = dominator.has_label; dominates = dominator.dominates }))),
+      λ dominant.
+          let own = legal.1 (test.0 dominant.1) in
+          record { is_pebble = j; has_label = own.is_label; dominates = own.dominates },
     )
+
+-- a pebble that dominates holds a label
+pub dominant_label : (b : PlainBoard) → IsBoard b → (c p : ℕ) → c < configurations b → Dominant (arena_of b) c p → (arena_of b).place c p < b.labels
+dominant_label b is c p i dominant = ((dominant_is b c p i dominant.0).1 dominant).has_label

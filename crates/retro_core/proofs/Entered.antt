@@ -3,7 +3,8 @@ use Rattle.std.proofs.Common.{◌≡◌, ℕ, ◌+◌, ◌<◌, ◌≤◌, ◌==
 use Rattle.std.proofs.Math.ListN.{length-set}
 use Rattle.std.proofs.lemmas.Bool.{cases_lt}
 use Rattle.index_lists.specs.Lists.{times, AreLists}
-use Rattle.board_text.specs.PlainBoard.{PlainBoard}
+use Rattle.board_text.specs.PlainBoard.{PlainBoard, places}
+use Rattle.board_text.proofs.Places.{label_is_place}
 use Rattle.positions.specs.Gaps.{gaps, IsAnswer}
 use Rattle.positions.specs.Counts.{HasSize}
 use Rattle.positions.proofs.Counting.{size_of, count_below as count_to, count_below-zero as count_to-zero, count_below-add as count_to-add}
@@ -52,26 +53,26 @@ count-same test (suc n) =
 
 -- so many answers lead to where the test holds
 pub live-size : (b : PlainBoard) (g : ℕ) (above : ℕ → Bool) (P : ℕ → Type 0) → g < gaps b
-    → ((v : ℕ) → v < b.labels → (above ((arena_of b).member g v) ≡ true) ↔ P v) → HasSize (λ v. IsAnswer b g v × P v) (live (arena_of b) above g)
+    → ((v : ℕ) → v < places b → (above ((arena_of b).member g v) ≡ true) ↔ P v) → HasSize (λ v. IsAnswer b g v × P v) (live (arena_of b) above g)
 live-size b g above P i means =
     let test : ℕ → Bool = λ v. answers b g v && above ((arena_of b).member g v) in
-    subst (HasSize (λ v. IsAnswer b g v × P v)) (count-same test b.labels)
-    (size_of (λ v. IsAnswer b g v × P v) test b.labels (λ v. (
-      λ holds. let low : v < b.labels = holds.0.is_label in
-          (low, and_true (answers b g v) (above ((arena_of b).member g v)) ((answers_is b g v i low).1 holds.0) ((means v low).1 holds.1)),
+    subst (HasSize (λ v. IsAnswer b g v × P v)) (count-same test (places b))
+    (size_of (λ v. IsAnswer b g v × P v) test (places b) (λ v. (
+      λ holds. let low = label_is_place b v holds.0.is_label in
+          (low, and_true (answers b g v) (above ((arena_of b).member g v)) ((answers_is b g v i).1 holds.0) ((means v low).1 holds.1)),
       λ passes. let both = both_true (answers b g v) (above ((arena_of b).member g v)) passes.1 in
-          ((answers_is b g v i passes.0).0 both.0, (means v passes.0).0 both.1),
+          ((answers_is b g v i).0 both.0, (means v passes.0).0 both.1),
     )))
 
 -- so many answers there are
 pub answers-size : (b : PlainBoard) (g n : ℕ) → g < gaps b → HasSize (IsAnswer b g) n → n ≡ live (arena_of b) (lasts (arena_of b) 0) g
 answers-size b g n i size =
     let test : ℕ → Bool = λ v. answers b g v && true in
-    same_size (IsAnswer b g) n (count_below b.labels test) size
-    (subst (HasSize (IsAnswer b g)) (count-same test b.labels)
-    (size_of (IsAnswer b g) test b.labels (λ v. (
-      λ holds. let low : v < b.labels = holds.is_label in (low, and_true (answers b g v) true ((answers_is b g v i low).1 holds) refl),
-      λ passes. (answers_is b g v i passes.0).0 (both_true (answers b g v) true passes.1).0,
+    same_size (IsAnswer b g) n (count_below (places b) test) size
+    (subst (HasSize (IsAnswer b g)) (count-same test (places b))
+    (size_of (IsAnswer b g) test (places b) (λ v. (
+      λ holds. (label_is_place b v holds.is_label, and_true (answers b g v) true ((answers_is b g v i).1 holds) refl),
+      λ passes. (answers_is b g v i).0 (both_true (answers b g v) true passes.1).0,
     ))))
 
 pub counted-all : (b : PlainBoard) (counts : List ℕ) → length counts ≡ gaps b → ((g : ℕ) → g < gaps b → HasSize (IsAnswer b g) (slice_index counts g)) → IsCounted (arena_of b) (lasts (arena_of b) 0) counts

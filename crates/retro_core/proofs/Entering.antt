@@ -77,21 +77,21 @@ true_of false n e h = absurd (omega arith)
 pub live-free : (a : Arena) (n nodes lists : ℕ) (living : ℕ → List ℕ) → AreLive a (below n) nodes lists living → n < a.configurations → IsFree living n
 live-free a n nodes lists living are i = record {
   free = λ l. elim (cases_lt l a.gaps) [
-    | inl in_gaps ↦ are.once l n in_gaps i ∙ ap (λ b. cond {A = ℕ} (b && (a.gap n (a.pebble l) == l && a.is_answer l (a.label n (a.pebble l)))) 1 0) (not_below n n (omega arith))
+    | inl in_gaps ↦ are.once l n in_gaps i ∙ ap (λ b. cond {A = ℕ} (b && (a.gap n (a.pebble l) == l && a.is_answer l (a.place n (a.pebble l)))) 1 0) (not_below n n (omega arith))
     | inr beyond ↦ ap (times n) (are.are_lists.beyond l (let e = are.lists_is in omega arith))
   ];
 }
 
 -- the test of leading there is that of being there
-leads-there : (a : Arena) → IsArena a → (n p g : ℕ) → n < a.configurations → Dominant a n p → g < a.gaps → (a.gap n (a.pebble g) == g && a.is_answer g (a.label n (a.pebble g))) ≡ (g == a.gap n p)
+leads-there : (a : Arena) → IsArena a → (n p g : ℕ) → n < a.configurations → Dominant a n p → g < a.gaps → (a.gap n (a.pebble g) == g && a.is_answer g (a.place n (a.pebble g))) ≡ (g == a.gap n p)
 leads-there a is n p g i d in_gaps = elim (same_or_not g (a.gap n p)) [
-  | inl same ↦ ap (λ h. a.gap n (a.pebble h) == h && a.is_answer h (a.label n (a.pebble h))) same ∙ dominant-leads a is n p i d ∙ sym (same_is g (a.gap n p) same)
-  | inr away ↦ elim (true_or_false (a.gap n (a.pebble g) == g && a.is_answer g (a.label n (a.pebble g)))) [
+  | inl same ↦ ap (λ h. a.gap n (a.pebble h) == h && a.is_answer h (a.place n (a.pebble h))) same ∙ dominant-leads a is n p i d ∙ sym (same_is g (a.gap n p) same)
+  | inr away ↦ elim (true_or_false (a.gap n (a.pebble g) == g && a.is_answer g (a.place n (a.pebble g)))) [
     | inr none ↦ none ∙ sym (differ_is g (a.gap n p) away)
     | inl found ↦ absurd (
         let other = leads-dominant a is g n in_gaps found in
         let same_pebble = is.one_dominator n (a.pebble g) p i other.0 d.0 other.1 d.1 in
-        let gap_is = number_is (a.gap n (a.pebble g)) g (both_true (a.gap n (a.pebble g) == g) (a.is_answer g (a.label n (a.pebble g))) found).0 in
+        let gap_is = number_is (a.gap n (a.pebble g)) g (both_true (a.gap n (a.pebble g) == g) (a.is_answer g (a.place n (a.pebble g))) found).0 in
         away (sym gap_is ∙ ap (a.gap n) same_pebble))
   ]
 ]
@@ -102,8 +102,8 @@ leads-there a is n p g i d in_gaps = elim (same_or_not g (a.gap n p)) [
 live-below : (a : Arena) (n nodes lists : ℕ) (living : ℕ → List ℕ) → AreLive a (below n) nodes lists living → (l x : ℕ) → 0 < times x (living l) → x < n
 live-below a n nodes lists living are l x h = elim (cases_lt l a.gaps) [
   | inl in_gaps ↦ (let low : x < a.configurations = (let b = are.are_lists.below l x h in let e = are.nodes_is in omega arith) in
-      is_below n x (both_true (below n x) (a.gap x (a.pebble l) == l && a.is_answer l (a.label x (a.pebble l)))
-      (true_of (below n x && (a.gap x (a.pebble l) == l && a.is_answer l (a.label x (a.pebble l)))) (times x (living l)) (are.once l x in_gaps low) h)).0)
+      is_below n x (both_true (below n x) (a.gap x (a.pebble l) == l && a.is_answer l (a.place x (a.pebble l)))
+      (true_of (below n x && (a.gap x (a.pebble l) == l && a.is_answer l (a.place x (a.pebble l)))) (times x (living l)) (are.once l x in_gaps low) h)).0)
   | inr beyond ↦ absurd (let none = ap (times x) (are.are_lists.beyond l (let e = are.lists_is in omega arith)) in omega arith)
 ]
 
@@ -117,9 +117,9 @@ live-entered a is n p nodes lists nodes' lists' living living' to are i d to_is 
     | inl here ↦ rw here (push-new living living' to n g pushed ((live-free a n nodes lists living are i).free g)
         ∙ ap (λ h. cond {A = ℕ} (g == h) 1 0) to_is
         ∙ ap (λ b. cond {A = ℕ} b 1 0) (sym (leads-there a is n p g i d in_gaps))
-        ∙ ap (λ b. cond {A = ℕ} (b && (a.gap n (a.pebble g) == g && a.is_answer g (a.label n (a.pebble g)))) 1 0) (sym (below_is (n + 1) n (omega arith))))
+        ∙ ap (λ b. cond {A = ℕ} (b && (a.gap n (a.pebble g) == g && a.is_answer g (a.place n (a.pebble g)))) 1 0) (sym (below_is (n + 1) n (omega arith))))
     | inr other ↦ push-other living living' to n x g pushed other ∙ are.once g x in_gaps low
-        ∙ ap (λ b. cond {A = ℕ} (b && (a.gap x (a.pebble g) == g && a.is_answer g (a.label x (a.pebble g)))) 1 0) (sym (below_other n x other))
+        ∙ ap (λ b. cond {A = ℕ} (b && (a.gap x (a.pebble g) == g && a.is_answer g (a.place x (a.pebble g)))) 1 0) (sym (below_other n x other))
   ];
   ascending = λ g. push-ascends living living' to n g pushed (live-below a n nodes lists living are g) (are.ascending g);
 }
@@ -140,11 +140,11 @@ live-skipped a is n nodes lists living are alone = record {
     none_either false false d e = refl
 
     shown : (g x : ℕ) → g < a.gaps
-        → cond {A = ℕ} (below n x && (a.gap x (a.pebble g) == g && a.is_answer g (a.label x (a.pebble g)))) 1 0 ≡ cond {A = ℕ} (below (n + 1) x && (a.gap x (a.pebble g) == g && a.is_answer g (a.label x (a.pebble g)))) 1 0
+        → cond {A = ℕ} (below n x && (a.gap x (a.pebble g) == g && a.is_answer g (a.place x (a.pebble g)))) 1 0 ≡ cond {A = ℕ} (below (n + 1) x && (a.gap x (a.pebble g) == g && a.is_answer g (a.place x (a.pebble g)))) 1 0
     shown g x in_gaps = elim (same_or_not x n) [
-      | inl here ↦ elim (true_or_false (a.gap x (a.pebble g) == g && a.is_answer g (a.label x (a.pebble g)))) [
+      | inl here ↦ elim (true_or_false (a.gap x (a.pebble g) == g && a.is_answer g (a.place x (a.pebble g)))) [
         | inl found ↦ absurd (alone (a.pebble g) (subst (λ y. Dominant a y (a.pebble g)) here (leads-dominant a is g x in_gaps found)))
-        | inr none ↦ none_either (below n x) (below (n + 1) x) (a.gap x (a.pebble g) == g && a.is_answer g (a.label x (a.pebble g))) none
+        | inr none ↦ none_either (below n x) (below (n + 1) x) (a.gap x (a.pebble g) == g && a.is_answer g (a.place x (a.pebble g))) none
       ]
-      | inr other ↦ ap (λ b. cond {A = ℕ} (b && (a.gap x (a.pebble g) == g && a.is_answer g (a.label x (a.pebble g)))) 1 0) (sym (below_other n x other))
+      | inr other ↦ ap (λ b. cond {A = ℕ} (b && (a.gap x (a.pebble g) == g && a.is_answer g (a.place x (a.pebble g)))) 1 0) (sym (below_other n x other))
     ]

@@ -42,13 +42,13 @@ next-closed a above c p h e = positive_is _ (count_below-some a.pebbles (λ q. l
 
 pub live-le : (a : Arena) → IsArena a → (f h : ℕ → Bool) (g : ℕ) → g < a.gaps → ((c : ℕ) → c < a.configurations → f c ≡ true → h c ≡ true) → live a f g ≤ live a h g
 live-le a is f h g in_range implies =
-    count_below-le a.labels (λ v. a.is_answer g v && f (a.member g v)) (λ v. a.is_answer g v && h (a.member g v)) (λ v i e.
+    count_below-le a.places (λ v. a.is_answer g v && f (a.member g v)) (λ v. a.is_answer g v && h (a.member g v)) (λ v i e.
     let both = both_true _ _ e in
     and_true _ _ both.0 (implies (a.member g v) (is.member_in g v in_range i) both.1))
 
 pub live-same : (a : Arena) → IsArena a → (f h : ℕ → Bool) (g : ℕ) → g < a.gaps → ((c : ℕ) → c < a.configurations → f c ≡ h c) → live a f g ≡ live a h g
 live-same a is f h g in_range same =
-    count_below-same a.labels (λ v. a.is_answer g v && f (a.member g v)) (λ v. a.is_answer g v && h (a.member g v)) (λ v i.
+    count_below-same a.places (λ v. a.is_answer g v && f (a.member g v)) (λ v. a.is_answer g v && h (a.member g v)) (λ v i.
     ap (λ b. a.is_answer g v && b) (same (a.member g v) (is.member_in g v in_range i)))
 
 pub next-le : (a : Arena) → IsArena a → (f h : ℕ → Bool) (c : ℕ) → c < a.configurations → ((x : ℕ) → x < a.configurations → f x ≡ true → h x ≡ true) → next a f c ≡ true → next a h c ≡ true

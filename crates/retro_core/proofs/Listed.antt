@@ -146,9 +146,9 @@ shut-same a g label values rank here closed shut v h = elim (cases_lt v label) [
 ]
 
 -- all members of a gap
-pub all-shut : (a : Arena) → IsArena a → (g : ℕ) (values : List ℕ) → g < a.gaps → ((v : ℕ) → v < a.labels → is_open values (a.member g v) ≡ false)
+pub all-shut : (a : Arena) → IsArena a → (g : ℕ) (values : List ℕ) → g < a.gaps → ((v : ℕ) → v < a.places → is_open values (a.member g v) ≡ false)
     → (x : ℕ) → x < a.configurations → a.gap x (a.pebble g) ≡ g → is_open values x ≡ false
 all-shut a is g values i shut x j member =
     let p_in = is.pebble_in g i in
-    let x_is : a.member g (a.label x (a.pebble g)) ≡ x = ap (λ h. a.member h (a.label x (a.pebble g))) (sym member) ∙ is.member_of_gap x (a.pebble g) j p_in in
-    ap (is_open values) (sym x_is) ∙ shut (a.label x (a.pebble g)) (is.label_in x (a.pebble g) j p_in)
+    let x_is : a.member g (a.place x (a.pebble g)) ≡ x = ap (λ h. a.member h (a.place x (a.pebble g))) (sym member) ∙ is.member_of_gap x (a.pebble g) j p_in in
+    ap (is_open values) (sym x_is) ∙ shut (a.place x (a.pebble g)) (is.place_in x (a.pebble g) j p_in)

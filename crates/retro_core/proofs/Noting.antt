@@ -3,7 +3,8 @@ use Rattle.std.proofs.Common.{◌≡◌, ◌≢◌, ℕ, ◌+◌, ◌*◌, ◌<�
 use Rattle.std.proofs.Math.ListN.{length-set}
 use Rattle.std.proofs.lemmas.Bool.{cases_lt}
 use Rattle.std.proofs.lemmas.List.{length-replicate, get_or-replicate, take_at}
-use Rattle.board_text.specs.PlainBoard.{PlainBoard, IsBoard}
+use Rattle.board_text.specs.PlainBoard.{PlainBoard, IsBoard, places}
+use Rattle.board_text.proofs.Places.{label_is_place}
 use Rattle.board_text.specs.Domination.{has_bit}
 use Rattle.positions.specs.Ranks.{configurations, configuration_at}
 use Rattle.positions.specs.Gaps.{gaps, pebble_of, IsAnswer, IsDominator}
@@ -13,7 +14,7 @@ use Rattle.retro_core.specs.Arena.{Dominant}
 use Rattle.retro_core.specs.BoardArena.{arena_of}
 use Rattle.retro_core.specs.Opening.{AreAnswers, AreNoted}
 use Rattle.retro_core.specs.Tables.{AreDominators}
-use Rattle.retro_core.proofs.BoardArenas.{answers_is, arena_is, dominant_is}
+use Rattle.retro_core.proofs.BoardArenas.{answers_is, arena_is, dominant_is, dominant_label}
 use Rattle.retro_core.proofs.Lasting.{same_or_not}
 
 abbrev no_one : Option ℕ
@@ -71,10 +72,10 @@ noted-all b is dominators noted = record {
   each = λ c i. by c i (get_or dominators c None) refl;
 }
   where
-    within : (c p : ℕ) → c < configurations b → Dominant (arena_of b) c p → 256 * (arena_of b).gap c p + (arena_of b).label c p < 256 * gaps b
+    within : (c p : ℕ) → c < configurations b → Dominant (arena_of b) c p → 256 * (arena_of b).gap c p + (arena_of b).place c p < 256 * gaps b
     within c p i d =
         let gap_in : (arena_of b).gap c p < gaps b = (arena_is b is).gap_in c p i d.0 in
-        let label_in : (arena_of b).label c p < b.labels = (arena_is b is).label_in c p i d.0 in
+        let label_in : (arena_of b).place c p < b.labels = dominant_label b is c p i d in
         let few : b.labels ≤ 256 = is.labels.1 in
         omega arith
 
@@ -96,25 +97,25 @@ noted-all b is dominators noted = record {
 module _ (b : PlainBoard) (is : IsBoard b) (gap from : ℕ) (words : List ℕ) (dominators : List (Option ℕ)) (in_gaps : gap < gaps b) (are : AreAnswers b gap words)
     (noted : AreNoted b (256 * gap + from) dominators) where
   -- what comes before the next gap and not before the bound is an answer of this gap
-  late : (c p : ℕ) → c < configurations b → Dominant (arena_of b) c p → 256 * gap + from ≤ 256 * (arena_of b).gap c p + (arena_of b).label c p
-      → 256 * (arena_of b).gap c p + (arena_of b).label c p < 256 * gap + 256
-      → ((arena_of b).gap c p ≡ gap) × IsBitFrom words from ((arena_of b).label c p)
+  late : (c p : ℕ) → c < configurations b → Dominant (arena_of b) c p → 256 * gap + from ≤ 256 * (arena_of b).gap c p + (arena_of b).place c p
+      → 256 * (arena_of b).gap c p + (arena_of b).place c p < 256 * gap + 256
+      → ((arena_of b).gap c p ≡ gap) × IsBitFrom words from ((arena_of b).place c p)
   late c p i d after before =
       let a = arena_of b in
-      let label : ℕ = a.label c p in
-      let low : label < b.labels = (arena_is b is).label_in c p i d.0 in
+      let label : ℕ = a.place c p in
+      let low : label < b.labels = dominant_label b is c p i d in
       let small : label < 256 = omega (arith, are.few) in
       let same : a.gap c p ≡ gap = omega arith in
-      let answer = (answers_is b gap label in_gaps low).0 (subst (λ g. a.is_answer g label ≡ true) same d.1) in
+      let answer = (answers_is b gap label in_gaps).0 (subst (λ g. a.is_answer g label ≡ true) same d.1) in
       (same, (omega arith, small, (are.bits label small).1 answer))
 
   pub noted-end : IsSmallest (IsBitFrom words from) None → AreNoted b (256 * (gap + 1)) dominators
   noted-end none = record {
     noted_length = noted.noted_length;
     sound = noted.sound;
-    found = λ c p i d before. elim (cases_lt (256 * (arena_of b).gap c p + (arena_of b).label c p) (256 * gap + from)) [
+    found = λ c p i d before. elim (cases_lt (256 * (arena_of b).gap c p + (arena_of b).place c p) (256 * gap + from)) [
       | inl early ↦ noted.found c p i d early
-      | inr after ↦ absurd (none ((arena_of b).label c p) (late c p i d after (omega arith)).1)
+      | inr after ↦ absurd (none ((arena_of b).place c p) (late c p i d after (omega arith)).1)
     ];
   }
 
@@ -122,37 +123,40 @@ module _ (b : PlainBoard) (is : IsBoard b) (gap from : ℕ) (words : List ℕ) (
     pub low_label : label < b.labels
     low_label = ((are.bits label next.0.1).0 next.0.2).is_label
 
+    pub low_place : label < places b
+    low_place = label_is_place b label low_label
+
     leads : (arena_of b).is_answer gap label ≡ true
-    leads = (answers_is b gap label in_gaps low_label).1 ((are.bits label next.0.1).0 next.0.2)
+    leads = (answers_is b gap label in_gaps).1 ((are.bits label next.0.1).0 next.0.2)
 
     dominant-there : Dominant (arena_of b) ((arena_of b).member gap label) (pebble_of b gap)
     dominant-there =
         let a = arena_of b in
         let ok = arena_is b is in
-        let gap_is = ok.gap_of_member gap label in_gaps low_label in
-        let label_is = ok.label_of_member gap label in_gaps low_label in
+        let gap_is = ok.gap_of_member gap label in_gaps low_place in
+        let label_is = ok.place_of_member gap label in_gaps low_place in
         (ok.pebble_in gap in_gaps, rw (gap_is, label_is) leads)
 
     -- what else was to be noted is noted before
     earlier : (c p : ℕ) → c < configurations b → Dominant (arena_of b) c p → c ≢ (arena_of b).member gap label
-        → 256 * (arena_of b).gap c p + (arena_of b).label c p < 256 * gap + (label + 1) → 256 * (arena_of b).gap c p + (arena_of b).label c p < 256 * gap + from
-    earlier c p i d other before = elim (cases_lt (256 * (arena_of b).gap c p + (arena_of b).label c p) (256 * gap + from)) [
+        → 256 * (arena_of b).gap c p + (arena_of b).place c p < 256 * gap + (label + 1) → 256 * (arena_of b).gap c p + (arena_of b).place c p < 256 * gap + from
+    earlier c p i d other before = elim (cases_lt (256 * (arena_of b).gap c p + (arena_of b).place c p) (256 * gap + from)) [
       | inl early ↦ early
       | inr after ↦ absurd (
           let a = arena_of b in
           let small : label < 256 = next.0.1 in
           let there = late c p i d after (omega arith) in
-          let least : label ≤ a.label c p = next.1 (a.label c p) there.1 in
+          let least : label ≤ a.place c p = next.1 (a.place c p) there.1 in
           let gap_is : a.gap c p ≡ gap = there.0 in
-          let label_is : a.label c p ≡ label = omega arith in
-          other (sym ((arena_is b is).member_of_gap c p i d.0) ∙ ap (λ g. a.member g (a.label c p)) gap_is ∙ ap (a.member gap) label_is))
+          let label_is : a.place c p ≡ label = omega arith in
+          other (sym ((arena_is b is).member_of_gap c p i d.0) ∙ ap (λ g. a.member g (a.place c p)) gap_is ∙ ap (a.member gap) label_is))
     ]
 
     pub noted-step : (rank pebble : ℕ) → rank ≡ (arena_of b).member gap label → pebble ≡ pebble_of b gap → AreNoted b (256 * gap + (label + 1)) (slice_set dominators rank (Some pebble))
     noted-step rank pebble rank_is pebble_is =
         let a = arena_of b in
         let ok = arena_is b is in
-        let i0 : rank < configurations b = (let inside = ok.member_in gap label in_gaps low_label in omega arith) in
+        let i0 : rank < configurations b = (let inside = ok.member_in gap label in_gaps low_place in omega arith) in
         let d0 : Dominant a rank pebble = subst (λ p. Dominant a rank p) (sym pebble_is) (subst (λ c. Dominant a c (pebble_of b gap)) (sym rank_is) dominant-there) in
         let place : rank < length dominators = (let size = noted.noted_length in omega arith) in
         let here_is : (c : ℕ) → c ≡ rank → get_or (slice_set dominators rank (Some pebble)) c None ≡ Some pebble =

@@ -58,7 +58,7 @@ row_last base weight one held behind other held' behind' number place step light
 
 module _ (b : PlainBoard) (first place step p : ℕ) (rows : first ≡ place * places b) (near : step < places b) (below : first + step < configurations b) (p_in : p < b.pebbles) where
   parts_of : (rank : ℕ) → rank < configurations b → Parts (places b) (configuration_at b rank) p (places b ^ (b.pebbles - 1 - p))
-  parts_of rank low = let is = configuration_at_is b rank low in parts_at (places b) (configuration_at b rank) p b.pebbles is.each_label is.each_pebble p_in
+  parts_of rank low = let is = configuration_at_is b rank low in parts_at (places b) (configuration_at b rank) p b.pebbles is.each_place is.each_pebble p_in
 
   gap_by : (rank : ℕ) (low : rank < configurations b) → (one : Parts (places b) (configuration_at b rank) p (places b ^ (b.pebbles - 1 - p)))
       → gap_of b (configuration_at b rank) p ≡ p * gaps_each b + (one.before * places b ^ (b.pebbles - 1 - p) + one.behind)

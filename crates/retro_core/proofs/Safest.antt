@@ -6,7 +6,7 @@ use Rattle.std.proofs.lemmas.Bool.Decides.{nat_tests}
 use Rattle.std.proofs.lemmas.List.{take_at, length-take-le}
 use Rattle.index_lists.specs.Lists.{times}
 use Rattle.index_lists.proofs.Places.{place-of, stands-at}
-use Rattle.board_text.specs.PlainBoard.{PlainBoard}
+use Rattle.board_text.specs.PlainBoard.{PlainBoard, places}
 use Rattle.positions.specs.declared.value.Value.TheVariants.{Forever}
 use Rattle.positions.specs.Value.{HasValue}
 use Rattle.positions.specs.Ranks.{configurations, rank_of, configuration_at}
@@ -14,6 +14,7 @@ use Rattle.positions.specs.Gaps.{gaps, pebble_of, others_of, member_of}
 use Rattle.positions.specs.Counts.{IsSmallest}
 use Rattle.positions.proofs.Ranks.{in_order}
 use Rattle.positions.proofs.GapLaws.{member_is, label_of_member, others_of_gap, pebble_below}
+use Rattle.board_text.proofs.Places.{label_is_place}
 use Rattle.retro_core.specs.Arena.{Arena}
 use Rattle.retro_core.specs.BoardArena.{arena_of}
 use Rattle.retro_core.specs.Solving.{AnswerForever}
@@ -22,8 +23,8 @@ use Rattle.retro_core.proofs.BoardArenas.{arena_is, answers_is, at_member}
 use Rattle.retro_core.proofs.Lasting.{both_true, and_true, same_is, differ_is}
 use Rattle.retro_core.proofs.Listed.{times_true}
 
--- a smaller label has a smaller member
-smaller-member : (b : PlainBoard) (g v w : ℕ) → g < gaps b → v < b.labels → w < b.labels → v < w → rank_of b (member_of b g v) < rank_of b (member_of b g w)
+-- a smaller place has a smaller member
+smaller-member : (b : PlainBoard) (g v w : ℕ) → g < gaps b → v < places b → w < places b → v < w → rank_of b (member_of b g v) < rank_of b (member_of b g w)
 smaller-member b g v w i j k less =
     let others : List ℕ = others_of b g in
     let pebble : ℕ = pebble_of b g in
@@ -66,14 +67,14 @@ pub answer-lives : (b : PlainBoard) (nodes lists : ℕ) (living : ℕ → List �
 answer-lives b nodes lists living g v are i answer =
     let a : Arena = arena_of b in
     let is = arena_is b are.is_board in
-    let low : v < b.labels = answer.0.is_label in
+    let low = label_is_place b v answer.0.is_label in
     let x = rank_of b (member_of b g v) in
     let x_in : x < configurations b = is.member_in g v i low in
     let gap_is = is.gap_of_member g v i low in
-    let label_is = is.label_of_member g v i low in
+    let label_is = is.place_of_member g v i low in
     let above : are.above x ≡ true = (are.means x x_in).1 (subst (λ c. HasValue b c Forever) (sym (at_member b g v i low)) answer.1) in
-    let leads = and_true (a.gap x (a.pebble g) == g) (a.is_answer g (a.label x (a.pebble g))) (same_is (a.gap x (a.pebble g)) g gap_is) (ap (a.is_answer g) label_is ∙ (answers_is b g v i low).1 answer.0) in
-    let here = are.live_are.once g x i x_in ∙ ap (λ t. cond {A = ℕ} t 1 0) (and_true (are.above x) (a.gap x (a.pebble g) == g && a.is_answer g (a.label x (a.pebble g))) above leads) in
+    let leads = and_true (a.gap x (a.pebble g) == g) (a.is_answer g (a.place x (a.pebble g))) (same_is (a.gap x (a.pebble g)) g gap_is) (ap (a.is_answer g) label_is ∙ (answers_is b g v i).1 answer.0) in
+    let here = are.live_are.once g x i x_in ∙ ap (λ t. cond {A = ℕ} t 1 0) (and_true (are.above x) (a.gap x (a.pebble g) == g && a.is_answer g (a.place x (a.pebble g))) above leads) in
     omega arith
 
 -- what is live is the member of an answer that lasts forever
@@ -87,18 +88,18 @@ live-answer b nodes lists living g x are i h =
     let a : Arena = arena_of b in
     let is = arena_is b are.is_board in
     let x_in : x < configurations b = (let below = are.live_are.are_lists.below g x h in let e = are.live_are.nodes_is in omega arith) in
-    let both = both_true (are.above x) (a.gap x (a.pebble g) == g && a.is_answer g (a.label x (a.pebble g))) (times_true _ (times x (living g)) h (are.live_are.once g x i x_in)) in
-    let parts = both_true (a.gap x (a.pebble g) == g) (a.is_answer g (a.label x (a.pebble g))) both.1 in
+    let both = both_true (are.above x) (a.gap x (a.pebble g) == g && a.is_answer g (a.place x (a.pebble g))) (times_true _ (times x (living g)) h (are.live_are.once g x i x_in)) in
+    let parts = both_true (a.gap x (a.pebble g) == g) (a.is_answer g (a.place x (a.pebble g))) both.1 in
     let gap_is : a.gap x (a.pebble g) ≡ g = number_is (a.gap x (a.pebble g)) g parts.0 in
     let pebble_in = is.pebble_in g i in
     let label = get_or (configuration_at b x) (pebble_of b g) 0 in
-    let low : label < b.labels = is.label_in x (a.pebble g) x_in pebble_in in
+    let low = is.place_in x (a.pebble g) x_in pebble_in in
     let member : rank_of b (member_of b g label) ≡ x = ap (λ h'. rank_of b (member_of b h' label)) (sym gap_is) ∙ is.member_of_gap x (a.pebble g) x_in pebble_in in
     record {
       rank_in = x_in;
       member = member;
       lasts = (
-        (answers_is b g label i low).0 parts.1,
+        (answers_is b g label i).0 parts.1,
         subst (λ c. HasValue b c Forever) (ap (configuration_at b) (sym member) ∙ at_member b g label i low) ((are.means x x_in).0 both.0),
       );
     }
@@ -106,10 +107,12 @@ live-answer b nodes lists living g x are i h =
     number_is : (m n : ℕ) → m == n ≡ true → m ≡ n
     number_is m n e = grind (arith, nat_tests)
 
-pub safe-some : (b : PlainBoard) (nodes lists : ℕ) (living : ℕ → List ℕ) (g x label : ℕ) → AreForever b nodes lists living → g < gaps b → slice_get (living g) 0 ≡ Some x → label ≡ get_or (configuration_at b x) (pebble_of b g) 0 → label < 256
+pub safe-some : (b : PlainBoard) (nodes lists : ℕ) (living : ℕ → List ℕ) (g x label : ℕ) → AreForever b nodes lists living → g < gaps b → slice_get (living g) 0 ≡ Some x → label ≡ get_or (configuration_at b x) (pebble_of b g) 0
     → IsSmallest (AnswerForever b g) (known_word label)
-safe-some b nodes lists living g x label are i head label_is few =
+safe-some b nodes lists living g x label are i head label_is =
     let live = live-answer b nodes lists living g x are i (stands-at 0 x (living g) head) in
+    let own : label < b.labels = subst (λ l. l < b.labels) (sym label_is) live.lasts.0.is_label in
+    let few : b.labels ≤ 256 = are.is_board.labels.1 in
     let known : known_word label ≡ Some label = rw (differ_is label 4294967295 (λ e. omega arith)) refl in
     subst (IsSmallest (AnswerForever b g)) (sym known) (
       subst (AnswerForever b g) (sym label_is) live.lasts,
@@ -117,8 +120,7 @@ safe-some b nodes lists living g x label are i head label_is few =
         | inr most ↦ most
         | inl less ↦ absurd (
             let first = first-least (living g) x (rank_of b (member_of b g other)) (are.live_are.ascending g) head (answer-lives b nodes lists living g other are i holds) in
-            let own : label < b.labels = subst (λ l. l < b.labels) (sym label_is) live.lasts.0.is_label in
-            let smaller = smaller-member b g other label i holds.0.is_label own less in
+            let smaller = smaller-member b g other label i (label_is_place b other holds.0.is_label) (label_is_place b label own) less in
             let member : rank_of b (member_of b g label) ≡ x = ap (λ l. rank_of b (member_of b g l)) label_is ∙ live.member in
             omega arith)
       ],

@@ -246,7 +246,7 @@ module _ (b : PlainBoard) (board_is : IsBoard b) (few : configurations b ≤ 104
         (let count = waits-times a is (is_open values) g i x j in
         let few = cond_few (is_open values x && (a.gap x (a.pebble g) == g)) in omega arith);
     members = λ g x i. rw (source-shown g i) (λ h.
-        let m = members-are a (is_open values) g 0 a.labels x h in
+        let m = members-are a (is_open values) g 0 a.places x h in
         let low = m.below in
         (m.label, omega arith, sym m.is));
   }

@@ -43,11 +43,11 @@ first_more : (x node : ℕ) (xs : List ℕ) → x ≡ node → times node (x ∷
 first_more x node xs e = rw (same_is x node e) refl
 
 module _ (a : Arena) (is : IsArena a) (test : ℕ → Bool) (g : ℕ) (i : g < a.gaps) where
-  one_label : (v w : ℕ) → v < a.labels → w < a.labels → a.member g v ≡ a.member g w → v ≡ w
-  one_label v w low high e = sym (is.label_of_member g v i low) ∙ ap (λ x. a.label x (a.pebble g)) e ∙ is.label_of_member g w i high
+  one_label : (v w : ℕ) → v < a.places → w < a.places → a.member g v ≡ a.member g w → v ≡ w
+  one_label v w low high e = sym (is.place_of_member g v i low) ∙ ap (λ x. a.place x (a.pebble g)) e ∙ is.place_of_member g w i high
 
   -- each member stands once
-  pub member-once : (from n v : ℕ) → from + n ≤ a.labels → from ≤ v → v < from + n → test (a.member g v) ≡ true → times (a.member g v) (members_from a test g from n) ≡ 1
+  pub member-once : (from n v : ℕ) → from + n ≤ a.places → from ≤ v → v < from + n → test (a.member g v) ≡ true → times (a.member g v) (members_from a test g from n) ≡ 1
   member-once from zero v most low high passes = absurd (omega arith)
   member-once from (suc n) v most low high passes = elim (same_or_not from v) [
     | inl here ↦ (
@@ -77,19 +77,19 @@ module _ (a : Arena) (is : IsArena a) (test : ℕ → Bool) (g : ℕ) (i : g < a
           omega arith)
 
   -- how often a configuration stands among the members
-  pub waits-times : (x : ℕ) → x < a.configurations → times x (members_from a test g 0 a.labels) ≡ cond (test x && (a.gap x (a.pebble g) == g)) 1 0
+  pub waits-times : (x : ℕ) → x < a.configurations → times x (members_from a test g 0 a.places) ≡ cond (test x && (a.gap x (a.pebble g) == g)) 1 0
   waits-times x j = elim (true_or_false (test x && (a.gap x (a.pebble g) == g))) [
     | inl both ↦ (
         let parts = both_true (test x) (a.gap x (a.pebble g) == g) both in
         let member = is_same parts.1 in
         let p_in = is.pebble_in g i in
-        let x_is : a.member g (a.label x (a.pebble g)) ≡ x = ap (λ h. a.member h (a.label x (a.pebble g))) (sym member) ∙ is.member_of_gap x (a.pebble g) j p_in in
-        let low = is.label_in x (a.pebble g) j p_in in
-        ap (λ y. times y (members_from a test g 0 a.labels)) (sym x_is)
-        ∙ member-once 0 a.labels (a.label x (a.pebble g)) (omega arith) (omega arith) (omega arith) (ap test x_is ∙ parts.0)
+        let x_is : a.member g (a.place x (a.pebble g)) ≡ x = ap (λ h. a.member h (a.place x (a.pebble g))) (sym member) ∙ is.member_of_gap x (a.pebble g) j p_in in
+        let low = is.place_in x (a.pebble g) j p_in in
+        ap (λ y. times y (members_from a test g 0 a.places)) (sym x_is)
+        ∙ member-once 0 a.places (a.place x (a.pebble g)) (omega arith) (omega arith) (omega arith) (ap test x_is ∙ parts.0)
         ∙ sym (ap (λ b. cond {A = ℕ} b 1 0) both))
-    | inr not_both ↦ none (times x (members_from a test g 0 a.labels)) (λ some.
-        let found = members-are a test g 0 a.labels x some in
+    | inr not_both ↦ none (times x (members_from a test g 0 a.places)) (λ some.
+        let found = members-are a test g 0 a.places x some in
         let high = found.below in
         let member : a.gap x (a.pebble g) ≡ g = ap (λ y. a.gap y (a.pebble g)) (sym found.is) ∙ is.gap_of_member g found.label i (omega arith) in
         true_not_false (test x && (a.gap x (a.pebble g) == g)) (and_true (test x) (a.gap x (a.pebble g) == g) found.passes (same_is (a.gap x (a.pebble g)) g member)) not_both)
@@ -107,14 +107,14 @@ module _ (a : Arena) (is : IsArena a) (test : ℕ → Bool) (g : ℕ) (i : g < a
   same_rest : (from n v : ℕ) → slice_get (members_from a test g (v + 1) (from + 1 + n - (v + 1))) 0 ≡ slice_get (members_from a test g (v + 1) (from + suc n - (v + 1))) 0
   same_rest from n v = let e : from + 1 + n - (v + 1) ≡ from + suc n - (v + 1) = omega arith in ap (λ k. slice_get (members_from a test g (v + 1) k) 0) e
 
-  behind_first : (from n v : ℕ) → from + suc n ≤ a.labels → v < a.labels → Some (a.member g from) ≡ Some (a.member g v)
+  behind_first : (from n v : ℕ) → from + suc n ≤ a.places → v < a.places → Some (a.member g from) ≡ Some (a.member g v)
       → slice_get (members_from a test g (from + 1) n) 0 ≡ slice_get (members_from a test g (v + 1) (from + suc n - (v + 1))) 0
   behind_first from n v most low here =
       let same : from ≡ v = one_label from v (omega arith) low (some_is (a.member g from) (a.member g v) here) in
       let count : n ≡ from + suc n - (v + 1) = omega arith in
       ap (λ k. slice_get (members_from a test g (from + 1) k) 0) count ∙ ap (λ w. slice_get (members_from a test g (w + 1) (from + suc n - (v + 1))) 0) same
 
-  pub member-behind : (from n v place : ℕ) → from + n ≤ a.labels → v < a.labels → slice_get (members_from a test g from n) place ≡ Some (a.member g v)
+  pub member-behind : (from n v place : ℕ) → from + n ≤ a.places → v < a.places → slice_get (members_from a test g from n) place ≡ Some (a.member g v)
       → slice_get (members_from a test g from n) (suc place) ≡ slice_get (members_from a test g (v + 1) (from + n - (v + 1))) 0
   member-behind from zero v place most low e = absurd (cc e)
   member-behind from (suc n) v zero most low e = elim (true_or_false (test (a.member g from))) [
@@ -141,7 +141,7 @@ module _ (a : Arena) (is : IsArena a) (test : ℕ → Bool) (g : ℕ) (i : g < a
   ]
 
   -- an open member stands among the members
-  pub member-stands : (x : ℕ) → x < a.configurations → test x ≡ true → a.gap x (a.pebble g) ≡ g → 0 < times x (members_from a test g 0 a.labels)
+  pub member-stands : (x : ℕ) → x < a.configurations → test x ≡ true → a.gap x (a.pebble g) ≡ g → 0 < times x (members_from a test g 0 a.places)
   member-stands x j passes member =
       let one = waits-times x j ∙ ap (λ b. cond {A = ℕ} b 1 0) (and_true (test x) (a.gap x (a.pebble g) == g) passes (same_is (a.gap x (a.pebble g)) g member)) in
       omega arith

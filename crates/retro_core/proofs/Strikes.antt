@@ -17,19 +17,19 @@ without-less : (above : ℕ → Bool) (c x : ℕ) → without above c x ≡ true
 without-less above c x e = let both = both_true _ _ e in both.0
 
 -- where the members of g that are answers differ from c, g counts the same
-live-elsewhere : (a : Arena) (above : ℕ → Bool) (c g : ℕ) → ((v : ℕ) → v < a.labels → a.is_answer g v ≡ true → a.member g v ≢ c) → live a (without above c) g ≡ live a above g
+live-elsewhere : (a : Arena) (above : ℕ → Bool) (c g : ℕ) → ((v : ℕ) → v < a.places → a.is_answer g v ≡ true → a.member g v ≢ c) → live a (without above c) g ≡ live a above g
 live-elsewhere a above c g other =
-    count_below-same a.labels (λ v. a.is_answer g v && without above c (a.member g v)) (λ v. a.is_answer g v && above (a.member g v)) (λ v i.
+    count_below-same a.places (λ v. a.is_answer g v && without above c (a.member g v)) (λ v. a.is_answer g v && above (a.member g v)) (λ v i.
     elim (true_or_false (a.is_answer g v)) [
       | inl legal ↦ ap (λ b. a.is_answer g v && b) (without-elsewhere above c (a.member g v) (other v i legal))
       | inr illegal ↦ rw illegal refl
     ])
 
 -- if an answer member of g is c, then the pebble of g dominates in c, and g is that pebble's gap
-answer-dominates : (a : Arena) → IsArena a → (c g v : ℕ) → g < a.gaps → v < a.labels → a.is_answer g v ≡ true → a.member g v ≡ c → (Dominant a c (a.pebble g)) × (a.gap c (a.pebble g) ≡ g)
+answer-dominates : (a : Arena) → IsArena a → (c g v : ℕ) → g < a.gaps → v < a.places → a.is_answer g v ≡ true → a.member g v ≡ c → (Dominant a c (a.pebble g)) × (a.gap c (a.pebble g) ≡ g)
 answer-dominates a is c g v i j legal e =
     let same_gap : a.gap c (a.pebble g) ≡ g = subst (λ x. a.gap x (a.pebble g) ≡ g) e (is.gap_of_member g v i j) in
-    let same_label : a.label c (a.pebble g) ≡ v = subst (λ x. a.label x (a.pebble g) ≡ v) e (is.label_of_member g v i j) in
+    let same_label : a.place c (a.pebble g) ≡ v = subst (λ x. a.place x (a.pebble g) ≡ v) e (is.place_of_member g v i j) in
     ((is.pebble_in g i, rw (same_gap, same_label) legal), same_gap)
 
 -- a strike at a configuration with a dominator: its dominator's gap counts one less
@@ -38,13 +38,13 @@ strike-home a is above c p i dominates is_above =
     let g = a.gap c p in
     let in_gaps = is.gap_in c p i dominates.0 in
     let back = is.member_of_gap c p i dominates.0 in
-    count_below-without a.labels (a.label c p) (λ v. a.is_answer g v && above (a.member g v)) (λ v. a.is_answer g v && without above c (a.member g v)) (is.label_in c p i dominates.0)
+    count_below-without a.places (a.place c p) (λ v. a.is_answer g v && above (a.member g v)) (λ v. a.is_answer g v && without above c (a.member g v)) (is.place_in c p i dominates.0)
     (and_true _ _ dominates.1 (ap above back ∙ is_above))
-    (rw (dominates.1) (without-here above c (a.member g (a.label c p)) back))
+    (rw (dominates.1) (without-here above c (a.member g (a.place c p)) back))
     (λ j in_labels other. ap (λ b. a.is_answer g j && b) (sym (without-elsewhere above c (a.member g j) (λ e.
-    let j_is = is.label_of_member g j in_gaps in_labels in
+    let j_is = is.place_of_member g j in_gaps in_labels in
     let p_is = is.pebble_of_gap c p i dominates.0 in
-    other (sym j_is ∙ ap (λ x. a.label x (a.pebble g)) e ∙ ap (a.label c) p_is)))))
+    other (sym j_is ∙ ap (λ x. a.place x (a.pebble g)) e ∙ ap (a.place c) p_is)))))
 
 -- and every other gap as before
 pub strike-other : (a : Arena) → IsArena a → (above : ℕ → Bool) (c p g : ℕ) → c < a.configurations → Dominant a c p → g < a.gaps → g ≢ a.gap c p → live a (without above c) g ≡ live a above g

@@ -21,30 +21,30 @@ use Rattle.retro_core.proofs.Closing.{counted-alone, counted-struck, words-alone
 
 -- the label of a configuration in a gap of its own is an answer
 abbrev leads : Arena → ℕ → ℕ → Bool
-leads a g x = a.gap x (a.pebble g) == g && a.is_answer g (a.label x (a.pebble g))
+leads a g x = a.gap x (a.pebble g) == g && a.is_answer g (a.place x (a.pebble g))
 
 number_is : (m n : ℕ) → m == n ≡ true → m ≡ n
 number_is m n e = grind (arith, nat_tests)
 
 -- where its label is an answer, the gap's pebble dominates
-pub leads-dominant : (a : Arena) → IsArena a → (g x : ℕ) → g < a.gaps → a.gap x (a.pebble g) == g && a.is_answer g (a.label x (a.pebble g)) ≡ true → Dominant a x (a.pebble g)
+pub leads-dominant : (a : Arena) → IsArena a → (g x : ℕ) → g < a.gaps → a.gap x (a.pebble g) == g && a.is_answer g (a.place x (a.pebble g)) ≡ true → Dominant a x (a.pebble g)
 leads-dominant a is g x i e =
-    let both = both_true (a.gap x (a.pebble g) == g) (a.is_answer g (a.label x (a.pebble g))) e in
+    let both = both_true (a.gap x (a.pebble g) == g) (a.is_answer g (a.place x (a.pebble g))) e in
     let gap_is : a.gap x (a.pebble g) ≡ g = number_is _ _ both.0 in
     (is.pebble_in g i, rw gap_is both.1)
 
 -- and where a pebble dominates, its label is an answer of its gap
 pub dominant-leads : (a : Arena) → IsArena a → (x p : ℕ) → x < a.configurations → Dominant a x p
-    → a.gap x (a.pebble (a.gap x p)) == a.gap x p && a.is_answer (a.gap x p) (a.label x (a.pebble (a.gap x p))) ≡ true
+    → a.gap x (a.pebble (a.gap x p)) == a.gap x p && a.is_answer (a.gap x p) (a.place x (a.pebble (a.gap x p))) ≡ true
 dominant-leads a is x p i d =
     let pebble_is = is.pebble_of_gap x p i d.0 in
-    and_true (a.gap x (a.pebble (a.gap x p)) == a.gap x p) (a.is_answer (a.gap x p) (a.label x (a.pebble (a.gap x p))))
-    (same_is (a.gap x (a.pebble (a.gap x p))) (a.gap x p) (ap (a.gap x) pebble_is)) (ap (λ q. a.is_answer (a.gap x p) (a.label x q)) pebble_is ∙ d.1)
+    and_true (a.gap x (a.pebble (a.gap x p)) == a.gap x p) (a.is_answer (a.gap x p) (a.place x (a.pebble (a.gap x p))))
+    (same_is (a.gap x (a.pebble (a.gap x p))) (a.gap x p) (ap (a.gap x) pebble_is)) (ap (λ q. a.is_answer (a.gap x p) (a.place x q)) pebble_is ∙ d.1)
 
 pub live-in : (a : Arena) → IsArena a → (above : ℕ → Bool) (nodes lists : ℕ) (living : ℕ → List ℕ) (c p : ℕ) → AreLive a above nodes lists living → c < a.configurations → Dominant a c p → above c ≡ true → IsIn living c
 live-in a is above nodes lists living c p are i d is_above =
     let g = a.gap c p in
-    let here = are.once g c (is.gap_in c p i d.0) i ∙ ap (λ b. cond b 1 0) (and_true (above c) (a.gap c (a.pebble g) == g && a.is_answer g (a.label c (a.pebble g))) is_above (dominant-leads a is c p i d)) in
+    let here = are.once g c (is.gap_in c p i d.0) i ∙ ap (λ b. cond b 1 0) (and_true (above c) (a.gap c (a.pebble g) == g && a.is_answer g (a.place c (a.pebble g))) is_above (dominant-leads a is c p i d)) in
     (g, omega arith)
 
 without-gone : (above : ℕ → Bool) (c x : ℕ) → x ≡ c → without above c x ≡ false
@@ -61,9 +61,9 @@ live-struck a above nodes lists nodes' lists' living living' c are nodes_same li
   are_lists = are';
   once = λ g x i j. elim (same_or_not x c) [
     | inl here ↦ ap (times x) (unlinked g) ∙ ap (λ y. times y (without_node c (living g))) here ∙ times-without_same c (living g)
-        ∙ sym (ap (λ b. cond (b && (a.gap x (a.pebble g) == g && a.is_answer g (a.label x (a.pebble g)))) 1 0) (without-gone above c x here))
+        ∙ sym (ap (λ b. cond (b && (a.gap x (a.pebble g) == g && a.is_answer g (a.place x (a.pebble g)))) 1 0) (without-gone above c x here))
     | inr other ↦ ap (times x) (unlinked g) ∙ times-without_other c x (living g) other ∙ are.once g x i j
-        ∙ sym (ap (λ b. cond (b && (a.gap x (a.pebble g) == g && a.is_answer g (a.label x (a.pebble g)))) 1 0) (without-same above c x other))
+        ∙ sym (ap (λ b. cond (b && (a.gap x (a.pebble g) == g && a.is_answer g (a.place x (a.pebble g)))) 1 0) (without-same above c x other))
   ];
   ascending = λ g. rw (unlinked g) (AllPairs-filter (λ first second. first < second) (λ x. not (x == c)) (living g) (are.ascending g));
 }
@@ -84,13 +84,13 @@ live-alone a is above nodes lists living c alone are = record {
     none_either false false d e = refl
 
     shown : (g x : ℕ) → g < a.gaps → x < a.configurations
-        → cond {A = ℕ} (above x && (a.gap x (a.pebble g) == g && a.is_answer g (a.label x (a.pebble g)))) 1 0 ≡ cond {A = ℕ} (without above c x && (a.gap x (a.pebble g) == g && a.is_answer g (a.label x (a.pebble g)))) 1 0
+        → cond {A = ℕ} (above x && (a.gap x (a.pebble g) == g && a.is_answer g (a.place x (a.pebble g)))) 1 0 ≡ cond {A = ℕ} (without above c x && (a.gap x (a.pebble g) == g && a.is_answer g (a.place x (a.pebble g)))) 1 0
     shown g x i j = elim (same_or_not x c) [
-      | inl here ↦ elim (true_or_false (a.gap x (a.pebble g) == g && a.is_answer g (a.label x (a.pebble g)))) [
+      | inl here ↦ elim (true_or_false (a.gap x (a.pebble g) == g && a.is_answer g (a.place x (a.pebble g)))) [
         | inl found ↦ absurd (alone (a.pebble g) (subst (λ y. Dominant a y (a.pebble g)) here (leads-dominant a is g x i found)))
-        | inr none ↦ none_either (above x) (without above c x) (a.gap x (a.pebble g) == g && a.is_answer g (a.label x (a.pebble g))) none
+        | inr none ↦ none_either (above x) (without above c x) (a.gap x (a.pebble g) == g && a.is_answer g (a.place x (a.pebble g))) none
       ]
-      | inr other ↦ sym (ap (λ b. cond (b && (a.gap x (a.pebble g) == g && a.is_answer g (a.label x (a.pebble g)))) 1 0) (without-same above c x other))
+      | inr other ↦ sym (ap (λ b. cond (b && (a.gap x (a.pebble g) == g && a.is_answer g (a.place x (a.pebble g)))) 1 0) (without-same above c x other))
     ]
 
 pub AreLive-same : (a : Arena) (above above' : ℕ → Bool) (nodes lists : ℕ) (living : ℕ → List ℕ) → ((x : ℕ) → x < a.configurations → above x ≡ above' x) → AreLive a above nodes lists living → AreLive a above' nodes lists living
@@ -98,7 +98,7 @@ AreLive-same a above above' nodes lists living same are = record {
   nodes_is = are.nodes_is;
   lists_is = are.lists_is;
   are_lists = are.are_lists;
-  once = λ g x i j. are.once g x i j ∙ ap (λ b. cond (b && (a.gap x (a.pebble g) == g && a.is_answer g (a.label x (a.pebble g)))) 1 0) (same x j);
+  once = λ g x i j. are.once g x i j ∙ ap (λ b. cond (b && (a.gap x (a.pebble g) == g && a.is_answer g (a.place x (a.pebble g)))) 1 0) (same x j);
   ascending = are.ascending;
 }
 
@@ -125,7 +125,7 @@ live-home a is above nodes lists living c g are i home =
     record {
       gap_in = in_gaps;
       dominant = leads-dominant a is g c in_gaps both.1;
-      gap_is = sym (number_is (a.gap c (a.pebble g)) g (both_true (a.gap c (a.pebble g) == g) (a.is_answer g (a.label c (a.pebble g))) both.1).0);
+      gap_is = sym (number_is (a.gap c (a.pebble g)) g (both_true (a.gap c (a.pebble g) == g) (a.is_answer g (a.place c (a.pebble g))) both.1).0);
     }
 
 -- ---- dominators

@@ -1,15 +1,15 @@
 -- The game on numbers: what rounds need of a board, and how long a labeller lasts.
 use Rattle.std.specs.Prelude.{◌≡◌, ℕ, ◌+◌, ◌<◌, ◌==◌, ◌&&◌, not, Bool, true, cond, zero, suc}
 
--- numbers of labels, pebbles, configurations and gaps; the gap and the label of a pebble at a configuration; the pebble of a gap,
--- its member with a label, and whether the label is an answer
+-- numbers of places, pebbles, configurations and gaps; the gap and the place of a pebble at a configuration; the pebble of a gap,
+-- its member with a place, and whether the place is an answer
 pub record Arena : Type 0 where
-  pub labels : ℕ
+  pub places : ℕ
   pub pebbles : ℕ
   pub configurations : ℕ
   pub gaps : ℕ
   pub gap : ℕ → ℕ → ℕ
-  pub label : ℕ → ℕ → ℕ
+  pub place : ℕ → ℕ → ℕ
   pub pebble : ℕ → ℕ
   pub member : ℕ → ℕ → ℕ
   pub is_answer : ℕ → ℕ → Bool
@@ -17,15 +17,15 @@ pub record Arena : Type 0 where
 -- configurations and gaps fit together, and at most one pebble of a configuration dominates the others
 pub record IsArena (a : Arena) : Type 0 where
   pub gap_in : (c p : ℕ) → c < a.configurations → p < a.pebbles → a.gap c p < a.gaps
-  pub label_in : (c p : ℕ) → c < a.configurations → p < a.pebbles → a.label c p < a.labels
+  pub place_in : (c p : ℕ) → c < a.configurations → p < a.pebbles → a.place c p < a.places
   pub pebble_in : (g : ℕ) → g < a.gaps → a.pebble g < a.pebbles
-  pub member_in : (g v : ℕ) → g < a.gaps → v < a.labels → a.member g v < a.configurations
-  pub gap_of_member : (g v : ℕ) → g < a.gaps → v < a.labels → a.gap (a.member g v) (a.pebble g) ≡ g
-  pub label_of_member : (g v : ℕ) → g < a.gaps → v < a.labels → a.label (a.member g v) (a.pebble g) ≡ v
-  pub member_of_gap : (c p : ℕ) → c < a.configurations → p < a.pebbles → a.member (a.gap c p) (a.label c p) ≡ c
+  pub member_in : (g v : ℕ) → g < a.gaps → v < a.places → a.member g v < a.configurations
+  pub gap_of_member : (g v : ℕ) → g < a.gaps → v < a.places → a.gap (a.member g v) (a.pebble g) ≡ g
+  pub place_of_member : (g v : ℕ) → g < a.gaps → v < a.places → a.place (a.member g v) (a.pebble g) ≡ v
+  pub member_of_gap : (c p : ℕ) → c < a.configurations → p < a.pebbles → a.member (a.gap c p) (a.place c p) ≡ c
   pub pebble_of_gap : (c p : ℕ) → c < a.configurations → p < a.pebbles → a.pebble (a.gap c p) ≡ p
   pub one_dominator : (c p q : ℕ) → c < a.configurations → p < a.pebbles → q < a.pebbles
-      → a.is_answer (a.gap c p) (a.label c p) ≡ true → a.is_answer (a.gap c q) (a.label c q) ≡ true → p ≡ q
+      → a.is_answer (a.gap c p) (a.place c p) ≡ true → a.is_answer (a.gap c q) (a.place c q) ≡ true → p ≡ q
 
 -- how many numbers below a bound pass the test
 abbrev pub count_below : ℕ → (ℕ → Bool) → ℕ
@@ -34,7 +34,7 @@ count_below (suc n) test = count_below n test + cond (test n) 1 0
 
 -- how many answers of a gap lead to where the test holds
 abbrev pub live : Arena → (ℕ → Bool) → ℕ → ℕ
-live a above g = count_below a.labels (λ v. a.is_answer g v && above (a.member g v))
+live a above g = count_below a.places (λ v. a.is_answer g v && above (a.member g v))
 
 -- each pebble has an answer that leads to where the test holds
 abbrev pub next : Arena → (ℕ → Bool) → ℕ → Bool
@@ -51,7 +51,7 @@ without above c x = above x && not (x == c)
 
 -- pebble p of c dominates all the others
 abbrev pub Dominant : Arena → ℕ → ℕ → Type 0
-Dominant a c p = (p < a.pebbles) × (a.is_answer (a.gap c p) (a.label c p) ≡ true)
+Dominant a c p = (p < a.pebbles) × (a.is_answer (a.gap c p) (a.place c p) ≡ true)
 
 -- nothing that lasts r requests fails to last one more
 pub record IsLast (a : Arena) (r : ℕ) : Type 0 where

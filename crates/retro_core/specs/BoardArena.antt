@@ -1,7 +1,7 @@
 -- The game of a board on ranks and gaps.
-use Rattle.std.specs.Prelude.{ℕ, ◌==◌, ◌&&◌, Bool, slice_index}
+use Rattle.std.specs.Prelude.{ℕ, ◌==◌, ◌&&◌, ◌||◌, not, nat_lt, Bool, slice_index}
 use Rattle.std.specs.List.{list_any, list_all}
-use Rattle.board_text.specs.PlainBoard.{PlainBoard}
+use Rattle.board_text.specs.PlainBoard.{PlainBoard, places}
 use Rattle.positions.specs.Ranks.{configurations, rank_of, configuration_at}
 use Rattle.positions.specs.Gaps.{gaps, gap_of, pebble_of, others_of, member_of}
 use Rattle.retro_core.specs.Arena.{Arena}
@@ -10,19 +10,23 @@ use Rattle.retro_core.specs.Arena.{Arena}
 abbrev pub beats : PlainBoard → ℕ → ℕ → Bool
 beats board x y = list_any (λ pair. pair.0 == x && pair.1 == y) board.pairs
 
--- whether a label is an answer of a gap
+-- whether the label dominates what a place holds
+abbrev pub beats_place : PlainBoard → ℕ → ℕ → Bool
+beats_place board label place = not (nat_lt place board.labels) || beats board label place
+
+-- whether a place is a label that is an answer of a gap
 abbrev pub answers : PlainBoard → ℕ → ℕ → Bool
-answers board gap label = list_all (beats board label) (others_of board gap)
+answers board gap place = nat_lt place board.labels && list_all (beats_place board place) (others_of board gap)
 
 abbrev pub arena_of : PlainBoard → Arena
 arena_of board = record {
-  labels = board.labels;
+  places = places board;
   pebbles = board.pebbles;
   configurations = configurations board;
   gaps = gaps board;
   gap = λ rank pebble. gap_of board (configuration_at board rank) pebble;
-  label = λ rank pebble. slice_index (configuration_at board rank) pebble;
+  place = λ rank pebble. slice_index (configuration_at board rank) pebble;
   pebble = pebble_of board;
-  member = λ gap label. rank_of board (member_of board gap label);
+  member = λ gap place. rank_of board (member_of board gap place);
   is_answer = answers board;
 }

@@ -17,9 +17,9 @@ pub record AreNoted (board : PlainBoard) (mark : ℕ) (dominators : List (Option
   pub noted_length : length dominators ≡ configurations board
   pub sound : (c p : ℕ) → c < configurations board → slice_index_or dominators c None ≡ Some p → Dominant (arena_of board) c p
   pub found : (c p : ℕ) → c < configurations board → Dominant (arena_of board) c p
-      → 256 * (arena_of board).gap c p + (arena_of board).label c p < mark → slice_index_or dominators c None ≡ Some p
+      → 256 * (arena_of board).gap c p + (arena_of board).place c p < mark → slice_index_or dominators c None ≡ Some p
 
--- the configurations from one on that differ in the last pebble's label alone, and the gap of each pebble at the first
+-- the configurations from one on that differ in the last pebble's place alone, and the gap of each pebble at the first
 pub record IsRow (board : PlainBoard) (first : ℕ) (gaps : List ℕ) : Type 0 where
   pub place : ℕ
   pub first_is : first ≡ place * places board

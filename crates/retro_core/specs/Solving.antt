@@ -1,7 +1,7 @@
 -- A solver as plain data, and what it knows of the game.
 use Rattle.std.specs.Prelude.{◌≡◌, ℕ, suc, ◌<◌, ◌≤◌, ◌↔◌, Bool, true, List, [], AllPairs, map, slice_index_or}
 use Rattle.std.specs.List.{range_with_len}
-use Rattle.board_text.specs.PlainBoard.{PlainBoard, IsBoard, IsConfiguration}
+use Rattle.board_text.specs.PlainBoard.{PlainBoard, IsBoard, IsConfiguration, places}
 use Rattle.index_lists.specs.Lists.{times}
 use Rattle.positions.specs.declared.value.Value.TheVariants.{Finite, Forever}
 use Rattle.positions.specs.Game.{LabellerTree}
@@ -40,11 +40,11 @@ pub record AreBuckets (s : Solving) : Type 0 where
 
 -- the members of a gap that have no value of at most the number of rounds, each once
 pub record AreOpenMembers (s : Solving) : Type 0 where
-  pub listed : (gap label : ℕ) → gap < gaps s.board → label < s.board.labels
-      → (0 < times (rank_of s.board (member_of s.board gap label)) (source s gap)) ↔ LabellerTree s.board (suc s.rounds) (member_of s.board gap label)
+  pub listed : (gap place : ℕ) → gap < gaps s.board → place < places s.board
+      → (0 < times (rank_of s.board (member_of s.board gap place)) (source s gap)) ↔ LabellerTree s.board (suc s.rounds) (member_of s.board gap place)
   pub once : (gap rank : ℕ) → gap < gaps s.board → rank < configurations s.board → times rank (source s gap) ≤ 1
   pub members : (gap rank : ℕ) → gap < gaps s.board → 0 < times rank (source s gap)
-      → (label : ℕ) × (label < s.board.labels) × (rank ≡ rank_of s.board (member_of s.board gap label))
+      → (place : ℕ) × (place < places s.board) × (rank ≡ rank_of s.board (member_of s.board gap place))
 
 -- what a solver knows, whenever no call of it runs
 pub record IsSolving (s : Solving) : Type 0 where

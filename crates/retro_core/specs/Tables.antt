@@ -16,13 +16,13 @@ use Rattle.retro_core.specs.BoardArena.{arena_of}
 abbrev pub is_open : List ℕ → ℕ → Bool
 is_open values x = slice_index values x == 4294967295
 
--- the members of a gap that pass the test, for so many labels from one on
+-- the members of a gap that pass the test, for so many places from one on
 abbrev pub members_from : Arena → (ℕ → Bool) → ℕ → ℕ → ℕ → List ℕ
 members_from a test g from count = filter test (map (a.member g) (range_with_len from count))
 
--- the members of a gap that have no value yet, by label
+-- the members of a gap that have no value yet, by place
 abbrev pub open_members : Arena → List ℕ → ℕ → List ℕ
-open_members a values g = members_from a (is_open values) g 0 a.labels
+open_members a values g = members_from a (is_open values) g 0 a.places
 
 -- each gap's count is the number of its answers that lead to where the test holds
 pub record IsCounted (a : Arena) (above : ℕ → Bool) (counts : List ℕ) : Type 0 where
@@ -78,7 +78,7 @@ pub record AreLive (a : Arena) (above : ℕ → Bool) (nodes lists : ℕ) (livin
   pub lists_is : lists ≡ a.gaps
   pub are_lists : AreLists nodes lists living
   pub once : (g x : ℕ) → g < a.gaps → x < a.configurations
-      → times x (living g) ≡ cond (above x && (a.gap x (a.pebble g) == g && a.is_answer g (a.label x (a.pebble g)))) 1 0
+      → times x (living g) ≡ cond (above x && (a.gap x (a.pebble g) == g && a.is_answer g (a.place x (a.pebble g)))) 1 0
   pub ascending : (g : ℕ) → AllPairs (λ first second. first < second) (living g)
 
 -- the dominator of each configuration

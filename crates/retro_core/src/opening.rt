@@ -44,9 +44,9 @@ impl<S: ListStore> Tables<S> {
         ensures entered { IsEntered (arena_of space.now) (arena_of space.now).configurations self.new.values.items self.new.counts.items (S.nodes self.new.buckets) (S.lists self.new.buckets) (S.list self.new.buckets)
             (S.nodes self.new.living) (S.lists self.new.living) (S.list self.new.living) }
     {
-        let labels = space.labels() as u32;
-        for place in 0..space.configurations() / labels {
-            let row = Row::at(space, place * labels);
+        let places = space.places() as u32;
+        for place in 0..space.configurations() / places {
+            let row = Row::at(space, place * places);
             self.enter_row(space, &row, dominators);
         }
     }
@@ -60,8 +60,8 @@ impl<S: ListStore> Tables<S> {
         ensures entered { IsEntered (arena_of space.now) (row.now.first + places space.now) self.new.values.items self.new.counts.items (S.nodes self.new.buckets) (S.lists self.new.buckets) (S.list self.new.buckets)
             (S.nodes self.new.living) (S.lists self.new.living) (S.list self.new.living) }
     {
-        let labels = space.labels() as u32;
-        for rank in row.first..row.first + labels {
+        let places = space.places() as u32;
+        for rank in row.first..row.first + places {
             self.enter(space, row, dominators, rank);
         }
     }

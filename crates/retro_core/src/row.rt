@@ -8,7 +8,7 @@ ghost use Rattle.retro_core.specs.Opening.{IsRow, IsInRow};
 
 use positions::Space;
 
-/// The configurations that differ in the label of the last pebble alone.
+/// The configurations that differ in the place of the last pebble alone.
 #[derive(Clone, Copy)]
 pub(crate) struct Row {
     /// The rank of the first one. The others follow it.

@@ -145,7 +145,7 @@ impl<S: ListStore> Solver<S> {
         &self.space
     }
 
-    /// The smallest pebble that dominates all others at the configuration of a rank, if one does. A lone pebble does.
+    /// The smallest pebble that dominates all others at the configuration of a rank, if one does. A lone pebble does where it holds a label.
     pub fn dominator(&self, rank: u32) -> Option<u8>
         requires { rank < configurations self.now.board }
         ensures { IsSmallest (IsDominator self.now.board (configuration_at self.now.board rank)) result }
@@ -216,8 +216,8 @@ impl<S: ListStore> Solver<S> {
         if self.space.gap(rank, pebble) != gap || self.tables.values[rank as usize] != OPEN {
             return None;
         }
-        let label = self.space.label_at(rank, pebble);
-        open_member(&self.tables.values, &self.space, gap, label + 1)
+        let place = self.space.label_at(rank, pebble);
+        open_member(&self.tables.values, &self.space, gap, place + 1)
     }
 }
 

@@ -59,8 +59,8 @@ impl<S: ListStore> Tables<S> {
         let _ = space.configurations();
         let first = space.member(gap, 0);
         let step = member_step(space, gap);
-        for label in 0..space.labels() as u32 {
-            let rank = first + label * step;
+        for place in 0..space.places() as u32 {
+            let rank = first + place * step;
             if self.values[rank as usize] == OPEN {
                 self.file(space, rank, value);
             }

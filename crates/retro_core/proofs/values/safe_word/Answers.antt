@@ -1,4 +1,4 @@
-use Rattle.std.proofs.Common.{arith, ap, sym, ◌∙◌, get_or}
+use Rattle.std.proofs.Common.{ap, sym, ◌∙◌, get_or}
 use Rattle.positions.specs.Ranks.{configuration_at}
 use Rattle.retro_core.proofs.Safest.{safe-some, safe-none}
 use Rattle.retro_core.proofs.values.safe_word.Goals as goal
@@ -6,10 +6,8 @@ use Rattle.retro_core.proofs.values.safe_word.Goals as goal
 pub returns-in-Some : goal.returns-in-Some
 returns-in-Some g c =
     let b = c.args.space.now in
-    let small = c.label_at.ensures.place in
-    let few = c.requires.forever.is_board.labels.1 in
     safe-some b _ _ _ c.args.gap c.in-Some.rank c.label_at.result c.requires.forever c.requires.gap (sym c.first.ensures.first ∙ c.in-Some.is)
-    (c.label_at.ensures.label ∙ ap (λ p. get_or (configuration_at b c.in-Some.rank) p 0) c.gap_pebble.ensures.pebble) (omega (arith, small, few))
+    (c.label_at.ensures.label ∙ ap (λ p. get_or (configuration_at b c.in-Some.rank) p 0) c.gap_pebble.ensures.pebble)
 
 pub returns-in-None : goal.returns-in-None
 returns-in-None g c =

@@ -1,6 +1,7 @@
 use Rattle.std.proofs.Common.{◌≡◌, ◌<◌, ◌+◌, ◌-◌, ℕ, List, Some, None, slice_get, sym, ap, ◌∙◌, subst, add-one, arith}
 use Rattle.std.proofs.lemmas.List.{get_or_read}
 use Rattle.index_lists.proofs.Places.{place-of, stands-at}
+use Rattle.board_text.specs.PlainBoard.{places}
 use Rattle.positions.specs.Ranks.{configurations}
 use Rattle.positions.specs.Gaps.{gaps}
 use Rattle.retro_core.specs.BoardArena.{arena_of}
@@ -26,7 +27,7 @@ returns-then-gap-clause-behind g c =
     subst (λ (v : Solving). (place : ℕ) → slice_get (source v c.args.gap) place ≡ Some c.args.rank → None ≡ slice_get (source v c.args.gap) (place + 1)) c.self.view_is
     (λ place here.
     let inside = stands-at place c.args.rank (open_members (arena_of b) values c.args.gap) (ap (λ (ys : List ℕ). slice_get ys place) (sym shown) ∙ here) in
-    let m = members-are (arena_of b) (is_open values) c.args.gap 0 b.labels c.args.rank inside in
+    let m = members-are (arena_of b) (is_open values) c.args.gap 0 (places b) c.args.rank inside in
     let high = m.below in
     let gap_is : (arena_of b).gap c.args.rank ((arena_of b).pebble c.args.gap) ≡ c.args.gap =
     ap (λ x. (arena_of b).gap x ((arena_of b).pebble c.args.gap)) (sym m.is) ∙ is.gap_of_member c.args.gap m.label i (omega arith) in
@@ -50,19 +51,19 @@ returns-clause-behind g c =
     let shown = source-shown _ e.is_board e.few _ _ _ _ _ _ _ _ _ _ _ c.self.invariant.0 c.args.gap i in
     let gap_is : (arena_of b).gap c.args.rank ((arena_of b).pebble c.args.gap) ≡ c.args.gap =
     ap ((arena_of b).gap c.args.rank) (sym c.gap_pebble-pebble.ensures.pebble) ∙ sym c.gap.ensures.gap ∙ c.if-gap.false in
-    let label_is : c.label_at-label.result ≡ (arena_of b).label c.args.rank ((arena_of b).pebble c.args.gap) =
-    c.label_at-label.ensures.label ∙ ap ((arena_of b).label c.args.rank) c.gap_pebble-pebble.ensures.pebble in
+    let label_is : c.label_at-place.result ≡ (arena_of b).place c.args.rank ((arena_of b).pebble c.args.gap) =
+    c.label_at-place.ensures.label ∙ ap ((arena_of b).place c.args.rank) c.gap_pebble-pebble.ensures.pebble in
     let p_in = is.pebble_in c.args.gap i in
-    let member : (arena_of b).member c.args.gap c.label_at-label.result ≡ c.args.rank =
-    ap ((arena_of b).member c.args.gap) label_is ∙ ap (λ h. (arena_of b).member h ((arena_of b).label c.args.rank ((arena_of b).pebble c.args.gap))) (sym gap_is)
+    let member : (arena_of b).member c.args.gap c.label_at-place.result ≡ c.args.rank =
+    ap ((arena_of b).member c.args.gap) label_is ∙ ap (λ h. (arena_of b).member h ((arena_of b).place c.args.rank ((arena_of b).pebble c.args.gap))) (sym gap_is)
     ∙ is.member_of_gap c.args.rank ((arena_of b).pebble c.args.gap) low p_in in
-    let all : 0 + b.labels ≡ b.labels = omega arith in
+    let all : 0 + places b ≡ places b = omega arith in
     subst (λ (v : Solving). (place : ℕ) → slice_get (source v c.args.gap) place ≡ Some c.args.rank → c.open_member.result ≡ slice_get (source v c.args.gap) (place + 1)) c.self.view_is
     (λ place here.
     let at = ap (λ (ys : List ℕ). slice_get ys place) (sym shown) ∙ here ∙ ap Some (sym member) in
     (rw c.deref.ensures.value at c.open_member.ensures)
-    ∙ ap (λ n. slice_get (members_from (arena_of b) (is_open values) c.args.gap (c.label_at-label.result + 1) (n - (c.label_at-label.result + 1))) 0) (sym all)
-    ∙ sym (member-behind (arena_of b) is (is_open values) c.args.gap i 0 b.labels c.label_at-label.result place (omega arith) c.label_at-label.ensures.place at)
+    ∙ ap (λ n. slice_get (members_from (arena_of b) (is_open values) c.args.gap (c.label_at-place.result + 1) (n - (c.label_at-place.result + 1))) 0) (sym all)
+    ∙ sym (member-behind (arena_of b) is (is_open values) c.args.gap i 0 (places b) c.label_at-place.result place (omega arith) c.label_at-place.ensures.place at)
     ∙ ap (slice_get (open_members (arena_of b) values c.args.gap)) (sym (add-one place))
     ∙ ap (λ (ys : List ℕ). slice_get ys (place + 1)) (sym shown))
 
