@@ -53,10 +53,10 @@ regroup : (a b c x : List ℕ) → a ++ (b ++ (c ++ x)) ≡ (a ++ (b ++ c)) ++ x
 regroup a b c x = simp append_assoc
 
 pub front_taken : (board : PlainBoard) (claim : Claim) (labeller : List LabellerRow) (adversary : List AdversaryRow) (text a b d : List ℕ) → text ≡ head claim ++ a → LabellerPartRead board claim labeller a b → AdversaryPartRead board claim adversary b d
-    → text ≡ front (document claim (answer_rows board labeller) (request_rows board adversary)) ++ d
+    → text ≡ front board (document claim (answer_rows board labeller) (request_rows board adversary)) ++ d
 front_taken board claim labeller adversary text a b d e l r =
-    e ∙ ap (λ (t : List ℕ). head claim ++ t) (l.spelled ∙ ap (λ (t : List ℕ). labeller_section claim (answer_rows board labeller) ++ t) r.spelled)
-    ∙ regroup (head claim) (labeller_section claim (answer_rows board labeller)) (adversary_section claim (request_rows board adversary)) d
+    e ∙ ap (λ (t : List ℕ). head claim ++ t) (l.spelled ∙ ap (λ (t : List ℕ). labeller_section board claim (answer_rows board labeller) ++ t) r.spelled)
+    ∙ regroup (head claim) (labeller_section board claim (answer_rows board labeller)) (adversary_section board claim (request_rows board adversary)) d
 
 pub labeller_lines_are : (board : PlainBoard) (claim : Claim) (rows : List LabellerRow) (asked : Bool) (n lines : ℕ) → asked ≡ asks_labeller claim → n ≡ length rows → lines ≡ cond asked (1 + n) 0 → lines ≡ labeller_lines claim (answer_rows board rows)
 labeller_lines_are board claim rows asked n lines e f g = rw (length-map rows (answer_row board), ← f, ← e) g
@@ -64,7 +64,7 @@ labeller_lines_are board claim rows asked n lines e f g = rw (length-map rows (a
 pub adversary_lines_are : (board : PlainBoard) (claim : Claim) (rows : List AdversaryRow) (asked : Bool) (n lines : ℕ) → asked ≡ asks_adversary claim → n ≡ length rows → lines ≡ cond asked (1 + n) 0 → lines ≡ adversary_lines claim (request_rows board rows)
 adversary_lines_are board claim rows asked n lines e f g = rw (length-map rows (request_row board), ← f, ← e) g
 
-pub has_trailing : (board : PlainBoard) (proof : PlainProof) (text a b : List ℕ) (line : ℕ) → IsProof board proof → text ≡ front proof ++ a → a ≡ end_line ++ b → (b ≡ [] → ⊥) → line ≡ 1 + end_number proof → HasFault board text line kinds.Trailing
+pub has_trailing : (board : PlainBoard) (proof : PlainProof) (text a b : List ℕ) (line : ℕ) → IsProof board proof → text ≡ front board proof ++ a → a ≡ end_line ++ b → (b ≡ [] → ⊥) → line ≡ 1 + end_number proof → HasFault board text line kinds.Trailing
 has_trailing board proof text a [] line is e f some n = absurd (some refl)
 has_trailing board proof text a (c ∷ more) line is e f some n =
-    (proof, c, more, is, e ∙ ap (λ (t : List ℕ). front proof ++ t) f ∙ sym (append_assoc (front proof) end_line (c ∷ more)), n)
+    (proof, c, more, is, e ∙ ap (λ (t : List ℕ). front board proof ++ t) f ∙ sym (append_assoc (front board proof) end_line (c ∷ more)), n)

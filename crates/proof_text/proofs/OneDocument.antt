@@ -139,14 +139,14 @@ no_section_fault board IsRow at word line RowFault all text tail number l kinds.
 -- ---- documents
 
 labeller_unique : (board : PlainBoard) (claim : Claim) (ps qs : List AnswerRow) (x y : List ℕ) → IsBoard board → AreAnswerRows board claim ps → AreAnswerRows board claim qs
-    → (asks_labeller claim ≡ false → ps ≡ []) → (asks_labeller claim ≡ false → qs ≡ []) → labeller_section claim ps ++ x ≡ labeller_section claim qs ++ y → (ps ≡ qs) × (x ≡ y)
+    → (asks_labeller claim ≡ false → ps ≡ []) → (asks_labeller claim ≡ false → qs ≡ []) → labeller_section board claim ps ++ x ≡ labeller_section board claim qs ++ y → (ps ≡ qs) × (x ≡ y)
 labeller_unique board claim ps qs x y is are_p are_q none_p none_q e =
-    part_unique board (IsAnswerRow board claim) (λ row. row.at) (codes "labeller") answer_line (asks_labeller claim) ps qs x y (λ p q x y is_p is_q. answer_unique board claim p q x y is is_p is_q) are_p are_q none_p none_q e
+    part_unique board (IsAnswerRow board claim) (λ row. row.at) (codes "labeller") (answer_line board) (asks_labeller claim) ps qs x y (λ p q x y is_p is_q. answer_unique board claim p q x y is is_p is_q) are_p are_q none_p none_q e
 
 adversary_unique : (board : PlainBoard) (claim : Claim) (ps qs : List RequestRow) (x y : List ℕ) → IsBoard board → AreRequestRows board ps → AreRequestRows board qs
-    → (asks_adversary claim ≡ false → ps ≡ []) → (asks_adversary claim ≡ false → qs ≡ []) → adversary_section claim ps ++ x ≡ adversary_section claim qs ++ y → (ps ≡ qs) × (x ≡ y)
+    → (asks_adversary claim ≡ false → ps ≡ []) → (asks_adversary claim ≡ false → qs ≡ []) → adversary_section board claim ps ++ x ≡ adversary_section board claim qs ++ y → (ps ≡ qs) × (x ≡ y)
 adversary_unique board claim ps qs x y is are_p are_q none_p none_q e =
-    part_unique board (IsRequestRow board) (λ row. row.at) (codes "adversary") request_line (asks_adversary claim) ps qs x y (λ p q x y is_p is_q. request_unique board p q x y is is_p is_q) are_p are_q none_p none_q e
+    part_unique board (IsRequestRow board) (λ row. row.at) (codes "adversary") (request_line board) (asks_adversary claim) ps qs x y (λ p q x y is_p is_q. request_unique board p q x y is is_p is_q) are_p are_q none_p none_q e
 
 regroup : (a b c d : List ℕ) → (a ++ (b ++ c)) ++ d ≡ a ++ (b ++ (c ++ d))
 regroup a b c d = simp append_assoc
@@ -160,17 +160,17 @@ pub record SameFront (a b : PlainProof) (x y : List ℕ) : Type 0 where
 
 same_front_of : (board : PlainBoard) (claim d : Claim) (la lb : List AnswerRow) (aa ab : List RequestRow) (x y : List ℕ) → IsBoard board → claim ≡ d → AreAnswerRows board claim la → AreAnswerRows board d lb → AreRequestRows board aa → AreRequestRows board ab
     → (asks_labeller claim ≡ false → la ≡ []) → (asks_labeller d ≡ false → lb ≡ []) → (asks_adversary claim ≡ false → aa ≡ []) → (asks_adversary d ≡ false → ab ≡ [])
-    → labeller_section claim la ++ (adversary_section claim aa ++ x) ≡ labeller_section d lb ++ (adversary_section d ab ++ y) → (la ≡ lb) × (aa ≡ ab) × (x ≡ y)
+    → labeller_section board claim la ++ (adversary_section board claim aa ++ x) ≡ labeller_section board d lb ++ (adversary_section board d ab ++ y) → (la ≡ lb) × (aa ≡ ab) × (x ≡ y)
 same_front_of board claim d la lb aa ab x y is same are_la are_lb are_aa are_ab nla nlb naa nab e =
-    let l = labeller_unique board claim la lb (adversary_section claim aa ++ x) (adversary_section claim ab ++ y) is are_la (subst (λ (c : Claim). AreAnswerRows board c lb) (sym same) are_lb) nla (subst (λ (c : Claim). asks_labeller c ≡ false → lb ≡ []) (sym same) nlb)
-    (subst (λ (c : Claim). labeller_section claim la ++ (adversary_section claim aa ++ x) ≡ labeller_section c lb ++ (adversary_section c ab ++ y)) (sym same) e) in
+    let l = labeller_unique board claim la lb (adversary_section board claim aa ++ x) (adversary_section board claim ab ++ y) is are_la (subst (λ (c : Claim). AreAnswerRows board c lb) (sym same) are_lb) nla (subst (λ (c : Claim). asks_labeller c ≡ false → lb ≡ []) (sym same) nlb)
+    (subst (λ (c : Claim). labeller_section board claim la ++ (adversary_section board claim aa ++ x) ≡ labeller_section board c lb ++ (adversary_section board c ab ++ y)) (sym same) e) in
     let a = adversary_unique board claim aa ab x y is are_aa are_ab naa (subst (λ (c : Claim). asks_adversary c ≡ false → ab ≡ []) (sym same) nab) l.1 in
     (l.0, a.0, a.1)
 
-pub same_front : (board : PlainBoard) (a b : PlainProof) (x y : List ℕ) → IsBoard board → IsProof board a → IsProof board b → front a ++ x ≡ front b ++ y → SameFront a b x y
+pub same_front : (board : PlainBoard) (a b : PlainProof) (x y : List ℕ) → IsBoard board → IsProof board a → IsProof board b → front board a ++ x ≡ front board b ++ y → SameFront a b x y
 same_front board a b x y is is_a is_b e =
-    let h = head_unique a.claim b.claim (labeller_section a.claim a.labeller ++ (adversary_section a.claim a.adversary ++ x)) (labeller_section b.claim b.labeller ++ (adversary_section b.claim b.adversary ++ y)) is_a.claim is_b.claim
-    (sym (regroup (head a.claim) (labeller_section a.claim a.labeller) (adversary_section a.claim a.adversary) x) ∙ e ∙ regroup (head b.claim) (labeller_section b.claim b.labeller) (adversary_section b.claim b.adversary) y) in
+    let h = head_unique a.claim b.claim (labeller_section board a.claim a.labeller ++ (adversary_section board a.claim a.adversary ++ x)) (labeller_section board b.claim b.labeller ++ (adversary_section board b.claim b.adversary ++ y)) is_a.claim is_b.claim
+    (sym (regroup (head a.claim) (labeller_section board a.claim a.labeller) (adversary_section board a.claim a.adversary) x) ∙ e ∙ regroup (head b.claim) (labeller_section board b.claim b.labeller) (adversary_section board b.claim b.adversary) y) in
     let s = same_front_of board a.claim b.claim a.labeller b.labeller a.adversary b.adversary x y is h.0 is_a.labeller is_b.labeller is_a.adversary is_b.adversary is_a.no_labeller is_b.no_labeller is_a.no_adversary is_b.no_adversary h.1 in
     record { claim = h.0; labeller = s.0; adversary = s.1; rest = s.2 }
 
@@ -179,37 +179,37 @@ same_proof a b c l r =
     let e : ◌≡◌ {A = PlainProof} (record { claim = a.claim; labeller = a.labeller; adversary = a.adversary }) b = rw (c, l, r) refl in e
 
 -- A text is that of one document.
-pub one_document : (board : PlainBoard) (a b : PlainProof) → IsBoard board → IsProof board a → IsProof board b → proof_text a ≡ proof_text b → a ≡ b
+pub one_document : (board : PlainBoard) (a b : PlainProof) → IsBoard board → IsProof board a → IsProof board b → proof_text board a ≡ proof_text board b → a ≡ b
 one_document board a b is is_a is_b e =
     let s = same_front board a b end_line end_line is is_a is_b e in
     same_proof a b s.claim s.labeller s.adversary
 
 -- the text of a document, from its head on
-opened : (b : PlainProof) → proof_text b ≡ head b.claim ++ (labeller_section b.claim b.labeller ++ (adversary_section b.claim b.adversary ++ end_line))
-opened b = regroup (head b.claim) (labeller_section b.claim b.labeller) (adversary_section b.claim b.adversary) end_line
+opened : (board : PlainBoard) (b : PlainProof) → proof_text board b ≡ head b.claim ++ (labeller_section board b.claim b.labeller ++ (adversary_section board b.claim b.adversary ++ end_line))
+opened board b = regroup (head b.claim) (labeller_section board b.claim b.labeller) (adversary_section board b.claim b.adversary) end_line
 
 asked_section : {X : Type 0} (asked : Bool) (word : List ℕ) (line : X → List ℕ) (rows : List X) → asked ≡ true → cond asked (section word line rows) [] ≡ section word line rows
 asked_section asked word line rows e = rw e refl
 
-no_labeller_fault : (board : PlainBoard) (text : List ℕ) (l : ℕ) (kind : ProofKind) (b : PlainProof) → IsBoard board → IsProof board b → text ≡ proof_text b → LabellerFault board text l kind → kind ≡ kinds.Memory
+no_labeller_fault : (board : PlainBoard) (text : List ℕ) (l : ℕ) (kind : ProofKind) (b : PlainProof) → IsBoard board → IsProof board b → text ≡ proof_text board b → LabellerFault board text l kind → kind ≡ kinds.Memory
 no_labeller_fault board text l kind b is_board is e f =
-    let h = head_unique f.claim b.claim f.rest (labeller_section b.claim b.labeller ++ (adversary_section b.claim b.adversary ++ end_line)) f.is_claim is.claim (sym f.spelled ∙ e ∙ opened b) in
-    let here : f.rest ≡ section (codes "labeller") answer_line b.labeller ++ (adversary_section b.claim b.adversary ++ end_line) =
-    h.1 ∙ ap (λ (s : List ℕ). s ++ (adversary_section b.claim b.adversary ++ end_line)) (asked_section (asks_labeller b.claim) (codes "labeller") answer_line b.labeller (subst (λ (c : Claim). asks_labeller c ≡ true) h.0 f.asked)) in
-    no_section_fault board (IsAnswerRow board f.claim) (λ row. row.at) (codes "labeller") answer_line (AnswerRowFault board f.claim) b.labeller f.rest (adversary_section b.claim b.adversary ++ end_line) 3 l kind
+    let h = head_unique f.claim b.claim f.rest (labeller_section board b.claim b.labeller ++ (adversary_section board b.claim b.adversary ++ end_line)) f.is_claim is.claim (sym f.spelled ∙ e ∙ opened board b) in
+    let here : f.rest ≡ section (codes "labeller") (answer_line board) b.labeller ++ (adversary_section board b.claim b.adversary ++ end_line) =
+    h.1 ∙ ap (λ (s : List ℕ). s ++ (adversary_section board b.claim b.adversary ++ end_line)) (asked_section (asks_labeller b.claim) (codes "labeller") (answer_line board) b.labeller (subst (λ (c : Claim). asks_labeller c ≡ true) h.0 f.asked)) in
+    no_section_fault board (IsAnswerRow board f.claim) (λ row. row.at) (codes "labeller") (answer_line board) (AnswerRowFault board f.claim) b.labeller f.rest (adversary_section board b.claim b.adversary ++ end_line) 3 l kind
     (λ p q x y is_p is_q. answer_unique board f.claim p q x y is_board is_p is_q)
     (λ may row rest more k is_row stands spelled. no_answer_fault board f.claim may row rest more k is_board is_row stands spelled)
     (subst (λ (c : Claim). AreAnswerRows board c b.labeller) (sym h.0) is.labeller) here f.fault
 
-no_adversary_fault : (board : PlainBoard) (text : List ℕ) (l : ℕ) (kind : ProofKind) (b : PlainProof) → IsBoard board → IsProof board b → text ≡ proof_text b → AdversaryFault board text l kind → kind ≡ kinds.Memory
+no_adversary_fault : (board : PlainBoard) (text : List ℕ) (l : ℕ) (kind : ProofKind) (b : PlainProof) → IsBoard board → IsProof board b → text ≡ proof_text board b → AdversaryFault board text l kind → kind ≡ kinds.Memory
 no_adversary_fault board text l kind b is_board is e f =
-    let h = head_unique f.claim b.claim (labeller_section f.claim f.labeller ++ f.rest) (labeller_section b.claim b.labeller ++ (adversary_section b.claim b.adversary ++ end_line)) f.is_claim is.claim (sym f.spelled ∙ e ∙ opened b) in
-    let s = labeller_unique board f.claim f.labeller b.labeller f.rest (adversary_section f.claim b.adversary ++ end_line) is_board f.are_rows (subst (λ (c : Claim). AreAnswerRows board c b.labeller) (sym h.0) is.labeller) f.none
+    let h = head_unique f.claim b.claim (labeller_section board f.claim f.labeller ++ f.rest) (labeller_section board b.claim b.labeller ++ (adversary_section board b.claim b.adversary ++ end_line)) f.is_claim is.claim (sym f.spelled ∙ e ∙ opened board b) in
+    let s = labeller_unique board f.claim f.labeller b.labeller f.rest (adversary_section board f.claim b.adversary ++ end_line) is_board f.are_rows (subst (λ (c : Claim). AreAnswerRows board c b.labeller) (sym h.0) is.labeller) f.none
     (subst (λ (c : Claim). asks_labeller c ≡ false → b.labeller ≡ []) (sym h.0) is.no_labeller)
-    (subst (λ (c : Claim). labeller_section f.claim f.labeller ++ f.rest ≡ labeller_section c b.labeller ++ (adversary_section c b.adversary ++ end_line)) (sym h.0) h.1) in
-    let here : f.rest ≡ section (codes "adversary") request_line b.adversary ++ end_line =
-    s.1 ∙ ap (λ (t : List ℕ). t ++ end_line) (asked_section (asks_adversary f.claim) (codes "adversary") request_line b.adversary f.asked) in
-    no_section_fault board (IsRequestRow board) (λ row. row.at) (codes "adversary") request_line (RequestRowFault board) b.adversary f.rest end_line _ l kind
+    (subst (λ (c : Claim). labeller_section board f.claim f.labeller ++ f.rest ≡ labeller_section board c b.labeller ++ (adversary_section board c b.adversary ++ end_line)) (sym h.0) h.1) in
+    let here : f.rest ≡ section (codes "adversary") (request_line board) b.adversary ++ end_line =
+    s.1 ∙ ap (λ (t : List ℕ). t ++ end_line) (asked_section (asks_adversary f.claim) (codes "adversary") (request_line board) b.adversary f.asked) in
+    no_section_fault board (IsRequestRow board) (λ row. row.at) (codes "adversary") (request_line board) (RequestRowFault board) b.adversary f.rest end_line _ l kind
     (λ p q x y is_p is_q. request_unique board p q x y is_board is_p is_q)
     (λ may row rest more k is_row stands spelled. no_request_fault board may row rest more k is_board is_row stands spelled)
     is.adversary here f.fault
@@ -218,18 +218,18 @@ no_trailing : (c : ℕ) (cs : List ℕ) → end_line ++ c ∷ cs ≡ end_line �
 no_trailing c cs e = omega (arith, ap length e, length-append end_line (c ∷ cs))
 
 -- In the text of a document no line has a fault.
-pub no_fault : (board : PlainBoard) (text : List ℕ) (l : ℕ) (kind : ProofKind) (b : PlainProof) → IsBoard board → IsProof board b → text ≡ proof_text b → HasFault board text l kind → kind ≡ kinds.Memory
+pub no_fault : (board : PlainBoard) (text : List ℕ) (l : ℕ) (kind : ProofKind) (b : PlainProof) → IsBoard board → IsProof board b → text ≡ proof_text board b → HasFault board text l kind → kind ≡ kinds.Memory
 no_fault board text l kinds.Version b is_board is e h =
-    absurd (h.1 tt (claim_line b.claim ++ (labeller_section b.claim b.labeller ++ (adversary_section b.claim b.adversary ++ end_line))) tt
-    (e ∙ opened b ∙ append_assoc version_line (claim_line b.claim) (labeller_section b.claim b.labeller ++ (adversary_section b.claim b.adversary ++ end_line))))
+    absurd (h.1 tt (claim_line b.claim ++ (labeller_section board b.claim b.labeller ++ (adversary_section board b.claim b.adversary ++ end_line))) tt
+    (e ∙ opened board b ∙ append_assoc version_line (claim_line b.claim) (labeller_section board b.claim b.labeller ++ (adversary_section board b.claim b.adversary ++ end_line))))
 no_fault board text l kinds.Claim b is_board is e h =
-    let rest = labeller_section b.claim b.labeller ++ (adversary_section b.claim b.adversary ++ end_line) in
-    absurd (h.3 b.claim rest is.claim (append_cancel_left version_line h.1 (claim_line b.claim ++ rest) (sym h.2 ∙ e ∙ opened b ∙ append_assoc version_line (claim_line b.claim) rest)))
+    let rest = labeller_section board b.claim b.labeller ++ (adversary_section board b.claim b.adversary ++ end_line) in
+    absurd (h.3 b.claim rest is.claim (append_cancel_left version_line h.1 (claim_line b.claim ++ rest) (sym h.2 ∙ e ∙ opened board b ∙ append_assoc version_line (claim_line b.claim) rest)))
 no_fault board text l kinds.End b is_board is e h =
     let s = same_front board h.0 b h.1 end_line is_board h.2 is (sym h.3 ∙ e) in
     absurd (h.5 tt [] tt (s.rest ∙ sym (append-nil end_line)))
 no_fault board text l kinds.Trailing b is_board is e h =
-    let s = same_front board h.0 b (end_line ++ h.1 ∷ h.2) end_line is_board h.3 is (sym (append_assoc (front h.0) end_line (h.1 ∷ h.2)) ∙ sym h.4 ∙ e) in
+    let s = same_front board h.0 b (end_line ++ h.1 ∷ h.2) end_line is_board h.3 is (sym (append_assoc (front board h.0) end_line (h.1 ∷ h.2)) ∙ sym h.4 ∙ e) in
     absurd (no_trailing h.1 h.2 s.rest)
 no_fault board text l kinds.Section b is_board is e h = elim h [ inl f ↦ no_labeller_fault board text l kinds.Section b is_board is e f | inr f ↦ no_adversary_fault board text l kinds.Section b is_board is e f ]
 no_fault board text l kinds.Row b is_board is e h = elim h [ inl f ↦ no_labeller_fault board text l kinds.Row b is_board is e f | inr f ↦ no_adversary_fault board text l kinds.Row b is_board is e f ]
@@ -239,7 +239,7 @@ no_fault board text l kinds.Number b is_board is e h = elim h [ inl f ↦ no_lab
 no_fault board text l kinds.Order b is_board is e h = elim h [ inl f ↦ no_labeller_fault board text l kinds.Order b is_board is e f | inr f ↦ no_adversary_fault board text l kinds.Order b is_board is e f ]
 no_fault board text l kinds.Memory b is_board is e h = elim h [ inl f ↦ no_labeller_fault board text l kinds.Memory b is_board is e f | inr f ↦ no_adversary_fault board text l kinds.Memory b is_board is e f ]
 
-pub only : (board : PlainBoard) (text : List ℕ) (b : PlainProof) (r : Result Proof ProofFault) → IsBoard board → IfOk r (λ a. IsDocument board a × (text ≡ proof_text (plain_proof board a))) → IfErr r (λ f. HasFault board text f.line f.kind)
-    → IsProof board b → text ≡ proof_text b → MatchResult r (λ a. plain_proof board a ≡ b) (λ f. f.kind ≡ kinds.Memory)
+pub only : (board : PlainBoard) (text : List ℕ) (b : PlainProof) (r : Result Proof ProofFault) → IsBoard board → IfOk r (λ a. IsDocument board a × (text ≡ proof_text board (plain_proof board a))) → IfErr r (λ f. HasFault board text f.line f.kind)
+    → IsProof board b → text ≡ proof_text board b → MatchResult r (λ a. plain_proof board a ≡ b) (λ f. f.kind ≡ kinds.Memory)
 only board text b (Ok a) is_board found fault is e = one_document board (plain_proof board a) b is_board found.0.is_proof is (sym found.1 ∙ e)
 only board text b (Err f) is_board found fault is e = no_fault board text f.line f.kind b is_board is e fault

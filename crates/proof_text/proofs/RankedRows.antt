@@ -5,7 +5,8 @@ use Rattle.std.proofs.lemmas.Bool.{cases_lt}
 use Rattle.std.proofs.Math.Nat.{one-le-pow, pow-succ'}
 use Rattle.std.proofs.lemmas.List.{length-map, get_or-map, get_or-take}
 use Rattle.std.proofs.lemmas.List.Elements.{All-head}
-use Rattle.board_text.specs.PlainBoard.{PlainBoard, IsBoard, IsConfiguration}
+use Rattle.board_text.specs.PlainBoard.{PlainBoard, IsBoard, IsConfiguration, places}
+use Rattle.board_text.proofs.Places.{some_places}
 use Rattle.positions.specs.Ranks.{digits_of, rank_of, configuration_at, configurations}
 use Rattle.positions.specs.Table.{AnswerRow, RequestRow}
 use Rattle.positions.specs.declared.claim.Claim.{Claim}
@@ -22,7 +23,7 @@ number_small base (suc count) number some one each =
     subst (λ n. number < n) (sym (pow-succ' base count)) ((div-lt_iff_lt-mul (one-le-pow count base some)).0 first)
 
 pub rank_small : (board : PlainBoard) (rank : ℕ) → IsBoard board → IsConfiguration board (configuration_at board rank) → rank < configurations board
-rank_small board rank is_board is = number_small board.labels board.pebbles rank is_board.labels.0 is_board.pebbles.0 is.each_label
+rank_small board rank is_board is = number_small (places board) board.pebbles rank (some_places board is_board) is_board.pebbles.0 is.each_place
 
 pub answer_each : (board : PlainBoard) (claim : Claim) (rows : List LabellerRow) → AreAnswerRows board claim (answer_rows board rows) → (k : ℕ) (d : LabellerRow) → k < length rows → IsAnswerRow board claim (answer_row board (get_or rows k d))
 answer_each board claim rows are k d lt =

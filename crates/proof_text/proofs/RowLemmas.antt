@@ -1,13 +1,13 @@
 -- From the words of a row to the row, or to its fault.
 use Rattle.std.proofs.Common.{◌≡◌, ℕ, ◌+◌, ◌-◌, ◌<◌, ◌≤◌, ◌⊎◌, Bool, true, false, List, [], ◌∷◌, ◌++◌, Option, Some, None, length, map, take, drop, get_or, All, refl, sym, ap, subst, ◌∙◌, arith, inl, inr}
 use Rattle.std.specs.Fmt.{decimal}
-use Rattle.std.proofs.lemmas.List.{length-map, get_or-map, length-take, take_at, get_or-append_right, get_or-drop, get_or-replicate, get_or_past}
+use Rattle.std.proofs.lemmas.List.{length-map, length-take, take_at, get_or-append_right, get_or-drop, get_or-replicate, get_or_past}
 use Rattle.std.proofs.lemmas.Bool.{cases_lt}
 use Rattle.std.specs.Prelude.{not, Ok}
 use Rattle.board_text.specs.Ranges.{AreNumbers}
-use Rattle.board_text.specs.LineForms.{spaced}
-use Rattle.board_text.specs.Numerals.{spaced_texts, SpellsBelow, SpellNumbers}
-use Rattle.board_text.specs.PlainBoard.{PlainBoard}
+use Rattle.board_text.specs.PlaceForms.{place_word, SpellsPlace, SpellPlaces}
+use Rattle.board_text.specs.PlainBoard.{PlainBoard, places}
+use Rattle.board_text.proofs.PlaceLemmas.{words_spell}
 use Rattle.positions.specs.declared.claim.Claim.{Claim}
 use Rattle.positions.specs.declared.turns.Turns.{Turns}
 use Rattle.positions.specs.Table.{AnswerRow, RequestRow}
@@ -22,79 +22,69 @@ use Rattle.proof_text.specs.RowWords.{AnswerWords, RequestWords, answer_words_li
 use Rattle.proof_text.specs.ProofFaults.{AnswerRowFault, RequestRowFault}
 use Rattle.proof_text.specs.Reading.{TurnsOf, NumberOf, TakesAnswerWords, TakesRequestWords, IsFrom, NextAnswerRow, NextRequestRow}
 
--- numbers spelled one after the other
-pub spaced_numbers : (numbers : List ℕ) → spaced_texts (map decimal numbers) ≡ spaced numbers
-spaced_numbers [] = refl
-spaced_numbers (n ∷ numbers) = ap (λ (t : List ℕ). 32 ∷ (decimal n ++ t)) (spaced_numbers numbers)
+-- places below the bound are spelled so
+pub spelled_below : (labels bound : ℕ) (texts : List (List ℕ)) (places : List ℕ) → SpellPlaces labels bound texts true places → All (SpellsPlace labels bound) texts
+spelled_below labels bound texts places s = subst (λ (ts : List (List ℕ)). All (SpellsPlace labels bound) ts) (sym s.1) (words_spell (length places) labels bound places (refl, s.0))
 
--- numbers below the bound are spelled so
-pub spelled_below : (bound : ℕ) (texts : List (List ℕ)) (numbers : List ℕ) → SpellNumbers bound texts true numbers → All (SpellsBelow bound) texts
-spelled_below bound texts numbers s =
-    subst (λ (ts : List (List ℕ)). All (SpellsBelow bound) ts) (sym s.1)
-    (λ k d lt.
-    let inside : k < length numbers = omega (arith, lt, length-map numbers decimal) in
-    (get_or numbers k 0, s.0 k 0 inside, get_or-map decimal numbers k 0 d inside))
+pub places_count : (count labels bound : ℕ) (texts : List (List ℕ)) (places : List ℕ) → length texts ≡ count → SpellPlaces labels bound texts true places → AreNumbers count bound places
+places_count count labels bound texts places e s = (sym (length-map places (place_word labels)) ∙ ap length (sym s.1) ∙ e, s.0)
 
-pub numbers_count : (count bound : ℕ) (texts : List (List ℕ)) (numbers : List ℕ) → length texts ≡ count → SpellNumbers bound texts true numbers → AreNumbers count bound numbers
-numbers_count count bound texts numbers e s = (sym (length-map numbers decimal) ∙ ap length (sym s.1) ∙ e, s.0)
+cases_spelled : (labels bound : ℕ) (texts : List (List ℕ)) (are : Bool) (places : List ℕ) → are ≡ true → SpellPlaces labels bound texts are places → SpellPlaces labels bound texts true places
+cases_spelled labels bound texts are places e s = subst (λ (b : Bool). SpellPlaces labels bound texts b places) e s
 
-cases_spelled : (bound : ℕ) (texts : List (List ℕ)) (are : Bool) (numbers : List ℕ) → are ≡ true → SpellNumbers bound texts are numbers → SpellNumbers bound texts true numbers
-cases_spelled bound texts are numbers e s = subst (λ (b : Bool). SpellNumbers bound texts b numbers) e s
-
-cases_unspelled : (bound : ℕ) (texts : List (List ℕ)) (are : Bool) (numbers : List ℕ) → are ≡ false → SpellNumbers bound texts are numbers → SpellNumbers bound texts false numbers
-cases_unspelled bound texts are numbers e s = subst (λ (b : Bool). SpellNumbers bound texts b numbers) e s
+cases_unspelled : (labels bound : ℕ) (texts : List (List ℕ)) (are : Bool) (places : List ℕ) → are ≡ false → SpellPlaces labels bound texts are places → SpellPlaces labels bound texts false places
+cases_unspelled labels bound texts are places e s = subst (λ (b : Bool). SpellPlaces labels bound texts b places) e s
 
 -- ---- a labeller's row
 
-pub answer_sizes : (p q l m : ℕ) (claim : Claim) (values : AnswerValues) (at answers old new : List ℕ) → p ≡ q → l ≡ m
-    → TakesAnswerWords p l claim (Some values) at answers old new → TakesAnswerWords q m claim (Some values) at answers old new
-answer_sizes p q l m claim values at answers old new e f t = rw (← e, ← f) t
+pub answer_sizes : (p q l m h k : ℕ) (claim : Claim) (values : AnswerValues) (at answers old new : List ℕ) → p ≡ q → l ≡ m → h ≡ k
+    → TakesAnswerWords p l h claim (Some values) at answers old new → TakesAnswerWords q m k claim (Some values) at answers old new
+answer_sizes p q l m h k claim values at answers old new e f g t = rw (← e, ← f, ← g) t
 
 pub answer_label : (board : PlainBoard) (claim : Claim) (values : AnswerValues) (at answers old new : List ℕ) (MayStand : List ℕ → Type 0)
-    → TakesAnswerWords board.pebbles board.labels claim (Some values) at answers old new → (values.are_places ≡ false) ⊎ (values.are_answers ≡ false) → AnswerRowFault board claim MayStand old kinds.Label
+    → TakesAnswerWords board.pebbles board.labels (places board) claim (Some values) at answers old new → (values.are_places ≡ false) ⊎ (values.are_answers ≡ false) → AnswerRowFault board claim MayStand old kinds.Label
 answer_label board claim values at answers old new MayStand (words, are, e, s) wrong = (
   words,
   (are, new, e),
   λ all. elim wrong [
-    | inl places ↦ cases_unspelled board.labels words.at values.are_places at places s.places all.0
-    | inr taken ↦ cases_unspelled board.labels words.take values.are_answers answers taken s.taken all.1
+    | inl unplaced ↦ cases_unspelled board.labels (places board) words.at values.are_places at unplaced s.places all.0
+    | inr taken ↦ cases_unspelled board.labels board.labels words.take values.are_answers answers taken s.taken all.1
   ],
 )
 
 pub answer_number : (board : PlainBoard) (claim : Claim) (values : AnswerValues) (at answers old new : List ℕ) (MayStand : List ℕ → Type 0)
-    → TakesAnswerWords board.pebbles board.labels claim (Some values) at answers old new → values.are_places ≡ true → values.are_answers ≡ true → values.turns ≡ None → AnswerRowFault board claim MayStand old kinds.Number
-answer_number board claim values at answers old new MayStand (words, are, e, s) places taken none = (
+    → TakesAnswerWords board.pebbles board.labels (places board) claim (Some values) at answers old new → values.are_places ≡ true → values.are_answers ≡ true → values.turns ≡ None → AnswerRowFault board claim MayStand old kinds.Number
+answer_number board claim values at answers old new MayStand (words, are, e, s) placed taken none = (
   words,
   (are, new, e),
-  spelled_below board.labels words.at at (cases_spelled board.labels words.at values.are_places at places s.places),
-  spelled_below board.labels words.take answers (cases_spelled board.labels words.take values.are_answers answers taken s.taken),
+  spelled_below board.labels (places board) words.at at (cases_spelled board.labels (places board) words.at values.are_places at placed s.places),
+  spelled_below board.labels board.labels words.take answers (cases_spelled board.labels board.labels words.take values.are_answers answers taken s.taken),
   subst (λ (t : Option Turns). TurnsOf claim words.turns t) none s.turns,
 )
 
 -- a row was read
 pub record AnswerRead (board : PlainBoard) (claim : Claim) (row : AnswerRow) (old new : List ℕ) : Type 0 where
   pub is : IsAnswerRow board claim row
-  pub spelled : old ≡ answer_line row ++ new
+  pub spelled : old ≡ answer_line board row ++ new
 
 abbrev pub answer : List ℕ → Turns → List ℕ → AnswerRow
 answer at turns answers = record { at = at; turns = turns; answers = answers }
 
-answer_words_of : (at answers : List ℕ) (turns : Turns) (words : AnswerWords) → words.at ≡ map decimal at → words.turns ≡ turns_text turns → words.take ≡ map decimal answers
-    → answer_words_line words ≡ answer_line (answer at turns answers)
-answer_words_of at answers turns words e f g =
-    rw (e, f, g, spaced_numbers at, spaced_numbers answers) refl
+answer_words_of : (board : PlainBoard) (at answers : List ℕ) (turns : Turns) (words : AnswerWords) → words.at ≡ map (place_word board.labels) at → words.turns ≡ turns_text turns → words.take ≡ map (place_word board.labels) answers
+    → answer_words_line words ≡ answer_line board (answer at turns answers)
+answer_words_of board at answers turns words e f g = rw (e, f, g) refl
 
 pub answer_read : (board : PlainBoard) (claim : Claim) (values : AnswerValues) (at answers old new : List ℕ) (turns : Turns)
-    → TakesAnswerWords board.pebbles board.labels claim (Some values) at answers old new → values.are_places ≡ true → values.are_answers ≡ true → values.turns ≡ Some turns
+    → TakesAnswerWords board.pebbles board.labels (places board) claim (Some values) at answers old new → values.are_places ≡ true → values.are_answers ≡ true → values.turns ≡ Some turns
     → AnswerRead board claim (answer at turns answers) old new
-answer_read board claim values at answers old new turns (words, are, e, s) places taken some =
-    let p = cases_spelled board.labels words.at values.are_places at places s.places in
-    let t = cases_spelled board.labels words.take values.are_answers answers taken s.taken in
+answer_read board claim values at answers old new turns (words, are, e, s) placed taken some =
+    let p = cases_spelled board.labels (places board) words.at values.are_places at placed s.places in
+    let t = cases_spelled board.labels board.labels words.take values.are_answers answers taken s.taken in
     let n : TurnsOf claim words.turns (Some turns) = subst (λ (t : Option Turns). TurnsOf claim words.turns t) some s.turns in
-    let count = numbers_count board.pebbles board.labels words.at at are.at.0 p in
+    let count = places_count board.pebbles board.labels (places board) words.at at are.at.0 p in
     record {
-      is = record { at = record { each_pebble = count.0; each_label = count.1 }; turns = n.0; answers = numbers_count board.pebbles board.labels words.take answers are.take.0 t };
-      spelled = e ∙ ap (λ (line : List ℕ). line ++ new) (answer_words_of at answers turns words p.1 n.1 t.1);
+      is = record { at = record { each_pebble = count.0; each_place = count.1 }; turns = n.0; answers = places_count board.pebbles board.labels board.labels words.take answers are.take.0 t };
+      spelled = e ∙ ap (λ (line : List ℕ). line ++ new) (answer_words_of board at answers turns words p.1 n.1 t.1);
     }
 
 pub answer_order : (board : PlainBoard) (claim : Claim) (row : AnswerRow) (old new : List ℕ) (rank least : ℕ) → AnswerRead board claim row old new → rank ≡ rank_of board row.at → rank < least
@@ -115,35 +105,35 @@ answer_next board claim at answers zeros old new turns rank least read e below f
       above,
       below,
       few,
-      subst (λ (row : AnswerRow). old ≡ answer_line row ++ new) (sym same) read.spelled,
+      subst (λ (row : AnswerRow). old ≡ answer_line board row ++ new) (sym same) read.spelled,
     )
 
 -- ---- an adversary's row
 
-pub request_sizes : (p q l m : ℕ) (values : RequestValues) (at old new : List ℕ) → p ≡ q → l ≡ m
-    → TakesRequestWords p l (Some values) at old new → TakesRequestWords q m (Some values) at old new
-request_sizes p q l m values at old new e f t = rw (← e, ← f) t
+pub request_sizes : (p q l m h k : ℕ) (values : RequestValues) (at old new : List ℕ) → p ≡ q → l ≡ m → h ≡ k
+    → TakesRequestWords p l h (Some values) at old new → TakesRequestWords q m k (Some values) at old new
+request_sizes p q l m h k values at old new e f g t = rw (← e, ← f, ← g) t
 
 pub request_label : (board : PlainBoard) (values : RequestValues) (at old new : List ℕ) (MayStand : List ℕ → Type 0)
-    → TakesRequestWords board.pebbles board.labels (Some values) at old new → values.are_places ≡ false → RequestRowFault board MayStand old kinds.Label
+    → TakesRequestWords board.pebbles board.labels (places board) (Some values) at old new → values.are_places ≡ false → RequestRowFault board MayStand old kinds.Label
 request_label board values at old new MayStand (words, are, e, s) wrong =
-    (words, (are, new, e), cases_unspelled board.labels words.at values.are_places at wrong s.places)
+    (words, (are, new, e), cases_unspelled board.labels (places board) words.at values.are_places at wrong s.places)
 
 pub request_pebble : (board : PlainBoard) (values : RequestValues) (at old new : List ℕ) (MayStand : List ℕ → Type 0)
-    → TakesRequestWords board.pebbles board.labels (Some values) at old new → values.are_places ≡ true → values.ask ≡ None → RequestRowFault board MayStand old kinds.Pebble
-request_pebble board values at old new MayStand (words, are, e, s) places none = (
+    → TakesRequestWords board.pebbles board.labels (places board) (Some values) at old new → values.are_places ≡ true → values.ask ≡ None → RequestRowFault board MayStand old kinds.Pebble
+request_pebble board values at old new MayStand (words, are, e, s) placed none = (
   words,
   (are, new, e),
-  spelled_below board.labels words.at at (cases_spelled board.labels words.at values.are_places at places s.places),
+  spelled_below board.labels (places board) words.at at (cases_spelled board.labels (places board) words.at values.are_places at placed s.places),
   subst (λ (n : Option ℕ). NumberOf board.pebbles words.ask n) none s.pebble,
 )
 
 pub request_number : (board : PlainBoard) (values : RequestValues) (at old new : List ℕ) (ask : ℕ) (MayStand : List ℕ → Type 0)
-    → TakesRequestWords board.pebbles board.labels (Some values) at old new → values.are_places ≡ true → values.ask ≡ Some ask → values.left ≡ None → RequestRowFault board MayStand old kinds.Number
-request_number board values at old new ask MayStand (words, are, e, s) places some none = (
+    → TakesRequestWords board.pebbles board.labels (places board) (Some values) at old new → values.are_places ≡ true → values.ask ≡ Some ask → values.left ≡ None → RequestRowFault board MayStand old kinds.Number
+request_number board values at old new ask MayStand (words, are, e, s) placed some none = (
   words,
   (are, new, e),
-  spelled_below board.labels words.at at (cases_spelled board.labels words.at values.are_places at places s.places),
+  spelled_below board.labels (places board) words.at at (cases_spelled board.labels (places board) words.at values.are_places at placed s.places),
   (let k : NumberOf board.pebbles words.ask (Some ask) = subst (λ (n : Option ℕ). NumberOf board.pebbles words.ask n) some s.pebble in (ask, k.0, k.1)),
   subst (λ (n : Option ℕ). NumberOf (greatest_number + 1) words.left n) none s.number,
 )
@@ -151,27 +141,26 @@ request_number board values at old new ask MayStand (words, are, e, s) places so
 -- a row was read
 pub record RequestRead (board : PlainBoard) (row : RequestRow) (old new : List ℕ) : Type 0 where
   pub is : IsRequestRow board row
-  pub spelled : old ≡ request_line row ++ new
+  pub spelled : old ≡ request_line board row ++ new
 
 abbrev pub request : List ℕ → ℕ → ℕ → RequestRow
 request at left ask = record { at = at; left = left; request = ask }
 
-request_words_of : (at : List ℕ) (left ask : ℕ) (words : RequestWords) → words.at ≡ map decimal at → words.left ≡ decimal left → words.ask ≡ decimal ask
-    → request_words_line words ≡ request_line (request at left ask)
-request_words_of at left ask words e f g =
-    rw (e, f, g, spaced_numbers at) refl
+request_words_of : (board : PlainBoard) (at : List ℕ) (left ask : ℕ) (words : RequestWords) → words.at ≡ map (place_word board.labels) at → words.left ≡ decimal left → words.ask ≡ decimal ask
+    → request_words_line words ≡ request_line board (request at left ask)
+request_words_of board at left ask words e f g = rw (e, f, g) refl
 
 pub request_read : (board : PlainBoard) (values : RequestValues) (at old new : List ℕ) (left ask : ℕ)
-    → TakesRequestWords board.pebbles board.labels (Some values) at old new → values.are_places ≡ true → values.left ≡ Some left → values.ask ≡ Some ask
+    → TakesRequestWords board.pebbles board.labels (places board) (Some values) at old new → values.are_places ≡ true → values.left ≡ Some left → values.ask ≡ Some ask
     → RequestRead board (request at left ask) old new
-request_read board values at old new left ask (words, are, e, s) places some_left some_ask =
-    let p = cases_spelled board.labels words.at values.are_places at places s.places in
+request_read board values at old new left ask (words, are, e, s) placed some_left some_ask =
+    let p = cases_spelled board.labels (places board) words.at values.are_places at placed s.places in
     let n : NumberOf (greatest_number + 1) words.left (Some left) = subst (λ (m : Option ℕ). NumberOf (greatest_number + 1) words.left m) some_left s.number in
     let k : NumberOf board.pebbles words.ask (Some ask) = subst (λ (m : Option ℕ). NumberOf board.pebbles words.ask m) some_ask s.pebble in
-    let count = numbers_count board.pebbles board.labels words.at at are.at.0 p in
+    let count = places_count board.pebbles board.labels (places board) words.at at are.at.0 p in
     record {
-      is = record { at = record { each_pebble = count.0; each_label = count.1 }; left = omega (arith, n.0); request = k.0 };
-      spelled = e ∙ ap (λ (line : List ℕ). line ++ new) (request_words_of at left ask words p.1 n.1 k.1);
+      is = record { at = record { each_pebble = count.0; each_place = count.1 }; left = omega (arith, n.0); request = k.0 };
+      spelled = e ∙ ap (λ (line : List ℕ). line ++ new) (request_words_of board at left ask words p.1 n.1 k.1);
     }
 
 pub request_order : (board : PlainBoard) (row : RequestRow) (old new : List ℕ) (rank least : ℕ) → RequestRead board row old new → rank ≡ rank_of board row.at → rank < least
@@ -188,7 +177,7 @@ request_next board at old new left ask rank least read e below few above =
       above,
       below,
       few,
-      subst (λ (row : RequestRow). old ≡ request_line row ++ new) (sym same) read.spelled,
+      subst (λ (row : RequestRow). old ≡ request_line board row ++ new) (sym same) read.spelled,
     )
 
 -- ---- places on the stack

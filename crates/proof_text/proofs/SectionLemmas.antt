@@ -92,7 +92,7 @@ come_none board IsRow at section_line row_line text count rest few e = record { 
 
 -- the fault of a row is one of its section
 pub answer_fault_in : (board : PlainBoard) (claim : Claim) (text : List ℕ) (number line count least : ℕ) (rows : List AnswerRow) (rest : List ℕ) (kind : ProofKind)
-    → RowsCome board (IsAnswerRow board claim) (λ row. row.at) labeller_line answer_line text count rows rest → length rows < count → line ≡ number + 1 + length rows → FollowsFrom board (λ row. row.at) rows least
+    → RowsCome board (IsAnswerRow board claim) (λ row. row.at) labeller_line (answer_line board) text count rows rest → length rows < count → line ≡ number + 1 + length rows → FollowsFrom board (λ row. row.at) rows least
     → AnswerRowFault board claim (IsFrom board least) rest kind → InLabeller board claim text number line kind
 answer_fault_in board claim text number line count least rows rest kinds.Version come short e from h = absurd h
 answer_fault_in board claim text number line count least rows rest kinds.Claim come short e from h = absurd h
@@ -108,7 +108,7 @@ answer_fault_in board claim text number line count least rows rest kinds.Memory 
 
 -- the fault of a row is one of its section
 pub request_fault_in : (board : PlainBoard) (text : List ℕ) (number line count least : ℕ) (rows : List RequestRow) (rest : List ℕ) (kind : ProofKind)
-    → RowsCome board (IsRequestRow board) (λ row. row.at) adversary_line request_line text count rows rest → length rows < count → line ≡ number + 1 + length rows → FollowsFrom board (λ row. row.at) rows least
+    → RowsCome board (IsRequestRow board) (λ row. row.at) adversary_line (request_line board) text count rows rest → length rows < count → line ≡ number + 1 + length rows → FollowsFrom board (λ row. row.at) rows least
     → RequestRowFault board (IsFrom board least) rest kind → InAdversary board text number line kind
 request_fault_in board text number line count least rows rest kinds.Version come short e from h = absurd h
 request_fault_in board text number line count least rows rest kinds.Claim come short e from h = absurd h
@@ -124,30 +124,30 @@ request_fault_in board text number line count least rows rest kinds.Memory come 
 
 -- one more row of a labeller's section
 pub answers_push : (board : PlainBoard) (claim : Claim) (text : List ℕ) (count least : ℕ) (rows new_rows : List LabellerRow) (row : LabellerRow) (rest new : List ℕ) → new_rows ≡ rows ++ row ∷ []
-    → RowsCome board (IsAnswerRow board claim) (λ row. row.at) labeller_line answer_line text count (answer_rows board rows) rest → length rows < count → FollowsFrom board (λ row. row.at) (answer_rows board rows) least
+    → RowsCome board (IsAnswerRow board claim) (λ row. row.at) labeller_line (answer_line board) text count (answer_rows board rows) rest → length rows < count → FollowsFrom board (λ row. row.at) (answer_rows board rows) least
     → NextAnswerRow board claim least (Ok row) rest new
-    → RowsCome board (IsAnswerRow board claim) (λ row. row.at) labeller_line answer_line text count (answer_rows board new_rows) new × FollowsFrom board (λ row. row.at) (answer_rows board new_rows) (row.at + 1)
+    → RowsCome board (IsAnswerRow board claim) (λ row. row.at) labeller_line (answer_line board) text count (answer_rows board new_rows) new × FollowsFrom board (λ row. row.at) (answer_rows board new_rows) (row.at + 1)
 answers_push board claim text count least rows new_rows row rest new e come short from next =
     let more : answer_rows board new_rows ≡ answer_rows board rows ++ answer_row board row ∷ [] = ap (answer_rows board) e ∙ map-append (answer_row board) rows (row ∷ []) in
     let rank : rank_of board (answer_row board row).at ≡ row.at = rank_of-configuration_at board row.at next.3 in
     let above : least ≤ rank_of board (answer_row board row).at = omega (arith, rank, next.2) in
     let few : length (answer_rows board rows) < count = omega (arith, length-map rows (answer_row board), short) in
     rw more (
-      come_push board (IsAnswerRow board claim) (λ row. row.at) labeller_line answer_line text count least (answer_rows board rows) (answer_row board row) rest new come few from next.0 above next.5,
+      come_push board (IsAnswerRow board claim) (λ row. row.at) labeller_line (answer_line board) text count least (answer_rows board rows) (answer_row board row) rest new come few from next.0 above next.5,
       from_push board (λ row. row.at) (answer_rows board rows) (answer_row board row) row.at rank,
     )
 
 -- one more row of an adversary's section
 pub requests_push : (board : PlainBoard) (text : List ℕ) (count least : ℕ) (rows new_rows : List AdversaryRow) (row : AdversaryRow) (rest new : List ℕ) → new_rows ≡ rows ++ row ∷ []
-    → RowsCome board (IsRequestRow board) (λ row. row.at) adversary_line request_line text count (request_rows board rows) rest → length rows < count → FollowsFrom board (λ row. row.at) (request_rows board rows) least
+    → RowsCome board (IsRequestRow board) (λ row. row.at) adversary_line (request_line board) text count (request_rows board rows) rest → length rows < count → FollowsFrom board (λ row. row.at) (request_rows board rows) least
     → NextRequestRow board least (Ok row) rest new
-    → RowsCome board (IsRequestRow board) (λ row. row.at) adversary_line request_line text count (request_rows board new_rows) new × FollowsFrom board (λ row. row.at) (request_rows board new_rows) (row.at + 1)
+    → RowsCome board (IsRequestRow board) (λ row. row.at) adversary_line (request_line board) text count (request_rows board new_rows) new × FollowsFrom board (λ row. row.at) (request_rows board new_rows) (row.at + 1)
 requests_push board text count least rows new_rows row rest new e come short from next =
     let more : request_rows board new_rows ≡ request_rows board rows ++ request_row board row ∷ [] = ap (request_rows board) e ∙ map-append (request_row board) rows (row ∷ []) in
     let rank : rank_of board (request_row board row).at ≡ row.at = rank_of-configuration_at board row.at next.2 in
     let above : least ≤ rank_of board (request_row board row).at = omega (arith, rank, next.1) in
     let few : length (request_rows board rows) < count = omega (arith, length-map rows (request_row board), short) in
     rw more (
-      come_push board (IsRequestRow board) (λ row. row.at) adversary_line request_line text count least (request_rows board rows) (request_row board row) rest new come few from next.0 above next.4,
+      come_push board (IsRequestRow board) (λ row. row.at) adversary_line (request_line board) text count least (request_rows board rows) (request_row board row) rest new come few from next.0 above next.4,
       from_push board (λ row. row.at) (request_rows board rows) (request_row board row) row.at rank,
     )

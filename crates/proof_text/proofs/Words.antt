@@ -1,15 +1,15 @@
 -- How the words of a row come apart.
-use Rattle.std.proofs.Common.{◌≡◌, ℕ, ◌⊎◌, List, [], ◌∷◌, ◌++◌, length, get_or, sym, ap, ◌∙◌, append_assoc, arith, inl, inr}
+use Rattle.std.proofs.Common.{◌≡◌, ℕ, ◌⊎◌, List, [], ◌∷◌, ◌++◌, get_or, sym, ap, ◌∙◌, append_assoc, arith, inl, inr}
 use Rattle.std.specs.Prelude.{codes}
 use Rattle.std.specs.Str.Parse.{IsNumeral}
 use Rattle.std.specs.Char.{IsAsciiDigit}
 use Rattle.std.proofs.lemmas.Str.Parse.{tells_digits}
-use Rattle.std.proofs.lemmas.List.{append_cancel_left, append-nil, length-append, nil_from_length}
-use Rattle.std.proofs.lemmas.List.Elements.{recursion_from_All}
+use Rattle.std.proofs.lemmas.List.{append_cancel_left, append-nil}
 use Rattle.board_text.specs.LineForms.{NoDigit}
-use Rattle.board_text.specs.Numerals.{spaced_texts, AreTexts}
+use Rattle.board_text.specs.Numerals.{spaced_texts}
+use Rattle.board_text.specs.PlaceForms.{ArePlaceTexts}
 use Rattle.board_text.proofs.Numbers.{digits_split}
-use Rattle.board_text.proofs.NumeralLemmas.{texts_split}
+use Rattle.board_text.proofs.PlaceLemmas.{texts_unique}
 use Rattle.proof_text.specs.RowWords.{AnswerWords, RequestWords, IsTurnsText, AreAnswerWords, AreRequestWords, answer_words_line, request_words_line}
 use Rattle.proof_text.specs.Reading.{position_text}
 
@@ -40,17 +40,11 @@ turns_unique t u x y (inr p) (inr q) stops no_y e =
     let both : codes "*" ++ x ≡ codes "*" ++ y = ap (λ (s : List ℕ). s ++ x) (sym p) ∙ e ∙ ap (λ (s : List ℕ). s ++ y) q in
     (p ∙ sym q, append_cancel_left (codes "*") x y both)
 
-pub texts_unique : (count : ℕ) (ws vs : List (List ℕ)) (x y : List ℕ) → AreTexts count ws → AreTexts count vs → NoDigit x → NoDigit y → spaced_texts ws ++ x ≡ spaced_texts vs ++ y → (ws ≡ vs) × (x ≡ y)
-texts_unique count ws vs x y are_ws are_vs no_x no_y e =
-    let l = texts_split ws vs x y (omega (arith, are_ws.0, are_vs.0)) (recursion_from_All (IsNumeral 10) ws are_ws.1) (recursion_from_All (IsNumeral 10) vs are_vs.1) (λ h. no_x) no_y e in
-    let none : l.others ≡ [] = nil_from_length l.others (omega (arith, are_ws.0, are_vs.0, ap length l.parts, length-append ws l.others)) in
-    (sym (l.parts ∙ ap (λ (o : List (List ℕ)). ws ++ o) none ∙ append-nil ws), l.spelled ∙ ap (λ (o : List (List ℕ)). spaced_texts o ++ y) none)
-
-pub position_unique : (count : ℕ) (ws vs : List (List ℕ)) (x y : List ℕ) → AreTexts count ws → AreTexts count vs → position_text ws x ≡ position_text vs y → (ws ≡ vs) × (x ≡ y)
-position_unique count ws vs x y are_ws are_vs e =
+pub position_unique : (count labels bound : ℕ) (ws vs : List (List ℕ)) (x y : List ℕ) → ArePlaceTexts count labels bound ws → ArePlaceTexts count labels bound vs → position_text ws x ≡ position_text vs y → (ws ≡ vs) × (x ≡ y)
+position_unique count labels bound ws vs x y are_ws are_vs e =
     let texts : spaced_texts ws ++ (codes " for " ++ x) ≡ spaced_texts vs ++ (codes " for " ++ y) =
     append_cancel_left (codes "at") (spaced_texts ws ++ (codes " for " ++ x)) (spaced_texts vs ++ (codes " for " ++ y)) e in
-    let s = texts_unique count ws vs (codes " for " ++ x) (codes " for " ++ y) are_ws are_vs (no_digit_space (codes "for " ++ x)) (no_digit_space (codes "for " ++ y)) texts in
+    let s = texts_unique count labels bound ws vs (codes " for " ++ x) (codes " for " ++ y) are_ws are_vs (no_digit_space (codes "for " ++ x)) (no_digit_space (codes "for " ++ y)) texts in
     (s.0, append_cancel_left (codes " for ") x y s.1)
 
 -- ---- a labeller's row
@@ -62,10 +56,10 @@ pub answer_parts : (words : AnswerWords) (more : List ℕ) → answer_words_line
 answer_parts words more = regroup (codes "at") (spaced_texts words.at) (codes " for ") words.turns (codes " take") (spaced_texts words.take) more
 
 -- the position of a row that stands here, and what follows it
-pub answer_position : (pebbles : ℕ) (words : AnswerWords) (texts : List (List ℕ)) (old rest more : List ℕ) → AreAnswerWords pebbles words → AreTexts pebbles texts
+pub answer_position : (pebbles labels bound : ℕ) (words : AnswerWords) (texts : List (List ℕ)) (old rest more : List ℕ) → AreAnswerWords pebbles labels bound words → ArePlaceTexts pebbles labels bound texts
     → old ≡ position_text texts rest → old ≡ answer_words_line words ++ more → (texts ≡ words.at) × (rest ≡ words.turns ++ (codes " take" ++ (spaced_texts words.take ++ 10 ∷ more)))
-answer_position pebbles words texts old rest more are are_texts p e =
-    position_unique pebbles texts words.at rest (words.turns ++ (codes " take" ++ (spaced_texts words.take ++ 10 ∷ more))) are_texts are.at (sym p ∙ e ∙ answer_parts words more)
+answer_position pebbles labels bound words texts old rest more are are_texts p e =
+    position_unique pebbles labels bound texts words.at rest (words.turns ++ (codes " take" ++ (spaced_texts words.take ++ 10 ∷ more))) are_texts are.at (sym p ∙ e ∙ answer_parts words more)
 
 -- its turns
 pub answer_turns : (words : AnswerWords) (text rest new more : List ℕ) → IsTurnsText words.turns → IsTurnsText text → (NoDigit new ⊎ (text ≡ codes "*"))
@@ -82,10 +76,10 @@ answer_taken at take turns old a b c d new p q r s t = rw (p, q, r, s, t) (sym (
 pub request_parts : (words : RequestWords) (more : List ℕ) → request_words_line words ++ more ≡ position_text words.at (words.left ++ (codes " ask " ++ (words.ask ++ 10 ∷ more)))
 request_parts words more = regroup (codes "at") (spaced_texts words.at) (codes " for ") words.left (codes " ask ") words.ask more
 
-pub request_position : (pebbles : ℕ) (words : RequestWords) (texts : List (List ℕ)) (old rest more : List ℕ) → AreRequestWords pebbles words → AreTexts pebbles texts
+pub request_position : (pebbles labels bound : ℕ) (words : RequestWords) (texts : List (List ℕ)) (old rest more : List ℕ) → AreRequestWords pebbles labels bound words → ArePlaceTexts pebbles labels bound texts
     → old ≡ position_text texts rest → old ≡ request_words_line words ++ more → (texts ≡ words.at) × (rest ≡ words.left ++ (codes " ask " ++ (words.ask ++ 10 ∷ more)))
-request_position pebbles words texts old rest more are are_texts p e =
-    position_unique pebbles texts words.at rest (words.left ++ (codes " ask " ++ (words.ask ++ 10 ∷ more))) are_texts are.at (sym p ∙ e ∙ request_parts words more)
+request_position pebbles labels bound words texts old rest more are are_texts p e =
+    position_unique pebbles labels bound texts words.at rest (words.left ++ (codes " ask " ++ (words.ask ++ 10 ∷ more))) are_texts are.at (sym p ∙ e ∙ request_parts words more)
 
 pub request_left : (words : RequestWords) (text rest new more : List ℕ) → IsNumeral 10 words.left → IsNumeral 10 text → NoDigit new
     → rest ≡ text ++ new → rest ≡ words.left ++ (codes " ask " ++ (words.ask ++ 10 ∷ more)) → (text ≡ words.left) × (new ≡ codes " ask " ++ (words.ask ++ 10 ∷ more))

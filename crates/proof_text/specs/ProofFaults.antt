@@ -3,7 +3,7 @@ use Rattle.std.specs.Prelude.{◌≡◌, ℕ, ◌+◌, ◌<◌, ◌≤◌, ◌�
 use Rattle.std.specs.List.{flat_map}
 use Rattle.board_text.specs.LineForms.{Lacks}
 use Rattle.board_text.specs.Ranges.{InRange}
-use Rattle.board_text.specs.PlainBoard.{PlainBoard}
+use Rattle.board_text.specs.PlainBoard.{PlainBoard, places}
 use Rattle.positions.specs.declared.claim.Claim.{Claim}
 use Rattle.positions.specs.declared.turns.Turns.{Turns}
 use Rattle.positions.specs.Table.{AnswerRow, RequestRow}
@@ -13,18 +13,23 @@ use Rattle.proof_text.specs.Proof.{PlainProof, IsProof, IsClaim, asks_labeller, 
 use Rattle.proof_text.specs.ProofText.{version_line, claim_line, turns_text, answer_line, request_line, labeller_line, adversary_line, end_line, head, labeller_section, front, proof_text, labeller_lines, adversary_lines}
 use Rattle.proof_text.specs.RowWords.{AnswerWords, RequestWords, AreAnswerWords, AreRequestWords, answer_words_line, request_words_line}
 use Rattle.board_text.specs.Numerals.{SpellsBelow}
+use Rattle.board_text.specs.PlaceForms.{SpellsPlace}
 
 -- a labeller's row with these words stands here
 abbrev pub HasAnswerWords : PlainBoard → List ℕ → AnswerWords → Type 0
-HasAnswerWords board rest words = AreAnswerWords board.pebbles words × (more : List ℕ) × (rest ≡ answer_words_line words ++ more)
+HasAnswerWords board rest words = AreAnswerWords board.pebbles board.labels (places board) words × (more : List ℕ) × (rest ≡ answer_words_line words ++ more)
 
 -- an adversary's row with these words stands here
 abbrev pub HasRequestWords : PlainBoard → List ℕ → RequestWords → Type 0
-HasRequestWords board rest words = AreRequestWords board.pebbles words × (more : List ℕ) × (rest ≡ request_words_line words ++ more)
+HasRequestWords board rest words = AreRequestWords board.pebbles board.labels (places board) words × (more : List ℕ) × (rest ≡ request_words_line words ++ more)
 
--- each place holds a label
+-- each text spells a place of the board
+abbrev pub SpellConfiguration : PlainBoard → List (List ℕ) → Type 0
+SpellConfiguration board texts = All (SpellsPlace board.labels (places board)) texts
+
+-- each text spells a label
 abbrev pub SpellLabels : PlainBoard → List (List ℕ) → Type 0
-SpellLabels board texts = All (SpellsBelow board.labels) texts
+SpellLabels board texts = All (SpellsPlace board.labels board.labels) texts
 
 -- the text spells turns that the claim allows
 abbrev pub SpellsTurns : Claim → List ℕ → Type 0
@@ -36,27 +41,27 @@ MayFollow {X} board at rows configuration = (before : List X) (last : X) → row
 
 -- The fault of what stands where a labeller's row should, where no fault before it in the order is there. `MayStand` says which configurations may come.
 abbrev pub AnswerRowFault : PlainBoard → Claim → (List ℕ → Type 0) → List ℕ → ProofKind → Type 0
-AnswerRowFault board claim MayStand rest kinds.Row = Lacks (AreAnswerWords board.pebbles) answer_words_line rest
+AnswerRowFault board claim MayStand rest kinds.Row = Lacks (AreAnswerWords board.pebbles board.labels (places board)) answer_words_line rest
 AnswerRowFault board claim MayStand rest kinds.Label =
-    (words : AnswerWords) × HasAnswerWords board rest words × ¬ (SpellLabels board words.at × SpellLabels board words.take)
+    (words : AnswerWords) × HasAnswerWords board rest words × ¬ (SpellConfiguration board words.at × SpellLabels board words.take)
 AnswerRowFault board claim MayStand rest kinds.Number =
-    (words : AnswerWords) × HasAnswerWords board rest words × SpellLabels board words.at × SpellLabels board words.take × ¬ SpellsTurns claim words.turns
+    (words : AnswerWords) × HasAnswerWords board rest words × SpellConfiguration board words.at × SpellLabels board words.take × ¬ SpellsTurns claim words.turns
 AnswerRowFault board claim MayStand rest kinds.Order =
-    (row : AnswerRow) × IsAnswerRow board claim row × (more : List ℕ) × (rest ≡ answer_line row ++ more) × ¬ MayStand row.at
+    (row : AnswerRow) × IsAnswerRow board claim row × (more : List ℕ) × (rest ≡ answer_line board row ++ more) × ¬ MayStand row.at
 AnswerRowFault board claim MayStand rest kind = ⊥
 
 -- The same where an adversary's row should stand.
 abbrev pub RequestRowFault : PlainBoard → (List ℕ → Type 0) → List ℕ → ProofKind → Type 0
-RequestRowFault board MayStand rest kinds.Row = Lacks (AreRequestWords board.pebbles) request_words_line rest
+RequestRowFault board MayStand rest kinds.Row = Lacks (AreRequestWords board.pebbles board.labels (places board)) request_words_line rest
 RequestRowFault board MayStand rest kinds.Label =
-    (words : RequestWords) × HasRequestWords board rest words × ¬ SpellLabels board words.at
+    (words : RequestWords) × HasRequestWords board rest words × ¬ SpellConfiguration board words.at
 RequestRowFault board MayStand rest kinds.Pebble =
-    (words : RequestWords) × HasRequestWords board rest words × SpellLabels board words.at × ¬ SpellsBelow board.pebbles words.ask
+    (words : RequestWords) × HasRequestWords board rest words × SpellConfiguration board words.at × ¬ SpellsBelow board.pebbles words.ask
 RequestRowFault board MayStand rest kinds.Number =
-    (words : RequestWords) × HasRequestWords board rest words × SpellLabels board words.at × SpellsBelow board.pebbles words.ask
+    (words : RequestWords) × HasRequestWords board rest words × SpellConfiguration board words.at × SpellsBelow board.pebbles words.ask
     × ¬ SpellsBelow (greatest_number + 1) words.left
 RequestRowFault board MayStand rest kinds.Order =
-    (row : RequestRow) × IsRequestRow board row × (more : List ℕ) × (rest ≡ request_line row ++ more) × ¬ MayStand row.at
+    (row : RequestRow) × IsRequestRow board row × (more : List ℕ) × (rest ≡ request_line board row ++ more) × ¬ MayStand row.at
 RequestRowFault board MayStand rest kind = ⊥
 
 -- The head of a section of so many rows stands here, and these rows have come.
@@ -80,12 +85,12 @@ InSection {X} board IsRow at section_line row_line RowFault text number line kin
 -- The fault of a labeller's section in a document with the claim.
 abbrev pub InLabeller : PlainBoard → Claim → List ℕ → ℕ → ℕ → ProofKind → Type 0
 InLabeller board claim text number line kind =
-    InSection board (IsAnswerRow board claim) (λ row. row.at) labeller_line answer_line (AnswerRowFault board claim) text number line kind
+    InSection board (IsAnswerRow board claim) (λ row. row.at) labeller_line (answer_line board) (AnswerRowFault board claim) text number line kind
 
 -- The fault of an adversary's section.
 abbrev pub InAdversary : PlainBoard → List ℕ → ℕ → ℕ → ProofKind → Type 0
 InAdversary board text number line kind =
-    InSection board (IsRequestRow board) (λ row. row.at) adversary_line request_line (RequestRowFault board) text number line kind
+    InSection board (IsRequestRow board) (λ row. row.at) adversary_line (request_line board) (RequestRowFault board) text number line kind
 
 -- The labeller's section that the claim asks for has the fault.
 pub record LabellerFault (board : PlainBoard) (text : List ℕ) (line : ℕ) (kind : ProofKind) : Type 0 where
@@ -105,7 +110,7 @@ pub record AdversaryFault (board : PlainBoard) (text : List ℕ) (line : ℕ) (k
   pub asked : asks_adversary claim ≡ true
   pub are_rows : AreAnswerRows board claim labeller
   pub none : asks_labeller claim ≡ false → labeller ≡ []
-  pub spelled : text ≡ head claim ++ (labeller_section claim labeller ++ rest)
+  pub spelled : text ≡ head claim ++ (labeller_section board claim labeller ++ rest)
   pub fault : InAdversary board rest (3 + labeller_lines claim labeller) line kind
 
 -- the number of the line `end`
@@ -117,8 +122,8 @@ abbrev pub HasFault : PlainBoard → List ℕ → ℕ → ProofKind → Type 0
 HasFault board text line kinds.Version = (line ≡ 1) × Lacks (λ (u : Unit {0}). Unit {0}) (λ u. version_line) text
 HasFault board text line kinds.Claim = (line ≡ 2) × (rest : List ℕ) × (text ≡ version_line ++ rest) × Lacks IsClaim claim_line rest
 HasFault board text line kinds.End =
-    (proof : PlainProof) × (rest : List ℕ) × IsProof board proof × (text ≡ front proof ++ rest) × (line ≡ end_number proof)
+    (proof : PlainProof) × (rest : List ℕ) × IsProof board proof × (text ≡ front board proof ++ rest) × (line ≡ end_number proof)
     × Lacks (λ (u : Unit {0}). Unit {0}) (λ u. end_line) rest
 HasFault board text line kinds.Trailing =
-    (proof : PlainProof) × (first : ℕ) × (more : List ℕ) × IsProof board proof × (text ≡ proof_text proof ++ first ∷ more) × (line ≡ 1 + end_number proof)
+    (proof : PlainProof) × (first : ℕ) × (more : List ℕ) × IsProof board proof × (text ≡ proof_text board proof ++ first ∷ more) × (line ≡ 1 + end_number proof)
 HasFault board text line kind = LabellerFault board text line kind ⊎ AdversaryFault board text line kind

@@ -2,7 +2,9 @@
 use Rattle.std.specs.Prelude.{ℕ, ◌+◌, List, [], ◌++◌, length, codes, if◌then◌else◌}
 use Rattle.std.specs.List.{flat_map}
 use Rattle.std.specs.Fmt.{decimal}
-use Rattle.board_text.specs.LineForms.{closed, number_line, spaced}
+use Rattle.board_text.specs.LineForms.{closed, number_line}
+use Rattle.board_text.specs.PlaceForms.{spaced_places}
+use Rattle.board_text.specs.PlainBoard.{PlainBoard}
 use Rattle.positions.specs.declared.claim.Claim.{Claim}
 use Rattle.positions.specs.declared.claim.Claim.TheVariants.{Exactly, AtLeast, AtMost, Forever}
 use Rattle.positions.specs.declared.turns.Turns.{Turns}
@@ -29,12 +31,13 @@ turns_text (Count number) = decimal number
 turns_text Always = codes "*"
 
 -- `at l0 .. for m take v0 ..`
-abbrev pub answer_line : AnswerRow → List ℕ
-answer_line row = closed (codes "at" ++ (spaced row.at ++ (codes " for " ++ (turns_text row.turns ++ (codes " take" ++ spaced row.answers)))))
+abbrev pub answer_line : PlainBoard → AnswerRow → List ℕ
+answer_line board row =
+    closed (codes "at" ++ (spaced_places board.labels row.at ++ (codes " for " ++ (turns_text row.turns ++ (codes " take" ++ spaced_places board.labels row.answers)))))
 
 -- `at l0 .. for m ask p`
-abbrev pub request_line : RequestRow → List ℕ
-request_line row = closed (codes "at" ++ (spaced row.at ++ (codes " for " ++ (decimal row.left ++ (codes " ask " ++ decimal row.request)))))
+abbrev pub request_line : PlainBoard → RequestRow → List ℕ
+request_line board row = closed (codes "at" ++ (spaced_places board.labels row.at ++ (codes " for " ++ (decimal row.left ++ (codes " ask " ++ decimal row.request)))))
 
 abbrev pub labeller_line : ℕ → List ℕ
 labeller_line count = number_line (codes "labeller") count
@@ -50,20 +53,20 @@ abbrev pub head : Claim → List ℕ
 head claim = version_line ++ claim_line claim
 
 -- the labeller's section, where the claim asks for it
-abbrev pub labeller_section : Claim → List AnswerRow → List ℕ
-labeller_section claim rows = if asks_labeller claim then labeller_line (length rows) ++ flat_map answer_line rows else []
+abbrev pub labeller_section : PlainBoard → Claim → List AnswerRow → List ℕ
+labeller_section board claim rows = if asks_labeller claim then labeller_line (length rows) ++ flat_map (answer_line board) rows else []
 
 -- the adversary's section, where the claim asks for it
-abbrev pub adversary_section : Claim → List RequestRow → List ℕ
-adversary_section claim rows = if asks_adversary claim then adversary_line (length rows) ++ flat_map request_line rows else []
+abbrev pub adversary_section : PlainBoard → Claim → List RequestRow → List ℕ
+adversary_section board claim rows = if asks_adversary claim then adversary_line (length rows) ++ flat_map (request_line board) rows else []
 
 -- the text up to its last row
-abbrev pub front : PlainProof → List ℕ
-front proof = head proof.claim ++ (labeller_section proof.claim proof.labeller ++ adversary_section proof.claim proof.adversary)
+abbrev pub front : PlainBoard → PlainProof → List ℕ
+front board proof = head proof.claim ++ (labeller_section board proof.claim proof.labeller ++ adversary_section board proof.claim proof.adversary)
 
--- the text of a document
-abbrev pub proof_text : PlainProof → List ℕ
-proof_text proof = front proof ++ end_line
+-- the text of a document of the board
+abbrev pub proof_text : PlainBoard → PlainProof → List ℕ
+proof_text board proof = front board proof ++ end_line
 
 -- how many lines the labeller's section has
 abbrev pub labeller_lines : Claim → List AnswerRow → ℕ

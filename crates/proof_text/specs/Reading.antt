@@ -3,7 +3,8 @@ use Rattle.std.specs.Prelude.{◌≡◌, ◌≢◌, ℕ, ◌+◌, ◌<◌, ◌�
 use Rattle.std.specs.List.{flat_map}
 use Rattle.std.specs.Fmt.{decimal}
 use Rattle.board_text.specs.LineForms.{Lacks, NoDigit}
-use Rattle.board_text.specs.Numerals.{spaced_texts, AreTexts, SpellsBelow, SpellNumbers}
+use Rattle.board_text.specs.Numerals.{spaced_texts, SpellsBelow}
+use Rattle.board_text.specs.PlaceForms.{ArePlaceTexts, SpellPlaces}
 use Rattle.board_text.specs.PlainBoard.{PlainBoard}
 use Rattle.positions.specs.declared.claim.Claim.{Claim}
 use Rattle.positions.specs.declared.turns.Turns.{Turns}
@@ -22,11 +23,11 @@ use Rattle.proof_text.specs.declared.row_words.RequestValues.{RequestValues}
 abbrev pub position_text : List (List ℕ) → List ℕ → List ℕ
 position_text texts rest = codes "at" ++ (spaced_texts texts ++ (codes " for " ++ rest))
 
--- A position was taken, with the labels that it spells, if it does.
-abbrev pub TakesPosition : ℕ → ℕ → Option (Bool × List ℕ) → List ℕ → List ℕ → Type 0
-TakesPosition pebbles labels None old new = (texts : List (List ℕ)) (more : List ℕ) → AreTexts pebbles texts → old ≢ position_text texts more
-TakesPosition pebbles labels (Some (are, numbers)) old new =
-    (texts : List (List ℕ)) × AreTexts pebbles texts × (old ≡ position_text texts new) × SpellNumbers labels texts are numbers
+-- A position was taken, with the places below the bound that it spells, if it does.
+abbrev pub TakesPosition : ℕ → ℕ → ℕ → Option (Bool × List ℕ) → List ℕ → List ℕ → Type 0
+TakesPosition pebbles labels bound None old new = (texts : List (List ℕ)) (more : List ℕ) → ArePlaceTexts pebbles labels bound texts → old ≢ position_text texts more
+TakesPosition pebbles labels bound (Some (are, numbers)) old new =
+    (texts : List (List ℕ)) × ArePlaceTexts pebbles labels bound texts × (old ≡ position_text texts new) × SpellPlaces labels bound texts are numbers
 
 -- the turns that the text spells, if they are such as the claim allows
 abbrev pub TurnsOf : Claim → List ℕ → Option Turns → Type 0
@@ -44,28 +45,28 @@ NumberOf bound text None = SpellsBelow bound text → ⊥
 NumberOf bound text (Some number) = (number < bound) × (text ≡ decimal number)
 
 -- the words of a labeller's row spell these values, as far as they spell any
-pub record AnswerSpelled (labels : ℕ) (claim : Claim) (words : AnswerWords) (values : AnswerValues) (at answers : List ℕ) : Type 0 where
-  pub places : SpellNumbers labels words.at values.are_places at
+pub record AnswerSpelled (labels bound : ℕ) (claim : Claim) (words : AnswerWords) (values : AnswerValues) (at answers : List ℕ) : Type 0 where
+  pub places : SpellPlaces labels bound words.at values.are_places at
   pub turns : TurnsOf claim words.turns values.turns
-  pub taken : SpellNumbers labels words.take values.are_answers answers
+  pub taken : SpellPlaces labels labels words.take values.are_answers answers
 
 -- The words of a labeller's row were taken.
-abbrev pub TakesAnswerWords : ℕ → ℕ → Claim → Option AnswerValues → List ℕ → List ℕ → List ℕ → List ℕ → Type 0
-TakesAnswerWords pebbles labels claim None at answers old new = Lacks (AreAnswerWords pebbles) answer_words_line old
-TakesAnswerWords pebbles labels claim (Some values) at answers old new =
-    (words : AnswerWords) × AreAnswerWords pebbles words × (old ≡ answer_words_line words ++ new) × AnswerSpelled labels claim words values at answers
+abbrev pub TakesAnswerWords : ℕ → ℕ → ℕ → Claim → Option AnswerValues → List ℕ → List ℕ → List ℕ → List ℕ → Type 0
+TakesAnswerWords pebbles labels bound claim None at answers old new = Lacks (AreAnswerWords pebbles labels bound) answer_words_line old
+TakesAnswerWords pebbles labels bound claim (Some values) at answers old new =
+    (words : AnswerWords) × AreAnswerWords pebbles labels bound words × (old ≡ answer_words_line words ++ new) × AnswerSpelled labels bound claim words values at answers
 
 -- the words of an adversary's row spell these values, as far as they spell any
-pub record RequestSpelled (labels pebbles : ℕ) (words : RequestWords) (values : RequestValues) (at : List ℕ) : Type 0 where
-  pub places : SpellNumbers labels words.at values.are_places at
+pub record RequestSpelled (labels bound pebbles : ℕ) (words : RequestWords) (values : RequestValues) (at : List ℕ) : Type 0 where
+  pub places : SpellPlaces labels bound words.at values.are_places at
   pub number : NumberOf (greatest_number + 1) words.left values.left
   pub pebble : NumberOf pebbles words.ask values.ask
 
 -- The words of an adversary's row were taken.
-abbrev pub TakesRequestWords : ℕ → ℕ → Option RequestValues → List ℕ → List ℕ → List ℕ → Type 0
-TakesRequestWords pebbles labels None at old new = Lacks (AreRequestWords pebbles) request_words_line old
-TakesRequestWords pebbles labels (Some values) at old new =
-    (words : RequestWords) × AreRequestWords pebbles words × (old ≡ request_words_line words ++ new) × RequestSpelled labels pebbles words values at
+abbrev pub TakesRequestWords : ℕ → ℕ → ℕ → Option RequestValues → List ℕ → List ℕ → List ℕ → Type 0
+TakesRequestWords pebbles labels bound None at old new = Lacks (AreRequestWords pebbles labels bound) request_words_line old
+TakesRequestWords pebbles labels bound (Some values) at old new =
+    (words : RequestWords) × AreRequestWords pebbles labels bound words × (old ≡ request_words_line words ++ new) × RequestSpelled labels bound pebbles words values at
 
 -- the rank of the configuration is not below this one
 abbrev pub IsFrom : PlainBoard → ℕ → List ℕ → Type 0
@@ -74,13 +75,13 @@ IsFrom board least at = least ≤ rank_of board at
 -- What the next line of a labeller's section says, where ranks may stand from the least on.
 abbrev pub NextAnswerRow : PlainBoard → Claim → ℕ → Result LabellerRow ProofKind → List ℕ → List ℕ → Type 0
 NextAnswerRow board claim least (Ok row) old new =
-    IsAnswerRow board claim (answer_row board row) × IsPadded board row × (least ≤ row.at) × (row.at < configurations board) × (configurations board ≤ most_rows) × (old ≡ answer_line (answer_row board row) ++ new)
+    IsAnswerRow board claim (answer_row board row) × IsPadded board row × (least ≤ row.at) × (row.at < configurations board) × (configurations board ≤ most_rows) × (old ≡ answer_line board (answer_row board row) ++ new)
 NextAnswerRow board claim least (Err kind) old new = AnswerRowFault board claim (IsFrom board least) old kind
 
 -- What the next line of an adversary's section says.
 abbrev pub NextRequestRow : PlainBoard → ℕ → Result AdversaryRow ProofKind → List ℕ → List ℕ → Type 0
 NextRequestRow board least (Ok row) old new =
-    IsRequestRow board (request_row board row) × (least ≤ row.at) × (row.at < configurations board) × (configurations board ≤ most_rows) × (old ≡ request_line (request_row board row) ++ new)
+    IsRequestRow board (request_row board row) × (least ≤ row.at) × (row.at < configurations board) × (configurations board ≤ most_rows) × (old ≡ request_line board (request_row board row) ++ new)
 NextRequestRow board least (Err kind) old new = RequestRowFault board (IsFrom board least) old kind
 
 -- A section was taken, from its head to its last row.
@@ -91,22 +92,22 @@ pub record SectionRead {X : Type 0} (board : PlainBoard) (IsRow : X → Type 0) 
 -- A labeller's section was taken.
 abbrev pub LabellerRead : PlainBoard → Claim → List LabellerRow → List ℕ → List ℕ → Type 0
 LabellerRead board claim rows old new =
-    SectionRead board (IsAnswerRow board claim) (λ row. row.at) labeller_line answer_line (answer_rows board rows) old new × All (IsPadded board) rows
+    SectionRead board (IsAnswerRow board claim) (λ row. row.at) labeller_line (answer_line board) (answer_rows board rows) old new × All (IsPadded board) rows
 
 -- An adversary's section was taken.
 abbrev pub AdversaryRead : PlainBoard → List AdversaryRow → List ℕ → List ℕ → Type 0
 AdversaryRead board rows old new =
-    SectionRead board (IsRequestRow board) (λ row. row.at) adversary_line request_line (request_rows board rows) old new
+    SectionRead board (IsRequestRow board) (λ row. row.at) adversary_line (request_line board) (request_rows board rows) old new
 
 -- A labeller's section was taken, or none where the claim doesn't ask for one.
 pub record LabellerPartRead (board : PlainBoard) (claim : Claim) (rows : List LabellerRow) (old new : List ℕ) : Type 0 where
   pub are_rows : AreAnswerRows board claim (answer_rows board rows)
   pub padded : All (IsPadded board) rows
   pub none : asks_labeller claim ≡ false → answer_rows board rows ≡ []
-  pub spelled : old ≡ labeller_section claim (answer_rows board rows) ++ new
+  pub spelled : old ≡ labeller_section board claim (answer_rows board rows) ++ new
 
 -- An adversary's section was taken, or none where the claim doesn't ask for one.
 pub record AdversaryPartRead (board : PlainBoard) (claim : Claim) (rows : List AdversaryRow) (old new : List ℕ) : Type 0 where
   pub are_rows : AreRequestRows board (request_rows board rows)
   pub none : asks_adversary claim ≡ false → request_rows board rows ≡ []
-  pub spelled : old ≡ adversary_section claim (request_rows board rows) ++ new
+  pub spelled : old ≡ adversary_section board claim (request_rows board rows) ++ new

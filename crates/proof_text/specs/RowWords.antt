@@ -1,16 +1,17 @@
--- The words of a row, with digits in its places whether or not they spell numbers in range.
+-- The words of a row, whether or not they spell numbers in range.
 use Rattle.std.specs.Prelude.{◌≡◌, ℕ, ◌⊎◌, List, ◌++◌, codes}
 use Rattle.std.specs.Str.Parse.{IsNumeral}
 use Rattle.board_text.specs.LineForms.{closed}
-use Rattle.board_text.specs.Numerals.{spaced_texts, AreTexts}
+use Rattle.board_text.specs.Numerals.{spaced_texts}
+use Rattle.board_text.specs.PlaceForms.{ArePlaceTexts}
 
--- the digits of a labeller's row; a star may stand for its turns
+-- the texts of a labeller's row; a star may stand for its turns
 pub record AnswerWords : Type 0 where
   pub at : List (List ℕ)
   pub turns : List ℕ
   pub take : List (List ℕ)
 
--- the digits of an adversary's row
+-- the texts of an adversary's row
 pub record RequestWords : Type 0 where
   pub at : List (List ℕ)
   pub left : List ℕ
@@ -20,14 +21,14 @@ pub record RequestWords : Type 0 where
 abbrev pub IsTurnsText : List ℕ → Type 0
 IsTurnsText text = IsNumeral 10 text ⊎ (text ≡ codes "*")
 
--- as many places as there are pebbles, each with one or more digits
-pub record AreAnswerWords (pebbles : ℕ) (words : AnswerWords) : Type 0 where
-  pub at : AreTexts pebbles words.at
+-- as many places below the bound and as many labels as there are pebbles, each in digits, or a place as a hyphen
+pub record AreAnswerWords (pebbles labels bound : ℕ) (words : AnswerWords) : Type 0 where
+  pub at : ArePlaceTexts pebbles labels bound words.at
   pub turns : IsTurnsText words.turns
-  pub take : AreTexts pebbles words.take
+  pub take : ArePlaceTexts pebbles labels labels words.take
 
-pub record AreRequestWords (pebbles : ℕ) (words : RequestWords) : Type 0 where
-  pub at : AreTexts pebbles words.at
+pub record AreRequestWords (pebbles labels bound : ℕ) (words : RequestWords) : Type 0 where
+  pub at : ArePlaceTexts pebbles labels bound words.at
   pub left : IsNumeral 10 words.left
   pub ask : IsNumeral 10 words.ask
 

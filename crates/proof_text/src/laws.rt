@@ -14,13 +14,13 @@ ghost use Rattle.proof_text.specs.declared.proof.AdversaryRow.{AdversaryRow as R
 /// For one board a text is that of one document at most. So the text that is printed for a document is read back as that document.
 pub fn one_document()
     ensures { (board : PlainBoard) → (first : PlainProof) → (second : PlainProof) → IsBoard board → IsProof board first → IsProof board second
-        → proof_text first ≡ proof_text second → first ≡ second }
+        → proof_text board first ≡ proof_text board second → first ≡ second }
 {}
 
 /// No line of a document's text has a fault: all that can be wanting is memory.
 pub fn documents_have_no_fault()
     ensures { (board : PlainBoard) → (document : PlainProof) → (line : ℕ) → (kind : Kind) → IsBoard board → IsProof board document
-        → HasFault board (proof_text document) line kind → kind ≡ OutOfMemory }
+        → HasFault board (proof_text board document) line kind → kind ≡ OutOfMemory }
 {}
 
 /// Rows that name the same configuration by its rank, and say the same of it, are the same in each field.

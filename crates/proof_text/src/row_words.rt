@@ -13,7 +13,7 @@ use positions::{Claim, Turns};
 /// What the words of a labeller's row spell, beside its places and its answers.
 #[derive(Clone, Copy, Debug, PartialEq, Eq)]
 pub(crate) struct AnswerValues {
-    /// Each place of the position holds a label.
+    /// Each place of the position is one of the board.
     pub are_places: bool,
     /// The turns, if they are such as the claim allows.
     pub turns: Option<Turns>,
@@ -24,7 +24,7 @@ pub(crate) struct AnswerValues {
 /// What the words of an adversary's row spell, beside its places.
 #[derive(Clone, Copy, Debug, PartialEq, Eq)]
 pub(crate) struct RequestValues {
-    /// Each place of the position holds a label.
+    /// Each place of the position is one of the board.
     pub are_places: bool,
     /// The number of answers left, if it is in range.
     pub left: Option<u32>,
@@ -36,18 +36,20 @@ pub(crate) struct RequestValues {
 pub(crate) fn answer_words(
     text: &mut LineReader<'_>,
     labels: u16,
+    places: u16,
     claim: Claim,
     at: &mut [u16],
     take: &mut [u16],
 ) -> Option<AnswerValues>
     requires some { 0 < length at.old }
     requires same { length take.old ≡ length at.old }
-    ensures { TakesAnswerWords (length at.old) labels claim result at.new take.new text.old text.new }
+    requires places { (labels ≤ places) × (places ≤ labels + 1) }
+    ensures { TakesAnswerWords (length at.old) labels places claim result at.new take.new text.old text.new }
 {
-    let are_places = position(text, labels, at)?;
+    let are_places = position(text, labels, places, at)?;
     let turns = turns(text, claim)?;
     text.take(b" take")?;
-    let are_answers = text.numerals(take, labels)?;
+    let are_answers = text.places(take, labels, labels)?;
     text.take(b"\n")?;
     Some(AnswerValues {
         are_places,
@@ -60,14 +62,16 @@ pub(crate) fn answer_words(
 pub(crate) fn request_words(
     text: &mut LineReader<'_>,
     labels: u16,
+    places: u16,
     pebbles: u8,
     at: &mut [u16],
 ) -> Option<RequestValues>
     requires some { 0 < length at.old }
     requires same { length at.old ≡ pebbles }
-    ensures { TakesRequestWords pebbles labels result at.new text.old text.new }
+    requires places { (labels ≤ places) × (places ≤ labels + 1) }
+    ensures { TakesRequestWords pebbles labels places result at.new text.old text.new }
 {
-    let are_places = position(text, labels, at)?;
+    let are_places = position(text, labels, places, at)?;
     let left = text.numeral()?.within(0, MOST_TURNS);
     text.take(b" ask ")?;
     let ask = pebble(text.numeral()?, pebbles);
@@ -79,15 +83,16 @@ pub(crate) fn request_words(
     })
 }
 
-/// Takes `at`, the places of a position, and ` for `. Says whether each place holds a label; then these are written.
-fn position(text: &mut LineReader<'_>, labels: u16, at: &mut [u16]) -> Option<bool>
-    requires { 0 < length at.old }
-    ensures { TakesPosition (length at.old) labels (option_map (λ are. (are, at.new)) result) text.old text.new }
+/// Takes `at`, the places of a position, and ` for `. Says whether each is one of so many places; then these are written.
+fn position(text: &mut LineReader<'_>, labels: u16, places: u16, at: &mut [u16]) -> Option<bool>
+    requires some { 0 < length at.old }
+    requires places { (labels ≤ places) × (places ≤ labels + 1) }
+    ensures { TakesPosition (length at.old) labels places (option_map (λ are. (are, at.new)) result) text.old text.new }
 {
     text.take(b"at")?;
-    let are_labels = text.numerals(at, labels)?;
+    let are_places = text.places(at, labels, places)?;
     text.take(b" for ")?;
-    Some(are_labels)
+    Some(are_places)
 }
 
 /// Takes a star or digits, with the turns that they spell, if these are such as the claim allows.

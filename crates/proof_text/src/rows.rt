@@ -23,6 +23,7 @@ pub(crate) fn labeller_row(
     let Some(values) = answer_words(
         text,
         space.labels(),
+        space.places(),
         claim,
         &mut at[..pebbles],
         &mut take[..pebbles],
@@ -56,8 +57,13 @@ pub(crate) fn adversary_row(
 {
     let pebbles = space.pebbles();
     let mut at = [0; 6];
-    let Some(values) = request_words(text, space.labels(), pebbles, &mut at[..pebbles as usize])
-    else {
+    let Some(values) = request_words(
+        text,
+        space.labels(),
+        space.places(),
+        pebbles,
+        &mut at[..pebbles as usize],
+    ) else {
         return Err(ProofKind::Row);
     };
     if !values.are_places {

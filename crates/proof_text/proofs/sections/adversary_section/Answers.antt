@@ -8,7 +8,7 @@ use Rattle.proof_text.proofs.sections.adversary_section.Goals as goal
 pub returns-in_default-with_capacity-clause-fault : goal.returns-in_default-with_capacity-clause-fault
 returns-in_default-with_capacity-clause-fault c =
     rw c.at-in_default-with_capacity.ensures
-    (refl, (c.in-Some.count, [], c.number_line.new.self, come_none c.args.space.now (IsRequestRow c.args.space.now) (λ row. row.at) adversary_line request_line c.args.text.now c.in-Some.count c.number_line.new.self c.in-Some.ensures.0.1 c.in-Some.ensures.1))
+    (refl, (c.in-Some.count, [], c.number_line.new.self, come_none c.args.space.now (IsRequestRow c.args.space.now) (λ row. row.at) adversary_line (request_line c.args.space.now) c.args.text.now c.in-Some.count c.number_line.new.self c.in-Some.ensures.0.1 c.in-Some.ensures.1))
 
 pub returns-in-Err-clause-fault : goal.returns-in-Err-clause-fault
 returns-in-Err-clause-fault c =
