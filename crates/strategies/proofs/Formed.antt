@@ -24,11 +24,11 @@ use Rattle.strategies.proofs.Reaching.{answers_lead_to, requests_lead_to}
 value_below : (board : PlainBoard) (configuration : List ℕ) (number : ℕ) → IsConfiguration board configuration → HasValue board configuration (Finite number)
     → number < configurations board
 value_below board configuration number is has =
-    elim (cases_lt number (board.labels ^ board.pebbles)) [
+    elim (cases_lt number (configurations board)) [
       | inl less ↦ less
       | inr many ↦
           let same : Forever ≡ Finite number = same_value board configuration Forever (Finite number)
-          (forever_from_count board configuration is (lasts_at_most board configuration (board.labels ^ board.pebbles) number many has.0)) has in
+          (forever_from_count board configuration is (lasts_at_most board configuration (configurations board) number many has.0)) has in
           absurd cc
     ]
 

@@ -2,6 +2,7 @@
 use Rattle.std.proofs.Common.{◌≡◌, ℕ, zero, suc, ◌<◌, List, [], ◌∷◌, get_or, slice_index, refl, sym, subst, arith}
 use Rattle.std.specs.List.{Contains}
 use Rattle.board_text.specs.PlainBoard.{IsBoard}
+use Rattle.board_text.proofs.Places.{start_from_numbers}
 use Rattle.positions.specs.declared.value.Value.TheVariants.{Forever}
 use Rattle.positions.specs.declared.turns.Turns.TheVariants.{Always}
 use Rattle.positions.specs.Game.{Legal, LabellerTree, HasAnswer, moved}
@@ -15,7 +16,7 @@ pub is_board : IsBoard lone_board
 is_board = record {
   labels = (omega arith, omega arith);
   pebbles = (omega arith, omega arith);
-  start = record { each_pebble = refl; each_label = labels };
+  start = start_from_numbers lone_board (refl, places);
   pairs = record {
     of_labels = λ k d inside. absurd (omega arith);
     ascending = λ i j d less inside. absurd (omega arith);
@@ -23,9 +24,9 @@ is_board = record {
   };
 }
   where
-    labels : (k d : ℕ) → k < 1 → get_or (0 ∷ []) k d < 1
-    labels zero d inside = omega arith
-    labels (suc k) d inside = absurd (omega arith)
+    places : (k d : ℕ) → k < 1 → get_or (0 ∷ []) k d < 2
+    places zero d inside = omega arith
+    places (suc k) d inside = absurd (omega arith)
 
 abbrev start : List ℕ
 start = 0 ∷ []

@@ -5,6 +5,7 @@ use Rattle.board_text.specs.PlainBoard.{PlainBoard, IsConfiguration}
 use Rattle.positions.specs.declared.value.Value.{Value}
 use Rattle.positions.specs.declared.value.Value.TheVariants.{Finite, Forever}
 use Rattle.positions.specs.Game.{Legal, Dominates, LabellerTree, AdversaryTree, moved}
+use Rattle.positions.specs.Ranks.{configurations}
 use Rattle.positions.specs.Value.{HasValue}
 use Rattle.positions.proofs.BoundedSearch.{each_or_some, dominates_or_not}
 use Rattle.positions.proofs.Trees.{some_tree}
@@ -79,7 +80,7 @@ best_request board number configuration has =
 not_lowered : (board : PlainBoard) (configuration : List ℕ) (pebble : ℕ) → IsConfiguration board configuration
     → HasValue board configuration Forever → LowersValue board configuration pebble → ⊥
 not_lowered board configuration pebble is has lowering =
-    let answer = has (suc (board.labels ^ board.pebbles)) pebble lowering.is_pebble in
+    let answer = has (suc (configurations board)) pebble lowering.is_pebble in
     let forever = forever_from_count board (moved configuration pebble answer.0) (moved_is_configuration board configuration pebble answer.0 answer.1.is_label is) answer.2 in
     let less = lowering.lowers answer.0 answer.1 in
     by less.smaller less.greater forever less.of_first less.less

@@ -1,7 +1,8 @@
 -- The document of the small board.
 use Rattle.std.proofs.Common.{◌≡◌, ◌≢◌, ℕ, zero, suc, ◌<◌, ◌≤◌, List, [], ◌∷◌, get_or, slice_index, refl, sym, ap, subst, arith}
 use Rattle.std.specs.List.{AllPairs, Contains}
-use Rattle.board_text.specs.PlainBoard.{Beats, AreLabels, IsBoard}
+use Rattle.board_text.specs.PlainBoard.{Beats, BeatsPlace, AreLabels, IsBoard, places}
+use Rattle.board_text.proofs.Places.{start_from_numbers}
 use Rattle.positions.specs.declared.value.Value.TheVariants.{Finite}
 use Rattle.positions.specs.declared.turns.Turns.TheVariants.{Count}
 use Rattle.positions.specs.Game.{Legal, AdversaryTree, moved}
@@ -27,7 +28,7 @@ pub is_board : IsBoard small_board
 is_board = record {
   labels = (omega arith, omega arith);
   pebbles = (omega arith, omega arith);
-  start = record { each_pebble = refl; each_label = labels };
+  start = start_from_numbers small_board (refl, low);
   pairs = record {
     of_labels = pairs;
     ascending = λ i j d less inside. absurd (omega arith);
@@ -35,10 +36,10 @@ is_board = record {
   };
 }
   where
-    labels : (k d : ℕ) → k < 2 → get_or (0 ∷ 0 ∷ []) k d < 2
-    labels zero d inside = omega arith
-    labels (suc zero) d inside = omega arith
-    labels (suc (suc k)) d inside = absurd (omega arith)
+    low : (k d : ℕ) → k < 2 → get_or (0 ∷ 0 ∷ []) k d < 3
+    low zero d inside = omega arith
+    low (suc zero) d inside = omega arith
+    low (suc (suc k)) d inside = absurd (omega arith)
 
     pairs : (k : ℕ) (d : ℕ × ℕ) → k < 1 → AreLabels 2 (get_or ((1, 0) ∷ []) k d)
     pairs zero d inside = (omega arith, omega arith)
@@ -49,24 +50,24 @@ another : ℕ → ℕ
 another zero = 1
 another (suc pebble) = 0
 
-legal_is : (configuration : List ℕ) (pebble label : ℕ) → Legal small_board configuration pebble label
+legal_is : (configuration : List ℕ) (pebble : ℕ) → slice_index configuration (another pebble) < 2 → (label : ℕ) → Legal small_board configuration pebble label
     → (label ≡ 1) × (slice_index configuration (another pebble) ≡ 0)
 unfolding another
-legal_is configuration zero label legal = beats_is label (slice_index configuration 1) (legal.dominates 1 (omega arith) (λ same. omega (arith, same)))
-legal_is configuration (suc pebble) label legal = beats_is label (slice_index configuration 0) (legal.dominates 0 (omega arith) (λ same. omega (arith, same)))
+legal_is configuration zero held label legal = beats_is label (slice_index configuration 1) (legal.dominates 1 (omega arith) (λ same. omega (arith, same)) held)
+legal_is configuration (suc pebble) held label legal = beats_is label (slice_index configuration 0) (legal.dominates 0 (omega arith) (λ same. omega (arith, same)) held)
 
 legal_from : (configuration : List ℕ) (pebble : ℕ) → pebble < 2 → slice_index configuration (another pebble) ≡ 0 → Legal small_board configuration pebble 1
 unfolding another
 legal_from configuration zero below free = record { is_label = omega arith; dominates = bound }
   where
-    bound : (other : ℕ) → other < 2 → other ≢ 0 → Beats small_board 1 (slice_index configuration other)
+    bound : (other : ℕ) → other < 2 → other ≢ 0 → BeatsPlace small_board 1 (slice_index configuration other)
     bound zero within differs = absurd (differs refl)
-    bound (suc zero) within differs = (0, omega arith, ap (λ (n : ℕ). (1, n)) (sym free))
+    bound (suc zero) within differs = λ held. (0, omega arith, ap (λ (n : ℕ). (1, n)) (sym free))
     bound (suc (suc other)) within differs = absurd (omega arith)
 legal_from configuration (suc zero) below free = record { is_label = omega arith; dominates = bound }
   where
-    bound : (other : ℕ) → other < 2 → other ≢ 1 → Beats small_board 1 (slice_index configuration other)
-    bound zero within differs = (0, omega arith, ap (λ (n : ℕ). (1, n)) (sym free))
+    bound : (other : ℕ) → other < 2 → other ≢ 1 → BeatsPlace small_board 1 (slice_index configuration other)
+    bound zero within differs = λ held. (0, omega arith, ap (λ (n : ℕ). (1, n)) (sym free))
     bound (suc zero) within differs = absurd (differs refl)
     bound (suc (suc other)) within differs = absurd (omega arith)
 legal_from configuration (suc (suc pebble)) below free = absurd (omega arith)
@@ -82,14 +83,17 @@ after pebble = moved start pebble 1
 
 after_value : (pebble : ℕ) → pebble < 2 → HasValue small_board (after pebble) (Finite 0)
 unfolding another
-after_value zero below = (tt, (1, omega arith, λ label legal. let taken : 1 ≡ 0 = (legal_is (1 ∷ 0 ∷ []) 1 label legal).1 in absurd (omega (arith, taken))))
-after_value (suc zero) below = (tt, (0, omega arith, λ label legal. let taken : 1 ≡ 0 = (legal_is (0 ∷ 1 ∷ []) 0 label legal).1 in absurd (omega (arith, taken))))
+after_value zero below = (tt, (1, omega arith, λ label legal. let taken : 1 ≡ 0 = (legal_is (1 ∷ 0 ∷ []) 1 (omega arith) label legal).1 in absurd (omega (arith, taken))))
+after_value (suc zero) below = (tt, (0, omega arith, λ label legal. let taken : 1 ≡ 0 = (legal_is (0 ∷ 1 ∷ []) 0 (omega arith) label legal).1 in absurd (omega (arith, taken))))
 after_value (suc (suc pebble)) below = absurd (omega arith)
 
 start_free : (pebble : ℕ) → slice_index start (another pebble) ≡ 0
 unfolding another
 start_free zero = refl
 start_free (suc pebble) = refl
+
+start_held : (pebble : ℕ) → slice_index start (another pebble) < 2
+start_held pebble = omega (arith, start_free pebble)
 
 start_value : HasValue small_board start (Finite 1)
 start_value = (
@@ -98,7 +102,7 @@ start_value = (
     0,
     omega arith,
     λ label legal.
-        subst (λ (l : ℕ). AdversaryTree small_board 1 (moved start 0 l)) (sym (legal_is start 0 label legal).0) (after_value 0 (omega arith)).1,
+        subst (λ (l : ℕ). AdversaryTree small_board 1 (moved start 0 l)) (sym (legal_is start 0 (start_held 0) label legal).0) (after_value 0 (omega arith)).1,
   ),
 )
 
@@ -109,10 +113,10 @@ best_answer pebble below = (
   record {
     legal = legal_from start pebble below (start_free pebble);
     greatest = λ other legal.
-        subst (λ (l : ℕ). HasNoGreaterValue small_board (moved start pebble l) (after pebble)) (sym (legal_is start pebble other legal).0)
+        subst (λ (l : ℕ). HasNoGreaterValue small_board (moved start pebble l) (after pebble)) (sym (legal_is start pebble (start_held pebble) other legal).0)
         (record { value = Finite 0; bound = Finite 0; of_first = after_value pebble below; of_second = after_value pebble below; not_greater = λ less. omega (arith, less) });
   },
-  λ other best. omega (arith, (legal_is start pebble other best.legal).0),
+  λ other best. omega (arith, (legal_is start pebble (start_held pebble) other best.legal).0),
 )
 
 best_at_start : IsBestRequest small_board start 0
@@ -120,7 +124,7 @@ best_at_start = (
   record {
     is_pebble = omega arith;
     lowers = λ label legal.
-        subst (λ (l : ℕ). HasSmallerValue small_board (moved start 0 l) start) (sym (legal_is start 0 label legal).0)
+        subst (λ (l : ℕ). HasSmallerValue small_board (moved start 0 l) start) (sym (legal_is start 0 (start_held 0) label legal).0)
         (record { smaller = Finite 0; greater = Finite 1; of_first = after_value 0 (omega arith); of_second = start_value; less = omega arith });
   },
   λ other lowers. omega arith,
@@ -128,7 +132,7 @@ best_at_start = (
 
 none_after : (label : ℕ) → Legal small_board (after 0) 1 label → ⊥
 unfolding another
-none_after label legal = let taken : 1 ≡ 0 = (legal_is (after 0) 1 label legal).1 in omega (arith, taken)
+none_after label legal = let taken : 1 ≡ 0 = (legal_is (after 0) 1 (omega arith) label legal).1 in omega (arith, taken)
 
 best_after : IsBestRequest small_board (after 0) 1
 unfolding another
@@ -166,7 +170,7 @@ only_start (pebble ∷ requests) to leads some =
     let below : pebble < 2 = leads.1 in
     let reached : IsAnswerable small_board (moved start pebble leads.0) = start_answerable small_board (moved start pebble leads.0) requests to leads.4 some in
     absurd (not_answerable small_board (after pebble)
-    (subst (λ (l : ℕ). IsAnswerable small_board (moved start pebble l)) (legal_is start pebble leads.0 leads.3.0.legal).0 reached) (after_value pebble below))
+    (subst (λ (l : ℕ). IsAnswerable small_board (moved start pebble l)) (legal_is start pebble (start_held pebble) leads.0 leads.3.0.legal).0 reached) (after_value pebble below))
 
 labeller_rows : AreExactly small_board (IsLabellerRow small_board (Finite 1)) (λ (row : AnswerRow). row.at) small_document.labeller
 labeller_rows = record {
@@ -219,12 +223,13 @@ one_of_two row is = by is.labels is.reached
     by [] leads = (0, omega arith, one_request_row small_board first_request row is_first is leads)
     by (label ∷ labels) leads =
         let asked : leads.0 ≡ 0 = requests.same_request small_board start leads.0 0 leads.1 best_at_start in
-        let taken : label ≡ 1 = (legal_is start leads.0 label leads.2).0 in
+        let taken : label ≡ 1 = (legal_is start leads.0 (start_held leads.0) label leads.2).0 in
         let rest : LeadsByRequests small_board (after 0) labels row.at =
         subst (λ (l : ℕ). LeadsByRequests small_board (moved start 0 l) labels row.at) taken (subst (λ (p : ℕ). LeadsByRequests small_board (moved start p label) labels row.at) asked leads.3) in
         (1, omega arith, one_request_row small_board second_request row is_second is (then_after labels row.at rest))
 
 adversary_rows : AreExactly small_board (λ (row : RequestRow). AsksAdversary (Finite 1) × IsAdversaryRow small_board row) (λ (row : RequestRow). row.at) small_document.adversary
+unfolding places
 adversary_rows = record {
   each = λ row. (λ among. (tt, either row among), λ is. one_of_two row is.1);
   ascending = up;

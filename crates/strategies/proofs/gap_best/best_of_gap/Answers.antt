@@ -1,4 +1,5 @@
 use Rattle.std.proofs.Common.{◌<◌, arith}
+use Rattle.board_text.proofs.Places.{label_is_place}
 use Rattle.strategies.proofs.GapAnswers.{IsMemberOf, safest, found_next, found_all}
 use Rattle.strategies.proofs.gap_best.best_of_gap.Goals as goal
 
@@ -29,3 +30,6 @@ returns c = λ configuration pebble is is_pebble its_gap.
     found_all c.args.board.now configuration pebble c.args.gap here c.loop-label.from c.loop-label.best
     (c.loop-label.invariant.found configuration pebble here)
     (rw (c.space-space.ensures, c.requires.same_board) at c.in_default-next_answer.ensures)
+
+pub member-requires-clause-place : goal.member-requires-clause-place
+member-requires-clause-place c = label_is_place c.space-space.result.now c.in-Some-next_answer.label c.in-Some-next_answer.ensures.0.1.is_label

@@ -1,4 +1,5 @@
 use Rattle.std.proofs.Common.{◌<◌, ◌∙◌, arith}
+use Rattle.board_text.proofs.Places.{label_is_place}
 use Rattle.strategies.proofs.Steps.{member_added, members_added}
 use Rattle.strategies.proofs.spreading.add_members.Goals as goal
 
@@ -19,3 +20,6 @@ pub returns-clause-added : goal.returns-clause-added
 returns-clause-added c =
     members_added c.args.board.now c.args.gap c.loop-label.from _ _
     (rw (c.space-space.ensures, c.requires.same_board) at c.in_default.ensures) c.loop-label.invariant.added
+
+pub member-requires-clause-place : goal.member-requires-clause-place
+member-requires-clause-place c = label_is_place c.space-space.result.now c.in-Some.label c.in-Some.ensures.0.1.is_label
