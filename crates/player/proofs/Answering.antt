@@ -1,10 +1,10 @@
 -- What the line of a person who answers brings.
-use Rattle.std.proofs.Common.{◌≡◌, ◌≢◌, ℕ, suc, ◌+◌, ◌≤◌, ◌<◌, ◌^◌, ◌⊎◌, ◌↔◌, Bool, true, false, not, List, [], ◌∷◌, ◌++◌, inl, inr, refl, sym, ap, ◌∙◌, subst, arith, add-one, append_assoc}
+use Rattle.std.proofs.Common.{◌≡◌, ◌≢◌, ℕ, suc, ◌+◌, ◌≤◌, ◌<◌, ◌⊎◌, ◌↔◌, Bool, true, false, not, List, ◌++◌, inl, inr, refl, sym, ap, ◌∙◌, subst, arith, add-one, append_assoc}
 use Rattle.std.specs.Prelude.{Option, None, Some, Result, Ok, Err, IfOk, IsSome}
 use Rattle.std.specs.Option.{is_some}
 use Rattle.std.specs.Fmt.{decimal}
 use Rattle.std.proofs.lemmas.Fmt.{decimal_injective}
-use Rattle.board_text.specs.PlainBoard.{PlainBoard, IsBoard, IsConfiguration}
+use Rattle.board_text.specs.PlainBoard.{PlainBoard, IsConfiguration}
 use Rattle.positions.specs.Counts.{IsSmallest}
 use Rattle.positions.specs.Game.{Legal, moved}
 use Rattle.positions.specs.Ranks.{configurations, configuration_at, rank_of}
@@ -14,10 +14,9 @@ use Rattle.positions.specs.declared.value.Value.TheVariants.{Finite, Forever}
 use Rattle.positions.proofs.BoundedSearch.{each_or_some, dominates_or_not}
 use Rattle.positions.proofs.Ranks.{configuration_at-rank_of}
 use Rattle.positions.proofs.Values.{same_value}
-use Rattle.strategies.specs.Best.{HasGreatestResult, HasSmallerValue, IsLess, IsBestAnswer, IsBestRequest}
+use Rattle.strategies.specs.Best.{HasGreatestResult, HasSmallerValue, IsLess, IsBestRequest}
 use Rattle.strategies.proofs.Requests.{best_request, same_request}
-use Rattle.player.specs.Words.{Spells}
-use Rattle.player.specs.Transcript.{Standing, Going, Over, PersonAnswers, Opens, Asks, AsksAfterLine, IsLegalLine, opening_lines, at_line, ask_line, stuck_line, no_strategy_line, no_answer_line, stopped_line}
+use Rattle.player.specs.Transcript.{Standing, Going, Over, PersonAnswers, Opens, Asks, AsksAfterLine, opening_lines, at_line, ask_line, stuck_line, no_strategy_line, no_answer_line, stopped_line}
 use Rattle.player.specs.Turns.{BringsAll, Says}
 use Rattle.player.specs.Seats.{Seat, at, IsLegalAt, IsRequestAt, HasAsked, NextStands}
 use Rattle.player.specs.declared.word.Word.TheVariants.{Number, Quit, Other}
@@ -112,20 +111,20 @@ module _ (inside seat : Seat) (same : inside ≡ seat) where
   -- the pebble was put on the label, and the next request was written
   pub put_said : (space : PlainBoard) (asked to label : ℕ) (old middle new said : List ℕ) (standing : Standing) → space ≡ inside.board → inside.rank < configurations inside.board
       → IsBestRequest inside.board (at inside) asked → Legal inside.board (at inside) asked label
-      → to ≡ rank_of space (moved (configuration_at space inside.rank) asked label) → middle ≡ old ++ at_line (configuration_at space to) → new ≡ middle ++ said
+      → to ≡ rank_of space (moved (configuration_at space inside.rank) asked label) → middle ≡ old ++ at_line space (configuration_at space to) → new ≡ middle ++ said
       → Asks inside.board (configuration_at inside.board to) (inside.requests + 1) said standing
       → Says old new (λ said. (line : List ℕ) → line ≡ decimal label → AsksAfterLine seat.board (at seat) seat.requests line said standing)
   put_said space asked to label old middle new said standing of_board within best legal to_is moved_line written asks =
       let there : configuration_at inside.board to ≡ moved (at inside) asked label =
       moved_at inside.board inside.rank to asked label within legal.is_label (subst (λ b. to ≡ rank_of b (moved (configuration_at b inside.rank) asked label)) of_board to_is) in
-      let text : new ≡ old ++ (at_line (configuration_at inside.board to) ++ said) =
-      written ∙ ap (λ l. l ++ said) (subst (λ b. middle ≡ old ++ at_line (configuration_at b to)) of_board moved_line) ∙ append_assoc old (at_line (configuration_at inside.board to)) said in
+      let text : new ≡ old ++ (at_line inside.board (configuration_at inside.board to) ++ said) =
+      written ∙ ap (λ l. l ++ said) (subst (λ b. middle ≡ old ++ at_line b (configuration_at b to)) of_board moved_line) ∙ append_assoc old (at_line inside.board (configuration_at inside.board to)) said in
       let next : Asks inside.board (moved (at inside) asked label) (suc inside.requests) said standing =
       subst (λ c. Asks inside.board c (suc inside.requests) said standing) there (rw add-one at asks) in
       subst (λ s. Says old new (λ said. (line : List ℕ) → line ≡ decimal label → AsksAfterLine s.board (at s) s.requests line said standing)) same (
-        at_line (configuration_at inside.board to) ++ said,
+        at_line inside.board (configuration_at inside.board to) ++ said,
         text,
-        λ line spelled. inl (asked, label, said, (best, legal, spelled), next, ap (λ c. at_line c ++ said) there),
+        λ line spelled. inl (asked, label, said, (best, legal, spelled), next, ap (λ c. at_line inside.board c ++ said) there),
       )
 
 -- ---- other lines
@@ -172,24 +171,24 @@ some_request board configuration number None has none =
 -- what is written first
 pub opens_with : (space board : PlainBoard) (start number : ℕ) (following : Next) (request : Request) (old middle new : List ℕ) → space ≡ board → IsConfiguration board board.start
     → start ≡ rank_of board board.start → HasValue board (configuration_at board start) (Finite number) → IsRequestAt board (configuration_at board start) request
-    → middle ≡ old ++ opening_lines (Finite number) (configuration_at space start) → Says middle new (HasAsked request 0 following)
+    → middle ≡ old ++ opening_lines space (Finite number) (configuration_at space start) → Says middle new (HasAsked request 0 following)
     → Says old new (λ said. (to : Standing) × Opens (PersonAnswers board) said to × NextStands board (configuration_at board start) 0 following to)
 opens_with space board start number following request old middle new of_board is start_is has is_request first asked =
     let there : configuration_at board start ≡ board.start = ap (configuration_at board) start_is ∙ configuration_at-rank_of board board.start is in
-    let opening : List ℕ = opening_lines (Finite number) (configuration_at board start) in
+    let opening : List ℕ = opening_lines board (Finite number) (configuration_at board start) in
     let text : new ≡ old ++ (opening ++ asked.0) =
-    asked.1 ∙ ap (λ l. l ++ asked.0) (subst (λ b. middle ≡ old ++ opening_lines (Finite number) (configuration_at b start)) of_board first) ∙ append_assoc old opening asked.0 in
+    asked.1 ∙ ap (λ l. l ++ asked.0) (subst (λ b. middle ≡ old ++ opening_lines b (Finite number) (configuration_at b start)) of_board first) ∙ append_assoc old opening asked.0 in
     by following asked.2 text
   where
-    opened : (asked_text : List ℕ) (to : Standing) → Asks board (configuration_at board start) 0 asked_text to → Opens (PersonAnswers board) (opening_lines (Finite number) (configuration_at board start) ++ asked_text) to
+    opened : (asked_text : List ℕ) (to : Standing) → Asks board (configuration_at board start) 0 asked_text to → Opens (PersonAnswers board) (opening_lines board (Finite number) (configuration_at board start) ++ asked_text) to
     opened asked_text to asks =
         let there : configuration_at board start ≡ board.start = ap (configuration_at board) start_is ∙ configuration_at-rank_of board board.start is in
-        inr (number, asked_text, subst (λ c. HasValue board c (Finite number)) there has, ap (λ c. opening_lines (Finite number) c ++ asked_text) there, subst (λ c. Asks board c 0 asked_text to) there asks)
+        inr (number, asked_text, subst (λ c. HasValue board c (Finite number)) there has, ap (λ c. opening_lines board (Finite number) c ++ asked_text) there, subst (λ c. Asks board c 0 asked_text to) there asks)
 
-    by : (following : Next) → HasAsked request 0 following asked.0 → new ≡ old ++ (opening_lines (Finite number) (configuration_at board start) ++ asked.0)
+    by : (following : Next) → HasAsked request 0 following asked.0 → new ≡ old ++ (opening_lines board (Finite number) (configuration_at board start) ++ asked.0)
         → Says old new (λ said. (to : Standing) × Opens (PersonAnswers board) said to × NextStands board (configuration_at board start) 0 following to)
     by (next.Asks pebble) h text = (
-      opening_lines (Finite number) (configuration_at board start) ++ asked.0,
+      opening_lines board (Finite number) (configuration_at board start) ++ asked.0,
       text,
       (
         Going (configuration_at board start) 0,
@@ -198,7 +197,7 @@ opens_with space board start number following request old middle new of_board is
       ),
     )
     by (next.Ends end) h text = (
-      opening_lines (Finite number) (configuration_at board start) ++ asked.0,
+      opening_lines board (Finite number) (configuration_at board start) ++ asked.0,
       text,
       (
         Over end,
@@ -210,13 +209,13 @@ opens_with space board start number following request old middle new of_board is
 -- or that there is no strategy
 pub opens_without : (space board : PlainBoard) (start : ℕ) (old middle new : List ℕ) → space ≡ board → IsConfiguration board board.start
     → start ≡ rank_of board board.start → HasValue board (configuration_at board start) Forever
-    → middle ≡ old ++ opening_lines Forever (configuration_at space start) → new ≡ middle ++ no_strategy_line
+    → middle ≡ old ++ opening_lines space Forever (configuration_at space start) → new ≡ middle ++ no_strategy_line
     → Says old new (λ said. (to : Standing) × Opens (PersonAnswers board) said to × NextStands board (configuration_at board start) 0 (next.Ends NoStrategy) to)
 opens_without space board start old middle new of_board is start_is has first last =
     let there : configuration_at board start ≡ board.start = ap (configuration_at board) start_is ∙ configuration_at-rank_of board board.start is in (
-      opening_lines Forever board.start ++ no_strategy_line,
-      last ∙ ap (λ l. l ++ no_strategy_line) (subst (λ b. middle ≡ old ++ opening_lines Forever (configuration_at b start)) of_board first)
-          ∙ ap (λ c. (old ++ opening_lines Forever c) ++ no_strategy_line) there ∙ append_assoc old (opening_lines Forever board.start) no_strategy_line,
+      opening_lines board Forever board.start ++ no_strategy_line,
+      last ∙ ap (λ l. l ++ no_strategy_line) (subst (λ b. middle ≡ old ++ opening_lines b Forever (configuration_at b start)) of_board first)
+          ∙ ap (λ c. (old ++ opening_lines board Forever c) ++ no_strategy_line) there ∙ append_assoc old (opening_lines board Forever board.start) no_strategy_line,
       (Over NoStrategy, inl (subst (λ c. HasValue board c Forever) there has, refl, refl), refl),
     )
 
@@ -227,7 +226,7 @@ pub record HasOpening (board : PlainBoard) : Type 0 where
   pub opens : Opens (PersonAnswers board) said to
 
 pub has_opening : (board : PlainBoard) (value : Value) → HasValue board board.start value → HasOpening board
-has_opening board Forever has = record { said = opening_lines Forever board.start ++ no_strategy_line; to = Over NoStrategy; opens = inl (has, refl, refl) }
+has_opening board Forever has = record { said = opening_lines board Forever board.start ++ no_strategy_line; to = Over NoStrategy; opens = inl (has, refl, refl) }
 has_opening board (Finite number) has =
     let asked = has_request board board.start number 0 has in
-    record { said = opening_lines (Finite number) board.start ++ asked.said; to = asked.to; opens = inr (number, asked.said, has, refl, asked.asks) }
+    record { said = opening_lines board (Finite number) board.start ++ asked.said; to = asked.to; opens = inr (number, asked.said, has, refl, asked.asks) }

@@ -25,7 +25,7 @@ says_line {E} (Ok end) old new line expected IsRight said right = (line, said.1,
 says_line {E} (Err fault) old new line expected IsRight said right = tt
 
 -- a text that began empty, by a space of the board
-pub opening_text : (space board : PlainBoard) (value : Value) (rank : ℕ) (old new : List ℕ) → space ≡ board → old ≡ [] → new ≡ old ++ opening_lines value (configuration_at space rank)
-    → new ≡ opening_lines value (configuration_at board rank)
+pub opening_text : (space board : PlainBoard) (value : Value) (rank : ℕ) (old new : List ℕ) → space ≡ board → old ≡ [] → new ≡ old ++ opening_lines space value (configuration_at space rank)
+    → new ≡ opening_lines board value (configuration_at board rank)
 opening_text space board value rank old new same empty said =
-    said ∙ ap (λ l. l ++ opening_lines value (configuration_at space rank)) empty ∙ ap (λ b. opening_lines value (configuration_at b rank)) same
+    said ∙ ap (λ l. l ++ opening_lines space value (configuration_at space rank)) empty ∙ ap (λ b. opening_lines b value (configuration_at b rank)) same

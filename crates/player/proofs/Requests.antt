@@ -1,5 +1,5 @@
 -- What the line of a person who asks brings.
-use Rattle.std.proofs.Common.{◌≡◌, ◌≢◌, ℕ, ◌+◌, ◌≤◌, ◌<◌, ◌^◌, List, [], ◌∷◌, ◌++◌, inl, inr, refl, sym, ap, ◌∙◌, subst, arith, add-one}
+use Rattle.std.proofs.Common.{◌≡◌, ◌≢◌, ℕ, ◌+◌, ◌≤◌, ◌<◌, ◌^◌, List, ◌++◌, inl, inr, refl, sym, ap, ◌∙◌, subst, arith, add-one}
 use Rattle.std.specs.Prelude.{codes}
 use Rattle.std.specs.Fmt.{decimal}
 use Rattle.std.specs.Str.Parse.{AllDigits}
@@ -12,8 +12,8 @@ use Rattle.positions.specs.declared.value.Value.{Value}
 use Rattle.positions.proofs.Ranks.{configuration_at-rank_of}
 use Rattle.positions.specs.Game.{Legal, moved}
 use Rattle.strategies.specs.Best.{IsBestAnswer}
-use Rattle.player.specs.Words.{Spells, quit}
-use Rattle.player.specs.Transcript.{Standing, Going, Over, PersonAsks, Opens, Replies, IsNoRequest, opening_lines, no_request_line, stopped_line, stuck_line, takes_line, at_line}
+use Rattle.player.specs.Words.{quit}
+use Rattle.player.specs.Transcript.{Standing, Going, Over, PersonAsks, Opens, Replies, opening_lines, no_request_line, stopped_line, stuck_line, takes_line, at_line}
 use Rattle.player.specs.Seats.{Seat, at}
 use Rattle.player.specs.Turns.{BringsAll, Says}
 use Rattle.player.proofs.Moving.{moved_at}
@@ -54,15 +54,15 @@ module _ (board : PlainBoard) (there : List ℕ) (requests : ℕ) where
 module _ (inside seat : Seat) (same : inside ≡ seat) where
   -- the pebble was put on the label of the best answer
   pub reply_said : (space : PlainBoard) (to pebble label : ℕ) (old new : List ℕ) → space ≡ inside.board → inside.rank < configurations inside.board → IsBestAnswer inside.board (at inside) pebble label
-      → to ≡ rank_of space (moved (configuration_at space inside.rank) pebble label) → new ≡ old ++ (takes_line pebble label ++ at_line (configuration_at space to))
+      → to ≡ rank_of space (moved (configuration_at space inside.rank) pebble label) → new ≡ old ++ (takes_line pebble label ++ at_line space (configuration_at space to))
       → Says old new (λ said. Replies seat.board (at seat) seat.requests pebble said (Going (configuration_at inside.board to) (inside.requests + 1)))
   reply_said space to pebble label old new of_board within best to_is said =
       let there : configuration_at inside.board to ≡ moved (at inside) pebble label = moved_at inside.board inside.rank to pebble label within best.0.legal.is_label
       (subst (λ b. to ≡ rank_of b (moved (configuration_at b inside.rank) pebble label)) of_board to_is) in
       subst (λ s. Says old new (λ said. Replies s.board (at s) s.requests pebble said (Going (configuration_at inside.board to) (inside.requests + 1)))) same (
-        takes_line pebble label ++ at_line (configuration_at inside.board to),
-        subst (λ b. new ≡ old ++ (takes_line pebble label ++ at_line (configuration_at b to))) of_board said,
-        inl (label, best, ap (λ c. takes_line pebble label ++ at_line c) there, rw (there, add-one) refl),
+        takes_line pebble label ++ at_line inside.board (configuration_at inside.board to),
+        subst (λ b. new ≡ old ++ (takes_line pebble label ++ at_line b (configuration_at b to))) of_board said,
+        inl (label, best, ap (λ c. takes_line pebble label ++ at_line inside.board c) there, rw (there, add-one) refl),
       )
 
   -- no label is legal
@@ -73,7 +73,7 @@ module _ (inside seat : Seat) (same : inside ≡ seat) where
 
 -- the play begins at the start
 pub begins : (board : PlainBoard) (rank : ℕ) (value : Value) → IsConfiguration board board.start → rank ≡ rank_of board board.start → HasValue board (configuration_at board rank) value
-    → Opens (PersonAsks board) (opening_lines value (configuration_at board rank)) (Going (configuration_at board rank) 0)
+    → Opens (PersonAsks board) (opening_lines board value (configuration_at board rank)) (Going (configuration_at board rank) 0)
 begins board rank value is rank_is has =
     let same : configuration_at board rank ≡ board.start = ap (configuration_at board) rank_is ∙ configuration_at-rank_of board board.start is in
-    subst (λ c. Opens (PersonAsks board) (opening_lines value c) (Going c 0)) (sym same) (value, subst (λ c. HasValue board c value) same has, refl, refl)
+    subst (λ c. Opens (PersonAsks board) (opening_lines board value c) (Going c 0)) (sym same) (value, subst (λ c. HasValue board c value) same has, refl, refl)

@@ -1,18 +1,16 @@
 -- Lines have one transcript.
-use Rattle.std.proofs.Common.{◌≡◌, ◌≢◌, ℕ, suc, ◌≤◌, ◌<◌, List, [], ◌∷◌, ◌++◌, inl, inr, refl, sym, ap, ◌∙◌, subst, arith}
-use Rattle.std.specs.Fmt.{decimal}
+use Rattle.std.proofs.Common.{◌≡◌, ℕ, suc, List, [], ◌∷◌, ◌++◌, inl, inr, sym, ap, ◌∙◌, subst, arith}
 use Rattle.std.proofs.lemmas.Fmt.{decimal_injective}
 use Rattle.board_text.specs.PlainBoard.{PlainBoard, IsBoard}
-use Rattle.positions.specs.declared.value.Value.{Value}
 use Rattle.positions.specs.declared.value.Value.TheVariants.{Finite, Forever}
 use Rattle.positions.specs.Game.{Legal, moved}
 use Rattle.positions.proofs.Values.{same_value}
 use Rattle.strategies.proofs.Answers.{same_answer}
 use Rattle.strategies.proofs.Requests.{same_request}
 use Rattle.player.specs.Laws.{board_of}
-use Rattle.player.specs.Transcript.{Game, PersonAsks, PersonAnswers, Standing, Going, Over, Replies, Asks, Opens, Brings, BringInTurn, IsPlayed, Stops, IsTranscript, opening_lines, no_strategy_line, takes_line, at_line, ask_line, stuck_line, stopped_line}
+use Rattle.player.specs.Transcript.{Game, PersonAsks, PersonAnswers, Standing, Going, Over, Replies, Asks, Opens, Brings, BringInTurn, IsPlayed, IsTranscript, opening_lines, takes_line, at_line, ask_line, stuck_line, stopped_line}
 use Rattle.player.specs.declared.end.PlayEnd.{PlayEnd}
-use Rattle.player.specs.declared.end.PlayEnd.TheVariants.{Stuck, Stopped, NoStrategy}
+use Rattle.player.specs.declared.end.PlayEnd.TheVariants.{Stopped}
 use Rattle.player.proofs.Requests.{no_quit}
 
 record AreSame (one_text other : List ℕ) (one_standing next : Standing) : Type 0 where
@@ -35,7 +33,7 @@ same_replies : (board : PlainBoard) (at : List ℕ) (requests pebble : ℕ) (sai
 same_replies board at requests pebble said other to next (inl one) (inl two) =
     let label : one.0 ≡ two.0 = same_answer board at pebble one.0 two.0 one.1 two.1 in
     record {
-      said = one.2 ∙ ap (λ l. takes_line pebble l ++ at_line (moved at pebble l)) label ∙ sym two.2;
+      said = one.2 ∙ ap (λ l. takes_line pebble l ++ at_line board (moved at pebble l)) label ∙ sym two.2;
       to = one.3 ∙ ap (λ l. Going (moved at pebble l) (suc requests)) label ∙ sym two.3;
     }
 same_replies board at requests pebble said other to next (inl one) (inr two) = absurd (two.0 one.0 one.1.0.legal)
@@ -79,7 +77,7 @@ same_brought (PersonAnswers board) (Going at requests) line said other to next i
     let pebbles : pebble ≡ second = same_request board at pebble second legal.0 allowed.0 in
     let there : moved at pebble label ≡ moved at second place = ap (λ p. moved at p label) pebbles ∙ ap (λ l. moved at second l) labels in
     let rest = same_request_asked board (moved at second place) (suc requests) asked called to next (subst (λ c. Asks board c (suc requests) asked to) there asks) calls in
-    record { said = text ∙ ap (λ c. at_line c ++ asked) there ∙ ap (λ l. at_line (moved at second place) ++ l) rest.said ∙ sym words; to = rest.to }
+    record { said = text ∙ ap (λ c. at_line board c ++ asked) there ∙ ap (λ l. at_line board (moved at second place) ++ l) rest.said ∙ sym words; to = rest.to }
 same_brought (PersonAnswers board) (Going at requests) line said other to next is (inl (pebble, label, asked, legal, asks, text)) (inr (inl two)) =
     absurd (no_quit label (omega (arith, legal.1.is_label, is.labels.1)) (sym legal.2 ∙ two.0))
 same_brought (PersonAnswers board) (Going at requests) line said other to next is (inl (pebble, label, asked, legal, asks, text)) (inr (inr two)) = absurd (two.0.1 pebble label legal)
@@ -104,7 +102,7 @@ same_in_turn game from (line ∷ lines) said other to next is one two =
 same_opening : (game : Game) (said other : List ℕ) (to next : Standing) → Opens game said to → Opens game other next → AreSame said other to next
 same_opening (PersonAsks board) said other to next one two =
     let value : one.0 ≡ two.0 = same_value board board.start one.0 two.0 one.1 two.1 in
-    record { said = one.2 ∙ ap (λ v. opening_lines v board.start) value ∙ sym two.2; to = one.3 ∙ sym two.3 }
+    record { said = one.2 ∙ ap (λ v. opening_lines board v board.start) value ∙ sym two.2; to = one.3 ∙ sym two.3 }
 same_opening (PersonAnswers board) said other to next (inl one) (inl two) = record { said = one.1 ∙ sym two.1; to = one.2 ∙ sym two.2 }
 same_opening (PersonAnswers board) said other to next (inl one) (inr (number, asked, has, text, asks)) =
     let value : Forever ≡ Finite number = same_value board board.start Forever (Finite number) one.0 has in absurd cc
@@ -113,7 +111,7 @@ same_opening (PersonAnswers board) said other to next (inr (number, asked, has, 
 same_opening (PersonAnswers board) said other to next (inr (number, asked, has, text, asks)) (inr (second, called, has_too, words, calls)) =
     let value : Finite number ≡ Finite second = same_value board board.start (Finite number) (Finite second) has has_too in
     let rest = same_request_asked board board.start 0 asked called to next asks calls in
-    record { said = text ∙ ap (λ v. opening_lines v board.start ++ asked) value ∙ ap (λ l. opening_lines (Finite second) board.start ++ l) rest.said ∙ sym words; to = rest.to }
+    record { said = text ∙ ap (λ v. opening_lines board v board.start ++ asked) value ∙ ap (λ l. opening_lines board (Finite second) board.start ++ l) rest.said ∙ sym words; to = rest.to }
 
 same_play : (game : Game) (lines : List (List ℕ)) (said other : List ℕ) (to next : Standing) → IsBoard (board_of game)
     → IsPlayed game lines said to → IsPlayed game lines other next → AreSame said other to next

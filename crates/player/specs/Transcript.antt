@@ -1,7 +1,8 @@
 -- What a play writes: a text for each line of the person, by the moves of the pebble game.
 use Rattle.std.specs.Prelude.{◌≡◌, ◌≢◌, ℕ, suc, ◌<◌, ◌⊎◌, List, [], ◌∷◌, ◌++◌, Option, None, Some, codes}
 use Rattle.std.specs.Fmt.{decimal}
-use Rattle.board_text.specs.LineForms.{closed, number_line, numbers_line}
+use Rattle.board_text.specs.LineForms.{closed, number_line}
+use Rattle.board_text.specs.PlaceForms.{places_line}
 use Rattle.board_text.specs.PlainBoard.{PlainBoard}
 use Rattle.positions.specs.declared.value.Value.{Value}
 use Rattle.positions.specs.declared.value.Value.TheVariants.{Finite, Forever}
@@ -34,13 +35,13 @@ standing (Some end) at requests = Over end
 abbrev pub value_line : Value → List ℕ
 value_line value = claim_line (claim_of value)
 
--- the labels of a configuration
-abbrev pub at_line : List ℕ → List ℕ
-at_line configuration = numbers_line (codes "at") configuration
+-- the places of a configuration
+abbrev pub at_line : PlainBoard → List ℕ → List ℕ
+at_line board configuration = places_line board.labels (codes "at") configuration
 
--- the value of the start and its labels
-abbrev pub opening_lines : Value → List ℕ → List ℕ
-opening_lines value start = value_line value ++ at_line start
+-- the value of the start and its places
+abbrev pub opening_lines : PlainBoard → Value → List ℕ → List ℕ
+opening_lines board value start = value_line value ++ at_line board start
 
 -- the answer to a request
 abbrev pub takes_line : ℕ → ℕ → List ℕ
@@ -71,7 +72,7 @@ no_answer_line = closed (codes "not an answer")
 abbrev pub Replies : PlainBoard → List ℕ → ℕ → ℕ → List ℕ → Standing → Type 0
 Replies board at requests pebble said to =
     ((label : ℕ) × IsBestAnswer board at pebble label
-    × (said ≡ takes_line pebble label ++ at_line (moved at pebble label)) × (to ≡ Going (moved at pebble label) (suc requests)))
+    × (said ≡ takes_line pebble label ++ at_line board (moved at pebble label)) × (to ≡ Going (moved at pebble label) (suc requests)))
     ⊎ (((label : ℕ) → Legal board at pebble label → ⊥) × (said ≡ stuck_line pebble requests) × (to ≡ Over (Stuck requests)))
 
 -- the line names no pebble of the board, and isn't `quit`
@@ -105,7 +106,7 @@ IsNoAnswer board at line = (line ≢ quit) × ((pebble label : ℕ) → IsLegalL
 abbrev pub AsksAfterLine : PlainBoard → List ℕ → ℕ → List ℕ → List ℕ → Standing → Type 0
 AsksAfterLine board at requests line said to =
     ((pebble label : ℕ) × (asked : List ℕ) × IsLegalLine board at line pebble label
-    × Asks board (moved at pebble label) (suc requests) asked to × (said ≡ at_line (moved at pebble label) ++ asked))
+    × Asks board (moved at pebble label) (suc requests) asked to × (said ≡ at_line board (moved at pebble label) ++ asked))
     ⊎ ((line ≡ quit) × (said ≡ stopped_line requests) × (to ≡ Over (Stopped requests)))
     ⊎ (IsNoAnswer board at line × (said ≡ no_answer_line) × (to ≡ Going at requests))
 
@@ -114,11 +115,11 @@ AsksAfterLine board at requests line said to =
 -- what is written before a line is read: the value, the start, and where the person is the labeller the first request, or that there is no strategy
 abbrev pub Opens : Game → List ℕ → Standing → Type 0
 Opens (PersonAsks board) said to =
-    (value : Value) × HasValue board board.start value × (said ≡ opening_lines value board.start) × (to ≡ Going board.start 0)
+    (value : Value) × HasValue board board.start value × (said ≡ opening_lines board value board.start) × (to ≡ Going board.start 0)
 Opens (PersonAnswers board) said to =
-    (HasValue board board.start Forever × (said ≡ opening_lines Forever board.start ++ no_strategy_line) × (to ≡ Over NoStrategy))
+    (HasValue board board.start Forever × (said ≡ opening_lines board Forever board.start ++ no_strategy_line) × (to ≡ Over NoStrategy))
     ⊎ ((number : ℕ) × (asked : List ℕ) × HasValue board board.start (Finite number)
-    × (said ≡ opening_lines (Finite number) board.start ++ asked) × Asks board board.start 0 asked to)
+    × (said ≡ opening_lines board (Finite number) board.start ++ asked) × Asks board board.start 0 asked to)
 
 -- what one line brings; nothing where the play is over
 abbrev pub Brings : Game → Standing → List ℕ → List ℕ → Standing → Type 0

@@ -20,7 +20,7 @@ pub(crate) fn write_opening(
     start: u32,
 ) -> Result<(), AllocError>
     requires { start < configurations space.now }
-    ensures { OnOk result (string_bytes text.new ≡ string_bytes text.old ++ opening_lines value (configuration_at space.now start)) }
+    ensures { OnOk result (string_bytes text.new ≡ string_bytes text.old ++ opening_lines space.now value (configuration_at space.now start)) }
 {
     write_claim(text, claim(value))?;
     text.push_str("\n")?;
@@ -30,7 +30,7 @@ pub(crate) fn write_opening(
 /// Writes the labels of the configuration of a rank.
 pub(crate) fn write_at(text: &mut String, space: &Space, rank: u32) -> Result<(), AllocError>
     requires { rank < configurations space.now }
-    ensures { OnOk result (string_bytes text.new ≡ string_bytes text.old ++ at_line (configuration_at space.now rank)) }
+    ensures { OnOk result (string_bytes text.new ≡ string_bytes text.old ++ at_line space.now (configuration_at space.now rank)) }
 {
     text.push_str("at")?;
     write_labels(text, space, rank)?;
@@ -46,7 +46,7 @@ pub(crate) fn write_reply(
     rank: u32,
 ) -> Result<(), AllocError>
     requires { rank < configurations space.now }
-    ensures { OnOk result (string_bytes text.new ≡ string_bytes text.old ++ (takes_line pebble label ++ at_line (configuration_at space.now rank))) }
+    ensures { OnOk result (string_bytes text.new ≡ string_bytes text.old ++ (takes_line pebble label ++ at_line space.now (configuration_at space.now rank))) }
 {
     write!(text, "pebble {pebble} takes {label}\n")?;
     write_at(text, space, rank)
