@@ -53,7 +53,7 @@ can_answer_by text number (Accepted shown) few is =
     let shows : Shows is.board is.proof.labeller is.proof.adversary (AtLeast number) = subst (Shows is.board is.proof.labeller is.proof.adversary) (sym claim ∙ least) is.verdict_is.2 in
     record {
       board = is.board;
-      rest = proof_text is.proof;
+      rest = proof_text is.board is.proof;
       is_board = is.is_board;
       text_is = is.text_is;
       table = is.proof.labeller;

@@ -26,7 +26,7 @@ pub record GaveBoard (left_old left_new : Option (List ℕ)) (board : PlainBoard
 -- the reader gave all, which is the text of this document for the board
 pub record GaveProof (board : PlainBoard) (left_old left_new : Option (List ℕ)) (proof : PlainProof) : Type 0 where
   pub is_proof : IsProof board proof
-  pub gave : GaveAll left_old left_new (proof_text proof)
+  pub gave : GaveAll left_old left_new (proof_text board proof)
 
 -- how far a reader was read that wasn't read to its end; memory may be wanting behind the end too
 abbrev pub IsUnread : Option (List ℕ) → Option (List ℕ) → ℕ → RunFault → Type 0

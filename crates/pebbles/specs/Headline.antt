@@ -35,6 +35,6 @@ pub record ShowsValue (left_old left_new taken_old taken_new : Option (List ℕ)
   pub is_board : IsBoard board
   pub is_proof : IsProof board document
   pub read : GaveAll left_old left_new (board_text board)
-  pub written : Appends taken_old taken_new (proof_text document)
+  pub written : Appends taken_old taken_new (proof_text board document)
   pub accepted : BreaksNoRule board document
   pub means : Means board document value

@@ -1,7 +1,8 @@
 -- The one line that a check writes.
 use Rattle.std.specs.Prelude.{ℕ, List, [], ◌++◌, codes}
 use Rattle.std.specs.Fmt.{decimal}
-use Rattle.board_text.specs.LineForms.{closed, spaced}
+use Rattle.board_text.specs.LineForms.{closed}
+use Rattle.board_text.specs.PlaceForms.{spaced_places}
 use Rattle.board_text.specs.PlainBoard.{PlainBoard}
 use Rattle.positions.specs.Ranks.{configuration_at}
 use Rattle.proof_text.specs.ProofText.{claim_words}
@@ -22,9 +23,9 @@ abbrev pub turn_word : Side → List ℕ
 turn_word Labeller = codes " pebble "
 turn_word Adversary = codes " label "
 
--- a side's row of this rank, given by its labels, and the turn
+-- a side's row of this rank, given by its places, and the turn
 abbrev pub row_words : PlainBoard → Side → ℕ → ℕ → List ℕ
-row_words board side at turn = side_word side ++ codes " row" ++ spaced (configuration_at board at) ++ turn_word side ++ decimal turn
+row_words board side at turn = side_word side ++ codes " row" ++ spaced_places board.labels (configuration_at board at) ++ turn_word side ++ decimal turn
 
 -- why a document is refused; want of memory refuses none
 abbrev pub fault_words : PlainBoard → CheckFault → List ℕ

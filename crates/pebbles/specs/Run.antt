@@ -38,7 +38,7 @@ pub record IsAnswered (text : List ℕ) (verdict : Verdict) (line : List ℕ) : 
   pub is_board : IsBoard board
   pub few : configurations board ≤ most_configurations
   pub is_proof : IsProof board proof
-  pub text_is : text ≡ board_text board ++ proof_text proof
+  pub text_is : text ≡ board_text board ++ proof_text board proof
   pub verdict_is : IsVerdict board proof verdict
   pub line_is : line ≡ line_of board verdict
 

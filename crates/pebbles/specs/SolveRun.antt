@@ -17,7 +17,7 @@ pub record IsSolved (board : PlainBoard) (value : Value) (text : List ℕ) : Typ
   pub has_value : HasValue board board.start value
   pub document : PlainProof
   pub is_document : IsDocumentOf board document
-  pub text_is : text ≡ proof_text document
+  pub text_is : text ≡ proof_text board document
 
 -- a small board was read, and the text of its document was written
 abbrev pub RanSolve : Option (List ℕ) → Option (List ℕ) → Option (List ℕ) → Option (List ℕ) → Value → Type 0

@@ -84,7 +84,7 @@ pub(crate) fn board_of(alloc: Global, text: &[u8]) -> Result<Board, RunFault>
 
 /// The document for the board that the bytes are the text of.
 pub(crate) fn proof_of(alloc: Global, space: &Space, text: &[u8]) -> Result<Proof, RunFault>
-    ensures found { IfOk result (λ proof. IsDocument space.now proof × (text.now ≡ text_of_proof (plain_proof space.now proof))) }
+    ensures found { IfOk result (λ proof. IsDocument space.now proof × (text.now ≡ text_of_proof space.now (plain_proof space.now proof))) }
     ensures fault { IfErr result (CannotReadProof space.now text.now) }
 {
     match proof_text::parse(alloc, space, text) {
