@@ -60,8 +60,8 @@ fn faults_of_labels_pebbles_and_starts(rt: HostRuntime) {
     for start in [
         [].as_slice(),
         &[0],
-        &[0, 2],
-        &[2, 0],
+        &[0, 3],
+        &[3, 0],
         &[0, 0, 0],
         &[0, 65_535],
     ] {

@@ -4,7 +4,8 @@
 
 use crate::assertions::assert_same;
 use crate::texts::{
-    CHAIN_OF_THREE, LONE_LABEL, ONE_PAIR, SHARED_LABEL, THREE_CYCLE, THREE_PEBBLES, board_of,
+    CHAIN_OF_THREE, CYCLE_WITHOUT_LABELS, LONE_LABEL, LONE_WITHOUT_LABEL, ONE_PAIR,
+    PAIR_WITHOUT_LABELS, SHARED_LABEL, THREE_CYCLE, THREE_PEBBLES, board_of,
 };
 use crate::values::value_at;
 use board_text::Board;
@@ -165,6 +166,9 @@ fn small_boards(rt: HostRuntime) {
         LONE_LABEL,
         SHARED_LABEL,
         THREE_PEBBLES,
+        PAIR_WITHOUT_LABELS,
+        CYCLE_WITHOUT_LABELS,
+        LONE_WITHOUT_LABEL,
     ] {
         let board = board_of(&rt, rt.alloc(), text);
         assert_solved(&rt, rt.alloc(), &board);

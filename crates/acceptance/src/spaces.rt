@@ -19,13 +19,13 @@ fn count_configurations(board: &Board) -> Result<u32, TooLarge> {
     Ok(space.configurations())
 }
 
-/// Whether the list has a label for each pebble.
+/// Whether the list has a place for each pebble.
 fn is_configuration(space: &Space, configuration: &[u16]) -> bool
     ensures { IsTrue result ↔ IsConfiguration space.now configuration.now }
 {
-    let labels = space.labels();
+    let places = space.places();
     configuration.len() == usize::from(space.pebbles())
-        && configuration.iter().all(|label| *label < labels)
+        && configuration.iter().all(|place| *place < places)
 }
 
 /// The rank of a list of labels, where it is a configuration.

@@ -13,18 +13,18 @@ use positions::{Value, labeller_lasts, value_of};
 use std::alloc::Global;
 use std::process::Abort;
 
-/// Whether the list has a label for each pebble.
+/// Whether the list has a place for each pebble.
 fn is_configuration(board: &Board, configuration: &[u16]) -> bool
     ensures { IsTrue result ↔ IsConfiguration board.now configuration.now }
 {
-    let labels = board.labels();
+    let places = board.places();
     configuration.len() == usize::from(board.pebbles())
-        && configuration.iter().all(|label| *label < labels)
+        && configuration.iter().all(|place| *place < places)
 }
 
 /// The value of a configuration, where it is one and the board isn't too large.
 pub(crate) fn value_at(board: &Board, configuration: &mut [u16]) -> Option<Value> {
-    let count = u32::from(board.labels()).checked_pow(u32::from(board.pebbles()))?;
+    let count = u32::from(board.places()).checked_pow(u32::from(board.pebbles()))?;
     if count > 1_048_576 || !is_configuration(board, configuration) {
         return None;
     }
