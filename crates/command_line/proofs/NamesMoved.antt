@@ -260,7 +260,7 @@ walk_same c names w [] = refl
 walk_same c names w (word ∷ rest) = ap (λ (x : Walk). fold (walked (all_moved c) names) x rest) (walked_same c names w word)
     ∙ walk_same c names (walked c names w word) rest
 
-default_same : (rows : List Row) (a : Rule) → with_default rows (moved a) ≡ with_default rows a
+pub default_same : (rows : List Row) (a : Rule) → with_default rows (moved a) ≡ with_default rows a
 default_same rows a = ap (λ (how : Reading). cond (has_row a.id rows) rows (default_rows a.id how a.defaults rows)) (reading_stays a)
 
 defaults_same : (rows : List Row) (xs : List Rule) → fold with_default rows (all_moved xs) ≡ fold with_default rows xs

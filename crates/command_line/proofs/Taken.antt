@@ -9,6 +9,7 @@ use Rattle.std.proofs.lemmas.Slice.Eq.{bytes_eq-Decides}
 use Rattle.clap.specs.Walk.{Held, Names, Rule, Step, Text, Waiting, Walk, after_step, answers_to, arg_by_index, finished, long_or_other, next, nothing_held, rows_after, settled, subcommand, subcommand_met, subcommand_or_other, to_positional, trailing, value, walk, walk_from, walked, walked_from, word_met}
 use Rattle.clap.specs.Lexer.{long_of}
 use Rattle.clap.specs.Simple.{Shape, built, built_leaf, entered, filled, with_index, help_shape, inherited, is_simple, label_of, names_of, rows_at, subcommand_of}
+use Rattle.clap.specs.Faults.{is_simple_and_free}
 use Rattle.clap.specs.Takes.{built_takes, default_passes, entered_passes, is_given, is_valid, level_passes, other_passes, settle_passes, step_passes, takes, turn_passes, walk_passes, word_passes}
 use Rattle.clap.proofs.OnLiterals.{clap_on_literals}
 use Rattle.clap.proofs.WalkLemmas.{both}
@@ -22,6 +23,10 @@ use Rattle.command_line.proofs.LevelFits.{choice_there, level_fits, number_there
 pub simple : (sides : Bor (List (Bor Text))) → is_simple (program_among sides) ≡ true
 unfolding clap_on_literals
 simple sides = refl
+
+pub simple_and_free : (sides : Bor (List (Bor Text))) → is_simple_and_free (program_among sides) ≡ true
+unfolding clap_on_literals
+simple_and_free sides = refl
 
 -- ---- each command
 

@@ -1,7 +1,7 @@
 //! The program's commands, with the texts of their help.
 
 ghost use Rattle.std.specs.Prelude.{◌≡◌, IfOk, List, false, true};
-ghost use Rattle.clap.specs.Words.{Text, app_of, is_simple, rule_of, shape_of, subcommand_of, takes};
+ghost use Rattle.clap.specs.Words.{Text, app_of, fault_of, is_simple, is_simple_and_free, rule_of, shape_of, subcommand_of, takes};
 ghost use Rattle.clap.specs.declared.builder.command.Command.TheViews.{out-Command};
 ghost use Rattle.command_line.specs.Commands as commands;
 
@@ -29,10 +29,13 @@ static SIDES: [&str; 2] = ["labeller", "adversary"];
 /// All commands.
 pub(crate) fn program<'a>(alloc: Global) -> Result<Command<'a>, AllocError>
     ensures simple { IfOk result (λ c. is_simple (app_of c) ≡ true) }
+    ensures free { IfOk result (λ c. is_simple_and_free (app_of c) ≡ true) }
     ensures takes { IfOk result (λ c. (words : List Text)
         → takes (app_of c) words ≡ takes commands.program words) }
     ensures reads { IfOk result (λ c. (words : List Text)
         → subcommand_of (app_of c) words ≡ subcommand_of commands.program words) }
+    ensures faults { IfOk result (λ c. (words : List Text)
+        → fault_of (app_of c) words ≡ fault_of commands.program words) }
 {
     program_among(alloc, SIDES.as_slice())
 }

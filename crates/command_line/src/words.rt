@@ -1,7 +1,7 @@
 //! The job that the words of the command line ask for.
 
-ghost use Rattle.std.specs.Prelude.{◌≡◌, ◌≤◌, ◌↔◌, ◌⊎◌, IfOk, IfErr, IfSome, MatchOption, Ok, None, Some, true, false, length, codes, option_map};
-ghost use Rattle.clap.specs.Words.{first_of, found_of, kind_of, rows_of, subcommand_of, subcommand_rows_of, takes};
+ghost use Rattle.std.specs.Prelude.{◌≡◌, ◌≤◌, ◌↔◌, ◌⊎◌, [], IfOk, OnOk, IfErr, IfSome, MatchOption, Ok, None, Some, true, false, length, codes, option_map};
+ghost use Rattle.clap.specs.Words.{fault_of, first_of, found_of, kind_of, rows_of, subcommand_of, subcommand_rows_of, takes};
 ghost use Rattle.clap.specs.Walk.{texts};
 ghost use Rattle.command_line.specs.Commands as commands;
 ghost use Rattle.command_line.specs.Reading.{AsksFor, HasNumber, IsInRange, IsReadAs, asks, has_number, has_side, is_read, word_of};
@@ -14,11 +14,13 @@ use std::alloc::Global;
 
 /// The job that the words ask for, the program's name first.
 ///
-/// Without a word behind the name it is `Job::Joined`. All other words are read by `clap`, exactly; what it takes is refused for want of memory alone.
+/// Without a word behind the name it is `Job::Joined`. All other words are read by `clap`, exactly: there is a job only where it finds no fault in them, and what it takes is refused for want of memory alone.
 pub fn job<'a, 'w>(alloc: Global, words: &'a [&'w str]) -> Result<Job<'a>, JobFault>
     ensures joined { (result ≡ Ok Job.Joined) ↔ (length words.now ≤ 1) }
     ensures job { IfOk result (λ j. (j ≡ Job.Joined)
         ⊎ IsReadAs (subcommand_of commands.program (texts words.now)) j) }
+    ensures faultless { IfOk result (λ j. (j ≡ Job.Joined)
+        ⊎ (fault_of commands.program (texts words.now) ≡ [])) }
     ensures numbers { IfOk result IsInRange }
     ensures takes { takes commands.program (texts words.now) ≡ true
         → IfErr result (λ f. f ≡ JobFault.Memory) }
@@ -32,6 +34,7 @@ pub fn job<'a, 'w>(alloc: Global, words: &'a [&'w str]) -> Result<Job<'a>, JobFa
 /// The job of the command that the words name.
 fn named_job<'a, 'w>(alloc: Global, words: &'a [&'w str]) -> Result<Job<'a>, JobFault>
     ensures job { IfOk result (IsReadAs (subcommand_of commands.program (texts words.now))) }
+    ensures faultless { OnOk result (fault_of commands.program (texts words.now) ≡ []) }
     ensures numbers { IfOk result IsInRange }
     ensures takes { takes commands.program (texts words.now) ≡ true
         → IfErr result (λ f. f ≡ JobFault.Memory) }
