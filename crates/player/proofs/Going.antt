@@ -5,15 +5,15 @@ use Rattle.std.specs.Io.KnownBytes.{Appends, Keeps, IsAtEnd}
 use Rattle.std.proofs.lemmas.List.{length_push}
 use Rattle.board_text.specs.Ends.{AppendsFront}
 use Rattle.board_text.proofs.Moves.{Appends-trans, Appends-kept, front_taken}
-use Rattle.player.specs.Transcript.{Game, Standing, Going, Over, Brings, BringInTurn, Transcribes, stopped_line}
-use Rattle.player.specs.Words.{Spells, most_lines}
+use Rattle.player.specs.Transcript.{Game, Standing, Going, Over, Brings, BringInTurn, stopped_line}
+use Rattle.player.specs.Words.{most_lines}
 use Rattle.player.specs.Turns.{BringsAll, FailsToWrite}
-use Rattle.player.specs.Play.{Came, HasEnded, BreaksOff}
+use Rattle.player.specs.Play.{Came, GoesOnOrEnds, HasEnded, BreaksOff}
 use Rattle.player.specs.Reading.{Unread}
 use Rattle.player.specs.declared.word.Word.{Word}
 use Rattle.player.specs.declared.end.PlayFault.{PlayFault}
 use Rattle.player.specs.declared.end.PlayFault.TheVariants.{Read, Write, Memory, Limit}
-use Rattle.player.proofs.Coming.{HasCome, ComesNext, came_of}
+use Rattle.player.proofs.Coming.{ComesNext, came_of}
 use Rattle.player.specs.declared.end.PlayEnd.{PlayEnd}
 use Rattle.player.specs.declared.end.PlayEnd.TheVariants.{Stopped}
 
@@ -31,25 +31,18 @@ brings_more game from (first ∷ lines) line text said to next brought brings = 
   ap (λ l. l ++ said) brought.5 ∙ append_assoc brought.0 brought.1 said,
 )
 
--- the whole transcript, where the input ends here
-pub record HasTranscript (Played : List (List ℕ) → List ℕ → Standing → Type 0) (lines : List (List ℕ)) (text : List ℕ) : Type 0 where
-  pub tail : List ℕ
-  pub end : PlayEnd
-  pub transcribes : Transcribes Played lines (text ++ tail) end
-
-pub transcript_of : (Played : List (List ℕ) → List ℕ → Standing → Type 0) (lines : List (List ℕ)) (text : List ℕ) (to : Standing) → Played lines text to → HasTranscript Played lines text
-transcript_of Played lines text (Going at requests) played =
-    record { tail = stopped_line requests; end = Stopped requests; transcribes = inr (at, text, requests, played, refl, refl) }
-transcript_of Played lines text (Over end) played =
-    record { tail = []; end = end; transcribes = inl (subst (λ l. Played lines l (Over end)) (sym (append-nil text)) played) }
+-- what lines bring leaves the play going, or ends it
+pub goes_on_or_ends : (Played : List (List ℕ) → List ℕ → Standing → Type 0) (left : Option (List ℕ)) (lines : List (List ℕ)) (rest text : List ℕ) (to : Standing) → Played lines text to
+    → GoesOnOrEnds Played left lines rest text
+goes_on_or_ends Played left lines rest text (Going at requests) played = inl (at, requests, played)
+goes_on_or_ends Played left lines rest text (Over end) played = inr (end, inl played)
 
 -- a front of what was to be written, behind what was
-pub front_behind : (a b c : Option (List ℕ)) (front more tail : List ℕ) → Appends a b front → AppendsFront b c more → AppendsFront a c ((front ++ more) ++ tail)
-front_behind a b c front more tail written begun =
+pub front_behind : (a b c : Option (List ℕ)) (front more : List ℕ) → Appends a b front → AppendsFront b c more → AppendsFront a c (front ++ more)
+front_behind a b c front more written begun =
     let size = begun.0 in
-    front_taken a c ((front ++ more) ++ tail) (front ++ take size more) (drop size more ++ tail)
-    (append_assoc front more tail ∙ ap (λ l. front ++ (l ++ tail)) (sym (take-append-drop size more)) ∙ ap (λ l. front ++ l) (append_assoc (take size more) (drop size more) tail)
-    ∙ sym (append_assoc front (take size more) (drop size more ++ tail)))
+    front_taken a c (front ++ more) (front ++ take size more) (drop size more)
+    (ap (λ l. front ++ l) (sym (take-append-drop size more)) ∙ sym (append_assoc front (take size more) (drop size more)))
     (Appends-trans a b c front (take size more) written begun.2)
 
 -- nothing was written behind what was
@@ -68,20 +61,25 @@ module _ (game : Game) (from : Standing) (left_old left_new taken_old taken_now 
   stopped (Err fault) came stops last = tt
 
   -- or it wasn't written whole
-  pub not_stopped : (result : Result PlayEnd PlayFault) → Came left_old left_new lines [] → IfErr result (FailsToWrite taken_now taken_new (λ said. said ≡ stopped_line requests))
-      → IfErr result (BreaksOff (BringInTurn game from) left_old left_new taken_old taken_new)
+  pub not_stopped : (result : Result PlayEnd PlayFault) → Came left_old left_new lines [] × IsAtEnd left_new
+      → IfErr result (FailsToWrite taken_now taken_new (λ said. said ≡ stopped_line requests)) → IfErr result (BreaksOff (BringInTurn game from) left_old left_new taken_old taken_new)
   not_stopped (Ok end) came fails = tt
   not_stopped (Err Write) came fails = (
     lines,
     [],
     text ++ stopped_line requests,
-    Stopped requests,
-    came,
-    inr (at, text, requests, brought, refl, refl),
-    subst (AppendsFront taken_old taken_new) (append-nil _ ∙ ap (λ l. text ++ l) fails.2) (front_behind taken_old taken_now taken_new text fails.0 [] written fails.1),
+    came.0,
+    inr (Stopped requests, inr ((at, text, requests, brought, refl, refl), came.1, refl)),
+    subst (AppendsFront taken_old taken_new) (ap (λ l. text ++ l) fails.2) (front_behind taken_old taken_now taken_new text fails.0 written fails.1),
   )
-  not_stopped (Err Memory) came fails =
-      (lines, [], text ++ stopped_line requests, Stopped requests, came, inr (at, text, requests, brought, refl, refl), front_kept taken_old taken_now taken_new text (stopped_line requests) written fails)
+  not_stopped (Err Memory) came fails = (
+    lines,
+    [],
+    text ++ stopped_line requests,
+    came.0,
+    inr (Stopped requests, inr ((at, text, requests, brought, refl, refl), came.1, refl)),
+    front_kept taken_old taken_now taken_new text (stopped_line requests) written fails,
+  )
   not_stopped (Err Read) came fails = absurd fails
   not_stopped (Err Limit) came fails = absurd fails
 
@@ -106,19 +104,23 @@ module _ (game : Game) (from : Standing) (left_old left_new taken_old taken_now 
         → BreaksOff (BringInTurn game from) left_old left_new taken_old taken_new fault
     broken Write fails =
         let said = fails.0 in
-        let whole = transcript_of (BringInTurn game from) (lines ++ next.line ∷ []) (text ++ said) fails.2.0
-        (brings_more game from lines next.line text said (Going at requests) fails.2.0 brought (fails.2.1 next.line next.spells)) in (
-          lines ++ next.line ∷ [],
+        let all = lines ++ next.line ∷ [] in
+        let brought_all = brings_more game from lines next.line text said (Going at requests) fails.2.0 brought (fails.2.1 next.line next.spells) in (
+          all,
           unread.bytes,
-          (text ++ said) ++ whole.tail,
-          whole.end,
-          came_of left_old left_new (lines ++ next.line ∷ []) unread all_few next.come,
-          whole.transcribes,
-          front_behind taken_old taken_now taken_new text said whole.tail written fails.1,
+          text ++ said,
+          came_of left_old left_new all unread all_few next.come,
+          goes_on_or_ends (BringInTurn game from) left_new all unread.bytes (text ++ said) fails.2.0 brought_all,
+          front_behind taken_old taken_now taken_new text said written fails.1,
         )
-    broken Memory fails =
-        let whole = transcript_of (BringInTurn game from) lines text (Going at requests) brought in
-        (lines, next.rest, text ++ whole.tail, whole.end, next.before (omega (arith, few)), whole.transcribes, front_kept taken_old taken_now taken_new text whole.tail written fails)
+    broken Memory fails = (
+      lines,
+      next.rest,
+      text,
+      next.before (omega (arith, few)),
+      inl (at, requests, brought),
+      subst (AppendsFront taken_old taken_new) (append-nil text) (front_kept taken_old taken_now taken_new text [] written fails),
+    )
     broken Read fails = absurd fails
     broken Limit fails = absurd fails
 

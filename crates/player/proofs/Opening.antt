@@ -1,16 +1,16 @@
 -- What is written before the first line is read.
-use Rattle.std.proofs.Common.{◌≡◌, ℕ, ◌≤◌, List, [], ◌∷◌, ◌++◌, length, take, inl, inr, refl, sym, ap, ◌∙◌, subst, arith, append-nil, append_assoc}
-use Rattle.std.specs.Prelude.{Option, None, Some, Result, Ok, Err, IfOk, IfErr}
-use Rattle.std.specs.Io.KnownBytes.{Appends, Consumes, Keeps}
+use Rattle.std.proofs.Common.{◌≡◌, ℕ, List, [], ◌++◌, inl, inr, refl, sym, ap, ◌∙◌, subst, arith, append-nil, append_assoc}
+use Rattle.std.specs.Prelude.{Option, None, Some}
+use Rattle.std.specs.Io.KnownBytes.{Appends, Keeps}
 use Rattle.board_text.specs.Ends.{AppendsFront}
-use Rattle.board_text.proofs.Moves.{Appends-trans, Appends-kept}
-use Rattle.player.specs.Transcript.{Game, Standing, Going, Over, Opens, BringInTurn, IsPlayed, Stops, Transcribes}
-use Rattle.player.specs.Play.{Came, Ends, HasEnded, HasWritten, BreaksOff}
+use Rattle.board_text.proofs.Moves.{Appends-trans}
+use Rattle.player.specs.Transcript.{Game, Standing, Going, Over, Opens, BringInTurn, IsPlayed, Stops}
+use Rattle.player.specs.Play.{Ends, GoesOnOrEnds, HasEnded, HasWritten, BreaksOff}
 use Rattle.player.specs.declared.end.PlayEnd.{PlayEnd}
 use Rattle.player.specs.declared.end.PlayFault.{PlayFault}
 use Rattle.player.specs.declared.end.PlayFault.TheVariants.{Read, Write, Memory, Limit}
 use Rattle.player.proofs.Coming.{none_yet, came_of}
-use Rattle.player.proofs.Going.{HasTranscript, transcript_of, front_behind, front_kept, Appends-none}
+use Rattle.player.proofs.Going.{goes_on_or_ends, front_behind, front_kept, Appends-none}
 
 module _ (game : Game) (opening : List ℕ) (first : Standing) (opens : Opens game opening first) where
   played : (lines : List (List ℕ)) (more : List ℕ) (to : Standing) → BringInTurn game first lines more to → IsPlayed game lines (opening ++ more) to
@@ -20,9 +20,15 @@ module _ (game : Game) (opening : List ℕ) (first : Standing) (opens : Opens ga
   stops lines more end h =
       (h.0, opening ++ h.1, h.2, played lines h.1 (Going h.0 h.2) h.3, ap (λ l. opening ++ l) h.4 ∙ sym (append_assoc opening h.1 _), h.5)
 
-  transcribes : (lines : List (List ℕ)) (more : List ℕ) (end : PlayEnd) → Transcribes (BringInTurn game first) lines more end → Transcribes (IsPlayed game) lines (opening ++ more) end
-  transcribes lines more end (inl over) = inl (played lines more (Over end) over)
-  transcribes lines more end (inr stopped) = inr (stops lines more end stopped)
+  ends : (left : Option (List ℕ)) (lines : List (List ℕ)) (rest more : List ℕ) (end : PlayEnd) → Ends (BringInTurn game first) left lines rest more end
+      → Ends (IsPlayed game) left lines rest (opening ++ more) end
+  ends left lines rest more end (inl over) = inl (played lines more (Over end) over)
+  ends left lines rest more end (inr stopped) = inr (stops lines more end stopped.0, stopped.1, stopped.2)
+
+  goes_on_or_ends_too : (left : Option (List ℕ)) (lines : List (List ℕ)) (rest more : List ℕ) → GoesOnOrEnds (BringInTurn game first) left lines rest more
+      → GoesOnOrEnds (IsPlayed game) left lines rest (opening ++ more)
+  goes_on_or_ends_too left lines rest more (inl going) = inl (going.0, going.1, played lines more (Going going.0 going.1) going.2)
+  goes_on_or_ends_too left lines rest more (inr over) = inr (over.0, ends left lines rest more over.0 over.1)
 
   -- the opening alone
   alone : IsPlayed game [] opening first
@@ -35,7 +41,7 @@ module _ (game : Game) (opening : List ℕ) (first : Standing) (opens : Opens ga
       h.1,
       opening ++ h.2,
       h.3,
-      elim h.4 [ inl over ↦ inl (played h.0 h.2 (Over end) over) | inr stopped ↦ inr (stops h.0 h.2 end stopped.0, stopped.1, stopped.2) ],
+      ends left_new h.0 h.1 h.2 end h.4,
       Appends-trans taken_old taken_now taken_new opening h.2 written h.5,
     )
 
@@ -43,26 +49,24 @@ module _ (game : Game) (opening : List ℕ) (first : Standing) (opens : Opens ga
     has_written Waits h = (h.0, h.1, opening ++ h.2, h.3, h.4, h.5, h.6, played h.0 h.2 (Going h.3 h.4) h.7, Appends-trans taken_old taken_now taken_new opening h.2 written h.8)
 
     behind : (text : List ℕ) → AppendsFront taken_now taken_new text → AppendsFront taken_old taken_new (opening ++ text)
-    behind text begun = subst (AppendsFront taken_old taken_new) (append-nil _) (front_behind taken_old taken_now taken_new opening text [] written begun)
+    behind text begun = front_behind taken_old taken_now taken_new opening text written begun
 
     pub breaks_off : (fault : PlayFault) → BreaksOff (BringInTurn game first) left_old left_new taken_now taken_new fault → BreaksOff (IsPlayed game) left_old left_new taken_old taken_new fault
     breaks_off Read h = has_written _ h
     breaks_off Limit h = has_written _ h
-    breaks_off Write h = (h.0, h.1, opening ++ h.2, h.3, h.4, transcribes h.0 h.2 h.3 h.5, behind h.2 h.6)
-    breaks_off Memory h = (h.0, h.1, opening ++ h.2, h.3, h.4, transcribes h.0 h.2 h.3 h.5, behind h.2 h.6)
+    breaks_off Write h = (h.0, h.1, opening ++ h.2, h.3, goes_on_or_ends_too left_new h.0 h.1 h.2 h.4, behind h.2 h.5)
+    breaks_off Memory h = (h.0, h.1, opening ++ h.2, h.3, goes_on_or_ends_too left_new h.0 h.1 h.2 h.4, behind h.2 h.5)
 
   -- nothing was written
   pub unopened : (left taken_old taken_new : Option (List ℕ)) → Keeps taken_old taken_new → BreaksOff (IsPlayed game) left left taken_old taken_new Memory
-  unopened left taken_old taken_new kept =
-      let whole = transcript_of (IsPlayed game) [] opening first alone in (
-        [],
-        [],
-        opening ++ whole.tail,
-        whole.end,
-        came_of left left [] _ (omega arith) (none_yet left),
-        whole.transcribes,
-        front_kept taken_old taken_old taken_new [] (opening ++ whole.tail) (Appends-none taken_old) kept,
-      )
+  unopened left taken_old taken_new kept = (
+    [],
+    [],
+    opening,
+    came_of left left [] _ (omega arith) (none_yet left),
+    goes_on_or_ends (IsPlayed game) left [] [] opening first alone,
+    front_kept taken_old taken_old taken_new [] opening (Appends-none taken_old) kept,
+  )
 
   -- the play is over before a line is read
   pub over_at_once : (left taken_old taken_new : Option (List ℕ)) (end : PlayEnd) → first ≡ Over end → Appends taken_old taken_new opening → HasEnded (IsPlayed game) left left taken_old taken_new end
@@ -71,16 +75,14 @@ module _ (game : Game) (opening : List ℕ) (first : Standing) (opens : Opens ga
 
   -- the opening wasn't written whole
   pub unshown_opening : (left taken_old taken_new : Option (List ℕ)) → AppendsFront taken_old taken_new opening → BreaksOff (IsPlayed game) left left taken_old taken_new Write
-  unshown_opening left taken_old taken_new begun =
-      let whole = transcript_of (IsPlayed game) [] opening first alone in (
-        [],
-        [],
-        opening ++ whole.tail,
-        whole.end,
-        came_of left left [] _ (omega arith) (none_yet left),
-        whole.transcribes,
-        front_behind taken_old taken_old taken_new [] opening whole.tail (Appends-none taken_old) begun,
-      )
+  unshown_opening left taken_old taken_new begun = (
+    [],
+    [],
+    opening,
+    came_of left left [] _ (omega arith) (none_yet left),
+    goes_on_or_ends (IsPlayed game) left [] [] opening first alone,
+    front_behind taken_old taken_old taken_new [] opening (Appends-none taken_old) begun,
+  )
 
 pub Keeps-same : (a : Option (List ℕ)) → Keeps a a
 Keeps-same None = tt

@@ -5,7 +5,7 @@ use Rattle.std.specs.Io.KnownBytes.{Appends, Consumes, IsAtEnd}
 use Rattle.board_text.specs.Ends.{GaveAll, AppendsFront}
 use Rattle.board_text.specs.LineForms.{closed}
 use Rattle.player.specs.Words.{IsLine, BeginsTooLong, most_lines}
-use Rattle.player.specs.Transcript.{Game, Standing, Going, Over, IsPlayed, Stops, Transcribes}
+use Rattle.player.specs.Transcript.{Standing, Going, Over, Stops}
 use Rattle.player.specs.declared.end.PlayEnd.{PlayEnd}
 use Rattle.player.specs.declared.end.PlayFault.{PlayFault}
 use Rattle.player.specs.declared.end.PlayFault.TheVariants.{Read, Write, Memory, Limit}
@@ -32,6 +32,11 @@ pub record Came (left_old left_new : Option (List ℕ)) (lines : List (List ℕ)
 abbrev pub Ends : (List (List ℕ) → List ℕ → Standing → Type 0) → Option (List ℕ) → List (List ℕ) → List ℕ → List ℕ → PlayEnd → Type 0
 Ends Played left_new lines rest text end = Played lines text (Over end) ⊎ (Stops Played lines text end × IsAtEnd left_new × (rest ≡ []))
 
+-- the lines leave the play going, or it ends
+abbrev pub GoesOnOrEnds : (List (List ℕ) → List ℕ → Standing → Type 0) → Option (List ℕ) → List (List ℕ) → List ℕ → List ℕ → Type 0
+GoesOnOrEnds Played left_new lines rest text =
+    ((at : List ℕ) × (requests : ℕ) × Played lines text (Going at requests)) ⊎ ((end : PlayEnd) × Ends Played left_new lines rest text end)
+
 module _ (Played : List (List ℕ) → List ℕ → Standing → Type 0) (left_old left_new taken_old taken_new : Option (List ℕ)) where
   -- lines came, and what was written is their transcript, which tells this end
   abbrev pub HasEnded : PlayEnd → Type 0
@@ -43,10 +48,10 @@ module _ (Played : List (List ℕ) → List ℕ → Standing → Type 0) (left_o
   HasWritten Waits = (lines : List (List ℕ)) × (rest text at : List ℕ) × (requests : ℕ)
       × Came left_old left_new lines rest × Waits lines rest × Played lines text (Going at requests) × Appends taken_old taken_new text
 
-  -- lines came, and what was written is a front of their transcript
+  -- lines came, and what was written is a front of what they bring, which tells an end only where the play has one
   abbrev pub HasBegun : Type 0
-  HasBegun = (lines : List (List ℕ)) × (rest text : List ℕ) × (end : PlayEnd)
-      × Came left_old left_new lines rest × Transcribes Played lines text end × AppendsFront taken_old taken_new text
+  HasBegun = (lines : List (List ℕ)) × (rest text : List ℕ)
+      × Came left_old left_new lines rest × GoesOnOrEnds Played left_new lines rest text × AppendsFront taken_old taken_new text
 
   -- when each fault comes, and what was written before it
   abbrev pub BreaksOff : PlayFault → Type 0

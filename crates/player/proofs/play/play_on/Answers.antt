@@ -1,7 +1,6 @@
-use Rattle.std.proofs.Common.{refl, [], ◌++◌, ◌+◌, ◌∷◌, sym, ap, subst, ◌∙◌, arith, inl, inr}
+use Rattle.std.proofs.Common.{refl, [], ◌++◌, ◌+◌, ◌∷◌, ap, ◌∙◌, arith, inl}
 use Rattle.std.proofs.lemmas.List.{length_push}
 use Rattle.board_text.proofs.Moves.{Appends-trans}
-use Rattle.player.specs.Transcript.{Going, Over, standing}
 use Rattle.player.proofs.Coming.{none_yet, line_came, all_came, came_of}
 use Rattle.player.proofs.Going.{brings_more, stopped, not_stopped, ended, broken, Appends-none}
 use Rattle.player.proofs.play.play_on.Goals as goal
@@ -31,7 +30,7 @@ pub returns-in-Ok-None-clause-fault : goal.returns-in-Ok-None-clause-fault
 returns-in-Ok-None-clause-fault g c =
     let i = c.loop.invariant in
     let gives = rw c.in-Ok-None.field-0-is at c.in-Ok-None.ensures.line in
-    not_stopped _ _ _ _ _ _ _ i.said i.text _ _ i.brought i.written c.stop.result (all_came _ _ _ i.said _ _ (omega (arith, i.few, c.loop-test.true)) i.come gives).0 c.stop.ensures.fault
+    not_stopped _ _ _ _ _ _ _ i.said i.text _ _ i.brought i.written c.stop.result (all_came _ _ _ i.said _ _ (omega (arith, i.few, c.loop-test.true)) i.come gives) c.stop.ensures.fault
 
 pub returns-in-Ok-Some-turn-clause-ok : goal.returns-in-Ok-Some-turn-clause-ok
 returns-in-Ok-Some-turn-clause-ok g c =
