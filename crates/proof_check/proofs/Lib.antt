@@ -8,3 +8,4 @@ pub mod Stopping
 pub mod Showing
 pub mod Refusing
 pub mod FirstRow
+pub mod OneFault

@@ -23,7 +23,7 @@ is_among before x after = Contains-append_right before (x ∷ after) x (zero, om
 
 -- ---- the start
 
-start_right : (board : PlainBoard) (proof : PlainProof) (fault : CheckFault) → Serves proof.labeller board.start (wanted_of proof.claim) → IsWrongStart board proof fault → ⊥
+pub start_right : (board : PlainBoard) (proof : PlainProof) (fault : CheckFault) → Serves proof.labeller board.start (wanted_of proof.claim) → IsWrongStart board proof fault → ⊥
 start_right board proof (faults.StartMissing Labeller) serves (wanted, none) = let l = serves wanted in none (l.row, l.among, l.at)
 start_right board proof (faults.StartNumber Labeller) serves (wanted, has, short) = short (serves wanted)
 start_right board proof (faults.StartMissing Adversary) serves h = absurd h
@@ -41,7 +41,7 @@ bound_met rows start (AtMost n) number is below = let same : n ≡ number = cc i
 bound_met rows start (AtLeast n) number is below = absurd cc
 bound_met rows start Forever number is below = absurd cc
 
-bound_right : (board : PlainBoard) (proof : PlainProof) (fault : CheckFault) → StartIsBelow proof.adversary board.start proof.claim → IsWrongBound board proof fault → ⊥
+pub bound_right : (board : PlainBoard) (proof : PlainProof) (fault : CheckFault) → StartIsBelow proof.adversary board.start proof.claim → IsWrongBound board proof fault → ⊥
 bound_right board proof (faults.StartMissing Adversary) below (number, is, none) = let l = bound_met proof.adversary board.start proof.claim number is below in none (l.row, l.among, l.at)
 bound_right board proof (faults.StartNumber Adversary) below (number, is, has, large) = large (bound_met proof.adversary board.start proof.claim number is below)
 bound_right board proof (faults.StartMissing Labeller) below h = absurd h
@@ -94,7 +94,7 @@ requests_right board rows row faults.Memory meets h = absurd h
 contained : {X : Type 0} (IsRight : X → Type 0) (rows : List X) (row : X) → FirstWrong IsRight rows row → Contains rows row
 contained {X} IsRight rows row first = subst (λ (l : List X). Contains l row) (sym first.parts) (is_among first.before row first.after)
 
-it_meets : {X : Type 0} (IsRight : X → Type 0) (rows : List X) (row : X) → FirstWrong IsRight rows row → All IsRight rows → IsRight row
+pub it_meets : {X : Type 0} (IsRight : X → Type 0) (rows : List X) (row : X) → FirstWrong IsRight rows row → All IsRight rows → IsRight row
 it_meets IsRight rows row first all = All-contains IsRight rows row all (contained IsRight rows row first)
 
 -- ---- all together

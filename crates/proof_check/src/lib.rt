@@ -10,4 +10,4 @@ mod row_index;
 
 pub use checking::{Shown, check};
 pub use fault::{CheckFault, Side};
-pub use laws::rules_show;
+pub use laws::{one_check_fault, rules_show, unbroken_rules_leave_no_fault};

@@ -1,0 +1,5 @@
+use Rattle.proof_check.proofs.OneFault.{one_fault}
+use Rattle.proof_check.proofs.laws.one_check_fault.Goals as goal
+
+pub returns : goal.returns
+returns c = one_fault
