@@ -7,3 +7,4 @@ pub mod Rounds
 pub mod Headlines
 pub mod Counting
 pub mod Sums
+pub mod Accepting

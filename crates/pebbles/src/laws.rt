@@ -1,17 +1,21 @@
 //! Laws of what is written: what it means. Each is the contract of a function without a body.
 
-ghost use Rattle.std.specs.Prelude.{◌≡◌, ℕ, ◌+◌, List, Option, sum};
+ghost use Rattle.std.specs.Prelude.{◌≡◌, ℕ, ◌+◌, ◌≤◌, List, [], Option, Some, sum};
 ghost use Rattle.positions.specs.Ranks.{configurations};
 ghost use Rattle.board_text.specs.PlainBoard.{PlainBoard, IsBoard};
 ghost use Rattle.positions.specs.Claim.{Holds};
-ghost use Rattle.proof_text.specs.Proof.{PlainProof};
+ghost use Rattle.proof_text.specs.Proof.{PlainProof, IsProof};
+ghost use Rattle.proof_text.specs.ProofText.{proof_text};
+ghost use Rattle.strategies.specs.Document.{claim_of};
 ghost use Rattle.proof_check.specs.declared.checking.Shown.{Shown as ShownClaim};
 ghost use Rattle.positions.specs.declared.value.Value.{Value as Worth};
 ghost use Rattle.pebbles.specs.Headline.{ShowsValue};
 ghost use Rattle.pebbles.specs.Report.{Report as CountReport, IsReport};
-ghost use Rattle.pebbles.specs.Run.{IsVerdict};
-ghost use Rattle.pebbles.specs.SolveRun.{RanSolve};
+ghost use Rattle.pebbles.specs.Run.{IsVerdict, most_configurations};
+ghost use Rattle.pebbles.specs.SolveRun.{IsSolved, RanSolve};
+ghost use Rattle.pebbles.specs.CheckRun.{RanCheck};
 ghost use Rattle.pebbles.specs.Meaning.{AcceptsLeast, CanAnswer};
+ghost use Rattle.pebbles.specs.declared.running.Verdict.{Verdict as Judgement};
 ghost use Rattle.pebbles.specs.declared.running.Verdict.TheVariants.{Accepted};
 
 /// Where a text was answered with `accepted least k`, the labeller can answer k requests from the start of its board, however they come.
@@ -28,6 +32,19 @@ pub fn accepted_claims_hold()
 pub fn solved_boards_show_their_value()
     ensures { (left_old : Option (List ℕ)) → (left_new : Option (List ℕ)) → (taken_old : Option (List ℕ)) → (taken_new : Option (List ℕ)) → (value : Worth)
         → RanSolve left_old left_new taken_old taken_new value → ShowsValue left_old left_new taken_old taken_new value }
+{}
+
+/// The verdict on what was written for a solved board is that it is accepted, with the claim of the value.
+/// So a check of the same board and of what was written answers this, where it has a verdict at all.
+pub fn printed_documents_are_accepted()
+    ensures verdict { (board : PlainBoard) → (value : Worth) → (text : List ℕ) → IsBoard board → configurations board ≤ most_configurations
+        → IsSolved board value text → (proof : PlainProof) → (verdict : Judgement) → IsProof board proof → text ≡ proof_text board proof
+        → IsVerdict board proof verdict → verdict ≡ Accepted (record { claim = claim_of value }) }
+    ensures runs { (bytes : List ℕ) → (text : List ℕ) → (solve_left : Option (List ℕ)) → (board_left : Option (List ℕ)) → (proof_left : Option (List ℕ))
+        → (taken_old : Option (List ℕ)) → (taken_new : Option (List ℕ)) → (value : Worth) → (verdict : Judgement)
+        → RanSolve (Some bytes) solve_left (Some []) (Some text) value
+        → RanCheck (Some bytes) board_left (Some text) proof_left taken_old taken_new verdict
+        → verdict ≡ Accepted (record { claim = claim_of value }) }
 {}
 
 /// The counts of a report add up to the number of configurations.
