@@ -25,6 +25,8 @@ mod solving_tests;
 #[cfg(test)]
 mod tests;
 
+ghost use Rattle.std.specs.Prelude.{◌≡◌};
+
 use board_text::Through;
 use checking::run_check;
 use command_line::{Job, JobFault, Player, job};
@@ -137,7 +139,10 @@ fn played(rt: &HostRuntime, answer: Result<PlayEnd, RunFault>) -> ExitCode {
 }
 
 /// The side that the person plays.
-fn side_of(player: Player) -> Side {
+fn side_of(player: Player) -> Side
+    ensures labeller { player ≡ Player.Labeller → result ≡ Side.Labeller }
+    ensures adversary { player ≡ Player.Adversary → result ≡ Side.Adversary }
+{
     match player {
         Player::Labeller => Side::Labeller,
         Player::Adversary => Side::Adversary,
