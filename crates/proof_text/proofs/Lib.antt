@@ -6,3 +6,4 @@ pub mod DocumentFaults
 pub mod OneRow
 pub mod OneDocument
 pub mod RankedRows
+pub mod OneFault

@@ -98,7 +98,7 @@ is_row {X} IsRow rows m ms each =
     rw (get_or_at rows m ms m (length rows) refl) at h
 
 -- what is left of the rows of a section, where one of them has the fault
-next_row : {X : Type 0} (board : PlainBoard) (IsRow : X → Type 0) (at : X → List ℕ) (line : X → List ℕ) (RowFault : (List ℕ → Type 0) → List ℕ → ProofKind → Type 0) (rows all more : List X) (rest tail : List ℕ) (kind : ProofKind)
+pub next_row : {X : Type 0} (board : PlainBoard) (IsRow : X → Type 0) (at : X → List ℕ) (line : X → List ℕ) (RowFault : (List ℕ → Type 0) → List ℕ → ProofKind → Type 0) (rows all more : List X) (rest tail : List ℕ) (kind : ProofKind)
     → ((MayStand : List ℕ → Type 0) (row : X) (rest more : List ℕ) (kind : ProofKind) → IsRow row → MayStand (at row) → rest ≡ line row ++ more → RowFault MayStand rest kind → ⊥)
     → AreRows board IsRow at all → length rows < length all → all ≡ rows ++ more → rest ≡ flat_map line more ++ tail → RowFault (MayFollow board at rows) rest kind → ⊥
 next_row board IsRow at line RowFault rows all [] rest tail kind sound are short parts spelled fault = omega (arith, short, ap length parts, length-append rows [])
@@ -138,7 +138,7 @@ no_section_fault board IsRow at word line RowFault all text tail number l kinds.
 
 -- ---- documents
 
-labeller_unique : (board : PlainBoard) (claim : Claim) (ps qs : List AnswerRow) (x y : List ℕ) → IsBoard board → AreAnswerRows board claim ps → AreAnswerRows board claim qs
+pub labeller_unique : (board : PlainBoard) (claim : Claim) (ps qs : List AnswerRow) (x y : List ℕ) → IsBoard board → AreAnswerRows board claim ps → AreAnswerRows board claim qs
     → (asks_labeller claim ≡ false → ps ≡ []) → (asks_labeller claim ≡ false → qs ≡ []) → labeller_section board claim ps ++ x ≡ labeller_section board claim qs ++ y → (ps ≡ qs) × (x ≡ y)
 labeller_unique board claim ps qs x y is are_p are_q none_p none_q e =
     part_unique board (IsAnswerRow board claim) (λ row. row.at) (codes "labeller") (answer_line board) (asks_labeller claim) ps qs x y (λ p q x y is_p is_q. answer_unique board claim p q x y is is_p is_q) are_p are_q none_p none_q e
@@ -148,7 +148,7 @@ adversary_unique : (board : PlainBoard) (claim : Claim) (ps qs : List RequestRow
 adversary_unique board claim ps qs x y is are_p are_q none_p none_q e =
     part_unique board (IsRequestRow board) (λ row. row.at) (codes "adversary") (request_line board) (asks_adversary claim) ps qs x y (λ p q x y is_p is_q. request_unique board p q x y is is_p is_q) are_p are_q none_p none_q e
 
-regroup : (a b c d : List ℕ) → (a ++ (b ++ c)) ++ d ≡ a ++ (b ++ (c ++ d))
+pub regroup : (a b c d : List ℕ) → (a ++ (b ++ c)) ++ d ≡ a ++ (b ++ (c ++ d))
 regroup a b c d = simp append_assoc
 
 -- what two documents say, up to their last row, where one text begins with both
@@ -174,7 +174,7 @@ same_front board a b x y is is_a is_b e =
     let s = same_front_of board a.claim b.claim a.labeller b.labeller a.adversary b.adversary x y is h.0 is_a.labeller is_b.labeller is_a.adversary is_b.adversary is_a.no_labeller is_b.no_labeller is_a.no_adversary is_b.no_adversary h.1 in
     record { claim = h.0; labeller = s.0; adversary = s.1; rest = s.2 }
 
-same_proof : (a b : PlainProof) → a.claim ≡ b.claim → a.labeller ≡ b.labeller → a.adversary ≡ b.adversary → a ≡ b
+pub same_proof : (a b : PlainProof) → a.claim ≡ b.claim → a.labeller ≡ b.labeller → a.adversary ≡ b.adversary → a ≡ b
 same_proof a b c l r =
     let e : ◌≡◌ {A = PlainProof} (record { claim = a.claim; labeller = a.labeller; adversary = a.adversary }) b = rw (c, l, r) refl in e
 
@@ -188,7 +188,7 @@ one_document board a b is is_a is_b e =
 opened : (board : PlainBoard) (b : PlainProof) → proof_text board b ≡ head b.claim ++ (labeller_section board b.claim b.labeller ++ (adversary_section board b.claim b.adversary ++ end_line))
 opened board b = regroup (head b.claim) (labeller_section board b.claim b.labeller) (adversary_section board b.claim b.adversary) end_line
 
-asked_section : {X : Type 0} (asked : Bool) (word : List ℕ) (line : X → List ℕ) (rows : List X) → asked ≡ true → cond asked (section word line rows) [] ≡ section word line rows
+pub asked_section : {X : Type 0} (asked : Bool) (word : List ℕ) (line : X → List ℕ) (rows : List X) → asked ≡ true → cond asked (section word line rows) [] ≡ section word line rows
 asked_section asked word line rows e = rw e refl
 
 no_labeller_fault : (board : PlainBoard) (text : List ℕ) (l : ℕ) (kind : ProofKind) (b : PlainProof) → IsBoard board → IsProof board b → text ≡ proof_text board b → LabellerFault board text l kind → kind ≡ kinds.Memory

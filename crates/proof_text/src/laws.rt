@@ -1,6 +1,6 @@
 //! Laws of the texts of documents, each the contract of a function without a body.
 
-ghost use Rattle.std.specs.Prelude.{◌≡◌, ℕ, ◌<◌, List, slice_index};
+ghost use Rattle.std.specs.Prelude.{◌≡◌, ◌≢◌, ℕ, ◌<◌, List, slice_index};
 ghost use Rattle.board_text.specs.PlainBoard.{PlainBoard, IsBoard};
 ghost use Rattle.positions.specs.Ranks.{configurations};
 ghost use Rattle.proof_text.specs.Proof.{PlainProof, IsProof, IsPadded, answer_row, request_row};
@@ -21,6 +21,13 @@ pub fn one_document()
 pub fn documents_have_no_fault()
     ensures { (board : PlainBoard) → (document : PlainProof) → (line : ℕ) → (kind : Kind) → IsBoard board → IsProof board document
         → HasFault board (proof_text board document) line kind → kind ≡ OutOfMemory }
+{}
+
+/// For one board a text has one fault at most, want of memory aside.
+pub fn one_fault()
+    ensures { (board : PlainBoard) → (text : List ℕ) → (line : ℕ) → (other_line : ℕ) → (kind : Kind) → (other_kind : Kind) → IsBoard board
+        → kind ≢ OutOfMemory → other_kind ≢ OutOfMemory → HasFault board text line kind → HasFault board text other_line other_kind
+        → (line ≡ other_line) × (kind ≡ other_kind) }
 {}
 
 /// Rows that name the same configuration by its rank, and say the same of it, are the same in each field.

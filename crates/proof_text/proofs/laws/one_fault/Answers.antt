@@ -1,0 +1,5 @@
+use Rattle.proof_text.proofs.OneFault as lemmas
+use Rattle.proof_text.proofs.laws.one_fault.Goals as goal
+
+pub returns : goal.returns
+returns c = lemmas.one_fault
