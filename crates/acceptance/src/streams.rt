@@ -6,9 +6,9 @@ ghost use Rattle.std.specs.Prelude.{◌≡◌, ◌<◌, false};
 
 use crate::assertions::assert_same;
 use board_text::{Failed, ReadFault, Sink, Source, Through, read_all, write_all};
-use fakes::{Broken, Drip, Failing, Trickle};
+use fakes::{Broken, Drip, Failing, Interrupted, Trickle};
 use std::alloc::{AllocError, Global};
-use std::io::{Cursor, Write};
+use std::io::{Cursor, Read, Write};
 use std::process::Abort;
 
 const TEXT: &[u8] = b"board 1\nlabels 1\n";
@@ -89,17 +89,23 @@ fn reads_of_many_bytes(rt: HostRuntime) -> Result<(), AllocError> {
     Ok(())
 }
 
-#[test]
-fn a_failing_reader_of_std(rt: HostRuntime) {
-    let mut reader = Through::new(Broken);
+/// Asserts that no read follows the first error of a reader of std, whatever that error is.
+fn assert_first_error_fails<R: Read + Drop>(rt: &impl Abort, alloc: Global, inner: R) {
+    let mut reader = Through::new(inner);
     assert!(rt; !Source::failed(&reader));
-    match is_read(rt.alloc(), &mut reader, PLENTY, TEXT) {
+    match is_read(alloc, &mut reader, PLENTY, TEXT) {
         Err(ReadFault::Memory) => assert!(rt; !Source::failed(&reader)),
         answer => {
             assert_eq!(rt; answer, Err(ReadFault::Read));
             assert!(rt; Source::failed(&reader));
         }
     }
+}
+
+#[test]
+fn failing_readers_of_std(rt: HostRuntime) {
+    assert_first_error_fails(&rt, rt.alloc(), Broken);
+    assert_first_error_fails(&rt, rt.alloc(), Interrupted::new(TEXT));
 }
 
 /// Asserts what a slow writer answers to a text, and that it has taken so much of it then.

@@ -140,3 +140,31 @@ impl io::Write for Broken {
         Ok(())
     }
 }
+
+/// A reader of std that fails at its first call, and gives its bytes from the second on.
+#[derive(Drop)]
+pub struct Interrupted<'a> {
+    rest: &'a [u8],
+    has_failed: bool,
+}
+
+impl<'a> Interrupted<'a> {
+    pub fn new(rest: &'a [u8]) -> Interrupted<'a>
+        ensures { result ≡ record { rest = rest.entry; has_failed = false } }
+    {
+        Interrupted {
+            rest,
+            has_failed: false,
+        }
+    }
+}
+
+impl io::Read for Interrupted<'_> {
+    fn read(&mut self, into: &mut [u8]) -> io::Result<usize> {
+        if !self.has_failed {
+            self.has_failed = true;
+            return Err(io::Error::from(io::ErrorKind::Interrupted));
+        }
+        self.rest.read(into)
+    }
+}

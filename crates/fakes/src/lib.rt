@@ -3,4 +3,4 @@
 
 mod ends;
 
-pub use ends::{Broken, Drip, Failing, Trickle};
+pub use ends::{Broken, Drip, Failing, Interrupted, Trickle};
