@@ -1,5 +1,5 @@
 -- The answers of a gap as bits: of each other pebble's label those that beat it, if there is one.
-use Rattle.std.proofs.Common.{◌≡◌, ℕ, ◌+◌, ◌-◌, ◌/◌, ◌%◌, ◌^◌, ◌<◌, ◌≤◌, ◌↔◌, true, List, length, get_or, take, drop, sym, ap, ◌∙◌, subst, arith}
+use Rattle.std.proofs.Common.{◌≡◌, ℕ, ◌+◌, ◌-◌, ◌/◌, ◌%◌, ◌^◌, ◌<◌, ◌≤◌, ◌↔◌, true, List, Option, length, get_or, take, drop, sym, ap, ◌∙◌, subst, arith}
 use Rattle.std.specs.List.{All, slice_range}
 use Rattle.std.proofs.Math.Nat.{one-le-pow}
 use Rattle.std.proofs.lemmas.List.{take_all, take-take, length-take-le, get_or-take, get_or-drop}
@@ -9,6 +9,9 @@ use Rattle.board_text.proofs.Places.{some_places}
 use Rattle.board_text.specs.Domination.{has_bit}
 use Rattle.positions.specs.Gaps.{gaps, others_of, IsAnswer}
 use Rattle.positions.specs.Weights.{AreNumbersOf}
+use Rattle.positions.specs.Counts.{IsSmallest}
+use Rattle.positions.proofs.Counting.{smallest_of}
+use Rattle.positions.proofs.LabelBits.{HasBitFrom}
 use Rattle.positions.proofs.Rests.{IsRest, IsNextRest, rest_next}
 use Rattle.positions.proofs.GapLaws.{others_of_gap, answer_beats_others}
 
@@ -88,3 +91,15 @@ answer_bits board gap place rest words below all narrowed x small =
       λ set. let is = (narrowed.bits x small).0 set in answer.1 (is.0, subst (All (BeatsPlace board x)) whole is.1),
       λ is. let each = answer.0 is in (narrowed.bits x small).1 (each.0, subst (All (BeatsPlace board x)) (sym whole) each.1),
     )
+
+-- the smallest bit of an answer set from a bound on is the smallest answer from there on
+pub smallest_answer : (board : PlainBoard) (gap from : ℕ) (words : List ℕ) (found : Option ℕ)
+    → ((x : ℕ) → x < 256 → (has_bit words x ≡ true) ↔ IsAnswer board gap x) → board.labels ≤ 256
+    → IsSmallest (HasBitFrom words from) found → IsSmallest (λ label. (from ≤ label) × IsAnswer board gap label) found
+smallest_answer board gap from words found bits few is =
+    smallest_of (HasBitFrom words from) (λ label. (from ≤ label) × IsAnswer board gap label) found
+    (λ label. (
+      λ has. (has.0, (bits label has.1).0 has.2),
+      λ answer. let small : label < 256 = omega (arith, answer.1.is_label, few) in (answer.0, small, (bits label small).1 answer.1),
+    ))
+    is

@@ -95,3 +95,18 @@ member_is_rank board base weights gap label are below low =
       rank_is = same;
       below = subst (λ n. n < configurations board) (sym same) (rank_below board (member_of board gap label) (member_is board gap label below low));
     })
+
+-- each step of the place adds the weight of the gap's pebble to the rank of its member
+pub member_line : {labels pebbles size : ℕ} {words : List ℕ} (board : PlainBoard) (base : ℕ) (weights : List ℕ) (gap place : ℕ)
+    → AreNumbersOf board labels pebbles base size weights words → gap < gaps board → place < places board
+    → rank_of board (member_of board gap 0) + place * get_or weights (pebble_of board gap) 0 ≡ rank_of board (member_of board gap place)
+member_line board base weights gap place are below low =
+    let each : ℕ = get_or weights 0 0 in
+    let weight : ℕ = get_or weights (gap / each) 0 in
+    let before : ℕ = gap % each / weight in
+    let behind : ℕ = gap % each % weight in
+    let first : (before * base + 0) * weight + behind ≡ rank_of board (member_of board gap 0) =
+    (member_is_rank board base weights gap 0 are below (some_places board are.is_board)).rank_is in
+    let here : (before * base + place) * weight + behind ≡ rank_of board (member_of board gap place) = (member_is_rank board base weights gap place are below low).rank_is in
+    let same : place * get_or weights (pebble_of board gap) 0 ≡ place * weight = ap (λ p. place * get_or weights p 0) (sym (pebble_is board base weights gap are)) in
+    omega arith
