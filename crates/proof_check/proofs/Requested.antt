@@ -1,20 +1,21 @@
 -- What a look at an adversary's row finds.
-use Rattle.std.proofs.Common.{◌≡◌, ℕ, ◌<◌, ◌≤◌, List, refl, ap, arith}
+use Rattle.std.proofs.Common.{◌≡◌, ℕ, ◌+◌, ◌<◌, ◌≤◌, ◌↔◌, List, Some, None, inl, inr, refl, sym, ap, ◌∙◌, subst, arith}
+use Rattle.std.proofs.lemmas.Bool.{cases_lt}
 use Rattle.board_text.specs.PlainBoard.{PlainBoard, IsConfiguration}
-use Rattle.positions.specs.Game.{moved}
+use Rattle.positions.specs.Counts.{IsSmallest}
+use Rattle.positions.specs.Game.{Legal, moved}
+use Rattle.positions.specs.Gaps.{gap_of, member_of, IsAnswer}
 use Rattle.positions.specs.Ranks.{rank_of, configuration_at}
 use Rattle.positions.specs.Table.{RequestRow}
+use Rattle.positions.proofs.GapLaws.{member_of-gap_of, legal_is_answer}
 use Rattle.positions.proofs.Ranks.{rank_of-configuration_at, configuration_at_is}
 use Rattle.positions.proofs.Configurations.{moved_is_configuration}
 use Rattle.proof_text.specs.declared.proof.AdversaryRow.{AdversaryRow}
 use Rattle.proof_text.specs.Proof.{request_row, request_rows}
 use Rattle.proof_text.specs.Rules.{IsListedBelow, MeetsAnswer, MeetsAnswers}
-use Rattle.proof_check.specs.declared.fault.Side.TheVariants.{Labeller, Adversary}
-use Rattle.proof_check.specs.declared.fault.CheckFault.{CheckFault}
-use Rattle.proof_check.specs.declared.fault.CheckFault.TheVariants as faults
 use Rattle.proof_check.specs.RowIndex.{HasNone, IsRowOf}
-use Rattle.proof_check.specs.CheckFaults.{HasRequest, IsWrongRequest}
-use Rattle.proof_check.specs.Steps.{IsRequesting, AreRequesting, RequestFaultAt}
+use Rattle.proof_check.specs.CheckFaults.{HasRequest, FirstLabel}
+use Rattle.proof_check.specs.Steps.{IsRequesting, AreRequesting}
 use Rattle.proof_check.proofs.Found.{none_there, row_there, only_there}
 
 module _ (board : PlainBoard) (rows : List AdversaryRow) (are : AreRequesting board rows) (configuration : List ℕ) (is : IsConfiguration board configuration) (number : ℕ) (number_is : number ≡ rank_of board configuration) where
@@ -48,22 +49,46 @@ result_is board row label is below = moved_is_configuration board (configuration
 pub rank_is : (board : PlainBoard) (row : AdversaryRow) → IsRequesting board row → rank_of board (request_row board row).at ≡ row.at
 rank_is board row is = rank_of-configuration_at board row.at is.is_rank
 
--- the fault of a label is that of its row, where it is the first
-pub wrong_request : (board : PlainBoard) (rows : List RequestRow) (row : RequestRow) (label : ℕ) (fault : CheckFault) → ((earlier : ℕ) → earlier < label → MeetsAnswer board rows row earlier)
-    → RequestFaultAt board rows row label fault → IsWrongRequest board rows row fault
-wrong_request board rows row label (faults.NotStuck at turn) before (r, e, legal, none) = rw e (r, record { before = before; legal = legal }, none)
-wrong_request board rows row label (faults.Unlisted Adversary at turn) before (r, e, legal, some, none) = rw e (r, record { before = before; legal = legal }, some, none)
-wrong_request board rows row label (faults.TooLarge at turn) before (r, e, legal, some, has, large) = rw e (r, record { before = before; legal = legal }, some, has, large)
-wrong_request board rows row label (faults.Unlisted Labeller at turn) before h = absurd h
-wrong_request board rows row label (faults.StartMissing side) before h = absurd h
-wrong_request board rows row label (faults.StartNumber side) before h = absurd h
-wrong_request board rows row label (faults.IllegalAnswer at pebble) before h = absurd h
-wrong_request board rows row label (faults.TooSmall at pebble) before h = absurd h
-wrong_request board rows row label faults.Memory before h = absurd h
+-- the gap of the row's request, and an answer set's bound up to which the row meets each label
+module _ (board : PlainBoard) (rows : List RequestRow) (row : AdversaryRow) (is : IsRequesting board row) (gap : ℕ)
+    (its_gap : gap ≡ gap_of board (configuration_at board row.at) row.ask) (from : ℕ)
+    (before : (earlier : ℕ) → earlier < from → MeetsAnswer board rows (request_row board row) earlier) where
+  legal_there : (label : ℕ) → Legal board (configuration_at board row.at) row.ask label ↔ IsAnswer board gap label
+  legal_there label = subst (λ (g : ℕ). Legal board (configuration_at board row.at) row.ask label ↔ IsAnswer board g label) (sym its_gap)
+      (legal_is_answer board (configuration_at board row.at) row.ask label (configuration_at_is board row.at is.is_rank) is.is_pebble)
 
--- all labels are met where those of the board are
-pub all_labels : (board : PlainBoard) (rows : List RequestRow) (row : RequestRow) (count : ℕ) → board.labels ≤ count → ((label : ℕ) → label < count → MeetsAnswer board rows row label) → MeetsAnswers board rows row
-all_labels board rows row count whole each label = λ legal. let low : label < board.labels = legal.is_label in each label (omega (arith, low, whole)) legal
+  -- the rank of the gap's member is that of the result
+  pub result_there : (label rank member : ℕ) → rank ≡ member → member ≡ rank_of board (member_of board gap label) → rank ≡ rank_of board (result_of board row label)
+  result_there label rank member rank_is member_is =
+      rank_is ∙ member_is ∙ ap (λ (g : ℕ). rank_of board (member_of board g label)) its_gap
+      ∙ ap (rank_of board) (member_of-gap_of board (configuration_at board row.at) row.ask label (configuration_at_is board row.at is.is_rank) is.is_pebble)
+
+  -- the next answer is the next label to be met
+  pub first_label : (label : ℕ) → IsSmallest (λ l. (from ≤ l) × IsAnswer board gap l) (Some label) → FirstLabel board rows (request_row board row) label
+  first_label label next = record {
+    before = λ earlier low legal. elim (cases_lt earlier from) [
+      | inl met ↦ before earlier met legal
+      | inr late ↦ let least : label ≤ earlier = next.1 earlier (late, (legal_there earlier).0 legal) in absurd (omega arith)
+    ];
+    legal = (legal_there label).1 next.0.1;
+  }
+
+  pub label_met : (label : ℕ) → IsSmallest (λ l. (from ≤ l) × IsAnswer board gap l) (Some label)
+      → IsListedBelow rows (result_of board row label) row.left
+      → (earlier : ℕ) → earlier < label + 1 → MeetsAnswer board rows (request_row board row) earlier
+  label_met label next listed earlier low legal = elim (cases_lt earlier label) [
+    | inl less ↦ (first_label label next).before earlier less legal
+    | inr late ↦
+        let same : label ≡ earlier = omega arith in
+        subst (λ (l : ℕ). IsListedBelow rows (result_of board row l) row.left) same listed
+  ]
+
+  -- no answer is left
+  pub all_labels : IsSmallest (λ l. (from ≤ l) × IsAnswer board gap l) None → MeetsAnswers board rows (request_row board row)
+  all_labels none label legal = elim (cases_lt label from) [
+    | inl met ↦ before label met legal
+    | inr late ↦ absurd (none label (late, (legal_there label).0 legal))
+  ]
 
 -- a row, where one is wanted for the end of a list
 pub some_row : AdversaryRow

@@ -67,15 +67,6 @@ HasWrongRequest board rows row = (fault : CheckFault) × IsWrongRequest board ro
 abbrev pub proof_of : PlainBoard → Claim → List LabellerRow → List AdversaryRow → PlainProof
 proof_of board claim labeller adversary = record { claim = claim; labeller = answer_rows board labeller; adversary = request_rows board adversary }
 
--- what is wrong with a legal answer to the row's request
-abbrev pub RequestFaultAt : PlainBoard → List RequestRow → RequestRow → ℕ → CheckFault → Type 0
-RequestFaultAt board rows row label (faults.NotStuck at turn) = (rank_of board row.at ≡ at) × (turn ≡ label) × Legal board row.at row.request label × (row.left ≡ 0)
-RequestFaultAt board rows row label (faults.Unlisted Adversary at turn) = (rank_of board row.at ≡ at) × (turn ≡ label) × Legal board row.at row.request label × (0 < row.left)
-    × ¬ HasRequest rows (moved row.at row.request label)
-RequestFaultAt board rows row label (faults.TooLarge at turn) = (rank_of board row.at ≡ at) × (turn ≡ label) × Legal board row.at row.request label × (0 < row.left)
-    × HasRequest rows (moved row.at row.request label) × ¬ IsListedBelow rows (moved row.at row.request label) row.left
-RequestFaultAt board rows row label fault = ⊥
-
 -- what is wrong with the start where so many turns are wanted
 abbrev pub IsWrongStartFor : PlainBoard → List AnswerRow → Turns → CheckFault → Type 0
 IsWrongStartFor board rows wanted (faults.StartMissing Labeller) = IsWanted wanted × ¬ HasAnswers rows board.start

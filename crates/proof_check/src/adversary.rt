@@ -1,10 +1,10 @@
 //! The adversary's rows of a document, checked.
 
-ghost use Rattle.std.specs.Prelude.{◌≡◌, ◌<◌, suc, MatchBool, MatchOption};
+ghost use Rattle.std.specs.Prelude.{◌≡◌, suc, MatchBool, MatchOption};
 ghost use Rattle.proof_text.specs.Proof.{request_row, request_rows};
-ghost use Rattle.proof_text.specs.Rules.{MeetsAnswer, MeetsAnswers, AdversaryObeys, IsListedBelow};
+ghost use Rattle.proof_text.specs.Rules.{MeetsAnswers, AdversaryObeys, IsListedBelow};
 ghost use Rattle.proof_check.specs.CheckFaults.{IsWrongRequest, AdversaryFault};
-ghost use Rattle.proof_check.specs.Steps.{IsRequesting, AreRequesting, RequestFaultAt, HasWrongRequest, IsWrongBoundFor};
+ghost use Rattle.proof_check.specs.Steps.{IsRequesting, AreRequesting, HasWrongRequest, IsWrongBoundFor};
 
 use crate::fault::{CheckFault, Side};
 use crate::row_index::RowIndex;
@@ -13,42 +13,6 @@ use positions::Space;
 use proof_text::AdversaryRow;
 use rayon::prelude::*;
 use std::thread::Threads;
-
-/// What is wrong with the label as an answer to the row's request, if anything is.
-fn answer_fault(
-    board: &Board,
-    space: &Space,
-    rows: &RowIndex<'_, AdversaryRow>,
-    row: &AdversaryRow,
-    label: u16,
-) -> Option<CheckFault>
-    requires same_board { space.now ≡ board.now }
-    requires rows { AreRequesting board.now rows.now }
-    requires row { IsRequesting board.now row.now }
-    requires label { label < board.now.labels }
-    ensures { MatchOption result
-        (MeetsAnswer board.now (request_rows board.now rows.now) (request_row board.now row.now) label)
-        (RequestFaultAt board.now (request_rows board.now rows.now) (request_row board.now row.now) label) }
-{
-    if !space.legal(board, row.at, row.ask, label) {
-        return None;
-    }
-    if row.left == 0 {
-        return Some(CheckFault::NotStuck { at: row.at, label });
-    }
-    let Some(next) = rows.find(space.with(row.at, row.ask, label)) else {
-        return Some(CheckFault::Unlisted {
-            side: Side::Adversary,
-            at: row.at,
-            turn: label,
-        });
-    };
-    if next.left < row.left {
-        None
-    } else {
-        Some(CheckFault::TooLarge { at: row.at, label })
-    }
-}
 
 /// The fault of the row's first faulty label, if it has one.
 fn row_fault(
@@ -64,10 +28,25 @@ fn row_fault(
         (MeetsAnswers board.now (request_rows board.now rows.now) (request_row board.now row.now))
         (IsWrongRequest board.now (request_rows board.now rows.now) (request_row board.now row.now)) }
 {
-    for label in 0..board.labels() {
-        if let Some(fault) = answer_fault(board, space, rows, row, label) {
-            return Some(fault);
+    let gap = space.gap(row.at, row.ask);
+    let answers = space.answer_set(board, gap);
+    let members = space.members(gap);
+    let mut from = 0;
+    while let Some(label) = answers.first_from(from) {
+        if row.left == 0 {
+            return Some(CheckFault::NotStuck { at: row.at, label });
         }
+        let Some(next) = rows.find(members.rank(label)) else {
+            return Some(CheckFault::Unlisted {
+                side: Side::Adversary,
+                at: row.at,
+                turn: label,
+            });
+        };
+        if row.left <= next.left {
+            return Some(CheckFault::TooLarge { at: row.at, label });
+        }
+        from = label + 1;
     }
     None
 }
