@@ -61,6 +61,8 @@ impl<'a, R: Ranked> RowIndex<'a, R> {
         requires { AreRanked R.rank size rows.now }
         ensures { IfOk result (λ index. index ≡ rows.now) }
     {
+        // Where there are no rows, no rank has a place.
+        let size = if rows.is_empty() { 0 } else { size };
         Ok(RowIndex {
             rows,
             places: places_of(alloc, size, rows)?,
