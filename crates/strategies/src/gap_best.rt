@@ -65,11 +65,12 @@ pub(crate) fn best_of_gap(board: &Board, values: &Values, gap: u32) -> Option<Be
         });
     }
     let space = values.space();
-    let _ = space.configurations();
+    let answers = space.answer_set(board, gap);
+    let members = space.members(gap);
     let mut best = None;
     let mut from = 0;
-    while let Some(label) = space.next_answer(board, gap, from) {
-        let value = values.of(space.member(gap, label));
+    while let Some(label) = answers.first_from(from) {
+        let value = values.of(members.rank(label));
         best = Some(better(best, Best { label, value }));
         from = label + 1;
     }

@@ -155,10 +155,11 @@ fn add_members(
     ensures added { IfOk result (λ _. IsWithAll reached.old.ranks (IsAnswerOf board.now gap) reached.new.ranks) }
 {
     let space = values.space();
-    let _ = space.configurations();
+    let answers = space.answer_set(board, gap);
+    let members = space.members(gap);
     let mut from = 0;
-    while let Some(label) = space.next_answer(board, gap, from) {
-        reached.add(space.member(gap, label))?;
+    while let Some(label) = answers.first_from(from) {
+        reached.add(members.rank(label))?;
         from = label + 1;
     }
     Ok(())

@@ -1,25 +1,50 @@
-use Rattle.std.proofs.Common.{◌<◌, ◌∙◌, arith}
+use Rattle.std.proofs.Common.{Some, None, ◌∙◌, arith}
 use Rattle.board_text.proofs.Places.{label_is_place}
+use Rattle.positions.proofs.AnswerBits.{smallest_answer}
 use Rattle.strategies.proofs.Steps.{member_added, members_added}
 use Rattle.strategies.proofs.spreading.add_members.Goals as goal
+
+pub rank-requires : goal.rank-requires
+rank-requires c =
+    let b = c.args.board.now in
+    let label = c.in-Some.label in
+    let same = c.space-space.ensures ∙ c.requires.same_board in
+    let next = smallest_answer b c.args.gap c.loop-label.from c.answer_set-answers.result (Some label)
+    (rw same at c.answer_set-answers.ensures.bits) (rw same at c.answer_set-answers.ensures.few) c.in-Some.ensures in
+    let below = rw same at c.members-members.ensures.below label (label_is_place b label next.0.1.is_label) in
+    let few = rw same at c.members-members.ensures.few in
+    omega (arith, below, few)
+
+pub add-requires : goal.add-requires
+add-requires c =
+    let b = c.args.board.now in
+    let label = c.in-Some.label in
+    let same = c.space-space.ensures ∙ c.requires.same_board in
+    let next = smallest_answer b c.args.gap c.loop-label.from c.answer_set-answers.result (Some label)
+    (rw same at c.answer_set-answers.ensures.bits) (rw same at c.answer_set-answers.ensures.few) c.in-Some.ensures in
+    let below = rw same at c.members-members.ensures.below label (label_is_place b label next.0.1.is_label) in
+    omega (arith, below, c.rank.ensures, c.loop-label.invariant.size, c.requires.size)
 
 pub loop-label-preserved : goal.loop-label-preserved
 loop-label-preserved c =
     let b = c.args.board.now in
-    let next = rw (c.space-space.ensures, c.requires.same_board) at c.in-Some.ensures in
-    let is_label : c.in-Some.label < b.labels = next.0.1.is_label in
-    let few = (rw (c.space-space.ensures, c.requires.same_board) at c.configurations.ensures.is_board).labels in
+    let label = c.in-Some.label in
+    let same = c.space-space.ensures ∙ c.requires.same_board in
+    let few = rw same at c.answer_set-answers.ensures.few in
+    let next = smallest_answer b c.args.gap c.loop-label.from c.answer_set-answers.result (Some label)
+    (rw same at c.answer_set-answers.ensures.bits) few c.in-Some.ensures in
     record {
-      most = omega (arith, is_label, few);
+      most = omega (arith, next.0.1.is_label, few);
       size = c.in_ok-add.ensures.size ∙ c.loop-label.invariant.size;
-      added = member_added b c.args.gap c.loop-label.from c.in-Some.label c.member.result _ _ _ next
-          (rw (c.space-space.ensures, c.requires.same_board) at c.member.ensures.rank) c.loop-label.invariant.added c.in_ok-add.ensures.added;
+      added = member_added b c.args.gap c.loop-label.from label c.rank.result _ _ _ next
+          (c.rank.ensures ∙ rw same at c.members-members.ensures.ranks label (label_is_place b label next.0.1.is_label))
+          c.loop-label.invariant.added c.in_ok-add.ensures.added;
     }
 
 pub returns-clause-added : goal.returns-clause-added
 returns-clause-added c =
+    let same = c.space-space.ensures ∙ c.requires.same_board in
     members_added c.args.board.now c.args.gap c.loop-label.from _ _
-    (rw (c.space-space.ensures, c.requires.same_board) at c.in_default.ensures) c.loop-label.invariant.added
-
-pub member-requires-clause-place : goal.member-requires-clause-place
-member-requires-clause-place c = label_is_place c.space-space.result.now c.in-Some.label c.in-Some.ensures.0.1.is_label
+    (smallest_answer c.args.board.now c.args.gap c.loop-label.from c.answer_set-answers.result None
+    (rw same at c.answer_set-answers.ensures.bits) (rw same at c.answer_set-answers.ensures.few) c.in_default.ensures)
+    c.loop-label.invariant.added
