@@ -1,13 +1,13 @@
 -- Digits, and what follows them.
-use Rattle.std.proofs.Common.{◌≡◌, ◌≢◌, ℕ, ◌^◌, ◌<◌, ◌+◌, true, false, List, [], ◌∷◌, ◌++◌, length, get_or, take, drop, leb, one-add, Result, Ok, Err, inl, inr, refl, sym, ap, ◌∙◌, arith}
+use Rattle.std.proofs.Common.{◌≡◌, ◌≢◌, ℕ, ◌^◌, ◌<◌, ◌≤◌, ◌+◌, true, false, List, [], ◌∷◌, ◌++◌, length, get_or, take, drop, leb, one-add, zero, suc, Option, Some, None, inl, inr, refl, sym, ap, ◌∙◌, arith}
 use Rattle.std.specs.Prelude.{MatchOption}
-use Rattle.std.specs.Char.{is_ascii_digit, IsAsciiDigit}
+use Rattle.std.specs.Char.{is_ascii_digit, IsAsciiDigit, digit_value}
 use Rattle.std.specs.List.{prefix_len}
 use Rattle.std.specs.Fmt.{decimal}
-use Rattle.std.specs.Str.Parse.{AllDigits, IsNumeral, ParsesUnsigned, digits_value}
-use Rattle.std.specs.Result.{result_ok}
-use Rattle.std.proofs.lemmas.Fmt.{decimal_is_IsNumeral, decimal_injective, first_decimal, decimal_digit, decimal-digits_value}
-use Rattle.std.proofs.lemmas.Str.Parse.{IsNumeralModel, tells_digits, numerals_by_value, parse_digits}
+use Rattle.std.specs.Str.Parse.{AllDigits, IsNumeral, digits_value}
+use Rattle.std.proofs.lemmas.Fmt.{decimal_is_IsNumeral, decimal_injective, first_decimal, decimal_digit, decimal_nonempty, decimal-digits_value}
+use Rattle.std.proofs.lemmas.Str.{digit_value_digit}
+use Rattle.std.proofs.lemmas.Str.Parse.{IsNumeralModel, tells_digits, numerals_by_value, digit_from_value}
 use Rattle.std.proofs.lemmas.Bool.{cases_lt, and_parts, and_from, both_ways, leb-true, le-leb, cond_both}
 use Rattle.board_text.specs.LineForms.{NoDigit}
 use Rattle.board_text.specs.Ranges.{InRange}
@@ -48,22 +48,36 @@ own = numerals_by_value (AllDigits 10) tells_digits
 
 -- a zero that leads
 pub zero_leads : (digits : List ℕ) → 1 < length digits → get_or digits 0 0 ≡ 48 → (n : ℕ) → n < 2 ^ 32 → digits ≢ decimal n
-zero_leads digits long zero n small e =
+zero_leads digits long leads n small e =
     elim (cases_lt 0 n) [
       | inl positive ↦ let h : 48 < get_or (decimal n) 0 0 = first_decimal n positive (omega arith) in omega (arith, ap (λ (ds : List ℕ). get_or ds 0 0) e, h)
       | inr none ↦ let h : decimal n ≡ (48 + n) ∷ [] = decimal_digit n (omega arith) in omega (arith, ap length (e ∙ h))
     ]
 
--- what `parse` answers where no zero leads
-pub parsed : {E : Type 0} (digits : List ℕ) (r : Result ℕ E) → AllDigits 10 digits → ((1 < length digits) × (get_or digits 0 0 ≡ 48) → ⊥) → ParsesUnsigned 32 10 digits r → MatchOption (result_ok r) ((n : ℕ) → n < 2 ^ 32 → digits ≢ decimal n) (λ n. digits ≡ decimal n)
-parsed {E} digits (Ok m) all plain h =
-    let d = parse_digits own {E = E} 32 digits (Ok m) h all in
+-- no number is written by no digits
+pub none_written : (digits : List ℕ) → length digits ≡ 0 → (n : ℕ) → n < 2 ^ 32 → digits ≢ decimal n
+none_written digits none n small e = let some = decimal_nonempty n (omega arith) in omega (arith, some, none, ap length e)
+
+-- the digits' number, or that it is too large, where no zero leads
+pub spelled : (digits : List ℕ) (r : Option ℕ) → AllDigits 10 digits → 0 < length digits → ((1 < length digits) × (get_or digits 0 0 ≡ 48) → ⊥)
+    → MatchOption r (2 ^ 32 ≤ digits_value 10 digits) (λ n. (n < 2 ^ 32) × (n ≡ digits_value 10 digits))
+    → MatchOption r ((n : ℕ) → n < 2 ^ 32 → digits ≢ decimal n) (λ n. digits ≡ decimal n)
+spelled digits (Some m) all some plain is =
     let one : get_or digits 0 0 ≡ 48 → length digits ≡ 1 =
-    λ zero. elim (cases_lt 1 (length digits)) [ inl long ↦ absurd (plain (long, zero)) | inr short ↦ omega (arith, d.0.0) ] in
-    rw d.1 (sym (decimal-digits_value own digits all d.0.0 one (omega (arith, d.0.1))))
-parsed {E} digits (Err f) all plain h =
-    let d = parse_digits own {E = E} 32 digits (Err f) h all in
-    λ n small e. let p = decimal_is_IsNumeral n (omega arith) in d (rw e p.0.0, rw (e, p.1) small)
+    λ leads. elim (cases_lt 1 (length digits)) [ inl long ↦ absurd (plain (long, leads)) | inr short ↦ omega (arith, some) ] in
+    rw is.1 (sym (decimal-digits_value own digits all some one (omega (arith, is.0, is.1))))
+spelled digits None all some plain large =
+    λ n small e. let p = decimal_is_IsNumeral n (omega arith) in omega (arith, large, ap (digits_value 10) e, p.1, small)
+
+-- a byte among digits
+pub digit_there : (digits : List ℕ) (place : ℕ) → place < length digits → AllDigits 10 digits
+    → (48 ≤ get_or digits place 0) × (get_or digits place 0 ≤ 57) × (48 + digit_value (get_or digits place 0) ≡ get_or digits place 0)
+digit_there [] place below all = absurd (omega arith)
+digit_there (d ∷ ds) zero below all =
+    let is = digit_from_value d all.0 in
+    let value = digit_value_digit d is in
+    (omega (arith, is.0), omega (arith, is.1), omega (arith, value, is.0))
+digit_there (d ∷ ds) (suc place) below all = digit_there ds place (omega arith) all.1
 
 pub number_split : (m n : ℕ) (x y : List ℕ) → m < 2 ^ 64 → n < 2 ^ 64 → NoDigit x → NoDigit y → decimal m ++ x ≡ decimal n ++ y → (m ≡ n) × (x ≡ y)
 number_split m n x y small_m small_n no_x no_y e =

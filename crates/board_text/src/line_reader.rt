@@ -2,7 +2,7 @@
 
 ghost use Rattle.std.specs.Prelude.{◌≡◌, ◌≢◌, ℕ, ◌+◌, ◌≤◌, ◌<◌, ◌^◌, ◌++◌, ◌∷◌, [], List, length, slice_index, IsTrue, ◌↔◌, MatchOption, option_map};
 ghost use Rattle.std.specs.Char.{is_ascii_digit};
-ghost use Rattle.std.specs.Str.Parse.{AllDigits};
+ghost use Rattle.std.specs.Str.Parse.{AllDigits, digits_value};
 ghost use Rattle.std.specs.Fmt.{decimal};
 ghost use Rattle.std.specs.List.{prefix_len};
 ghost use Rattle.board_text.specs.LineForms.{Takes, TakesNumber, NoDigit, number_line, numbers_line, TakesNumbers};
@@ -10,7 +10,6 @@ ghost use Rattle.board_text.specs.Ranges.{InRange, AreNumbers};
 ghost use Rattle.board_text.specs.declared.line_reader.Numeral.TheVariants.{Number};
 
 use std::marker::Model;
-use std::str;
 
 /// What a text of digits says.
 #[derive(Clone, Copy, Debug, PartialEq, Eq)]
@@ -238,11 +237,23 @@ fn value(digits: &[u8]) -> Option<u32>
     requires { AllDigits 10 digits.now }
     ensures { MatchOption result ((n : ℕ) → n < 2 ^ 32 → digits.now ≢ decimal n) (λ n. digits.now ≡ decimal n) }
 {
+    if digits.is_empty() {
+        return None;
+    }
     if digits.len() > 1 && digits[0] == b'0' {
         return None;
     }
-    match str::from_utf8(digits) {
-        Ok(text) => text.parse().ok(),
-        Err(_) => None,
+    number_of(digits)
+}
+
+/// The number that the digits write, if it fits.
+fn number_of(digits: &[u8]) -> Option<u32>
+    requires { AllDigits 10 digits.now }
+    ensures { MatchOption result (2 ^ 32 ≤ digits_value 10 digits.now) (λ n. (n < 2 ^ 32) × (n ≡ digits_value 10 digits.now)) }
+{
+    let mut number: u32 = 0;
+    for digit in digits {
+        number = number.checked_mul(10)?.checked_add((digit - b'0') as u32)?;
     }
+    Some(number)
 }
