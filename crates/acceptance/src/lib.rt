@@ -24,6 +24,8 @@ mod long_documents;
 #[cfg(test)]
 mod nested;
 #[cfg(test)]
+mod nested_play;
+#[cfg(test)]
 mod plays;
 #[cfg(test)]
 mod printing;

@@ -3,3 +3,10 @@ pub mod Dominations
 pub mod NestedPairs
 pub mod NestedBoards
 pub mod PairCounts
+pub mod Rests
+pub mod GoodReplies
+pub mod CopyCases
+pub mod WordLists
+pub mod Levels
+pub mod Games
+pub mod OneReply

@@ -1,6 +1,6 @@
 -- Words and their numbers belong to each other.
 use Rattle.std.proofs.Common.{◌≡◌, ℕ, zero, suc, ◌+◌, ◌*◌, ◌/◌, ◌%◌, ◌^◌, ◌<◌, ◌≤◌, List, [], ◌∷◌, ◌++◌, length, refl, sym, ap, ◌∙◌, subst, arith, mod-lt, div-add-mod', mul-le-mul_right, suc-mul, mul_assoc}
-use Rattle.std.proofs.Math.Nat.{one-le-pow, pow-zero, pow-succ', div-lt_iff_lt-mul}
+use Rattle.std.proofs.Math.Nat.{one-le-pow, pow-le-pow_right, pow-zero, pow-succ', div-lt_iff_lt-mul}
 use Rattle.std.proofs.lemmas.Nat.{div-mul-add, mod-mul-add, mod_below}
 use Rattle.std.specs.List.{All}
 use Rattle.std.proofs.lemmas.List.{length-append}
@@ -89,3 +89,7 @@ word_of-push count number below =
     let is : IsWord (suc count) word = (omega (arith, length-append (word_of count (number / 3)) (number % 3 ∷ []), front.0), All-push (λ d. d < 3) (word_of count (number / 3)) (number % 3) front.1 (mod_below number 3 (omega arith))) in
     let same : number_of word ≡ number = number_of-push (word_of count (number / 3)) (number % 3) ∙ ap (λ n. n * 3 + number % 3) (number_of-word_of count (number / 3) small) ∙ div-add-mod' number 3 in
     sym (ap (word_of (suc count)) same) ∙ word_of-number_of (suc count) word is
+
+-- words of at most 23 digits have numbers of 64 bits
+pub words_fit : (count : ℕ) → count ≤ 23 → 3 ^ count < 2 ^ 64
+words_fit count few = let most : 3 ^ count ≤ 3 ^ 23 = pow-le-pow_right {n = 3} (omega arith) {i = count} {j = 23} few in omega arith

@@ -2,3 +2,7 @@ pub mod Words
 pub mod Domination
 pub mod Pairs
 pub mod NestedBoard
+pub mod GoodWords
+pub mod Reply
+pub mod Copies
+pub mod NestedGame

@@ -5,6 +5,7 @@ ghost use Rattle.board_text.specs.PlainBoard.{PlainBoard, AreLabels, IsAntisymme
 ghost use Rattle.nested_cycles.specs.Words.{IsWord, number_of, word_of};
 ghost use Rattle.nested_cycles.specs.Domination.{Dominates, labels_of, NestedBeats};
 ghost use Rattle.nested_cycles.specs.NestedBoard.{IsNestedBoard};
+ghost use Rattle.nested_cycles.specs.Reply.{IsReply, NestedReply};
 
 /// Words and numbers belong to each other, one to one.
 pub fn words_and_numbers()
@@ -46,4 +47,12 @@ pub fn half_of_all_pairs()
 pub fn one_nested_board()
     ensures { (levels : ℕ) → (pebbles : ℕ) → (first : PlainBoard) → (second : PlainBoard)
         → IsNestedBoard levels pebbles first → IsNestedBoard levels pebbles second → first ≡ second }
+{}
+
+/// Words have one reply at most.
+pub fn one_reply()
+    ensures words { (count : ℕ) → (others : List (List ℕ)) → (reply : List ℕ) → (second : List ℕ)
+        → IsReply count others reply → IsReply count others second → reply ≡ second }
+    ensures labels { (levels : ℕ) → (others : List ℕ) → (reply : ℕ) → (second : ℕ) → reply < labels_of levels → second < labels_of levels
+        → NestedReply levels others reply → NestedReply levels others second → reply ≡ second }
 {}

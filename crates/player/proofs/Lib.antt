@@ -8,3 +8,4 @@ pub mod Requests
 pub mod Answering
 pub mod Lasting
 pub mod Unique
+pub mod NestedTrees

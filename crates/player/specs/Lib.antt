@@ -5,3 +5,4 @@ pub mod Reading
 pub mod Turns
 pub mod Seats
 pub mod Laws
+pub mod NestedPlay

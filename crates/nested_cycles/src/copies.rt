@@ -1,0 +1,132 @@
+//! In which copies of the board of one level less words are, and their rests there.
+
+ghost use Rattle.std.specs.Prelude.{◌≡◌, ◌+◌, ◌-◌, ◌/◌, ◌%◌, ◌<◌, ◌≤◌, ◌↔◌, ◌==◌, ℕ, List, [], ◌∷◌, ◌++◌, length, map, take, All, Contains, IsTrue};
+ghost use Rattle.std.specs.List.{filter};
+ghost use Rattle.board_text.specs.Ranges.{InRange};
+ghost use Rattle.nested_cycles.specs.Domination.{labels_of};
+ghost use Rattle.nested_cycles.specs.Copies.{AreCopies};
+ghost use Rattle.nested_cycles.specs.GoodWords.{next_digit};
+
+use std::marker::Model;
+
+/// The copies that words are in. Of two copies the other comes next after the one that is named.
+pub enum Copies {
+    Empty,
+    One(u64),
+    Two(u64),
+    Three,
+}
+
+/// The copies that words are in, where each copy has so many labels.
+pub fn copies_of(words: &[u64], size: u64) -> Copies
+    requires size { 0 < size }
+    requires labels { All (λ word. word / size < 3) words.now }
+    ensures { AreCopies result (map (λ word. word / size) words.now) }
+{
+    match (
+        has_word_in(words, size, 0),
+        has_word_in(words, size, 1),
+        has_word_in(words, size, 2),
+    ) {
+        (false, false, false) => Copies::Empty,
+        (true, false, false) => Copies::One(0),
+        (false, true, false) => Copies::One(1),
+        (false, false, true) => Copies::One(2),
+        (true, true, false) => Copies::Two(0),
+        (false, true, true) => Copies::Two(1),
+        (true, false, true) => Copies::Two(2),
+        (true, true, true) => Copies::Three,
+    }
+}
+
+/// Whether some word is in the copy.
+fn has_word_in(words: &[u64], size: u64, digit: u64) -> bool
+    requires { 0 < size }
+    ensures { IsTrue result ↔ Contains (map (λ word. word / size) words.now) digit }
+{
+    words.iter().any(|word| *word / size == digit)
+}
+
+/// How many labels each copy in the nested board of this level has.
+pub fn copy_size(levels: u8) -> u64
+    requires { InRange 2 24 levels }
+    ensures { result ≡ labels_of (levels - 1) }
+{
+    3_u64.pow(u32::from(levels) - 2)
+}
+
+/// The digit that comes next round the three-cycle.
+pub fn next_after(digit: u64) -> u64
+    requires { digit < 3 }
+    ensures { result ≡ next_digit digit }
+{
+    (digit + 1) % 3
+}
+
+/// The words of a copy, without their first digit.
+pub fn rests_of(words: &[u64], size: u64, digit: u64) -> Words
+    requires size { 0 < size }
+    requires room { length words.now ≤ 24 }
+    ensures { result ≡ map (λ word. word % size) (filter (λ word. word / size == digit) words.now) }
+{
+    let mut rests = Words::new();
+    for word in words {
+        if *word / size == digit {
+            rests.push(*word % size);
+        }
+    }
+    rests
+}
+
+/// Up to 24 words, each a number.
+#[derive(Drop)]
+pub struct Words {
+    words: [u64; 24],
+    count: usize,
+}
+
+impl Model for Words {
+    ghost Value = { List ℕ };
+
+    ghost view = { λ w. take w.count w.words };
+
+    ghost invariant = { λ w. w.count ≤ 24 };
+}
+
+impl Words {
+    /// No words.
+    pub fn new() -> Self
+        ensures { result ≡ [] }
+    {
+        Words {
+            words: [0; 24],
+            count: 0,
+        }
+    }
+
+    /// One more word.
+    pub fn push(&mut self, word: u64)
+        requires { length self.old < 24 }
+        ensures { self.new ≡ self.old ++ word ∷ [] }
+    {
+        self.words[self.count] = word;
+        self.count += 1;
+    }
+
+    /// More words, in their order.
+    pub fn append(&mut self, more: &[u64])
+        requires { length self.old + length more.now ≤ 24 }
+        ensures { self.new ≡ self.old ++ more.now }
+    {
+        for word in more {
+            self.push(*word);
+        }
+    }
+
+    /// The words.
+    pub fn as_slice(&self) -> &[u64]
+        ensures { result.now ≡ self.now }
+    {
+        &self.words[..self.count]
+    }
+}

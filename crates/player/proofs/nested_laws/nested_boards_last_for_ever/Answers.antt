@@ -1,0 +1,10 @@
+use Rattle.player.proofs.NestedTrees.{lasts, has_board, built_board, start_of_zeros}
+use Rattle.player.proofs.nested_laws.nested_boards_last_for_ever.Goals as goal
+
+pub returns : goal.returns
+returns c = record {
+  good = λ levels board configuration nested good depth. lasts levels board depth configuration nested good;
+  each_level = has_board;
+  built = built_board;
+  start = λ levels pebbles board few is depth. lasts levels board depth board.start (built_board levels pebbles board few is) (start_of_zeros levels board pebbles is.labels is.pebbles is.start);
+}
