@@ -16,3 +16,12 @@ pub mod Finished
 pub mod RowGaps
 pub mod Noting
 pub mod ValueSizes
+pub mod Sums
+pub mod Steps
+pub mod Homes
+pub mod RoundStart
+pub mod RoundLaws
+pub mod RoundSteps
+pub mod Owing
+pub mod Machine
+pub mod SharedSteps

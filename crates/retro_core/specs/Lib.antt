@@ -4,3 +4,7 @@ pub mod Tables
 pub mod Solving
 pub mod Opening
 pub mod Sizes
+pub mod Round
+pub mod Rules
+pub mod Stepping
+pub mod Words

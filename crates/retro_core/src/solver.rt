@@ -132,6 +132,7 @@ impl<S: ListStore> Solver<S> {
     /// How many rounds have filed something: each value of at most this number is filed.
     pub fn round_number(&self) -> u32
         ensures value { result ≡ self.now.rounds }
+        ensures below { result < configurations self.now.board }
         ensures kept { IsSolving self.now }
     {
         let _ = self.space.configurations();

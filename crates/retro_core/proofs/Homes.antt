@@ -1,0 +1,175 @@
+-- The gap in which a configuration is struck, and how many answers of a gap lead to a list of configurations.
+use Rattle.std.proofs.Common.{◌≡◌, ◌≢◌, ◌⊎◌, ℕ, zero, suc, ◌+◌, ◌<◌, ◌≤◌, ◌==◌, ◌&&◌, not, Bool, true, false, cond, List, [], ◌∷◌, refl, sym, ap, ◌∙◌, inl, inr, subst, arith}
+use Rattle.std.specs.List.{filter}
+use Rattle.std.proofs.lemmas.Bool.{cases_lt}
+use Rattle.index_lists.specs.Lists.{times}
+use Rattle.index_lists.proofs.Times.{times-here, times-later, cond_same, cond_other}
+use Rattle.retro_core.specs.Arena.{Arena, IsArena, count_below, live, without, Dominant}
+use Rattle.retro_core.specs.Rules.{tally, home_among}
+use Rattle.retro_core.proofs.Counts.{count_below-none}
+use Rattle.retro_core.proofs.Lasting.{live-same, true_or_false, true_not_false, same_or_not, same_is, differ_is, zero_is, positive_is}
+use Rattle.retro_core.proofs.Strikes.{strike-home, strike-other, strike-none}
+
+-- ---- homes
+
+-- one of the first pebbles dominates, and its gap is the home; or none does, and the home is no gap
+pub record IsHomed (a : Arena) (rank count : ℕ) : Type 0 where
+  pub pebble : ℕ
+  pub below : pebble < count
+  pub answer : a.is_answer (a.gap rank pebble) (a.place rank pebble) ≡ true
+  pub home_is : home_among a rank count ≡ a.gap rank pebble
+
+pub record IsHomeless (a : Arena) (rank count : ℕ) : Type 0 where
+  pub none : (pebble : ℕ) → pebble < count → a.is_answer (a.gap rank pebble) (a.place rank pebble) ≡ true → ⊥
+  pub home_is : home_among a rank count ≡ a.gaps
+
+cond_true : (b : Bool) (m n : ℕ) → b ≡ true → cond b m n ≡ m
+cond_true b m n e = rw e refl
+
+cond_false : (b : Bool) (m n : ℕ) → b ≡ false → cond b m n ≡ n
+cond_false b m n e = rw e refl
+
+pub home-cases : (a : Arena) (rank count : ℕ) → IsHomed a rank count ⊎ IsHomeless a rank count
+home-cases a rank zero = inr (record { none = λ pebble below. absurd (omega arith); home_is = refl })
+home-cases a rank (suc p) = elim (true_or_false (a.is_answer (a.gap rank p) (a.place rank p))) [
+  | inl here ↦ inl (record { pebble = p; below = omega arith; answer = here; home_is = cond_true (a.is_answer (a.gap rank p) (a.place rank p)) (a.gap rank p) (home_among a rank p) here })
+  | inr not_here ↦ (
+      let skip = cond_false (a.is_answer (a.gap rank p) (a.place rank p)) (a.gap rank p) (home_among a rank p) not_here in
+      elim (home-cases a rank p) [
+        | inl found ↦ inl (let low = found.below in record { pebble = found.pebble; below = omega arith; answer = found.answer; home_is = skip ∙ found.home_is })
+        | inr homeless ↦ inr (record {
+          none = λ pebble below e. elim (same_or_not pebble p) [
+            | inl same ↦ true_not_false (a.is_answer (a.gap rank p) (a.place rank p)) (subst (λ q. a.is_answer (a.gap rank q) (a.place rank q) ≡ true) same e) not_here
+            | inr other ↦ homeless.none pebble (omega arith) e
+          ];
+          home_is = skip ∙ homeless.home_is;
+        })
+      ])
+]
+
+-- the home is the gap of the dominating pebble
+pub home-of : (a : Arena) → IsArena a → (rank p : ℕ) → rank < a.configurations → Dominant a rank p → home_among a rank a.pebbles ≡ a.gap rank p
+home-of a is rank p i dominant = elim (home-cases a rank a.pebbles) [
+  | inl found ↦ found.home_is ∙ ap (a.gap rank) (is.one_dominator rank found.pebble p i found.below dominant.0 found.answer dominant.1)
+  | inr homeless ↦ absurd (homeless.none p dominant.0 dominant.1)
+]
+
+-- ---- answers that lead to a list
+
+-- whether it stands in the list
+abbrev pub stands : List ℕ → ℕ → Bool
+stands ranks x = not (times x ranks == 0)
+
+pub stands-true : (ranks : List ℕ) (x : ℕ) → 0 < times x ranks → stands ranks x ≡ true
+stands-true ranks x h = ap not (positive_is (times x ranks) h)
+
+pub stands-false : (ranks : List ℕ) (x : ℕ) → times x ranks ≡ 0 → stands ranks x ≡ false
+stands-false ranks x e = ap not (zero_is (times x ranks) e)
+
+pub stands-some : (ranks : List ℕ) (x : ℕ) → stands ranks x ≡ true → 0 < times x ranks
+stands-some ranks x e = elim (cases_lt 0 (times x ranks)) [
+  | inl some ↦ some
+  | inr none ↦ absurd (true_not_false (stands ranks x) e (stands-false ranks x (omega arith)))
+]
+
+and_false : (b : Bool) → b && false ≡ false
+and_false true = refl
+and_false false = refl
+
+without-first : (x y : ℕ) (ranks : List ℕ) → times x ranks ≡ 0 → without (stands (x ∷ ranks)) x y ≡ stands ranks y
+without-first x y ranks none = elim (same_or_not y x) [
+  | inl e ↦ ap (λ (b : Bool). stands (x ∷ ranks) y && not b) (same_is y x e) ∙ and_false (stands (x ∷ ranks) y) ∙ sym (stands-false ranks y (ap (λ n. times n ranks) e ∙ none))
+  | inr d ↦ ap (λ (b : Bool). stands (x ∷ ranks) y && not b) (differ_is y x d) ∙ and_true_right (stands (x ∷ ranks) y) ∙ ap (λ n. not (n == 0)) (times-later x y ranks (λ e. d (sym e)))
+]
+  where
+    and_true_right : (b : Bool) → b && true ≡ b
+    and_true_right true = refl
+    and_true_right false = refl
+
+first_one : (x : ℕ) (ranks : List ℕ) → times x (x ∷ ranks) ≡ 1 + times x ranks
+first_one x ranks = let one = cond_same {A = ℕ} x x 1 0 refl in omega arith
+
+-- the answers of a gap that lead to a list without doubles are as many as the list has configurations that are struck in the gap
+pub live-tally : (a : Arena) → IsArena a → (g : ℕ) (ranks : List ℕ) → g < a.gaps → ((x : ℕ) → 0 < times x ranks → x < a.configurations) → ((x : ℕ) → times x ranks ≤ 1)
+    → live a (stands ranks) g ≡ tally (λ x. home_among a x a.pebbles) g ranks
+live-tally a is g [] i inside once = count_below-none a.places (λ v. a.is_answer g v && false) (λ v j. and_false (a.is_answer g v))
+live-tally a is g (x ∷ ranks) i inside once =
+    let first : times x (x ∷ ranks) ≡ 1 + times x ranks = first_one x ranks in
+    let no_more : times x ranks ≡ 0 = (let o = once x in omega arith) in
+    let low : x < a.configurations = inside x (omega arith) in
+    let above : ℕ → Bool = stands (x ∷ ranks) in
+    let is_above : above x ≡ true = stands-true (x ∷ ranks) x (omega arith) in
+    let rest : live a (stands ranks) g ≡ tally (λ y. home_among a y a.pebbles) g ranks =
+    live-tally a is g ranks i (λ y h. inside y (omega arith)) (λ y. let o = once y in omega arith) in
+    let less : live a (without above x) g ≡ live a (stands ranks) g = live-same a is (without above x) (stands ranks) g i (λ y j. without-first x y ranks no_more) in
+    elim (home-cases a x a.pebbles) [
+      | inr homeless ↦ (
+          let same = strike-none a is above x g (λ p dominant. homeless.none p dominant.0 dominant.1) i in
+          let home = homeless.home_is in
+          let other : ◌≡◌ {A = ℕ} (cond (home_among a x a.pebbles == g) 1 0) 0 = cond_other {A = ℕ} (home_among a x a.pebbles) g 1 0 (λ e. omega arith) in
+          omega arith)
+      | inl found ↦ elim (same_or_not g (a.gap x found.pebble)) [
+        | inl here ↦ (
+            let struck : live a (without above x) g + 1 ≡ live a above g =
+            subst (λ h. live a (without above x) h + 1 ≡ live a above h) (sym here) (strike-home a is above x found.pebble low (found.below, found.answer) is_above) in
+            let one : ◌≡◌ {A = ℕ} (cond (home_among a x a.pebbles == g) 1 0) 1 = cond_same {A = ℕ} (home_among a x a.pebbles) g 1 0 (found.home_is ∙ sym here) in
+            omega arith)
+        | inr elsewhere ↦ (
+            let same = strike-other a is above x found.pebble g low (found.below, found.answer) i elsewhere in
+            let other : ◌≡◌ {A = ℕ} (cond (home_among a x a.pebbles == g) 1 0) 0 = cond_other {A = ℕ} (home_among a x a.pebbles) g 1 0 (λ e. elsewhere (sym e ∙ found.home_is)) in
+            omega arith)
+      ]
+    ]
+
+-- ---- two tests as one
+
+count-sum : (n : ℕ) (f g h : ℕ → Bool) → ((k : ℕ) → k < n → ◌≡◌ {A = ℕ} (cond (f k) 1 0) (cond (g k) 1 0 + cond (h k) 1 0)) → count_below n f ≡ count_below n g + count_below n h
+count-sum zero f g h each = refl
+count-sum (suc n) f g h each =
+    let rest = count-sum n f g h (λ k i. each k (omega arith)) in
+    let here = each n (omega arith) in
+    omega arith
+
+answer-sum : (b f g h : Bool) → ◌≡◌ {A = ℕ} (cond f 1 0) (cond g 1 0 + cond h 1 0) → ◌≡◌ {A = ℕ} (cond (b && f) 1 0) (cond (b && g) 1 0 + cond (b && h) 1 0)
+answer-sum true f g h e = e
+answer-sum false f g h e = refl
+
+pub live-sum : (a : Arena) → IsArena a → (f g h : ℕ → Bool) (gap : ℕ) → gap < a.gaps
+    → ((c : ℕ) → c < a.configurations → ◌≡◌ {A = ℕ} (cond (f c) 1 0) (cond (g c) 1 0 + cond (h c) 1 0)) → live a f gap ≡ live a g gap + live a h gap
+live-sum a is f g h gap i each =
+    count-sum a.places (λ v. a.is_answer gap v && f (a.member gap v)) (λ v. a.is_answer gap v && g (a.member gap v)) (λ v. a.is_answer gap v && h (a.member gap v))
+    (λ v j. answer-sum (a.is_answer gap v) (f (a.member gap v)) (g (a.member gap v)) (h (a.member gap v)) (each (a.member gap v) (is.member_in gap v i j)))
+
+-- ---- a list without what fails a test
+
+pub times-filter-true : (test : ℕ → Bool) (x : ℕ) (ranks : List ℕ) → 0 < times x (filter test ranks) → test x ≡ true
+times-filter-true test x [] h = absurd (omega arith)
+times-filter-true test x (y ∷ ranks) h = elim (true_or_false (test y)) [
+  | inr fails ↦ times-filter-true test x ranks (subst (λ (b : Bool). 0 < times x (cond b (y ∷ filter test ranks) (filter test ranks))) fails h)
+  | inl passes ↦ elim (same_or_not y x) [
+    | inl e ↦ ap test (sym e) ∙ passes
+    | inr d ↦ times-filter-true test x ranks (
+        let kept : 0 < times x (y ∷ filter test ranks) = subst (λ (b : Bool). 0 < times x (cond b (y ∷ filter test ranks) (filter test ranks))) passes h in
+        let later = times-later y x (filter test ranks) d in omega arith)
+  ]
+]
+
+pub times-filter-le : (test : ℕ → Bool) (x : ℕ) (ranks : List ℕ) → times x (filter test ranks) ≤ times x ranks
+times-filter-le test x [] = omega arith
+times-filter-le test x (y ∷ ranks) =
+    let rest = times-filter-le test x ranks in
+    by (test y) rest
+  where
+    by : (b : Bool) → times x (filter test ranks) ≤ times x ranks → times x (cond b (y ∷ filter test ranks) (filter test ranks)) ≤ times x (y ∷ ranks)
+    by true rest = omega arith
+    by false rest = omega arith
+
+pub tally-filter : (home : ℕ → ℕ) (test : ℕ → Bool) (g : ℕ) (ranks : List ℕ) → ((x : ℕ) → 0 < times x ranks → test x ≡ false → home x ≢ g) → tally home g (filter test ranks) ≡ tally home g ranks
+tally-filter home test g [] fails = refl
+tally-filter home test g (y ∷ ranks) fails =
+    let rest = tally-filter home test g ranks (λ x h e. fails x (omega arith) e) in
+    elim (true_or_false (test y)) [
+      | inl passes ↦ ap (λ (b : Bool). tally home g (cond b (y ∷ filter test ranks) (filter test ranks))) passes ∙ (omega arith)
+      | inr fail ↦ ap (λ (b : Bool). tally home g (cond b (y ∷ filter test ranks) (filter test ranks))) fail
+          ∙ (let other = cond_other {A = ℕ} (home y) g 1 0 (fails y (times-here y y ranks refl) fail) in omega arith)
+    ]

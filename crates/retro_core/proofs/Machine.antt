@@ -1,0 +1,229 @@
+-- The steps as the machine makes them: what its code reads and writes is the step, and the round after it is lawful.
+use Rattle.std.proofs.Common.{◌≡◌, ◌≢◌, ℕ, zero, suc, ◌+◌, ◌-◌, ◌<◌, ◌≤◌, ◌==◌, Bool, true, false, not, cond, List, [], ◌∷◌, ◌++◌, length, set, refl, sym, ap, ◌∙◌, subst, arith, Option, Some, None, get_or, get_or-set_other}
+use Rattle.std.specs.Option.{is_none, is_some}
+use Rattle.std.proofs.lemmas.Bool.Decides.{nat_tests}
+use Rattle.std.proofs.lemmas.List.{get_or_default, set_comm, set-set, set-append_left, set-get_or}
+use Rattle.positions.specs.Ranks.{configuration_at}
+use Rattle.positions.specs.Gaps.{gap_of, IsDominator}
+use Rattle.positions.specs.Counts.{IsSmallest}
+use Rattle.retro_core.specs.Solving.{Solving, IsSolving}
+use Rattle.retro_core.specs.Round.{PlainSeat, Round, round_of, spent, seat_at, IsDue, IsLawful, first_of, seat_struck, seat_tried, seat_kept, seat_new, seat_joined, struck, first_is_open, tried}
+use Rattle.retro_core.specs.Stepping.{Strikes, Tries, Splits, Joins}
+use Rattle.index_lists.proofs.Times.{cond_other}
+use Rattle.retro_core.proofs.Sums.{total-set, total-at, get-elsewhere, width-total}
+use Rattle.retro_core.proofs.RoundLaws.{seat-there}
+use Rattle.retro_core.proofs.RoundSteps.{first-due, strike-lawful, try-lawful, split-lawful, join-lawful}
+
+-- ---- seats as the code reads them
+
+pub seat-inside : (seats : List PlainSeat) (id : ℕ) → 0 < (get_or seats id spent).width → id < length seats
+seat-inside [] id wide = absurd (omega arith)
+seat-inside (v ∷ seats) zero wide = omega arith
+seat-inside (v ∷ seats) (suc id) wide = let rest = seat-inside seats id wide in omega arith
+
+-- the default doesn't matter for a live seat
+pub seat-read : (seats : List PlainSeat) (id : ℕ) (v : PlainSeat) → 0 < (get_or seats id spent).width → v ≡ get_or seats id v → v ≡ get_or seats id spent
+seat-read seats id v wide e = e ∙ get_or_default seats id v spent (seat-inside seats id wide)
+
+pub some_width : (width : ℕ) → width ≢ 0 → 0 < width
+some_width zero d = absurd (d refl)
+some_width (suc n) d = omega arith
+
+pub some-of : (n : ℕ) (b : Bool) → b ≡ (n == 0) → b ≡ false → 0 < n
+some-of n b is no_more = grind (arith, nat_tests)
+
+-- a lawful round of these parts, and a seat of it that has a width
+module _ (s : Solving) (w : ℕ) (counts : List ℕ) (values : List (Option ℕ)) (seats : List PlainSeat) (old : Round) (is : round_of s w counts values seats ≡ old)
+    (sol : IsSolving s) (law : IsLawful (round_of s w counts values seats)) (id width : ℕ) (width_is : width ≡ (seat_at old id).width) (live : width ≢ 0) where
+  abbrev pub here : Round
+  here = round_of s w counts values seats
+
+  pub wide : 0 < (get_or seats id spent).width
+  wide = let same = ap (λ r. (seat_at r id).width) is in let some = some_width width live in omega arith
+
+  -- what a seat has to strike or owes, as it was read
+  pub read-list : (list : PlainSeat → List ℕ) (v : PlainSeat) (ranks : List ℕ) → v ≡ get_or seats id v → ranks ≡ list v → ranks ≡ list (get_or seats id spent)
+  read-list list v ranks v_is e = e ∙ ap list (seat-read seats id v wide v_is)
+
+  -- ---- strike
+
+  pub due-read : (v : PlainSeat) (ranks : List ℕ) → v ≡ get_or seats id v → ranks ≡ v.todo → 0 < length ranks → IsDue s.board (get_or ranks 0 0) s.rounds
+  due-read v ranks v_is e some =
+      let todo = read-list (λ u. u.todo) v ranks v_is e in
+      subst (λ (l : List ℕ). IsDue s.board (get_or l 0 0) s.rounds) (sym todo) (first-due here law id (subst (λ (l : List ℕ). 0 < length l) todo some))
+
+  -- some pebble dominates what is to be struck
+  pub dominated : (v : PlainSeat) (ranks : List ℕ) (found : Option ℕ) → v ≡ get_or seats id v → ranks ≡ v.todo → 0 < length ranks
+      → IsSmallest (IsDominator s.board (configuration_at s.board (get_or ranks 0 0))) found → found ≡ None → ⊥
+  dominated v ranks found v_is e some smallest none =
+      let due = due-read v ranks v_is e some in
+      subst (IsSmallest (IsDominator s.board (configuration_at s.board (get_or ranks 0 0)))) none smallest due.pebble due.dominates
+
+  pub record IsStriking (ranks : List ℕ) (gap count : ℕ) (after : PlainSeat) (closed : Option ℕ) : Type 0 where
+    pub some_left : 0 < count
+    pub lawful : IsLawful (round_of s w (set counts gap (count - 1)) values (set seats id after))
+    pub strikes : closed ≡ cond (count == 1) (Some gap) None → Strikes old id (get_or ranks 0 0) closed (round_of s w (set counts gap (count - 1)) values (set seats id after))
+
+  pub striking : (v : PlainSeat) (ranks : List ℕ) (pebble gap count : ℕ) (v' after : PlainSeat) (closed : Option ℕ) → v ≡ get_or seats id v → ranks ≡ v.todo → 0 < length ranks
+      → IsDominator s.board (configuration_at s.board (get_or ranks 0 0)) pebble → gap ≡ gap_of s.board (configuration_at s.board (get_or ranks 0 0)) pebble → count ≡ get_or counts gap 0
+      → v' ≡ get_or seats id v' → after ≡ seat_struck s gap count v' → IsStriking ranks gap count after closed
+  striking v ranks pebble gap count v' after closed v_is e some dominates gap_is count_is v'_is after_is =
+      let b = s.board in
+      let seat : PlainSeat = get_or seats id spent in
+      let todo : ranks ≡ seat.todo = read-list (λ u. u.todo) v ranks v_is e in
+      let some' : 0 < length seat.todo = subst (λ (l : List ℕ). 0 < length l) todo some in
+      let dominates' : IsDominator b (configuration_at b (first_of seat.todo)) pebble = subst (λ (l : List ℕ). IsDominator b (configuration_at b (get_or l 0 0)) pebble) todo dominates in
+      let gap_same : gap_of b (configuration_at b (first_of seat.todo)) pebble ≡ gap = ap (λ (l : List ℕ). gap_of b (configuration_at b (get_or l 0 0)) pebble) (sym todo) ∙ sym gap_is in
+      let done = strike-lawful here sol law id pebble some' dominates' in
+      let left : 0 < get_or counts gap 0 = subst (λ g. 0 < get_or counts g 0) gap_same done.some_left in
+      let seat_is : after ≡ seat_struck s gap (get_or counts gap 0) seat = after_is ∙ ap (seat_struck s gap count) (seat-read seats id v' wide v'_is) ∙ ap (λ n. seat_struck s gap n seat) count_is in
+      let same : struck here id gap ≡ round_of s w (set counts gap (count - 1)) values (set seats id after) =
+      ap (λ n. round_of s w (set counts gap (n - 1)) values (set seats id (seat_struck s gap (get_or counts gap 0) seat))) (sym count_is)
+      ∙ ap (λ u. round_of s w (set counts gap (count - 1)) values (set seats id u)) (sym seat_is) in
+      record {
+        some_left = omega arith;
+        lawful = subst IsLawful same (subst (λ g. IsLawful (struck here id g)) gap_same done.lawful);
+        strikes = λ closed_is. subst (λ r. Strikes r id (get_or ranks 0 0) closed (round_of s w (set counts gap (count - 1)) values (set seats id after))) is (record {
+          some_todo = some';
+          first = ap (λ (l : List ℕ). get_or l 0 0) todo;
+          pebble = pebble;
+          dominates = dominates;
+          gap = gap;
+          gap_is = gap_is;
+          closed_is = closed_is ∙ ap (λ n. cond (n == 1) (Some gap) None) count_is;
+          after_is = sym same;
+        });
+      }
+
+  -- ---- try
+
+  pub owed-read : (v : PlainSeat) (ranks : List ℕ) → v ≡ get_or seats id v → ranks ≡ v.owed → 0 < length ranks → get_or ranks 0 0 < length values
+  owed-read v ranks v_is e some =
+      let owed = read-list (λ u. u.owed) v ranks v_is e in
+      let low = (try-lawful here sol law id (subst (λ (l : List ℕ). 0 < length l) owed some)).is_rank in
+      let same = ap (λ (l : List ℕ). get_or l 0 0) owed in
+      let long = law.values_length in
+      omega arith
+
+  pub record IsTrying (ranks : List ℕ) (won : Bool) (values' : List (Option ℕ)) (after : PlainSeat) : Type 0 where
+    pub lawful : IsLawful (round_of s w counts values' (set seats id after))
+    pub tries : Tries old id (get_or ranks 0 0) won (round_of s w counts values' (set seats id after))
+
+  pub trying : (v : PlainSeat) (ranks : List ℕ) (word : Option ℕ) (won : Bool) (values' : List (Option ℕ)) (v' after : PlainSeat) → v ≡ get_or seats id v → ranks ≡ v.owed → 0 < length ranks
+      → word ≡ get_or values (get_or ranks 0 0) word → won ≡ is_none word → values' ≡ cond won (set values (get_or ranks 0 0) (Some (suc s.rounds))) values
+      → v' ≡ get_or seats id v' → after ≡ seat_tried won v' → IsTrying ranks won values' after
+  trying v ranks word won values' v' after v_is e some word_is won_is values_are v'_is after_is =
+      let seat : PlainSeat = get_or seats id spent in
+      let owed : ranks ≡ seat.owed = read-list (λ u. u.owed) v ranks v_is e in
+      let first : get_or ranks 0 0 ≡ first_of seat.owed = ap (λ (l : List ℕ). get_or l 0 0) owed in
+      let some' : 0 < length seat.owed = subst (λ (l : List ℕ). 0 < length l) owed some in
+      let done = try-lawful here sol law id some' in
+      let open_is : won ≡ first_is_open here id = won_is ∙ ap is_none (word_is ∙ get_or_default values (get_or ranks 0 0) word None (owed-read v ranks v_is e some) ∙ ap (λ x. get_or values x None) first) in
+      let same : round_of s w counts values' (set seats id after) ≡ tried here id =
+      ap (λ (l : List (Option ℕ)). round_of s w counts l (set seats id after)) (values_are ∙ ap (λ x. cond won (set values x (Some (suc s.rounds))) values) first)
+      ∙ ap (λ u. round_of s w counts (cond won (set values (first_of seat.owed) (Some (suc s.rounds))) values) (set seats id u)) (after_is ∙ ap (seat_tried won) (seat-read seats id v' wide v'_is))
+      ∙ ap (λ o. round_of s w counts (cond o (set values (first_of seat.owed) (Some (suc s.rounds))) values) (set seats id (seat_tried o seat))) open_is in
+      record {
+        lawful = subst IsLawful (sym same) done.lawful;
+        tries = subst (λ r. Tries r id (get_or ranks 0 0) won (round_of s w counts values' (set seats id after))) is (record { some_owed = some'; first = first; won_is = open_is; after_is = same });
+      }
+
+  -- ---- split
+
+  pub record IsSplitting (seats' : List PlainSeat) (new_seat : ℕ) : Type 0 where
+    pub lawful : IsLawful (round_of s w counts values seats')
+    pub splits : new_seat ≡ length seats → Splits old id new_seat (round_of s w counts values seats')
+
+  pub splitting : (v half : PlainSeat) (pushed : List PlainSeat) (v' after : PlainSeat) (new_seat : ℕ) → width ≢ 1 → v ≡ get_or seats id v → half ≡ seat_new v → pushed ≡ seats ++ half ∷ []
+      → v' ≡ get_or pushed id v' → after ≡ seat_kept v' → IsSplitting (set pushed id after) new_seat
+  splitting v half pushed v' after new_seat not_one v_is half_is pushed_is v'_is after_is =
+      let seat : PlainSeat = get_or seats id spent in
+      let inside : id < length seats = seat-inside seats id wide in
+      let two : 2 ≤ seat.width = (let same = ap (λ r. (seat_at r id).width) is in two_of width live not_one (width_is ∙ sym same)) in
+      let half_same : half ≡ seat_new seat = half_is ∙ ap seat_new (seat-read seats id v wide v_is) in
+      let read : v' ≡ seat = v'_is ∙ ap (λ (l : List PlainSeat). get_or l id v') pushed_is ∙ in_front seats (half ∷ []) id v' inside in
+      let same : set pushed id after ≡ set seats id (seat_kept seat) ++ seat_new seat ∷ [] =
+      ap (λ (l : List PlainSeat). set l id after) pushed_is ∙ set-append_left seats (half ∷ []) id after inside
+      ∙ ap (λ u. set seats id u ++ half ∷ []) (after_is ∙ ap seat_kept read) ∙ ap (λ u. set seats id (seat_kept seat) ++ u ∷ []) half_same in
+      record {
+        lawful = subst (λ (l : List PlainSeat). IsLawful (round_of s w counts values l)) (sym same) (split-lawful here sol law id two);
+        splits = λ number. subst (λ r. Splits r id new_seat (round_of s w counts values (set pushed id after))) is
+            (record { wide = two; next_number = number; after_is = ap (round_of s w counts values) same });
+      }
+    where
+      two_of : (n : ℕ) → n ≢ 0 → n ≢ 1 → n ≡ (get_or seats id spent).width → 2 ≤ (get_or seats id spent).width
+      two_of zero d e same = absurd (d refl)
+      two_of (suc zero) d e same = absurd (e refl)
+      two_of (suc (suc n)) d e same = omega arith
+
+      in_front : (xs ys : List PlainSeat) (i : ℕ) (d : PlainSeat) → i < length xs → get_or (xs ++ ys) i d ≡ get_or xs i spent
+      in_front [] ys i d low = absurd (omega arith)
+      in_front (x ∷ xs) ys zero d low = refl
+      in_front (x ∷ xs) ys (suc i) d low = in_front xs ys i d (omega arith)
+
+  -- ---- join
+
+  module _ (from from_width : ℕ) (from_width_is : from_width ≡ (seat_at old from).width) (from_live : from_width ≢ 0) (differ : id ≢ from) where
+    pub from_wide : 0 < (get_or seats from spent).width
+    from_wide = let same = ap (λ r. (seat_at r from).width) is in let some = some_width from_width from_live in omega arith
+
+    -- the seat that is joined into, as it is read after the other was taken out
+    pub into-read : (v : PlainSeat) → v ≡ get_or (set seats from spent) id v → v ≡ get_or seats id spent
+    into-read v v_is = v_is ∙ get_or-set_other seats from id spent v differ ∙ get_or_default seats id v spent (seat-inside seats id wide)
+
+    pub widths-fit : (v u : PlainSeat) → v ≡ get_or seats id spent → u ≡ get_or seats from spent → v.width + u.width ≤ w
+    widths-fit v u v_is u_is =
+        let at = seat-there seats id wide in
+        let there = seat-there seats from from_wide in
+        let mine = ap (λ (x : PlainSeat). x.width) v_is in
+        let other = ap (λ (x : PlainSeat). x.width) u_is in
+        let without = total-set (λ x. x.width) seats from (get_or seats from spent) spent there in
+        let part = total-at (λ x. x.width) (set seats from spent) id (get_or seats id spent)
+        (subst (λ (o : Option PlainSeat). o ≡ Some (get_or seats id spent)) (sym (get-elsewhere seats from id spent (λ e. differ (sym e)))) at) in
+        let all = law.widths in
+        let sum = width-total seats in
+        omega arith
+
+    -- where nothing was taken over, all is put back
+    pub put-back : (v u : PlainSeat) → v ≡ get_or seats id spent → u ≡ get_or seats from spent → set (set (set seats from spent) id v) from u ≡ seats
+    put-back v u v_is u_is =
+        ap (λ (l : List PlainSeat). set l from u) (set_comm seats from id spent v (λ e. differ (sym e)))
+        ∙ set-set (set seats id v) from spent u
+        ∙ ap (λ x. set (set seats id x) from u) v_is
+        ∙ ap (λ (l : List PlainSeat). set l from u) (set-get_or seats id spent)
+        ∙ ap (set seats from) u_is ∙ set-get_or seats from spent
+
+    pub record IsJoining (seats' : List PlainSeat) : Type 0 where
+      pub lawful : IsLawful (round_of s w counts values seats')
+      pub joins : Joins old id from (round_of s w counts values seats')
+
+    pub joining : (v u after : PlainSeat) → v ≡ get_or seats id spent → u ≡ get_or seats from spent → after ≡ seat_joined v u → IsJoining (set (set seats from spent) id after)
+    joining v u after v_is u_is after_is =
+        let seat : PlainSeat = get_or seats id spent in
+        let other : PlainSeat = get_or seats from spent in
+        let same : set (set seats from spent) id after ≡ set (set seats id (seat_joined seat other)) from spent =
+        set_comm seats from id spent after (λ e. differ (sym e))
+        ∙ ap (λ x. set (set seats id x) from spent) (after_is ∙ ap (λ x. seat_joined x u) v_is ∙ ap (seat_joined seat) u_is) in
+        record {
+          lawful = subst (λ (l : List PlainSeat). IsLawful (round_of s w counts values l)) (sym same) (join-lawful here sol law id from differ wide from_wide);
+          joins = subst (λ r. Joins r id from (round_of s w counts values (set (set seats from spent) id after))) is
+              (record { differ = differ; has_into = wide; has_from = from_wide; after_is = ap (round_of s w counts values) same });
+        }
+
+    pub allowed : ((id ≡ from → ⊥) × (0 < (seat_at old id).width) × (0 < (seat_at old from).width))
+    allowed = subst (λ r. (id ≡ from → ⊥) × (0 < (seat_at r id).width) × (0 < (seat_at r from).width)) is (differ, wide, from_wide)
+
+-- ---- what a branch answers
+
+pub count-then : (count gap : ℕ) (closed : Option ℕ) → count ≡ 1 → closed ≡ Some gap → closed ≡ cond (count == 1) (Some gap) None
+count-then count gap closed one e = e ∙ ap (λ (n : ℕ). cond (n == 1) (Some gap) None) (sym one)
+
+pub count-else : (count gap : ℕ) (closed : Option ℕ) → count ≢ 1 → closed ≡ None → closed ≡ cond (count == 1) (Some gap) None
+count-else count gap closed other e = e ∙ sym (cond_other count 1 (Some gap) None other)
+
+pub none-of : (word : Option ℕ) (flag : Bool) → is_some word ≡ not flag → flag ≡ is_none word
+none-of word flag e = twice flag ∙ ap not (sym e)
+  where
+    twice : (b : Bool) → b ≡ not (not b)
+    twice true = refl
+    twice false = refl

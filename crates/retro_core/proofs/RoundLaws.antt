@@ -1,0 +1,225 @@
+-- A lawful round keeps the rules by numbers, and the other way round; so each step leads from a lawful round to a lawful one.
+use Rattle.std.proofs.Common.{◌≡◌, ℕ, zero, suc, ◌+◌, ◌<◌, ◌≤◌, List, [], ◌∷◌, length, refl, sym, ap, ◌∙◌, inl, inr, subst, arith, Option, Some, None, get_or, slice_get, slice_index}
+use Rattle.std.proofs.lemmas.Bool.{cases_lt}
+use Rattle.std.proofs.lemmas.Option.{get_or_from_slice_get}
+use Rattle.index_lists.specs.Lists.{times}
+use Rattle.board_text.specs.PlainBoard.{PlainBoard, IsBoard, places}
+use Rattle.positions.specs.declared.value.Value.TheVariants.{Finite}
+use Rattle.positions.specs.Game.{LabellerTree}
+use Rattle.positions.specs.Ranks.{configurations, rank_of, configuration_at}
+use Rattle.positions.specs.Gaps.{gaps, member_of, IsAnswer}
+use Rattle.positions.specs.Counts.{HasSize}
+use Rattle.positions.proofs.Sizes.{same_size}
+use Rattle.positions.proofs.Values.{same_value}
+use Rattle.retro_core.specs.Arena.{live, lasts}
+use Rattle.retro_core.specs.BoardArena.{arena_of}
+use Rattle.retro_core.specs.Solving.{Solving, IsSolving, AnswerLasts, source}
+use Rattle.retro_core.specs.Round.{PlainSeat, Round, spent, all_todo, all_owed, all_won, IsWorth, IsDue, IsLawful}
+use Rattle.retro_core.specs.Rules.{tally, total, home_among, value_before, rules_of, held_in, AreKept}
+use Rattle.retro_core.proofs.Lasting.{same_or_not}
+use Rattle.retro_core.proofs.BoardArenas.{arena_is, at_member, tree_of_lasts, lasts_of_tree}
+use Rattle.retro_core.proofs.Entered.{live-size}
+use Rattle.retro_core.proofs.Homes.{stands, stands-true, stands-some, live-tally}
+use Rattle.retro_core.proofs.Sums.{total-sum, times-together, tally-together, width-total}
+use Rattle.retro_core.proofs.Steps.{word_none, word_some}
+use Rattle.retro_core.proofs.RoundStart.{base-is, to-win-is, struck-in-is}
+
+-- ---- seats by their numbers
+
+pub seat-there : (seats : List PlainSeat) (id : ℕ) → 0 < (get_or seats id spent).width → slice_get seats id ≡ Some (get_or seats id spent)
+seat-there [] id wide = absurd (omega arith)
+seat-there (v ∷ seats) zero wide = refl
+seat-there (v ∷ seats) (suc id) wide = seat-there seats id wide
+
+seat-here : (seats : List PlainSeat) (id : ℕ) (v : PlainSeat) → slice_get seats id ≡ Some v → get_or seats id spent ≡ v
+seat-here seats id v e = get_or_from_slice_get seats id v spent e
+
+-- a number that no seat has is spent
+seat-fits : (seats : List PlainSeat) → ((place : ℕ) (seat : PlainSeat) → slice_get seats place ≡ Some seat → seat.width ≡ 0 → seat ≡ spent)
+    → (id : ℕ) → (get_or seats id spent).width ≡ 0 → get_or seats id spent ≡ spent
+seat-fits [] fits id none = refl
+seat-fits (v ∷ seats) fits zero none = fits 0 v refl none
+seat-fits (v ∷ seats) fits (suc id) none = seat-fits seats (λ place seat e. fits (suc place) seat e) id none
+
+-- ---- the rules, as a caller sees them
+
+-- the words of a round
+abbrev pub word_at : Round → ℕ → Option ℕ
+word_at round rank = get_or round.values rank None
+
+abbrev pub RoundKept : Round → Type 0
+RoundKept round = AreKept (rules_of round.solving round.width) (slice_index round.counts) (word_at round) round.seats
+
+-- so many answers of a gap lead to a list of configurations
+pub waiting-size : (b : PlainBoard) → IsBoard b → (ranks : List ℕ) (g : ℕ) → g < gaps b → ((x : ℕ) → 0 < times x ranks → x < configurations b) → ((x : ℕ) → times x ranks ≤ 1)
+    → HasSize (λ label. IsAnswer b g label × (0 < times (rank_of b (member_of b g label)) ranks)) (tally (λ x. home_among (arena_of b) x b.pebbles) g ranks)
+waiting-size b board_is ranks g i inside once =
+    subst (HasSize (λ label. IsAnswer b g label × (0 < times (rank_of b (member_of b g label)) ranks))) (live-tally (arena_of b) (arena_is b board_is) g ranks i inside once)
+    (live-size b g (stands ranks) (λ v. 0 < times (rank_of b (member_of b g v)) ranks) i (λ v j. (
+      λ e. stands-some ranks (rank_of b (member_of b g v)) e,
+      λ h. stands-true ranks (rank_of b (member_of b g v)) h,
+    )))
+
+-- so many answers of a gap last so long
+pub above-size : (b : PlainBoard) → IsBoard b → (depth g : ℕ) → g < gaps b → HasSize (AnswerLasts b g depth) (live (arena_of b) (lasts (arena_of b) depth) g)
+above-size b board_is depth g i = live-size b g (lasts (arena_of b) depth) (λ v. LabellerTree b depth (member_of b g v)) i (λ v j.
+    let low = (arena_is b board_is).member_in g v i j in (
+      λ e. subst (LabellerTree b depth) (at_member b g v i j) (tree_of_lasts b board_is depth (rank_of b (member_of b g v)) low e),
+      λ tree. lasts_of_tree b board_is depth (rank_of b (member_of b g v)) low (subst (LabellerTree b depth) (sym (at_member b g v i j)) tree),
+    ))
+
+some_same : (m n : ℕ) → Some m ≡ Some n → m ≡ n
+some_same m n e = cc
+
+same_number : (m n : ℕ) → Finite m ≡ Finite n → m ≡ n
+same_number m n e = cc
+
+pub lawful-of : (round : Round) → IsSolving round.solving → length round.counts ≡ gaps round.solving.board → length round.values ≡ configurations round.solving.board → RoundKept round → IsLawful round
+lawful-of round sol counts_length values_length kept =
+    let b = round.solving.board in
+    let r = round.solving.rounds in
+    let k = rules_of round.solving round.width in
+    let won_times : (x : ℕ) → times x (all_won round) ≡ total (λ v. times x v.won) round.seats = λ x. times-together x (λ v. v.won) round.seats in
+    let owed_times : (x : ℕ) → times x (all_owed round) ≡ total (λ v. times x v.owed) round.seats = λ x. times-together x (λ v. v.owed) round.seats in
+    let todo_times : (x : ℕ) → times x (all_todo round) ≡ total (λ v. times x v.todo) round.seats = λ x. times-together x (λ v. v.todo) round.seats in
+    let held_times : (x : ℕ) → total (held_in x) round.seats ≡ times x (all_owed round) + times x (all_won round) = λ x.
+    let s = total-sum (λ v. times x v.owed) (λ v. times x v.won) round.seats in let w = won_times x in let o = owed_times x in omega arith in
+    let due : (x : ℕ) → 0 < times x (all_todo round) → IsDue b x r = λ x h. (struck-in-is round.solving sol round.width x).0 (kept.due x (let t = todo_times x in omega arith)) in
+    let next : (x : ℕ) → 0 < total (held_in x) round.seats → IsWorth b x (suc r) = λ x h. (to-win-is round.solving sol round.width x).0 (kept.next x h) in
+    let worth : (x : ℕ) → 0 < times x (all_won round) → IsWorth b x (suc r) = λ x h. next x (let t = held_times x in omega arith) in
+    let once : (x : ℕ) → times x (all_todo round) ≤ 1 = λ x. let t = todo_times x in let o = kept.due_once x in omega arith in
+    record {
+      counts_length = counts_length;
+      values_length = values_length;
+      values = λ x v i.
+          let T : ℕ = total (λ u. times x u.won) round.seats in
+          let won = won_times x in
+          let word = kept.values x i in
+          elim (same_or_not T 0) [
+            | inl none ↦ (
+                let base = word ∙ word_none k x T none in (
+                  λ e. inl ((base-is b sol.is_board r x v i).0 (sym base ∙ e)),
+                  λ h. elim h [
+                    | inl has ↦ base ∙ (base-is b sol.is_board r x v i).1 has
+                    | inr has ↦ absurd (let some = has.1 in omega arith)
+                  ],
+                ))
+            | inr some ↦ (
+                let next_word = word ∙ word_some k x T (omega arith) in (
+                  λ e. inr (sym (some_same (suc r) v (sym next_word ∙ e)), omega arith),
+                  λ h. elim h [
+                    | inl has ↦ absurd (
+                        let same : suc r ≡ v = same_number (suc r) v (same_value b (configuration_at b x) (Finite (suc r)) (Finite v) (worth x (omega arith)).has_value has.1) in
+                        let low : v ≤ r = has.0 in omega arith)
+                    | inr has ↦ next_word ∙ ap Some (sym has.0)
+                  ],
+                ))
+          ];
+      due = due;
+      due_once = once;
+      counts = λ g i. record {
+        above = k.live g;
+        waiting = tally k.home g (all_todo round);
+        are_above = above-size b sol.is_board (suc r) g i;
+        are_waiting = waiting-size b sol.is_board (all_todo round) g i (λ x h. (due x h).worth.is_rank) once;
+        sum = (let c = kept.counts g i in let t = tally-together k.home g (λ v. v.todo) round.seats in omega arith);
+      };
+      owed = λ x h. next x (let t = held_times x in omega arith);
+      won = worth;
+      won_once = λ x. let w = won_times x in let o = kept.won_once x in omega arith;
+      closed = λ g v i none low tree.
+          let x : ℕ = rank_of b (member_of b g v) in
+          let held = kept.closed g x i none ((sol.sources.listed g v i low).1 tree) in
+          let t = held_times x in
+          elim (cases_lt 0 (times x (all_owed round))) [
+            | inl some ↦ inl some
+            | inr none_owed ↦ inr (omega arith)
+          ];
+      widths = width-total round.seats ∙ kept.widths;
+      spent_seats = seat-fits round.seats kept.fits;
+    }
+
+-- what the count of a lawful round is
+count-is : (round : Round) → IsSolving round.solving → IsLawful round → (g : ℕ) → g < gaps round.solving.board
+    → slice_index round.counts g ≡ live (arena_of round.solving.board) (lasts (arena_of round.solving.board) (suc round.solving.rounds)) g + tally (λ x. home_among (arena_of round.solving.board) x round.solving.board.pebbles) g (all_todo round)
+count-is round sol law g i =
+    let b = round.solving.board in
+    let count = law.counts g i in
+    let above = same_size (AnswerLasts b g (suc round.solving.rounds)) count.above (live (arena_of b) (lasts (arena_of b) (suc round.solving.rounds)) g) count.are_above (above-size b sol.is_board (suc round.solving.rounds) g i) in
+    let waiting = same_size (λ label. IsAnswer b g label × (0 < times (rank_of b (member_of b g label)) (all_todo round))) count.waiting (tally (λ x. home_among (arena_of b) x b.pebbles) g (all_todo round)) count.are_waiting
+    (waiting-size b sol.is_board (all_todo round) g i (λ x h. (law.due x h).worth.is_rank) law.due_once) in
+    let sum = count.sum in
+    omega arith
+
+pub kept-of : (round : Round) → IsSolving round.solving → IsLawful round → RoundKept round
+kept-of round sol law =
+    let b = round.solving.board in
+    let r = round.solving.rounds in
+    let k = rules_of round.solving round.width in
+    let won_times : (x : ℕ) → times x (all_won round) ≡ total (λ v. times x v.won) round.seats = λ x. times-together x (λ v. v.won) round.seats in
+    let owed_times : (x : ℕ) → times x (all_owed round) ≡ total (λ v. times x v.owed) round.seats = λ x. times-together x (λ v. v.owed) round.seats in
+    let todo_times : (x : ℕ) → times x (all_todo round) ≡ total (λ v. times x v.todo) round.seats = λ x. times-together x (λ v. v.todo) round.seats in
+    let held_times : (x : ℕ) → total (held_in x) round.seats ≡ times x (all_owed round) + times x (all_won round) = λ x.
+    let s = total-sum (λ v. times x v.owed) (λ v. times x v.won) round.seats in let w = won_times x in let o = owed_times x in omega arith in
+    record {
+      values = λ x i.
+          let T : ℕ = total (λ u. times x u.won) round.seats in
+          let won = won_times x in
+          elim (same_or_not T 0) [
+            | inl none ↦ same-base x i (omega arith) ∙ sym (word_none k x T none)
+            | inr some ↦ (law.values x (suc r) i).1 (inr (refl, omega arith)) ∙ sym (word_some k x T (omega arith))
+          ];
+      due = λ x h. (struck-in-is round.solving sol round.width x).1 (law.due x (let t = todo_times x in omega arith));
+      due_once = λ x. let t = todo_times x in let o = law.due_once x in omega arith;
+      counts = λ g i. let c = count-is round sol law g i in let t = tally-together k.home g (λ v. v.todo) round.seats in omega arith;
+      next = λ x h. (to-win-is round.solving sol round.width x).1 (
+          let t = held_times x in
+          elim (cases_lt 0 (times x (all_owed round))) [
+            | inl some ↦ law.owed x some
+            | inr none ↦ law.won x (omega arith)
+          ]);
+      won_once = λ x. let w = won_times x in let o = law.won_once x in omega arith;
+      closed = λ g x i none there.
+          let m = sol.sources.members g x i there in
+          let low : m.0 < places b = m.1 in
+          let tree = (sol.sources.listed g m.0 i low).0 (subst (λ y. 0 < times y (source round.solving g)) m.2 there) in
+          let t = held_times x in
+          elim (law.closed g m.0 i none low tree) [
+            | inl owed ↦ (let h : 0 < times x (all_owed round) = subst (λ y. 0 < times y (all_owed round)) (sym m.2) owed in omega arith)
+            | inr won ↦ (let h : 0 < times x (all_won round) = subst (λ y. 0 < times y (all_won round)) (sym m.2) won in omega arith)
+          ];
+      widths = sym (width-total round.seats) ∙ law.widths;
+      fits = λ id v at none.
+          let here = seat-here round.seats id v at in
+          sym here ∙ law.spent_seats id (ap (λ (u : PlainSeat). u.width) here ∙ none);
+    }
+  where
+    same-word : (one other : Option ℕ) → ((v : ℕ) → one ≡ Some v → other ≡ Some v) → ((v : ℕ) → other ≡ Some v → one ≡ Some v) → one ≡ other
+    same-word (Some n) other there back = sym (there n refl)
+    same-word None None there back = refl
+    same-word None (Some n) there back = back n refl
+
+    same-base : (x : ℕ) → x < configurations round.solving.board → times x (all_won round) ≡ 0 → word_at round x ≡ value_before (arena_of round.solving.board) round.solving.rounds x
+    same-base x i none = same-word (word_at round x) (value_before (arena_of round.solving.board) round.solving.rounds x)
+        (λ v e. elim ((law.values x v i).0 e) [
+          | inl has ↦ (base-is round.solving.board sol.is_board round.solving.rounds x v i).1 has
+          | inr has ↦ absurd (let some = has.1 in omega arith)
+        ])
+        (λ v e. (law.values x v i).1 (inl ((base-is round.solving.board sol.is_board round.solving.rounds x v i).0 e)))
+
+-- ---- open members
+
+-- an open member of a gap is a configuration, and stands once
+pub source-rank : (s : Solving) → IsSolving s → (g rank : ℕ) → g < gaps s.board → 0 < times rank (source s g) → rank < configurations s.board
+source-rank s sol g rank i h =
+    let m = sol.sources.members g rank i h in
+    subst (λ x. x < configurations s.board) (sym m.2) ((arena_is s.board sol.is_board).member_in g m.0 i m.1)
+
+pub source-once : (s : Solving) → IsSolving s → (g : ℕ) → g < gaps s.board → (rank : ℕ) → times rank (source s g) ≤ 1
+source-once s sol g i rank = elim (cases_lt rank (configurations s.board)) [
+  | inl low ↦ sol.sources.once g rank i low
+  | inr high ↦ elim (cases_lt 0 (times rank (source s g))) [
+    | inl some ↦ absurd (let low = source-rank s sol g rank i some in omega arith)
+    | inr none ↦ omega arith
+  ]
+]

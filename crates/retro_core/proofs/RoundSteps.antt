@@ -1,0 +1,246 @@
+-- Each step leads from a lawful round to a lawful one; the opening is lawful; and at the end all of the next value is won.
+use Rattle.std.proofs.Common.{◌≡◌, ◌≢◌, ◌⊎◌, ℕ, suc, ◌-◌, ◌<◌, ◌≤◌, ◌↔◌, Bool, true, false, cond, List, [], ◌∷◌, length, set, refl, sym, ap, ◌∙◌, inl, inr, subst, arith, Option, Some, None, get_or, slice_index, length-set, get_or-set_same, get_or-set_other}
+use Rattle.std.specs.Option.{is_none}
+use Rattle.std.proofs.lemmas.Bool.{cases_lt}
+use Rattle.index_lists.specs.Lists.{times}
+use Rattle.board_text.specs.PlainBoard.{IsBoard}
+use Rattle.positions.specs.Game.{LabellerTree}
+use Rattle.positions.specs.Ranks.{configurations, rank_of, configuration_at}
+use Rattle.positions.specs.Gaps.{gaps, gap_of, member_of, IsAnswer, IsDominator}
+use Rattle.positions.proofs.Sizes.{same_size, size_zero}
+use Rattle.positions.proofs.Ranks.{configuration_at_is}
+use Rattle.positions.proofs.GapLaws.{gap_below}
+use Rattle.retro_core.specs.Arena.{live, lasts}
+use Rattle.retro_core.specs.BoardArena.{arena_of}
+use Rattle.retro_core.specs.Solving.{Solving, IsSolving, AnswerLasts}
+use Rattle.retro_core.specs.Round.{PlainSeat, Round, round_of, spent, seat_at, together, all_todo, all_owed, all_won, IsWorth, IsDue, IsLawful, AreToStrike, AreFirstCounts, AreFirstValues, opening, IsOpening, IsWorkedOff, first_of, rest_of, seat_tried, struck, first_is_open, tried, split, joined}
+use Rattle.retro_core.specs.declared.step.Step.{Step}
+use Rattle.retro_core.specs.declared.step.Step.TheVariants as steps
+use Rattle.retro_core.specs.declared.step.Seen.{Seen}
+use Rattle.retro_core.specs.declared.step.Seen.TheVariants as seen
+use Rattle.retro_core.specs.Stepping.{Does}
+use Rattle.retro_core.specs.Rules.{total, rules_of}
+use Rattle.retro_core.proofs.Lasting.{next-fails}
+use Rattle.retro_core.proofs.BoardArenas.{arena_is, at_member, tree_of_lasts, lasts_of_value}
+use Rattle.retro_core.proofs.Sums.{total-at, times-together}
+use Rattle.retro_core.proofs.Steps.{strikes, tries, first-known, splits, joins, opens, split_first, times_here}
+use Rattle.retro_core.proofs.RoundStart.{home-is, sound-is, ready-is}
+use Rattle.retro_core.proofs.RoundLaws.{word_at, seat-there, lawful-of, kept-of, above-size}
+
+-- ---- live seats
+
+-- a seat that has something to strike or owes something has a width
+wide-todo : (round : Round) → IsLawful round → (id : ℕ) → 0 < length (seat_at round id).todo → 0 < (seat_at round id).width
+wide-todo round law id some = elim (cases_lt 0 (seat_at round id).width) [
+  | inl wide ↦ wide
+  | inr none ↦ absurd (let gone = ap (λ (v : PlainSeat). length v.todo) (law.spent_seats id (omega arith)) in omega arith)
+]
+
+wide-owed : (round : Round) → IsLawful round → (id : ℕ) → 0 < length (seat_at round id).owed → 0 < (seat_at round id).width
+wide-owed round law id some = elim (cases_lt 0 (seat_at round id).width) [
+  | inl wide ↦ wide
+  | inr none ↦ absurd (let gone = ap (λ (v : PlainSeat). length v.owed) (law.spent_seats id (omega arith)) in omega arith)
+]
+
+-- ---- strike
+
+-- the first that a seat has to strike has the round's value and a dominating pebble
+pub first-due : (round : Round) → IsLawful round → (id : ℕ) → 0 < length (seat_at round id).todo → IsDue round.solving.board (first_of (seat_at round id).todo) round.solving.rounds
+first-due round law id some =
+    let v = seat_at round id in
+    let c : ℕ = first_of v.todo in
+    let at = seat-there round.seats id (wide-todo round law id some) in
+    let part = total-at (λ (u : PlainSeat). times c u.todo) round.seats id v at in
+    let here = ap (times c) (split_first v.todo some) ∙ times_here c (rest_of v.todo) in
+    let all = times-together c (λ u. u.todo) round.seats in
+    law.due c (omega arith)
+
+pub record IsStruck (round : Round) (id gap : ℕ) : Type 0 where
+  pub gap_in : gap < gaps round.solving.board
+  pub some_left : 0 < slice_index round.counts gap
+  pub lawful : IsLawful (struck round id gap)
+
+pub strike-lawful : (round : Round) → IsSolving round.solving → IsLawful round → (id pebble : ℕ) → 0 < length (seat_at round id).todo
+    → IsDominator round.solving.board (configuration_at round.solving.board (first_of (seat_at round id).todo)) pebble
+    → IsStruck round id (gap_of round.solving.board (configuration_at round.solving.board (first_of (seat_at round id).todo)) pebble)
+strike-lawful round sol law id pebble some dominates =
+    let b = round.solving.board in
+    let v = seat_at round id in
+    let c : ℕ = first_of v.todo in
+    let k = rules_of round.solving round.width in
+    let due = first-due round law id some in
+    let i : c < configurations b = due.worth.is_rank in
+    let home : k.home c ≡ gap_of b (configuration_at b c) pebble = home-is round.solving sol c pebble i dominates in
+    let wide = wide-todo round law id some in
+    let in_gaps : k.home c < gaps b = subst (λ g. g < gaps b) (sym home) (gap_below b (configuration_at b c) pebble (configuration_at_is b c i) dominates.is_pebble) in
+    let long = law.counts_length in
+    let n : ℕ = slice_index round.counts (k.home c) in
+    let done = strikes k (slice_index round.counts) (word_at round) round.seats id v (slice_index (set round.counts (k.home c) (n - 1))) (kept-of round sol law) (seat-there round.seats id wide) wide some
+    (get_or-set_same round.counts (k.home c) (n - 1) 0 (omega arith))
+    (λ g j ne. get_or-set_other round.counts (k.home c) g (n - 1) 0 ne) in
+    subst (IsStruck round id) home (record {
+      gap_in = in_gaps;
+      some_left = done.some_left;
+      lawful = lawful-of (struck round id (k.home c)) sol (length-set round.counts (k.home c) (n - 1) ∙ law.counts_length) law.values_length done.kept;
+    })
+
+-- ---- try
+
+-- the round after a try that found the word open or not
+abbrev pub tried_as : Bool → Round → ℕ → Round
+tried_as is_open round seat = record {
+  solving = round.solving;
+  width = round.width;
+  counts = round.counts;
+  values = cond is_open (set round.values (first_of (seat_at round seat).owed) (Some (suc round.solving.rounds))) round.values;
+  seats = set round.seats seat (seat_tried is_open (seat_at round seat));
+}
+
+pub record IsTried (round : Round) (id : ℕ) : Type 0 where
+  pub is_rank : first_of (seat_at round id).owed < configurations round.solving.board
+  pub word : (word_at round (first_of (seat_at round id).owed) ≡ None) ⊎ (word_at round (first_of (seat_at round id).owed) ≡ Some (suc round.solving.rounds))
+  pub not_won : first_is_open round id ≡ false → 0 < times (first_of (seat_at round id).owed) (all_won round)
+  pub lawful : IsLawful (tried round id)
+
+pub try-lawful : (round : Round) → IsSolving round.solving → IsLawful round → (id : ℕ) → 0 < length (seat_at round id).owed → IsTried round id
+try-lawful round sol law id some =
+    let b = round.solving.board in
+    let v = seat_at round id in
+    let c : ℕ = first_of v.owed in
+    let k = rules_of round.solving round.width in
+    let wide = wide-owed round law id some in
+    let at = seat-there round.seats id wide in
+    let kept = kept-of round sol law in
+    let sound = sound-is round.solving sol round.width in
+    let known = first-known k (slice_index round.counts) (word_at round) round.seats id v sound kept at wide some in
+    let values' : List (Option ℕ) = set round.values c (Some (suc round.solving.rounds)) in
+    elim (tries k (slice_index round.counts) (word_at round) round.seats id v sound kept at wide some) [
+      | inl won ↦ (
+          let w = won (λ x. get_or values' x None) in
+          let opened : first_is_open round id ≡ true = ap is_none w.open_yet in
+          record {
+            is_rank = known.0;
+            word = inl w.open_yet;
+            not_won = λ e. absurd (different (first_is_open round id) opened e);
+            lawful = subst (λ (o : Bool). IsLawful (tried_as o round id)) (sym opened)
+                (lawful-of (tried_as true round id) sol law.counts_length (length-set round.values c (Some (suc round.solving.rounds)) ∙ law.values_length)
+                (w.kept (get_or-set_same round.values c (Some (suc round.solving.rounds)) None (let long = law.values_length in let low : c < configurations b = known.0 in omega arith))
+                (λ x j ne. get_or-set_other round.values c x (Some (suc round.solving.rounds)) None ne)));
+          })
+      | inr lost ↦ (
+          let shut : first_is_open round id ≡ false = ap is_none lost.has_next in
+          record {
+            is_rank = known.0;
+            word = inr lost.has_next;
+            not_won = λ e. (let all = times-together c (λ u. u.won) round.seats in let there = lost.stands in omega arith);
+            lawful = subst (λ (o : Bool). IsLawful (tried_as o round id)) (sym shut)
+                (lawful-of (tried_as false round id) sol law.counts_length law.values_length lost.kept);
+          })
+    ]
+  where
+    different : (o : Bool) → o ≡ true → o ≡ false → ⊥
+    different o e d = cc
+
+-- ---- split and join
+
+pub split-lawful : (round : Round) → IsSolving round.solving → IsLawful round → (id : ℕ) → 2 ≤ (seat_at round id).width → IsLawful (split round id)
+split-lawful round sol law id wide = lawful-of (split round id) sol law.counts_length law.values_length
+    (splits (rules_of round.solving round.width) (slice_index round.counts) (word_at round) round.seats id (seat_at round id) (kept-of round sol law) (seat-there round.seats id (omega arith)) wide)
+
+pub join-lawful : (round : Round) → IsSolving round.solving → IsLawful round → (into from : ℕ) → into ≢ from → 0 < (seat_at round into).width → 0 < (seat_at round from).width
+    → IsLawful (joined round into from)
+join-lawful round sol law into from differ wide other_wide = lawful-of (joined round into from) sol law.counts_length law.values_length
+    (joins (rules_of round.solving round.width) (slice_index round.counts) (word_at round) round.seats into from (seat_at round into) (seat_at round from) (kept-of round sol law)
+    (seat-there round.seats into wide) (seat-there round.seats from other_wide) differ wide)
+
+-- ---- the opening
+
+pub opening-lawful : (s : Solving) → IsSolving s → (width : ℕ) (counts : List ℕ) (values : List (Option ℕ)) (todo : List ℕ) → 0 < width
+    → length counts ≡ gaps s.board → length values ≡ configurations s.board
+    → AreFirstCounts s counts → AreFirstValues s values → AreToStrike s todo → IsOpening s width (opening s width counts values todo)
+opening-lawful s sol width counts values todo some_width counts_length values_length counts_are values_are to_strike = record {
+  ranks = todo;
+  to_strike = to_strike;
+  is = refl;
+  lawful = lawful-of (opening s width counts values todo) sol counts_length values_length
+      (opens (rules_of s width) (slice_index counts) (λ x. get_or values x None) todo
+      (ready-is s sol width (slice_index counts) (λ x. get_or values x None) todo some_width counts_are values_are to_strike));
+}
+
+-- ---- the end
+
+none-together : (list : PlainSeat → List ℕ) → list spent ≡ [] → (seats : List PlainSeat) → ((id : ℕ) → list (get_or seats id spent) ≡ []) → (x : ℕ) → times x (together list seats) ≡ 0
+none-together list none seats each x = times-together x list seats ∙ by seats each
+  where
+    by : (seats : List PlainSeat) → ((id : ℕ) → list (get_or seats id spent) ≡ []) → total (λ v. times x (list v)) seats ≡ 0
+    by [] each = refl
+    by (v ∷ seats) each = let here = ap (times x) (each 0) in let rest = by seats (λ id. each (suc id)) in omega arith
+
+-- with no work left, what is won is what has the next value, each once
+pub worked-off : (round : Round) → IsBoard round.solving.board → IsLawful round → IsWorkedOff round → (rank : ℕ)
+    → (times rank (all_won round) ≤ 1) × ((0 < times rank (all_won round)) ↔ IsWorth round.solving.board rank (suc round.solving.rounds))
+worked-off round board_is law off rank = (
+  law.won_once rank,
+  (
+    law.won rank,
+    λ worth.
+        let b = round.solving.board in
+        let a = arena_of b in
+        let is = arena_is b board_is in
+        let r = round.solving.rounds in
+        let i : rank < configurations b = worth.is_rank in
+        let last = lasts_of_value b board_is (suc r) rank i worth.has_value in
+        let found = next-fails a (lasts a (suc r)) rank last.1 in
+        let p : ℕ = found.0 in
+        let g : ℕ = a.gap rank p in
+        let in_gaps = is.gap_in rank p i found.1 in
+        let v : ℕ = a.place rank p in
+        let low = is.place_in rank p i found.1 in
+        let back : rank_of b (member_of b g v) ≡ rank = is.member_of_gap rank p i found.1 in
+        let at : configuration_at b rank ≡ member_of b g v = ap (configuration_at b) (sym back) ∙ at_member b g v in_gaps low in
+        let count = law.counts g in_gaps in
+        let above : count.above ≡ 0 = same_size (AnswerLasts b g (suc r)) count.above (live a (lasts a (suc r)) g) count.are_above (above-size b board_is (suc r) g in_gaps) ∙ found.2 in
+        let no_todo : (x : ℕ) → times x (all_todo round) ≡ 0 = none-together (λ u. u.todo) refl round.seats off.no_todo in
+        let no_owed : (x : ℕ) → times x (all_owed round) ≡ 0 = none-together (λ u. u.owed) refl round.seats off.no_owed in
+        let waiting : count.waiting ≡ 0 = same_size (λ label. IsAnswer b g label × (0 < times (rank_of b (member_of b g label)) (all_todo round))) count.waiting 0 count.are_waiting
+        ((size_zero (λ label. IsAnswer b g label × (0 < times (rank_of b (member_of b g label)) (all_todo round)))).1 (λ label h. let none = no_todo (rank_of b (member_of b g label)) in let some = h.1 in omega arith)) in
+        let sum = count.sum in
+        elim (law.closed g v in_gaps (omega arith) low (subst (LabellerTree b (suc r)) at (tree_of_lasts b board_is (suc r) rank i last.0))) [
+          | inl owed ↦ absurd (let none = no_owed (rank_of b (member_of b g v)) in omega arith)
+          | inr won ↦ subst (λ x. 0 < times x (all_won round)) back won
+        ],
+  ),
+)
+
+-- ---- any step
+
+pub step-lawful : (before : Round) (step : Step) (answer : Seen) (after : Round) → IsSolving before.solving → IsLawful before → Does before step answer after → IsLawful after
+step-lawful before (steps.Strike seat) (seen.Struck config closed) after sol law does =
+    let first : config ≡ first_of (seat_at before seat).todo = does.first in
+    let b = before.solving.board in
+    let done = strike-lawful before sol law seat does.pebble does.some_todo (subst (λ x. IsDominator b (configuration_at b x) does.pebble) first does.dominates) in
+    subst IsLawful (ap (struck before seat) (ap (λ x. gap_of b (configuration_at b x) does.pebble) (sym first) ∙ sym does.gap_is) ∙ sym does.after_is) done.lawful
+step-lawful before (steps.Try seat) (seen.Tried config won) after sol law does = subst IsLawful (sym does.after_is) (try-lawful before sol law seat does.some_owed).lawful
+step-lawful before (steps.Split seat) (seen.Parted new_seat) after sol law does = subst IsLawful (sym does.after_is) (split-lawful before sol law seat does.wide)
+step-lawful before (steps.Join into from) seen.Joined after sol law does = subst IsLawful (sym does.after_is) (join-lawful before sol law into from does.differ does.has_into does.has_from)
+step-lawful before (steps.Strike seat) (seen.Tried config won) after sol law does = absurd does
+step-lawful before (steps.Strike seat) (seen.Parted new_seat) after sol law does = absurd does
+step-lawful before (steps.Strike seat) seen.Joined after sol law does = absurd does
+step-lawful before (steps.Try seat) (seen.Struck config closed) after sol law does = absurd does
+step-lawful before (steps.Try seat) (seen.Parted new_seat) after sol law does = absurd does
+step-lawful before (steps.Try seat) seen.Joined after sol law does = absurd does
+step-lawful before (steps.Split seat) (seen.Struck config closed) after sol law does = absurd does
+step-lawful before (steps.Split seat) (seen.Tried config won) after sol law does = absurd does
+step-lawful before (steps.Split seat) seen.Joined after sol law does = absurd does
+step-lawful before (steps.Join into from) (seen.Struck config closed) after sol law does = absurd does
+step-lawful before (steps.Join into from) (seen.Tried config won) after sol law does = absurd does
+step-lawful before (steps.Join into from) (seen.Parted new_seat) after sol law does = absurd does
+
+-- ---- the opening as the machine has it
+
+pub opening-state : (s : Solving) → IsSolving s → (width : ℕ) (counts : List ℕ) (values : List (Option ℕ)) (seats : List PlainSeat) (todo : List ℕ) → 0 < width
+    → length counts ≡ gaps s.board → length values ≡ configurations s.board → AreFirstCounts s counts → AreFirstValues s values → AreToStrike s todo
+    → seats ≡ record { width = width; todo = todo; owed = []; won = [] } ∷ [] → IsOpening s width (round_of s width counts values seats)
+opening-state s sol width counts values seats todo some counts_length values_length counts_are values_are to_strike e =
+    subst (λ (l : List PlainSeat). IsOpening s width (round_of s width counts values l)) (sym e)
+    (opening-lawful s sol width counts values todo some counts_length values_length counts_are values_are to_strike)

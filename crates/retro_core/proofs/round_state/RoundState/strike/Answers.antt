@@ -1,0 +1,72 @@
+use Rattle.std.proofs.Common.{◌≡◌, ℕ, ◌<◌, length, arith, ap, ◌∙◌, get_or, None}
+use Rattle.std.proofs.lemmas.List.{get_or_read}
+use Rattle.positions.specs.Ranks.{configurations, configuration_at}
+use Rattle.positions.specs.Gaps.{gaps, gap_of}
+use Rattle.retro_core.proofs.Machine.{some-of, due-read, dominated, striking, count-then, count-else}
+use Rattle.retro_core.proofs.round_state.RoundState.strike.Goals.{then-count-eq1, else-count-eq1}
+use Rattle.retro_core.proofs.round_state.RoundState.strike.Goals as goal
+
+pub dominator-requires : goal.dominator-requires
+dominator-requires g c =
+    let some : 0 < length c.todo-todo.result.now = some-of _ _ c.is_empty.ensures c.if-is_empty.false in
+    (due-read _ _ _ _ _ _ c.self.view_is c.self.invariant.0 c.self.invariant.1 c.args.seat c.seat_width.result c.seat_width.ensures.value c.if-seat_width-eq0.false
+    c.index.result.now c.todo-todo.result.now c.index.ensures c.todo-todo.ensures some).worth.is_rank
+
+pub unreachable-requires : goal.unreachable-requires
+unreachable-requires g c =
+    let some : 0 < length c.todo-todo.result.now = some-of _ _ c.is_empty.ensures c.if-is_empty.false in
+    dominated _ _ _ _ _ _ c.self.view_is c.self.invariant.0 c.self.invariant.1 c.args.seat c.seat_width.result c.seat_width.ensures.value c.if-seat_width-eq0.false
+    c.index.result.now c.todo-todo.result.now c.dominator.result c.index.ensures c.todo-todo.ensures some c.dominator.ensures c.in_default.is
+
+pub gap-gap-requires-clause-rank : goal.gap-gap-requires-clause-rank
+gap-gap-requires-clause-rank g c =
+    let some : 0 < length c.todo-todo.result.now = some-of _ _ c.is_empty.ensures c.if-is_empty.false in
+    let low = (due-read _ _ _ _ _ _ c.self.view_is c.self.invariant.0 c.self.invariant.1 c.args.seat c.seat_width.result c.seat_width.ensures.value c.if-seat_width-eq0.false
+    c.index.result.now c.todo-todo.result.now c.index.ensures c.todo-todo.ensures some).worth.is_rank in
+    let same = ap configurations c.space.ensures in
+    omega arith
+
+pub overflow_sub-count : goal.overflow_sub-count
+overflow_sub-count g c =
+    let some : 0 < length c.todo-todo.result.now = some-of _ _ c.is_empty.ensures c.if-is_empty.false in
+    let config : ℕ = get_or c.todo-todo.result.now 0 0 in
+    let inside : c.gap-gap.result < length c.self.inside.counts.items =
+    (let low = c.gap-gap.ensures.below in let same = ap gaps c.space.ensures in let long = c.self.invariant.1.counts_length in omega arith) in
+    let gap_is : c.gap-gap.result ≡ gap_of c.self.inside.solver.now.board (configuration_at c.self.inside.solver.now.board config) c.in-Some.pebble =
+    c.gap-gap.ensures.gap ∙ ap (λ b. gap_of b (configuration_at b config) c.in-Some.pebble) c.space.ensures in
+    let made = striking _ _ _ _ _ _ c.self.view_is c.self.invariant.0 c.self.invariant.1 c.args.seat c.seat_width.result c.seat_width.ensures.value c.if-seat_width-eq0.false
+    c.index.result.now c.todo-todo.result.now c.in-Some.pebble c.gap-gap.result c.index-count.result.now c.index_mut.result.now c.strike.new.self None c.index.ensures c.todo-todo.ensures some
+    c.in-Some.ensures.0 gap_is (get_or_read c.self.inside.counts.items c.gap-gap.result c.index-count.result.now inside c.index-count.ensures 0) c.index_mut.ensures.value
+    (rw c.if-is_err.ensures.negation at c.strike.ensures) in
+    made.some_left
+
+pub invariant_of-self-2 : goal.invariant_of-self-2
+invariant_of-self-2 g c =
+    let some : 0 < length c.todo-todo.result.now = some-of _ _ c.is_empty.ensures c.if-is_empty.false in
+    let config : ℕ = get_or c.todo-todo.result.now 0 0 in
+    let inside : c.gap-gap.result < length c.self.inside.counts.items =
+    (let low = c.gap-gap.ensures.below in let same = ap gaps c.space.ensures in let long = c.self.invariant.1.counts_length in omega arith) in
+    let gap_is : c.gap-gap.result ≡ gap_of c.self.inside.solver.now.board (configuration_at c.self.inside.solver.now.board config) c.in-Some.pebble =
+    c.gap-gap.ensures.gap ∙ ap (λ b. gap_of b (configuration_at b config) c.in-Some.pebble) c.space.ensures in
+    let made = striking _ _ _ _ _ _ c.self.view_is c.self.invariant.0 c.self.invariant.1 c.args.seat c.seat_width.result c.seat_width.ensures.value c.if-seat_width-eq0.false
+    c.index.result.now c.todo-todo.result.now c.in-Some.pebble c.gap-gap.result c.index-count.result.now c.index_mut.result.now c.strike.new.self None c.index.ensures c.todo-todo.ensures some
+    c.in-Some.ensures.0 gap_is (get_or_read c.self.inside.counts.items c.gap-gap.result c.index-count.result.now inside c.index-count.ensures 0) c.index_mut.ensures.value
+    (rw c.if-is_err.ensures.negation at c.strike.ensures) in
+    (c.self.invariant.0, made.lawful)
+
+pub returns-clause-done : goal.returns-clause-done
+returns-clause-done g c =
+    let some : 0 < length c.todo-todo.result.now = some-of _ _ c.is_empty.ensures c.if-is_empty.false in
+    let config : ℕ = get_or c.todo-todo.result.now 0 0 in
+    let inside : c.gap-gap.result < length c.self.inside.counts.items =
+    (let low = c.gap-gap.ensures.below in let same = ap gaps c.space.ensures in let long = c.self.invariant.1.counts_length in omega arith) in
+    let gap_is : c.gap-gap.result ≡ gap_of c.self.inside.solver.now.board (configuration_at c.self.inside.solver.now.board config) c.in-Some.pebble =
+    c.gap-gap.ensures.gap ∙ ap (λ b. gap_of b (configuration_at b config) c.in-Some.pebble) c.space.ensures in
+    let made = striking _ _ _ _ _ _ c.self.view_is c.self.invariant.0 c.self.invariant.1 c.args.seat c.seat_width.result c.seat_width.ensures.value c.if-seat_width-eq0.false
+    c.index.result.now c.todo-todo.result.now c.in-Some.pebble c.gap-gap.result c.index-count.result.now c.index_mut.result.now c.strike.new.self c.if-count-eq1.closed c.index.ensures c.todo-todo.ensures some
+    c.in-Some.ensures.0 gap_is (get_or_read c.self.inside.counts.items c.gap-gap.result c.index-count.result.now inside c.index-count.ensures 0) c.index_mut.ensures.value
+    (rw c.if-is_err.ensures.negation at c.strike.ensures) in
+    made.strikes (elim c.if-count-eq1.branch [
+      | then-count-eq1 w ↦ count-then c.index-count.result.now c.gap-gap.result c.if-count-eq1.closed w.if-count-eq1.true w.closed-is
+      | else-count-eq1 w ↦ count-else c.index-count.result.now c.gap-gap.result c.if-count-eq1.closed w.if-count-eq1.false w.closed-is
+    ])

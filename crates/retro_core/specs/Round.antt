@@ -1,0 +1,231 @@
+-- A round at the value of a solver: its words and seats, when they are lawful, how it begins, and what its steps do.
+use Rattle.std.specs.Prelude.{◌≡◌, ℕ, suc, ◌+◌, ◌-◌, ◌/◌, ◌<◌, ◌≤◌, ◌↔◌, ◌⊎◌, ◌==◌, Bool, true, cond, List, [], ◌∷◌, ◌++◌, length, take, drop, filter, slice_index, slice_index_or, slice_set, Option, Some, None}
+use Rattle.std.specs.Option.{is_none}
+use Rattle.index_lists.specs.Lists.{times}
+use Rattle.board_text.specs.PlainBoard.{PlainBoard, places}
+use Rattle.positions.specs.declared.value.Value.TheVariants.{Finite}
+use Rattle.positions.specs.Game.{LabellerTree}
+use Rattle.positions.specs.Value.{HasValue}
+use Rattle.positions.specs.Ranks.{configurations, rank_of, configuration_at}
+use Rattle.positions.specs.Gaps.{gaps, member_of, IsAnswer, IsDominator}
+use Rattle.positions.specs.Counts.{HasSize}
+use Rattle.retro_core.specs.Solving.{Solving, AnswerLasts, bucket, source}
+
+-- a seat's width, and the configurations that it has to strike, that it owes, and that it has won
+pub record PlainSeat : Type 0 where
+  pub width : ℕ
+  pub todo : List ℕ
+  pub owed : List ℕ
+  pub won : List ℕ
+
+-- a round of a solver, of a width: a count for each gap, a value for each configuration that has one, and each seat that was ever made
+pub record Round : Type 0 where
+  pub solving : Solving
+  pub width : ℕ
+  pub counts : List ℕ
+  pub values : List (Option ℕ)
+  pub seats : List PlainSeat
+
+-- the round of these parts
+abbrev pub round_of : Solving → ℕ → List ℕ → List (Option ℕ) → List PlainSeat → Round
+round_of s width counts values seats = record { solving = s; width = width; counts = counts; values = values; seats = seats }
+
+-- a seat that was joined into another
+abbrev pub spent : PlainSeat
+spent = record { width = 0; todo = []; owed = []; won = [] }
+
+-- the seat of a number; a number that no seat has yet is like a spent one
+abbrev pub seat_at : Round → ℕ → PlainSeat
+seat_at round seat = slice_index_or round.seats seat spent
+
+-- a list of each seat, one after the other
+abbrev pub together : (PlainSeat → List ℕ) → List PlainSeat → List ℕ
+together list [] = []
+together list (seat ∷ seats) = list seat ++ together list seats
+
+-- what all seats have to strike
+abbrev pub all_todo : Round → List ℕ
+all_todo round = together (λ seat. seat.todo) round.seats
+
+-- what all seats owe
+abbrev pub all_owed : Round → List ℕ
+all_owed round = together (λ seat. seat.owed) round.seats
+
+-- what all seats have won
+abbrev pub all_won : Round → List ℕ
+all_won round = together (λ seat. seat.won) round.seats
+
+-- the widths, added up
+abbrev pub total_width : List PlainSeat → ℕ
+total_width [] = 0
+total_width (seat ∷ seats) = seat.width + total_width seats
+
+-- the rank is that of a configuration of this finite value
+pub record IsWorth (board : PlainBoard) (rank value : ℕ) : Type 0 where
+  pub is_rank : rank < configurations board
+  pub has_value : HasValue board (configuration_at board rank) (Finite value)
+
+-- the configurations of a value that have a dominating pebble are to be struck in a round at that value
+pub record IsDue (board : PlainBoard) (rank value : ℕ) : Type 0 where
+  pub worth : IsWorth board rank value
+  pub pebble : ℕ
+  pub dominates : IsDominator board (configuration_at board rank) pebble
+
+-- a gap's answers that lead to a value above the round's, and those that lead to what is to be struck, are so many together
+pub record IsCount (round : Round) (gap count : ℕ) : Type 0 where
+  pub above : ℕ
+  pub waiting : ℕ
+  pub are_above : HasSize (AnswerLasts round.solving.board gap (suc round.solving.rounds)) above
+  pub are_waiting : HasSize (λ label. IsAnswer round.solving.board gap label
+      × (0 < times (rank_of round.solving.board (member_of round.solving.board gap label)) (all_todo round))) waiting
+  pub sum : count ≡ above + waiting
+
+-- the words and the seats fit the values of the game
+pub record IsLawful (round : Round) : Type 0 where
+  pub counts_length : length round.counts ≡ gaps round.solving.board
+  pub values_length : length round.values ≡ configurations round.solving.board
+  -- a value is written where it is at most the round's, or where it is the next one and stands in a won list
+  pub values : (rank value : ℕ) → rank < configurations round.solving.board
+      → (slice_index_or round.values rank None ≡ Some value)
+      ↔ (((value ≤ round.solving.rounds) × HasValue round.solving.board (configuration_at round.solving.board rank) (Finite value))
+      ⊎ ((value ≡ suc round.solving.rounds) × (0 < times rank (all_won round))))
+  pub due : (rank : ℕ) → 0 < times rank (all_todo round) → IsDue round.solving.board rank round.solving.rounds
+  pub due_once : (rank : ℕ) → times rank (all_todo round) ≤ 1
+  pub counts : (gap : ℕ) → gap < gaps round.solving.board → IsCount round gap (slice_index round.counts gap)
+  pub owed : (rank : ℕ) → 0 < times rank (all_owed round) → IsWorth round.solving.board rank (suc round.solving.rounds)
+  pub won : (rank : ℕ) → 0 < times rank (all_won round) → IsWorth round.solving.board rank (suc round.solving.rounds)
+  pub won_once : (rank : ℕ) → times rank (all_won round) ≤ 1
+  -- the members of a closed gap that have no value of at most the round's are owed or won
+  pub closed : (gap label : ℕ) → gap < gaps round.solving.board → slice_index round.counts gap ≡ 0 → label < places round.solving.board
+      → LabellerTree round.solving.board (suc round.solving.rounds) (member_of round.solving.board gap label)
+      → (0 < times (rank_of round.solving.board (member_of round.solving.board gap label)) (all_owed round))
+      ⊎ (0 < times (rank_of round.solving.board (member_of round.solving.board gap label)) (all_won round))
+  pub widths : total_width round.seats ≡ round.width
+  pub spent_seats : (seat : ℕ) → (seat_at round seat).width ≡ 0 → seat_at round seat ≡ spent
+
+-- the test tells which configurations have a dominating pebble
+abbrev pub TellsDominated : PlainBoard → (ℕ → Bool) → Type 0
+TellsDominated board test = (rank : ℕ) → rank < configurations board
+    → (test rank ≡ true) ↔ ((pebble : ℕ) × IsDominator board (configuration_at board rank) pebble)
+
+-- what is to be struck at the opening: what is filed at the round's value and has a dominating pebble, in order of filing
+abbrev pub AreToStrike : Solving → List ℕ → Type 0
+AreToStrike s ranks = (test : ℕ → Bool) → TellsDominated s.board test → ranks ≡ filter test (bucket s s.rounds)
+
+-- each number is that of a gap's answers that last as long as the round's value
+abbrev pub AreFirstCounts : Solving → List ℕ → Type 0
+AreFirstCounts s counts = (gap : ℕ) → gap < gaps s.board → HasSize (AnswerLasts s.board gap s.rounds) (slice_index counts gap)
+
+-- each configuration has its value, where that is at most the round's
+abbrev pub AreFirstValues : Solving → List (Option ℕ) → Type 0
+AreFirstValues s values = (rank value : ℕ) → rank < configurations s.board
+    → (slice_index_or values rank None ≡ Some value) ↔ ((value ≤ s.rounds) × HasValue s.board (configuration_at s.board rank) (Finite value))
+
+-- the round with one seat, which has the whole width and all to strike
+abbrev pub opening : Solving → ℕ → List ℕ → List (Option ℕ) → List ℕ → Round
+opening s width counts values ranks = record {
+  solving = s;
+  width = width;
+  counts = counts;
+  values = values;
+  seats = record { width = width; todo = ranks; owed = []; won = [] } ∷ [];
+}
+
+-- one seat has the whole width and all to strike, and nothing is owed or won
+pub record IsOpening (s : Solving) (width : ℕ) (round : Round) : Type 0 where
+  pub ranks : List ℕ
+  pub to_strike : AreToStrike s ranks
+  pub is : round ≡ opening s width round.counts round.values ranks
+  pub lawful : IsLawful round
+
+-- no seat has anything to strike or owed
+pub record IsWorkedOff (round : Round) : Type 0 where
+  pub no_todo : (seat : ℕ) → (seat_at round seat).todo ≡ []
+  pub no_owed : (seat : ℕ) → (seat_at round seat).owed ≡ []
+
+-- the first of a list
+abbrev pub first_of : List ℕ → ℕ
+first_of ranks = slice_index ranks 0
+
+-- what stands behind the first of a list
+abbrev pub rest_of : List ℕ → List ℕ
+rest_of ranks = drop 1 ranks
+
+-- the seat after it struck in a gap of this count: with the last, the open members of the gap are owed
+abbrev pub seat_struck : Solving → ℕ → ℕ → PlainSeat → PlainSeat
+seat_struck s gap count seat = record {
+  width = seat.width;
+  todo = rest_of seat.todo;
+  owed = cond (count == 1) (seat.owed ++ source s gap) seat.owed;
+  won = seat.won;
+}
+
+-- the seat after it tried to win the first that it owes
+abbrev pub seat_tried : Bool → PlainSeat → PlainSeat
+seat_tried is_open seat = record {
+  width = seat.width;
+  todo = seat.todo;
+  owed = rest_of seat.owed;
+  won = cond is_open (seat.won ++ first_of seat.owed ∷ []) seat.won;
+}
+
+-- what a seat keeps of a split
+abbrev pub seat_kept : PlainSeat → PlainSeat
+seat_kept seat = record {
+  width = seat.width - seat.width / 2;
+  todo = take (length seat.todo - length seat.todo / 2) seat.todo;
+  owed = seat.owed;
+  won = seat.won;
+}
+
+-- the new seat of a split
+abbrev pub seat_new : PlainSeat → PlainSeat
+seat_new seat = record { width = seat.width / 2; todo = drop (length seat.todo - length seat.todo / 2) seat.todo; owed = []; won = [] }
+
+-- two seats as one
+abbrev pub seat_joined : PlainSeat → PlainSeat → PlainSeat
+seat_joined into from = record { width = into.width + from.width; todo = into.todo ++ from.todo; owed = into.owed ++ from.owed; won = into.won ++ from.won }
+
+-- the round after the seat struck in the gap
+abbrev pub struck : Round → ℕ → ℕ → Round
+struck round seat gap = record {
+  solving = round.solving;
+  width = round.width;
+  counts = slice_set round.counts gap (slice_index round.counts gap - 1);
+  values = round.values;
+  seats = slice_set round.seats seat (seat_struck round.solving gap (slice_index round.counts gap) (seat_at round seat));
+}
+
+-- whether the first that a seat owes has no value yet
+abbrev pub first_is_open : Round → ℕ → Bool
+first_is_open round seat = is_none (slice_index_or round.values (first_of (seat_at round seat).owed) None)
+
+-- the round after the seat tried to win the first that it owes
+abbrev pub tried : Round → ℕ → Round
+tried round seat = record {
+  solving = round.solving;
+  width = round.width;
+  counts = round.counts;
+  values = cond (first_is_open round seat) (slice_set round.values (first_of (seat_at round seat).owed) (Some (suc round.solving.rounds))) round.values;
+  seats = slice_set round.seats seat (seat_tried (first_is_open round seat) (seat_at round seat));
+}
+
+-- the round after the seat was split
+abbrev pub split : Round → ℕ → Round
+split round seat = record {
+  solving = round.solving;
+  width = round.width;
+  counts = round.counts;
+  values = round.values;
+  seats = slice_set round.seats seat (seat_kept (seat_at round seat)) ++ seat_new (seat_at round seat) ∷ [];
+}
+
+-- the round after one seat was joined into another
+abbrev pub joined : Round → ℕ → ℕ → Round
+joined round into from = record {
+  solving = round.solving;
+  width = round.width;
+  counts = round.counts;
+  values = round.values;
+  seats = slice_set (slice_set round.seats into (seat_joined (seat_at round into) (seat_at round from))) from spent;
+}

@@ -1,0 +1,282 @@
+//! A round as a pure machine, one step after the other.
+
+ghost use Rattle.std.specs.Prelude.{◌≡◌, ℕ, ◌+◌, ◌<◌, ◌≤◌, ◌↔◌, false, [], length, filter, slice_index, slice_index_or, None, Some, IfOk, IfErr, IfSome, IsTrue};
+ghost use Rattle.positions.specs.Ranks.{configurations};
+ghost use Rattle.positions.specs.Gaps.{gaps};
+ghost use Rattle.retro_core.specs.Solving.{IsSolving, bucket};
+ghost use Rattle.retro_core.specs.Round.{seat_at, spent, AreFirstCounts, AreFirstValues, AreToStrike, IsOpening, IsLawful};
+ghost use Rattle.retro_core.specs.Stepping.{Does, Refuses};
+
+use crate::seat::Seat;
+use crate::solver::Solver;
+use crate::step::{Seen, Step, StepFault};
+use board_text::Memory;
+use index_lists::ListStore;
+use std::alloc::Global;
+use std::marker::Model;
+use std::mem;
+
+/// A round of a solver in which seats make one step after the other, in any order.
+///
+/// Seats have numbers in the order in which they were made. The first has all to strike and the whole width.
+/// Contracts see the words of the round and all its seats; whatever the steps were, these are lawful.
+#[derive(Drop)]
+pub struct RoundState<'a, S: ListStore> {
+    alloc: Global,
+    solver: &'a Solver<S>,
+    width: u32,
+    counts: Vec<u32>,
+    values: Vec<Option<u32>>,
+    seats: Vec<Seat>,
+}
+
+impl<'a, S: ListStore> Model for RoundState<'a, S> {
+    ghost use Rattle.retro_core.specs.Solving.{IsSolving};
+    ghost use Rattle.retro_core.specs.Round.{Round, IsLawful, round_of};
+
+    ghost Value = { Round };
+
+    ghost view = { λ s. round_of s.solver.now s.width s.counts.items s.values.items s.seats.items };
+
+    ghost invariant = { λ s. IsSolving s.solver.now × IsLawful (round_of s.solver.now s.width s.counts.items s.values.items s.seats.items) };
+}
+
+impl<'a, S: ListStore> RoundState<'a, S> {
+    /// The opening of a round at the value of a solver.
+    pub fn open(
+        alloc: Global,
+        solver: &'a Solver<S>,
+        width: u32,
+    ) -> Result<RoundState<'a, S>, Memory>
+        requires going { solver.now.is_done ≡ false }
+        requires some_width { 0 < width }
+        ensures { IfOk result (λ round. IsOpening solver.now width round) }
+    {
+        let _ = solver.round_number();
+        let counts = first_counts(alloc, solver)?;
+        let values = first_values(alloc, solver)?;
+        let todo = to_strike(alloc, solver)?;
+        let mut seats = Vec::with_capacity(alloc, 1)?;
+        if seats.push(Seat::first(alloc, width, todo)).is_err() {
+            return Err(Memory);
+        }
+        Ok(RoundState {
+            alloc,
+            solver,
+            width,
+            counts,
+            values,
+            seats,
+        })
+    }
+
+    /// Makes a step, or tells the first reason why it can't be made and leaves all as it was.
+    pub fn apply(&mut self, step: Step) -> Result<Seen, StepFault>
+        ensures done { IfOk result (λ seen. Does self.old step seen self.new) }
+        ensures refused { IfErr result (λ fault. Refuses self.old step fault × (self.new ≡ self.old)) }
+        ensures lawful { IsLawful self.new }
+    {
+        let answer = match step {
+            Step::Strike(seat) => self.strike(seat),
+            Step::Try(seat) => self.settle(seat),
+            Step::Split(seat) => self.split(seat),
+            Step::Join { into, from } => self.join(into, from),
+        };
+        let _ = self.seat_width(0);
+        answer
+    }
+
+    fn strike(&mut self, seat: usize) -> Result<Seen, StepFault>
+        ensures done { IfOk result (λ seen. Does self.old (Step.Strike seat) seen self.new) }
+        ensures refused { IfErr result (λ fault. Refuses self.old (Step.Strike seat) fault × (self.new ≡ self.old)) }
+    {
+        let _ = self.solver.round_number();
+        if self.seat_width(seat) == 0 {
+            return Err(StepFault::NoSuchSeat);
+        }
+        let todo = self.seats[seat].todo();
+        if todo.is_empty() {
+            return Err(StepFault::NothingToStrike);
+        }
+        let config = todo[0];
+        let Some(pebble) = self.solver.dominator(config) else {
+            unreachable!()
+        };
+        let gap = self.solver.space().gap(config, pebble);
+        let count = self.counts[gap as usize];
+        if self.seats[seat].strike(self.solver, gap, count).is_err() {
+            return Err(StepFault::Memory);
+        }
+        self.counts[gap as usize] = count - 1;
+        let closed = if count == 1 { Some(gap) } else { None };
+        Ok(Seen::Struck { config, closed })
+    }
+
+    fn settle(&mut self, seat: usize) -> Result<Seen, StepFault>
+        ensures done { IfOk result (λ seen. Does self.old (Step.Try seat) seen self.new) }
+        ensures refused { IfErr result (λ fault. Refuses self.old (Step.Try seat) fault × (self.new ≡ self.old)) }
+    {
+        let next = self.solver.round_number() + 1;
+        if self.seat_width(seat) == 0 {
+            return Err(StepFault::NoSuchSeat);
+        }
+        let owed = self.seats[seat].owed();
+        if owed.is_empty() {
+            return Err(StepFault::NothingOwed);
+        }
+        let config = owed[0];
+        let won = self.values[config as usize].is_none();
+        if self.seats[seat].settle(won).is_err() {
+            return Err(StepFault::Memory);
+        }
+        if won {
+            self.values[config as usize] = Some(next);
+        }
+        Ok(Seen::Tried { config, won })
+    }
+
+    fn split(&mut self, seat: usize) -> Result<Seen, StepFault>
+        ensures done { IfOk result (λ seen. Does self.old (Step.Split seat) seen self.new) }
+        ensures refused { IfErr result (λ fault. Refuses self.old (Step.Split seat) fault × (self.new ≡ self.old)) }
+    {
+        let width = self.seat_width(seat);
+        if width == 0 {
+            return Err(StepFault::NoSuchSeat);
+        }
+        if width == 1 {
+            return Err(StepFault::TooNarrow);
+        }
+        let Ok(half) = self.seats[seat].new_half(self.alloc) else {
+            return Err(StepFault::Memory);
+        };
+        let new_seat = self.seats.len();
+        if self.seats.push(half).is_err() {
+            return Err(StepFault::Memory);
+        }
+        self.seats[seat].keep_half();
+        Ok(Seen::Parted { seat: new_seat })
+    }
+
+    fn join(&mut self, into: usize, from: usize) -> Result<Seen, StepFault>
+        ensures done { IfOk result (λ seen. Does self.old (Step.Join into from) seen self.new) }
+        ensures refused { IfErr result (λ fault. Refuses self.old (Step.Join into from) fault × (self.new ≡ self.old)) }
+    {
+        if self.seat_width(into) == 0 || self.seat_width(from) == 0 || into == from {
+            return Err(StepFault::NoSuchSeat);
+        }
+        let other = mem::replace(&mut self.seats[from], Seat::spent(self.alloc));
+        if self.seats[into].absorb(&other).is_err() {
+            self.seats[from] = other;
+            return Err(StepFault::Memory);
+        }
+        Ok(Seen::Joined)
+    }
+
+    /// The width of a seat, 0 for one that was joined into another and for a number that no seat has.
+    fn seat_width(&self, seat: usize) -> u32
+        ensures value { result ≡ (seat_at self.now seat).width }
+        ensures solving { IsSolving self.now.solving }
+        ensures lawful { IsLawful self.now }
+    {
+        if seat < self.seats.len() {
+            self.seats[seat].width()
+        } else {
+            0
+        }
+    }
+
+    /// What a seat has to strike.
+    pub fn todo(&self, seat: usize) -> &[u32]
+        requires { seat < length self.now.seats }
+        ensures { result.now ≡ (seat_at self.now seat).todo }
+    {
+        self.seats[seat].todo()
+    }
+
+    /// What a seat owes.
+    pub fn owed(&self, seat: usize) -> &[u32]
+        requires { seat < length self.now.seats }
+        ensures { result.now ≡ (seat_at self.now seat).owed }
+    {
+        self.seats[seat].owed()
+    }
+
+    /// What a seat has won.
+    pub fn won(&self, seat: usize) -> &[u32]
+        requires { seat < length self.now.seats }
+        ensures { result.now ≡ (seat_at self.now seat).won }
+    {
+        self.seats[seat].won()
+    }
+
+    /// The width of a seat, 0 for one that was joined into another.
+    pub fn width(&self, seat: usize) -> u32
+        requires { seat < length self.now.seats }
+        ensures value { result ≡ (seat_at self.now seat).width }
+        ensures solving { IsSolving self.now.solving }
+        ensures lawful { IsLawful self.now }
+    {
+        self.seats[seat].width()
+    }
+
+    /// How many answers of a gap lead above the round's value or to what is to be struck.
+    pub fn count_of(&self, gap: u32) -> u32
+        requires { gap < gaps self.now.solving.board }
+        ensures { result ≡ slice_index self.now.counts gap }
+    {
+        self.counts[gap as usize]
+    }
+
+    /// The value of a configuration, if it has one of at most the round's or has won the next one.
+    pub fn value_at(&self, rank: u32) -> Option<u32>
+        requires { rank < configurations self.now.solving.board }
+        ensures { result ≡ slice_index_or self.now.values rank None }
+    {
+        self.values[rank as usize]
+    }
+}
+
+/// The count of each gap at the opening.
+fn first_counts<S: ListStore>(alloc: Global, solver: &Solver<S>) -> Result<Vec<u32>, Memory>
+    requires { solver.now.is_done ≡ false }
+    ensures size { IfOk result (λ counts. length counts.items ≡ gaps solver.now.board) }
+    ensures counted { IfOk result (λ counts. AreFirstCounts solver.now counts.items) }
+{
+    let mut counts = Vec::new(alloc);
+    for gap in 0..solver.space().gaps() {
+        if counts.push(solver.count_of(gap)).is_err() {
+            return Err(Memory);
+        }
+    }
+    Ok(counts)
+}
+
+/// The value of each configuration at the opening.
+fn first_values<S: ListStore>(alloc: Global, solver: &Solver<S>) -> Result<Vec<Option<u32>>, Memory>
+    ensures size { IfOk result (λ values. length values.items ≡ configurations solver.now.board) }
+    ensures values { IfOk result (λ values. AreFirstValues solver.now values.items) }
+{
+    let mut values = Vec::new(alloc);
+    for rank in 0..solver.space().configurations() {
+        if values.push(solver.value_at(rank)).is_err() {
+            return Err(Memory);
+        }
+    }
+    Ok(values)
+}
+
+/// What is to be struck at the opening.
+fn to_strike<S: ListStore>(alloc: Global, solver: &Solver<S>) -> Result<Vec<u32>, Memory>
+    ensures { IfOk result (λ ranks. AreToStrike solver.now ranks.items) }
+{
+    let round = solver.round_number();
+    let mut ranks = Vec::new(alloc);
+    let mut at = solver.first_filed(round);
+    while let Some(rank) = at {
+        if solver.dominator(rank).is_some() && ranks.push(rank).is_err() {
+            return Err(Memory);
+        }
+        at = solver.next_filed(rank);
+    }
+    Ok(ranks)
+}

@@ -1,0 +1,163 @@
+//! A seat of a round.
+
+ghost use Rattle.std.specs.Prelude.{◌≡◌, ◌+◌, ◌++◌, ◌^◌, ◌<◌, ◌≤◌, [], length, is_ok, if◌then◌else◌, IfOk};
+ghost use Rattle.positions.specs.Gaps.{gaps};
+ghost use Rattle.retro_core.specs.Solving.{source};
+ghost use Rattle.retro_core.specs.Round.{spent, seat_struck, seat_tried, seat_kept, seat_new, seat_joined};
+
+use crate::queue::Queue;
+use crate::solver::Solver;
+use board_text::Memory;
+use index_lists::ListStore;
+use std::alloc::Global;
+use std::marker::Model;
+
+/// A share of a round: a width, and what is to strike, owed and won.
+#[derive(Drop)]
+pub(crate) struct Seat {
+    width: u32,
+    todo: Queue,
+    owed: Queue,
+    won: Vec<u32>,
+}
+
+impl Model for Seat {
+    ghost use Rattle.retro_core.specs.Round.{PlainSeat};
+
+    ghost Value = { PlainSeat };
+
+    ghost view = { λ s. record { width = s.width; todo = s.todo; owed = s.owed; won = s.won.items } };
+}
+
+impl Seat {
+    /// A seat with all of a round's width, and with this to strike.
+    pub(crate) fn first(alloc: Global, width: u32, todo: Vec<u32>) -> Seat
+        ensures { result ≡ record { width = width; todo = todo.items; owed = []; won = [] } }
+    {
+        Seat {
+            width,
+            todo: Queue::of(todo),
+            owed: Queue::of(Vec::new(alloc)),
+            won: Vec::new(alloc),
+        }
+    }
+
+    /// A seat with nothing.
+    pub(crate) fn spent(alloc: Global) -> Seat
+        ensures { result ≡ spent }
+    {
+        Seat::first(alloc, 0, Vec::new(alloc))
+    }
+
+    pub(crate) fn width(&self) -> u32
+        ensures { result ≡ self.now.width }
+    {
+        self.width
+    }
+
+    pub(crate) fn todo(&self) -> &[u32]
+        ensures { result.now ≡ self.now.todo }
+    {
+        self.todo.as_slice()
+    }
+
+    pub(crate) fn owed(&self) -> &[u32]
+        ensures { result.now ≡ self.now.owed }
+    {
+        self.owed.as_slice()
+    }
+
+    pub(crate) fn won(&self) -> &[u32]
+        ensures { result.now ≡ self.now.won }
+    {
+        &self.won
+    }
+
+    /// Takes off the first that is to strike, and owes the open members of its gap where that had this count left.
+    pub(crate) fn strike<S: ListStore>(
+        &mut self,
+        solver: &Solver<S>,
+        gap: u32,
+        count: u32,
+    ) -> Result<(), Memory>
+        requires some { 0 < length self.old.todo }
+        requires gap { gap < gaps solver.now.board }
+        ensures { self.new ≡ (if is_ok result then seat_struck solver.now gap count self.old else self.old) }
+    {
+        if count == 1 {
+            owe_members(&mut self.owed, solver, gap)?;
+        }
+        self.todo.take_first();
+        Ok(())
+    }
+
+    /// Takes off the first that is owed, and wins it if it is open.
+    pub(crate) fn settle(&mut self, is_open: bool) -> Result<(), Memory>
+        requires { 0 < length self.old.owed }
+        ensures { self.new ≡ (if is_ok result then seat_tried is_open self.old else self.old) }
+    {
+        let first = self.owed.as_slice()[0];
+        if is_open && self.won.push(first).is_err() {
+            return Err(Memory);
+        }
+        self.owed.take_first();
+        Ok(())
+    }
+
+    /// What goes to a new seat when this one is split.
+    pub(crate) fn new_half(&self, alloc: Global) -> Result<Seat, Memory>
+        ensures { IfOk result (λ seat. seat ≡ seat_new self.now) }
+    {
+        let todo = self.todo.as_slice();
+        let half = Vec::from_slice(alloc, &todo[todo.len() - todo.len() / 2..])?;
+        Ok(Seat::first(alloc, self.width / 2, half))
+    }
+
+    /// Keeps what stays when this seat is split.
+    pub(crate) fn keep_half(&mut self)
+        ensures { self.new ≡ seat_kept self.old }
+    {
+        let count = self.todo.len();
+        self.todo.truncate(count - count / 2);
+        self.width -= self.width / 2;
+    }
+
+    /// Takes over all that another seat has.
+    pub(crate) fn absorb(&mut self, other: &Seat) -> Result<(), Memory>
+        requires { self.old.width + other.now.width < 2 ^ 32 }
+        ensures { self.new ≡ (if is_ok result then seat_joined self.old other.now else self.old) }
+    {
+        let todo = self.todo.len();
+        let owed = self.owed.len();
+        self.todo.append(other.todo.as_slice())?;
+        if self.owed.append(other.owed.as_slice()).is_err() {
+            self.todo.truncate(todo);
+            return Err(Memory);
+        }
+        if self.won.extend_from_slice(&other.won).is_err() {
+            self.owed.truncate(owed);
+            self.todo.truncate(todo);
+            return Err(Memory);
+        }
+        self.width += other.width;
+        Ok(())
+    }
+}
+
+/// Appends the open members of a gap.
+fn owe_members<S: ListStore>(owed: &mut Queue, solver: &Solver<S>, gap: u32) -> Result<(), Memory>
+    requires { gap < gaps solver.now.board }
+    ensures { owed.new ≡ (if is_ok result then owed.old ++ source solver.now gap else owed.old) }
+{
+    let _ = solver.round_number();
+    let before = owed.len();
+    let mut at = solver.first_source(gap);
+    while let Some(rank) = at {
+        if owed.push(rank).is_err() {
+            owed.truncate(before);
+            return Err(Memory);
+        }
+        at = solver.next_source(gap, rank);
+    }
+    Ok(())
+}

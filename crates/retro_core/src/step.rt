@@ -1,0 +1,49 @@
+//! The steps of a round.
+
+use thiserror::Error;
+
+/// A step of a seat, or of two seats. Seats have numbers in the order in which they were made, from 0.
+#[derive(Clone, Copy, Debug, PartialEq, Eq)]
+pub enum Step {
+    /// The seat strikes the first configuration that it has to strike.
+    Strike(usize),
+    /// The seat tries to win the first configuration that it owes.
+    Try(usize),
+    /// The seat gives half of its width and of what it has to strike to a new seat.
+    Split(usize),
+    /// The seat `from` gives all that it has to the seat `into`, and is no seat any more.
+    Join { into: usize, from: usize },
+}
+
+/// What a step did.
+#[derive(Clone, Copy, Debug, PartialEq, Eq)]
+pub enum Seen {
+    /// A configuration was struck; and where that was the last live answer of a gap, the gap, whose open members are now owed.
+    Struck { config: u32, closed: Option<u32> },
+    /// A configuration that was owed is won, or was won before.
+    Tried { config: u32, won: bool },
+    /// The new seat.
+    Parted { seat: usize },
+    /// The two seats are one.
+    Joined,
+}
+
+/// Why a step was not done. The first that holds is answered.
+#[derive(Clone, Copy, Debug, Error, PartialEq, Eq)]
+pub enum StepFault {
+    /// A number is that of no seat, or both are the same.
+    #[error("no such seat")]
+    NoSuchSeat,
+    /// A seat of width 1 can't be split.
+    #[error("seat too narrow")]
+    TooNarrow,
+    /// The seat has nothing to strike.
+    #[error("nothing to strike")]
+    NothingToStrike,
+    /// The seat owes nothing.
+    #[error("nothing owed")]
+    NothingOwed,
+    /// A growth of memory was refused.
+    #[error("out of memory")]
+    Memory,
+}
