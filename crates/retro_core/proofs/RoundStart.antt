@@ -15,7 +15,7 @@ use Rattle.retro_core.specs.Arena.{Arena, IsArena, count_below, live, lasts}
 use Rattle.retro_core.specs.BoardArena.{arena_of}
 use Rattle.retro_core.specs.Solving.{Solving, IsSolving, AnswerLasts, bucket, source}
 use Rattle.retro_core.specs.Round.{IsWorth, IsDue, TellsDominated, AreToStrike}
-use Rattle.retro_core.specs.Rules.{tally, home_among, value_before, rules_of, IsStruckIn, IsToWin, AreSound, AreReady}
+use Rattle.retro_core.specs.Rules.{tally, home_among, has_home, value_before, rules_of, IsStruckIn, IsToWin, AreSound, AreReady}
 use Rattle.retro_core.proofs.Lasting.{true_or_false, true_not_false, same_is, differ_is, lasts-less, lasts-at-most, next-gives, next-closed, next-fails}
 use Rattle.retro_core.proofs.BoardArenas.{arena_is, at_member, tree_of_lasts, lasts_of_tree, value_of_lasts, lasts_of_value, dominant_is}
 use Rattle.retro_core.proofs.Entered.{live-size}
@@ -178,10 +178,6 @@ sound-is s sol width = record {
 }
 
 -- ---- before the first step
-
--- whether a configuration is struck in a gap
-abbrev pub has_home : PlainBoard → ℕ → Bool
-has_home b rank = not (home_among (arena_of b) rank b.pebbles == gaps b)
 
 pub has-home-tells : (b : PlainBoard) → IsBoard b → TellsDominated b (has_home b)
 has-home-tells b board_is rank i =

@@ -8,3 +8,4 @@ pub mod Round
 pub mod Rules
 pub mod Stepping
 pub mod Words
+pub mod Ending

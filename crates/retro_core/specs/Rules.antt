@@ -1,6 +1,7 @@
 -- A round by numbers alone: what it takes from the game, and what its steps keep.
-use Rattle.std.specs.Prelude.{◌≡◌, ℕ, zero, suc, ◌+◌, ◌<◌, ◌≤◌, ◌==◌, cond, List, [], ◌∷◌, Option, Some, None, slice_get}
+use Rattle.std.specs.Prelude.{◌≡◌, ℕ, zero, suc, ◌+◌, ◌<◌, ◌≤◌, ◌==◌, not, Bool, cond, List, [], ◌∷◌, Option, Some, None, slice_get}
 use Rattle.index_lists.specs.Lists.{times}
+use Rattle.board_text.specs.PlainBoard.{PlainBoard}
 use Rattle.positions.specs.Ranks.{configurations}
 use Rattle.positions.specs.Gaps.{gaps}
 use Rattle.retro_core.specs.Arena.{Arena, count_below, live, lasts}
@@ -81,6 +82,10 @@ pub record AreKept (k : Rules) (count : ℕ → ℕ) (value : ℕ → Option ℕ
 abbrev pub home_among : Arena → ℕ → ℕ → ℕ
 home_among a rank zero = a.gaps
 home_among a rank (suc pebble) = cond (a.is_answer (a.gap rank pebble) (a.place rank pebble)) (a.gap rank pebble) (home_among a rank pebble)
+
+-- whether a configuration is struck in a gap
+abbrev pub has_home : PlainBoard → ℕ → Bool
+has_home b rank = not (home_among (arena_of b) rank b.pebbles == gaps b)
 
 -- the value of a configuration, if it is at most the round's: how often it lasts one request more
 abbrev pub value_before : Arena → ℕ → ℕ → Option ℕ

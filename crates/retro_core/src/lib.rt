@@ -2,6 +2,7 @@
 #![tactic(auto)]
 
 mod answering;
+mod end;
 mod fault;
 mod laws_of_rounds;
 mod members;
@@ -17,6 +18,7 @@ mod step;
 mod tables;
 mod values;
 
+pub use end::RoundEnd;
 pub use fault::SolveFault;
 pub use laws_of_rounds::{
     rounds_open_lawfully, steps_keep_rounds_lawful, worked_off_rounds_have_won_all,

@@ -1,0 +1,99 @@
+-- What a seat may still owe, after each step, and how many members a gap has.
+use Rattle.std.proofs.Common.{◌≡◌, ℕ, zero, suc, ◌+◌, ◌-◌, ◌*◌, ◌/◌, ◌<◌, ◌≤◌, List, [], ◌∷◌, ◌++◌, length, take, drop, refl, ap, ◌∙◌, arith, inl, inr, length-append, length-take, length-drop, mul-le-mul_left}
+use mathlib.Core.Logic.{dite}
+use native.Mathlib.Decide.{ℕ_discrete}
+use Rattle.board_text.specs.PlainBoard.{places}
+use Rattle.board_text.proofs.Places.{some_places, few_places}
+use Rattle.index_lists.specs.Lists.{times, without_node}
+use Rattle.index_lists.proofs.Times.{cond_same, cond_other, times-without_same, times-without_other, length-without, times-here}
+use Rattle.positions.specs.Ranks.{configurations, rank_of}
+use Rattle.positions.specs.Gaps.{gaps, member_of}
+use Rattle.retro_core.specs.Solving.{Solving, IsSolving, source}
+use Rattle.retro_core.specs.Round.{rest_of}
+use Rattle.retro_core.proofs.Lasting.{same_or_not}
+use Rattle.retro_core.proofs.RoundLaws.{source-once}
+use Rattle.claim_round.specs.Shared.{Key, View, most, size, load, struck, claimed, kept_part, new_part, joined}
+
+-- ---- how many members a gap has
+
+-- a list without doubles, each of which is f of a number below n, has at most n entries
+covered : (n : ℕ) (f : ℕ → ℕ) (xs : List ℕ) → ((x : ℕ) → times x xs ≤ 1) → ((x : ℕ) → 0 < times x xs → (v : ℕ) × (v < n) × (x ≡ f v)) → length xs ≤ n
+covered zero f [] once from = omega arith
+covered zero f (x ∷ xs) once from = absurd (let found = from x (times-here x x xs refl) in let low : found.0 < 0 = found.1 in omega arith)
+covered (suc n) f xs once from =
+    let ys = without_node (f n) xs in
+    let less = length-without (f n) xs in
+    let top = once (f n) in
+    let none = times-without_same (f n) xs in
+    let rest = covered n f ys
+    (λ x. elim (same_or_not x (f n)) [
+      | inl e ↦ (let z : times x ys ≡ 0 = ap (λ m. times m ys) e ∙ none in omega arith)
+      | inr ne ↦ (let z = times-without_other (f n) x xs ne in let o = once x in omega arith)
+    ])
+    (λ x there. elim (same_or_not x (f n)) [
+      | inl e ↦ absurd (let z : times x ys ≡ 0 = ap (λ m. times m ys) e ∙ none in omega arith)
+      | inr ne ↦ (
+          let z = times-without_other (f n) x xs ne in
+          let found = from x (omega arith) in
+          elim (same_or_not found.0 n) [
+            | inl last ↦ absurd (ne (found.2 ∙ ap f last))
+            | inr before ↦ (found.0, (let low : found.0 < suc n = found.1 in omega arith), found.2)
+          ])
+    ]) in
+    omega arith
+
+pub few_members : (s : Solving) → IsSolving s → (gap : ℕ) → gap < gaps s.board → length (source s gap) ≤ places s.board
+few_members s sol gap i = covered (places s.board) (λ v. rank_of s.board (member_of s.board gap v)) (source s gap) (source-once s sol gap i) (λ rank. sol.sources.members gap rank i)
+
+-- ---- numbers that fit
+
+pub some_most : (k : Key) → IsSolving k.solving → 0 < most k
+some_most k sol = let some = some_places k.solving.board sol.is_board in omega arith
+
+pub narrow : (k : Key) → IsSolving k.solving → most k * size k < 4294967296
+narrow k sol =
+    let a : most k * size k ≤ most k * 1048576 = mul-le-mul_left (most k) sol.few in
+    let p : most k ≤ 257 = few_places k.solving.board sol.is_board in
+    omega arith
+
+-- ---- loads
+
+times_one_more : (m n : ℕ) → m * (1 + n) ≡ m + m * n
+times_one_more m n = grind arith
+
+times_sum : (m a b : ℕ) → m * (a + b) ≡ m * a + m * b
+times_sum m a b = grind arith
+
+pub length_rest : (xs : List ℕ) → 0 < length xs → length xs ≡ 1 + length (rest_of xs)
+length_rest [] some = absurd (omega arith)
+length_rest (x ∷ xs) some = omega arith
+
+pub load_struck : (most : ℕ) (v : View) (gap n : ℕ) → 0 < length v.has.todo → length (source v.key.solving gap) ≤ most → load most (struck v gap n) ≤ load most v
+load_struck most v gap n some few =
+    let more : List ℕ = source v.key.solving gap in
+    let l = ap (λ (i : ℕ). most * i) (length_rest v.has.todo some) ∙ times_one_more most (length (rest_of v.has.todo)) in
+    dite (ℕ_discrete n 1)
+    (λ e. let o = ap length (cond_same n 1 (v.has.owed ++ more) v.has.owed e) ∙ length-append v.has.owed more in omega arith)
+    (λ ne. let o = ap length (cond_other n 1 (v.has.owed ++ more) v.has.owed ne) in omega arith)
+
+pub load_claimed : (most : ℕ) (v : View) (n : ℕ) → load most (claimed v n) ≤ load most v
+load_claimed most v n = let l = length-drop 1 v.has.owed in omega arith
+
+pub load_cut : (most : ℕ) (v : View) → load most (kept_part v) + load most (new_part v) ≡ load most v
+load_cut most v =
+    let n : ℕ = length v.has.todo - length v.has.todo / 2 in
+    let a : length (take n v.has.todo) ≡ n = length-take n v.has.todo ∙ (omega arith) in
+    let b : length (drop n v.has.todo) ≡ length v.has.todo / 2 = length-drop n v.has.todo ∙ (omega arith) in
+    let s = times_sum most (length (take n v.has.todo)) (length (drop n v.has.todo)) in
+    let t = ap (λ (i : ℕ). most * i) (let u : length (take n v.has.todo) + length (drop n v.has.todo) ≡ length v.has.todo = omega arith in u) in
+    omega arith
+
+pub load_glue : (most : ℕ) (v u : View) → load most (joined v u) ≡ load most v + load most u
+load_glue most v u =
+    let o = length-append v.has.owed u.has.owed in
+    let t = ap (λ (i : ℕ). most * i) (length-append v.has.todo u.has.todo) ∙ times_sum most (length v.has.todo) (length u.has.todo) in
+    omega arith
+
+-- a board of which some configuration has a value has some configuration
+pub some_gaps : (k : Key) → k.solving.rounds < configurations k.solving.board → 0 < size k
+some_gaps k below = omega arith

@@ -1,0 +1,66 @@
+use Rattle.std.proofs.Common.{◌≡◌, ℕ, ◌*◌, ◌≤◌, inl, inr, ⊎_elim, List, ◌++◌, length, ap, sym, subst, refl, ◌∙◌, arith, rules, mul-le-mul_left}
+use Rattle.std.specs.Prelude.{vec_capacity}
+use Rattle.std.specs.VecDeque.{deque_capacity}
+use Rattle.board_text.specs.PlainBoard.{places}
+use Rattle.positions.specs.Ranks.{configurations}
+use Rattle.retro_core.specs.Round.{AreToStrike}
+use Rattle.claim_round.specs.Shared.{Key, View, opening, most, size}
+use Rattle.claim_round.specs.Openings.{AreFirstWords}
+use Rattle.claim_round.proofs.Loads.{narrow}
+use Rattle.claim_round.proofs.Openings.{ranks_due, opened}
+use Rattle.claim_round.proofs.Seats.{first_seat}
+use Rattle.claim_round.proofs.round.SharedRound.open.Goals as goal
+
+pub overflow_mul-most : goal.overflow_mul-most
+overflow_mul-most g c =
+    let s = c.args.solver.now in
+    let k : Key = record { solving = s; width = c.args.width } in
+    let sol = c.round_number.ensures.kept in
+    let all = ranks_due s c.in_ok-ranks.ranks.items sol c.in_ok-ranks.ensures in
+    let len : c.len-2.result ≡ length c.in_ok-ranks.ranks.items = c.len-2.ensures ∙ c.in_ok-ranks.ranks.ok.0 in
+    let most_is : c.places-most.result ≡ most k = c.places-most.ensures.value ∙ ap places c.space.ensures in
+    let m : most k * length c.in_ok-ranks.ranks.items ≤ most k * size k = mul-le-mul_left (most k) all.few in
+    let n = narrow k sol in
+    let e : c.places-most.result * c.len-2.result ≡ most k * length c.in_ok-ranks.ranks.items = ap (λ (p : ℕ × ℕ). p.0 * p.1) (λ j. (most_is j, len j)) in
+    omega arith
+
+pub of_words-requires : goal.of_words-requires
+of_words-requires g c =
+    let s = c.args.solver.now in
+    opened s c.args.width c.as_slice-2.result.now c.in_ok-ranks.ranks.items c.round_number.ensures.kept c.requires.some_width
+    (subst (λ (l : List ℕ). AreFirstWords s l (configurations s.board)) (sym c.as_slice-2.ensures.value) c.in_ok-words.ensures) c.in_ok-ranks.ensures
+
+pub invariant_of-seat : goal.invariant_of-seat
+invariant_of-seat g c =
+    let s = c.args.solver.now in
+    let k : Key = record { solving = s; width = c.args.width } in
+    let sol = c.round_number.ensures.kept in
+    let e = c.in_ok-table.ensures in
+    let todo_is : c.append.new.list.items ≡ c.in_ok-ranks.ranks.items =
+    c.append.ensures.items ∙ ap (λ (l : List ℕ). l ++ c.as_slice.result.now) (c.reserve.ensures.items ∙ c.new-todo.ensures.items) ∙ c.as_slice.ensures.value in
+    let most_is : c.places-most.result ≡ most k = c.places-most.ensures.value ∙ ap places c.space.ensures in
+    let len : c.len-2.result ≡ length c.append.new.list.items = c.len-2.ensures ∙ c.in_ok-ranks.ranks.ok.0 ∙ sym (ap length todo_is) in
+    let product : c.places-most.result * c.len-2.result ≡ most k * length c.append.new.list.items = ap (λ (p : ℕ × ℕ). p.0 * p.1) (λ j. (most_is j, len j)) in
+    let room : c.places-most.result ≤ deque_capacity c.reserve-2.new.self = search rules in
+    let full : c.places_for.result ≤ vec_capacity c.in_ok-won.won = search rules in
+    first_seat _ k sol (ap (λ m. m.0) e.4) (ap (λ m. m.1) e.4) (subst (AreToStrike s) (sym todo_is) c.in_ok-ranks.ensures) (c.reserve-2.ensures.items ∙ c.new-owed.ensures.items) (omega arith)
+    c.in_ok-won.ensures.items (⊎_elim (λ a. inl (omega arith)) (λ b. inr (omega arith)) c.places_for.ensures) refl
+
+pub returns : goal.returns
+returns g c =
+    let s = c.args.solver.now in
+    let k : Key = record { solving = s; width = c.args.width } in
+    let sol = c.round_number.ensures.kept in
+    let e = c.in_ok-table.ensures in
+    let view : c.in_ok-table.seat.me.0 ≡ opening k = ap (λ m. m.0) e.4 in
+    record {
+      key_is = e.5;
+      table_is = e.2;
+      seat_key = ap (λ (v : View). v.key) view;
+      to_strike = subst (AreToStrike s) ((ranks_due s c.in_ok-ranks.ranks.items sol c.in_ok-ranks.ensures).is ∙ sym (ap (λ (v : View). v.has.todo) view)) c.in_ok-ranks.ensures;
+      no_owed = ap (λ (v : View). v.has.owed) view;
+      no_won = ap (λ (v : View). v.has.won) view;
+      wide = ap (λ (v : View). v.has.width) view;
+      no_lost = ap (λ (v : View). v.lost) view;
+      no_shut = ap (λ (v : View). v.shut) view;
+    }

@@ -1,0 +1,19 @@
+-- What a round's fields are, beside what a clause sees of it.
+use Rattle.std.specs.Prelude.{◌≡◌, ◌+◌, ◌^◌, ◌<◌}
+use Rattle.atomic_table.specs.Seated.{TableId}
+use Rattle.positions.specs.Ranks.{configurations}
+use Rattle.positions.specs.Gaps.{gaps}
+use Rattle.retro_core.specs.Solving.{IsSolving}
+use Rattle.claim_round.specs.Shared.{Key, RoundId}
+
+-- the table's key is what the round was opened with, and the table has a word for each gap and each configuration
+pub record IsRound (given key : Key) (table : TableId) : Type 0 where
+  pub key_is : key ≡ given
+  pub words : table.words ≡ gaps key.solving.board + configurations key.solving.board
+  pub slots : table.slots ≡ 0
+  pub narrow : key.width < 2 ^ 32
+  pub below : key.solving.rounds < configurations key.solving.board
+  pub sound : IsSolving key.solving
+
+abbrev pub round_id : TableId → Key → RoundId
+round_id table key = record { table = table; key = key }

@@ -1,0 +1,41 @@
+-- What a round's calls answer and do.
+use Rattle.std.specs.Prelude.{◌≡◌, ℕ, ◌<◌, ◌==◌, Bool, cond, [], ◌∷◌, ◌++◌, Option, Some, None}
+use Rattle.positions.specs.Ranks.{configuration_at}
+use Rattle.positions.specs.Gaps.{gap_of, IsDominator}
+use Rattle.retro_core.specs.Solving.{Solving}
+use Rattle.retro_core.specs.Round.{AreToStrike, first_of, seat_struck, seat_tried}
+use Rattle.claim_round.specs.Shared.{View, RoundId, Place}
+
+-- the round is of this solver and width, and its first seat has the whole width and all to strike
+pub record Opens (s : Solving) (width : ℕ) (round : RoundId) (seat : Place) : Type 0 where
+  pub key_is : round.key ≡ record { solving = s; width = width }
+  pub table_is : seat.table ≡ round.table
+  pub seat_key : seat.view.key ≡ record { solving = s; width = width }
+  pub to_strike : AreToStrike s seat.view.has.todo
+  pub no_owed : seat.view.has.owed ≡ []
+  pub no_won : seat.view.has.won ≡ []
+  pub wide : seat.view.has.width ≡ width
+  pub no_lost : seat.view.lost ≡ []
+  pub no_shut : seat.view.shut ≡ []
+
+-- the first that the seat had to strike was struck in the gap of the pebble that dominates there, whose count was found.
+-- With the last the gap is closed, and its open members are owed
+pub record HasStruck (before : View) (config : ℕ) (closed : Option ℕ) (after : View) : Type 0 where
+  pub first : config ≡ first_of before.has.todo
+  pub pebble : ℕ
+  pub dominates : IsDominator before.key.solving.board (configuration_at before.key.solving.board config) pebble
+  pub gap : ℕ
+  pub gap_is : gap ≡ gap_of before.key.solving.board (configuration_at before.key.solving.board config) pebble
+  pub count : ℕ
+  pub some_left : 0 < count
+  pub closed_is : closed ≡ cond (count == 1) (Some gap) None
+  pub after_is : after.has ≡ seat_struck before.key.solving gap count before.has
+  pub shut_is : after.shut ≡ cond (count == 1) (before.shut ++ gap ∷ []) before.shut
+  pub lost_is : after.lost ≡ before.lost
+
+-- the first that the seat owed was won, or stands among those that it claimed and did not win
+pub record HasClaimed (before : View) (config : ℕ) (won : Bool) (after : View) : Type 0 where
+  pub first : config ≡ first_of before.has.owed
+  pub after_is : after.has ≡ seat_tried won before.has
+  pub lost_is : after.lost ≡ cond won before.lost (before.lost ++ config ∷ [])
+  pub shut_is : after.shut ≡ before.shut

@@ -1,0 +1,81 @@
+// A closed round.
+ghost use Rattle.std.specs.Prelude.{◌≡◌, ◌<◌, length, slice_index, slice_index_or, None};
+
+use atomic_table::Closed as Rows;
+use retro_core::RoundEnd;
+use std::alloc::Global;
+use std::marker::Model;
+
+/// A closed round: the words, of which the first so many are counts, and what was won.
+pub struct Closed {
+    pub(crate) rows: Rows<(), Global>,
+    pub(crate) gaps: usize,
+    pub(crate) won: Vec<u32>,
+}
+
+impl Model for Closed {
+    ghost use Rattle.claim_round.specs.Shared.{Ended};
+
+    ghost Value = { Ended };
+
+    ghost use Rattle.claim_round.specs.Ends.{end_of, IsEnd};
+
+    ghost view = { end_of };
+
+    ghost invariant = { IsEnd };
+}
+
+impl Closed {
+    /// What was won: the configurations of the next value.
+    pub fn won(&self) -> &[u32]
+        ensures { result.now ≡ self.now.won }
+    {
+        self.won.as_slice()
+    }
+
+    /// How many answers of the gap have a result of a value above the round's.
+    pub fn count_of(&self, gap: u32) -> u32
+        requires { gap < length self.now.counts }
+        ensures { result ≡ slice_index self.now.counts gap }
+    {
+        self.rows.word(gap as usize) as u32
+    }
+
+    /// The value of a configuration, if it has one that is no greater than the round's next.
+    pub fn value_at(&self, rank: u32) -> Option<u32>
+        requires { rank < length self.now.values }
+        ensures { result ≡ slice_index_or self.now.values rank None }
+    {
+        let word = self.rows.word(self.gaps + rank as usize);
+        if word == u64::MAX {
+            None
+        } else {
+            Some(word as u32)
+        }
+    }
+}
+
+impl RoundEnd for Closed {
+    ghost won_list = { λ c. c.won };
+
+    ghost counts = { λ c. c.counts };
+
+    fn won(&self) -> &[u32] {
+        self.won()
+    }
+
+    fn count_of(&self, gap: u32) -> u32 {
+        self.count_of(gap)
+    }
+}
+
+impl Drop for Closed {
+    fn drop(self) {
+        let Self {
+            rows,
+            gaps: _,
+            won: _,
+        } = self;
+        rows.free();
+    }
+}

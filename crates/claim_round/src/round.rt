@@ -1,0 +1,344 @@
+// A round over a table of words.
+ghost use Rattle.std.specs.VecDeque.{deque_capacity};
+ghost use Rattle.std.specs.Prelude.{◌≡◌, ℕ, ◌<◌, ◌≤◌, ◌++◌, ◌+◌, ◌==◌, ◌∷◌, ◌⊎◌, [], length, cond, false, Some, None, vec_capacity, MatchBool, IfOk, IfErr, IsTrue};
+ghost use Rattle.board_text.specs.PlainBoard.{places};
+ghost use Rattle.index_lists.specs.Lists.{times};
+ghost use Rattle.positions.specs.Ranks.{configurations};
+ghost use Rattle.positions.specs.Gaps.{gaps};
+ghost use Rattle.retro_core.specs.Solving.{source};
+ghost use Rattle.retro_core.specs.Round.{seat_kept, seat_new, seat_joined};
+ghost use Rattle.claim_round.specs.Shared.{IsOf, Stays, Finishes, kept_part, new_part, joined};
+ghost use Rattle.claim_round.specs.Telling.{Opens, HasStruck, HasClaimed};
+ghost use Rattle.claim_round.specs.Reasons.{IsReason};
+
+use crate::closed::Closed;
+use crate::seat::RoundSeat;
+use crate::table::{Halves, Hand, Look, Plan, Rule, Strike, Try};
+use crate::words::{OPEN, first_words, to_strike};
+use atomic_table::Table;
+use board_text::Memory;
+use index_lists::ListStore;
+use retro_core::Solver;
+use std::alloc::Global;
+use std::collections::VecDeque;
+use std::marker::Model;
+
+/// A round of a solver: a word for each gap's count, and then a word for each configuration.
+#[derive(Drop)]
+pub struct SharedRound<'a, S: ListStore> {
+    alloc: Global,
+    solver: &'a Solver<S>,
+    width: u32,
+    table: Table<(), Hand, Plan<'a, S>, Rule, Global>,
+}
+
+impl<'a, S: ListStore> Model for SharedRound<'a, S> {
+    ghost use Rattle.claim_round.specs.Shared.{RoundId};
+
+    ghost Value = { RoundId };
+
+    ghost use Rattle.claim_round.specs.Rounds.{IsRound};
+
+    ghost view = { λ s. record { table = s.table.shared.table_id; key = s.table.shared.key } };
+
+    ghost invariant = { λ s. IsRound (record { solving = s.solver.now; width = s.width }) s.table.shared.key s.table.shared.table_id };
+}
+
+/// What a strike did.
+#[derive(Clone, Copy, Drop)]
+pub struct Struck {
+    pub config: u32,
+    pub closed: Option<u32>,
+}
+
+/// What a claim did.
+#[derive(Clone, Copy, Drop)]
+pub struct Claim {
+    pub config: u32,
+    pub won: bool,
+}
+
+/// Why a round was not closed.
+#[derive(Drop)]
+pub enum Why {
+    SeatsOut,
+    WorkLeft,
+}
+
+/// A round that was not closed, with the seat.
+#[derive(Drop)]
+pub struct NotClosed<'a, S: ListStore> {
+    pub round: SharedRound<'a, S>,
+    pub seat: RoundSeat,
+    pub why: Why,
+}
+
+// How many places a list needs of what is won, where so many entries may be owed yet. No more are won than there are configurations.
+fn places_for<S: ListStore>(solver: &Solver<S>, entries: usize) -> usize
+    ensures { (configurations solver.now.board ≤ result) ⊎ (entries ≤ result) }
+{
+    let most = solver.space().configurations() as usize;
+    if entries < most { entries } else { most }
+}
+
+// Appends the members, for which there is room.
+fn append(list: &mut VecDeque<u32>, members: &[u32])
+    requires { length list.old.items + length members.now ≤ deque_capacity list.old }
+    ensures items { list.new.items ≡ list.old.items ++ members.now }
+    ensures room { deque_capacity list.new ≡ deque_capacity list.old }
+{
+    for member in members {
+        list.push_back_reserved(*member);
+    }
+}
+
+// Makes room for so many more, if there is memory.
+fn make_room(list: &mut VecDeque<u32>, more: usize) -> bool
+    ensures items { list.new.items ≡ list.old.items }
+    ensures capacity { deque_capacity list.old ≤ deque_capacity list.new }
+    ensures room { IsTrue result → length list.old.items + more ≤ deque_capacity list.new }
+{
+    list.reserve(more).is_ok()
+}
+
+// Makes so many places in all, if there is memory.
+fn make_places(list: &mut Vec<u32>, places: usize) -> bool
+    ensures items { list.new.items ≡ list.old.items }
+    ensures room { MatchBool result (places ≤ vec_capacity list.new) (vec_capacity list.new ≡ vec_capacity list.old) }
+{
+    let more = places.saturating_sub(list.len());
+    list.reserve_exact(more).is_ok()
+}
+
+// Owes the open members of a gap, for which there is room.
+fn owe_members<S: ListStore>(owed: &mut VecDeque<u32>, solver: &Solver<S>, gap: u32)
+    requires gap { gap < gaps solver.now.board }
+    requires room { length owed.old.items + length (source solver.now gap) ≤ deque_capacity owed.old }
+    ensures items { owed.new.items ≡ owed.old.items ++ source solver.now gap }
+    ensures room { deque_capacity owed.new ≡ deque_capacity owed.old }
+{
+    let _ = solver.round_number();
+    let mut at = solver.first_source(gap);
+    while let Some(rank) = at {
+        owed.push_back_reserved(rank);
+        at = solver.next_source(gap, rank);
+    }
+}
+
+impl<'a, S: ListStore> SharedRound<'a, S> {
+    /// Opens a round at the value of a solver. Its first seat has all to strike and the whole width.
+    pub fn open(
+        alloc: Global,
+        solver: &'a Solver<S>,
+        width: u32,
+    ) -> Result<(SharedRound<'a, S>, RoundSeat), Memory>
+        requires going { solver.now.is_done ≡ false }
+        requires some_width { 0 < width }
+        ensures { IfOk result (λ r. Opens solver.now width r.0 r.1) }
+    {
+        let _ = solver.round_number();
+        let words = first_words(alloc, solver)?;
+        let ranks = to_strike(alloc, solver)?;
+        let most = solver.space().places() as usize;
+        let mut todo = VecDeque::new(alloc);
+        todo.reserve(ranks.len())?;
+        append(&mut todo, ranks.as_slice());
+        let mut owed = VecDeque::new(alloc);
+        owed.reserve(most)?;
+        let won = Vec::with_capacity(alloc, places_for(solver, most * ranks.len()))?;
+        let plan = Plan { solver, width };
+        let (table, seat) = Table::of_words(alloc, words.as_slice(), &plan)?;
+        let round = SharedRound {
+            alloc,
+            solver,
+            width,
+            table,
+        };
+        let seat = RoundSeat {
+            seat,
+            todo,
+            owed,
+            won,
+            width,
+        };
+        Ok((round, seat))
+    }
+
+    /// Strikes the first configuration: one step on the count of its dominator's gap.
+    pub fn strike(&self, seat: &mut RoundSeat) -> Struck
+        requires mine { IsOf self.now seat.old }
+        requires todo { 0 < length seat.old.view.has.todo }
+        requires owed { seat.old.view.has.owed ≡ [] }
+        ensures stays { Stays seat.old seat.new }
+        ensures struck { HasStruck seat.old.view result.config result.closed seat.new.view }
+    {
+        let Some(config) = seat.todo.pop_front() else {
+            unreachable!();
+        };
+        let Some(pebble) = self.solver.dominator(config) else {
+            unreachable!();
+        };
+        let gap = self.solver.space().gap(config, pebble);
+        let found = self
+            .table
+            .shared
+            .fetch_sub::<Strike>(&mut seat.seat, gap as usize, 1);
+        if found == 1 {
+            owe_members(&mut seat.owed, self.solver, gap);
+            return Struck {
+                config,
+                closed: Some(gap),
+            };
+        }
+        Struck {
+            config,
+            closed: None,
+        }
+    }
+
+    /// Claims the first configuration that is owed: one step on its value.
+    pub fn claim(&self, seat: &mut RoundSeat) -> Claim
+        requires mine { IsOf self.now seat.old }
+        requires owed { 0 < length seat.old.view.has.owed }
+        ensures stays { Stays seat.old seat.new }
+        ensures claimed { HasClaimed seat.old.view result.config result.won seat.new.view }
+    {
+        let Some(config) = seat.owed.pop_front() else {
+            unreachable!();
+        };
+        let word = self.solver.space().gaps() as usize + config as usize;
+        let next = u64::from(self.solver.round_number()) + 1;
+        let found = self
+            .table
+            .shared
+            .compare_exchange::<Try>(&mut seat.seat, word, OPEN, next);
+        if found == OPEN {
+            seat.won.push_reserved(config);
+            return Claim { config, won: true };
+        }
+        Claim { config, won: false }
+    }
+
+    /// Cuts the to-strike list and the width in two. Owed and won stay with the first seat.
+    pub fn split(&self, mut seat: RoundSeat) -> Result<(RoundSeat, RoundSeat), (RoundSeat, Memory)>
+        requires mine { IsOf self.now seat }
+        requires width { 2 ≤ seat.view.has.width }
+        ensures ok { IfOk result (λ r. (r.0.table ≡ seat.table) × (r.0.view ≡ kept_part seat.view) × (r.1.table ≡ seat.table) × (r.1.view ≡ new_part seat.view)) }
+        ensures err { IfErr result (λ r. r.0 ≡ seat) }
+    {
+        let moved = seat.todo.len() / 2;
+        let kept = seat.todo.len() - moved;
+        let most = self.solver.space().places() as usize;
+        let mut owed = VecDeque::new(self.alloc);
+        if owed.reserve(most).is_err() {
+            return Err((seat, Memory));
+        }
+        let entries = most * moved;
+        let Ok(won) = Vec::with_capacity(self.alloc, places_for(self.solver, entries)) else {
+            return Err((seat, Memory));
+        };
+        let Ok(todo) = seat.todo.split_off(kept) else {
+            return Err((seat, Memory));
+        };
+        let half = seat.width / 2;
+        let other = self.table.shared.split_seat::<Halves>(&mut seat.seat);
+        seat.width -= half;
+        let new = RoundSeat {
+            seat: other,
+            todo,
+            owed,
+            won,
+            width: half,
+        };
+        Ok((seat, new))
+    }
+
+    /// Appends the second seat's lists to the first's, and adds the widths. The second seat is spent.
+    pub fn join(
+        &self,
+        mut into: RoundSeat,
+        from: RoundSeat,
+    ) -> Result<RoundSeat, (RoundSeat, RoundSeat, Memory)>
+        requires into { IsOf self.now into }
+        requires from { IsOf self.now from }
+        ensures ok { IfOk result (λ r. (r.table ≡ into.table) × (r.view ≡ joined into.view from.view)) }
+        ensures apart { IfOk result (λ r. (x : ℕ) → times x r.view.has.won ≤ 1) }
+        ensures err { IfErr result (λ r. (r.0 ≡ into) × (r.1 ≡ from)) }
+    {
+        let most = self.solver.space().places() as usize;
+        let own = into.owed.len() + most * into.todo.len();
+        let other = from.won.len() + from.owed.len() + most * from.todo.len();
+        if !make_room(&mut into.todo, from.todo.len()) {
+            return Err((into, from, Memory));
+        }
+        if !make_room(&mut into.owed, from.owed.len()) {
+            return Err((into, from, Memory));
+        }
+        let places = places_for(self.solver, into.won.len() + own + other);
+        if !make_places(&mut into.won, places) {
+            return Err((into, from, Memory));
+        }
+        let RoundSeat {
+            seat,
+            mut todo,
+            mut owed,
+            mut won,
+            width,
+        } = from;
+        self.table.shared.join_seat::<Halves>(&mut into.seat, seat);
+        self.table.shared.load::<Look>(&mut into.seat, 0);
+        let Ok(()) = into.todo.append(&mut todo) else {
+            unreachable!();
+        };
+        let Ok(()) = into.owed.append(&mut owed) else {
+            unreachable!();
+        };
+        let Ok(()) = into.won.append(&mut won) else {
+            unreachable!();
+        };
+        into.width += width;
+        Ok(into)
+    }
+
+    /// Closes the round, with a seat of its whole width that has nothing left to do.
+    pub fn close(self, seat: RoundSeat) -> Result<Closed, NotClosed<'a, S>>
+        requires mine { IsOf self seat }
+        ensures ok { IfOk result (λ c. (seat.view.has.width ≡ self.entry.key.width) × (seat.view.has.todo ≡ []) × (seat.view.has.owed ≡ []) × (c.won ≡ seat.view.has.won)) }
+        ensures finished { IfOk result (λ c. Finishes self.entry.key.solving c) }
+        ensures lost { IfOk result (λ c. (x : ℕ) → 0 < times x seat.view.lost → 0 < times x c.won) }
+        ensures err { IfErr result (λ n. (n.round ≡ self.entry) × (n.seat ≡ seat) × IsReason n.why self.entry seat) }
+    {
+        if seat.width < self.width {
+            return Err(NotClosed {
+                round: self,
+                seat,
+                why: Why::SeatsOut,
+            });
+        }
+        if seat.todo.len() > 0 || seat.owed.len() > 0 {
+            return Err(NotClosed {
+                round: self,
+                seat,
+                why: Why::WorkLeft,
+            });
+        }
+        let SharedRound {
+            alloc: _,
+            solver,
+            width: _,
+            table,
+        } = self;
+        let RoundSeat {
+            seat,
+            todo: _,
+            owed: _,
+            won,
+            width: _,
+        } = seat;
+        Ok(Closed {
+            gaps: solver.space().gaps() as usize,
+            rows: table.close_with(seat),
+            won,
+        })
+    }
+}

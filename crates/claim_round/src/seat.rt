@@ -1,0 +1,59 @@
+// A seat of a round.
+ghost use Rattle.std.specs.Prelude.{◌≡◌, length};
+
+use crate::table::Hand;
+use atomic_table::Seat;
+use std::collections::VecDeque;
+use std::marker::Model;
+
+/// A worker's share of a round.
+#[derive(Drop)]
+pub struct RoundSeat {
+    pub(crate) seat: Seat<(), Hand>,
+    pub(crate) todo: VecDeque<u32>,
+    pub(crate) owed: VecDeque<u32>,
+    pub(crate) won: Vec<u32>,
+    pub(crate) width: u32,
+}
+
+impl Model for RoundSeat {
+    ghost use Rattle.claim_round.specs.Shared.{Place};
+
+    ghost Value = { Place };
+
+    ghost use Rattle.claim_round.specs.Seats.{place_of, IsSeated};
+
+    ghost view = { place_of };
+
+    ghost invariant = { IsSeated };
+}
+
+impl RoundSeat {
+    /// How many configurations it has to strike.
+    pub fn todo(&self) -> u32
+        ensures { result ≡ length self.now.view.has.todo }
+    {
+        self.todo.len() as u32
+    }
+
+    /// How many it owes.
+    pub fn owed(&self) -> u32
+        ensures { result ≡ length self.now.view.has.owed }
+    {
+        self.owed.len() as u32
+    }
+
+    /// What it won.
+    pub fn won(&self) -> &[u32]
+        ensures { result.now ≡ self.now.view.has.won }
+    {
+        self.won.as_slice()
+    }
+
+    /// Its share of the round's width.
+    pub fn width(&self) -> u32
+        ensures { result ≡ self.now.view.has.width }
+    {
+        self.width
+    }
+}

@@ -1,0 +1,85 @@
+// The table of a round.
+use atomic_table::{Join, Play, Split, TableRule};
+use index_lists::ListStore;
+use retro_core::Solver;
+use std::marker::Model;
+
+/// What a seat knows. No value of it is made.
+pub struct Hand {
+    none: (),
+}
+
+impl Model for Hand {
+    ghost use Rattle.claim_round.specs.Shared.{View, spent};
+
+    ghost Value = { View };
+
+    ghost view = { λ _. spent };
+}
+
+/// What the table is told when it is made.
+#[derive(Drop)]
+pub struct Plan<'a, S: ListStore> {
+    pub solver: &'a Solver<S>,
+    pub width: u32,
+}
+
+impl<'a, S: ListStore> Model for Plan<'a, S> {
+    ghost use Rattle.claim_round.specs.Shared.{Key};
+
+    ghost Value = { Key };
+
+    ghost view = { λ p. record { solving = p.solver.now; width = p.width } };
+}
+
+pub struct Rule;
+
+impl<'a, S: ListStore> TableRule<(), Hand, Plan<'a, S>> for Rule {
+    ghost use Rattle.claim_round.specs.Shared.{Kept, opening};
+
+    ghost holds = { Kept };
+
+    ghost first = { opening };
+}
+
+pub struct Strike;
+
+impl Play<(), Hand> for Strike {
+    ghost use Rattle.claim_round.specs.Shared.{Strikes};
+
+    ghost then = { Strikes };
+}
+
+pub struct Try;
+
+impl Play<(), Hand> for Try {
+    ghost use Rattle.claim_round.specs.Shared.{Claims};
+
+    ghost then = { Claims };
+}
+
+pub struct Halves;
+
+impl Split<Hand> for Halves {
+    ghost use Rattle.claim_round.specs.Shared.{kept_part, new_part};
+
+    ghost left = { kept_part };
+
+    ghost right = { new_part };
+}
+
+impl Join<Hand> for Halves {
+    ghost use Rattle.claim_round.specs.Shared.{joined, spent};
+
+    ghost both = { joined };
+
+    ghost spent = { spent };
+}
+
+pub struct Look;
+
+impl Play<(), Hand> for Look {
+    ghost use Rattle.claim_round.specs.Shared.{Looks};
+
+    ghost then = { Looks };
+}

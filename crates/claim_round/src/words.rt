@@ -1,0 +1,66 @@
+// What a round reads from a solver before its first step.
+ghost use Rattle.std.specs.Prelude.{◌≡◌, ◌+◌, ◌<◌, false, length, IfOk};
+ghost use Rattle.positions.specs.Ranks.{configurations};
+ghost use Rattle.positions.specs.Gaps.{gaps};
+ghost use Rattle.retro_core.specs.Round.{AreToStrike};
+ghost use Rattle.claim_round.specs.Openings.{AreFirstWords, HasCounts};
+
+use board_text::Memory;
+use index_lists::ListStore;
+use retro_core::Solver;
+use std::alloc::Global;
+
+/// The word of a configuration without a value.
+pub const OPEN: u64 = u64::MAX;
+
+/// The count of each gap at the opening.
+fn first_counts<S: ListStore>(alloc: Global, solver: &Solver<S>) -> Result<Vec<u64>, Memory>
+    requires { solver.now.is_done ≡ false }
+    ensures { IfOk result (λ words. HasCounts solver.now words.items (gaps solver.now.board)) }
+{
+    let mut words = Vec::new(alloc);
+    for gap in 0..solver.space().gaps() {
+        if words.push(u64::from(solver.count_of(gap))).is_err() {
+            return Err(Memory);
+        }
+    }
+    Ok(words)
+}
+
+/// The words of a round at its opening: the count of each gap, and then the value of each configuration.
+pub(crate) fn first_words<S: ListStore>(
+    alloc: Global,
+    solver: &Solver<S>,
+) -> Result<Vec<u64>, Memory>
+    requires { solver.now.is_done ≡ false }
+    ensures { IfOk result (λ words. AreFirstWords solver.now words.items (configurations solver.now.board)) }
+{
+    let _ = solver.round_number();
+    let mut words = first_counts(alloc, solver)?;
+    for rank in 0..solver.space().configurations() {
+        let word = match solver.value_at(rank) {
+            Some(value) => u64::from(value),
+            None => OPEN,
+        };
+        if words.push(word).is_err() {
+            return Err(Memory);
+        }
+    }
+    Ok(words)
+}
+
+/// What is to be struck at the opening.
+pub(crate) fn to_strike<S: ListStore>(alloc: Global, solver: &Solver<S>) -> Result<Vec<u32>, Memory>
+    ensures { IfOk result (λ ranks. AreToStrike solver.now ranks.items) }
+{
+    let round = solver.round_number();
+    let mut ranks = Vec::new(alloc);
+    let mut at = solver.first_filed(round);
+    while let Some(rank) = at {
+        if solver.dominator(rank).is_some() && ranks.push(rank).is_err() {
+            return Err(Memory);
+        }
+        at = solver.next_filed(rank);
+    }
+    Ok(ranks)
+}
