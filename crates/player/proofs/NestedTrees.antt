@@ -1,12 +1,12 @@
 -- Labeller's trees on nested boards.
-use Rattle.std.proofs.Common.{◌≡◌, ◌⊎◌, ◌↔◌, ℕ, zero, suc, ◌+◌, ◌-◌, ◌*◌, ◌/◌, ◌%◌, ◌^◌, ◌<◌, ◌≤◌, List, [], ◌∷◌, ◌++◌, length, take, drop, set, get_or, slice_index, replicate, map, All, Contains, refl, sym, ap, ◌∙◌, subst, arith, inl, inr}
+use Rattle.std.proofs.Common.{◌≡◌, ◌⊎◌, ℕ, zero, suc, ◌+◌, ◌-◌, ◌*◌, ◌/◌, ◌%◌, ◌<◌, ◌≤◌, List, [], ◌∷◌, ◌++◌, length, take, drop, get_or, replicate, refl, sym, ap, ◌∙◌, subst, arith, inl, inr}
 use Rattle.std.proofs.Math.Nat.{one-le-pow}
 use Rattle.std.proofs.lemmas.Bool.{cases_eq}
 use Rattle.std.proofs.lemmas.List.{length-set, length-replicate}
-use Rattle.std.proofs.lemmas.List.Elements.{All-set, All-replicate, All-get_or, All-contains}
-use Rattle.board_text.specs.PlainBoard.{PlainBoard, plain_board, AreLabels, Beats, IsConfiguration}
+use Rattle.std.proofs.lemmas.List.Elements.{All-set, All-replicate, All-contains}
+use Rattle.board_text.specs.PlainBoard.{PlainBoard, plain_board, AreLabels}
 use Rattle.positions.specs.Game.{Legal, LabellerTree, moved}
-use Rattle.nested_cycles.specs.Words.{IsWord, number_of, word_of}
+use Rattle.nested_cycles.specs.Words.{number_of}
 use Rattle.nested_cycles.specs.Domination.{labels_of, label_word, NestedBeats}
 use Rattle.nested_cycles.specs.Pairs.{AreNestedPairs}
 use Rattle.nested_cycles.specs.NestedBoard.{IsNestedBoard}
@@ -15,11 +15,11 @@ use Rattle.nested_cycles.specs.Reply.{IsReply, NestedReply}
 use Rattle.nested_cycles.specs.NestedGame.{other_words}
 use Rattle.nested_cycles.proofs.WordNumbers.{number_of_word, word_of-number_of}
 use Rattle.nested_cycles.proofs.Dominations.{one_of_two_labels, each_other}
-use Rattle.nested_cycles.proofs.NestedPairs.{PairAt, pair_at, pairs_none, next_pair, no_pair, beats_exactly}
+use Rattle.nested_cycles.proofs.NestedPairs.{pair_at, pairs_none, next_pair, no_pair, beats_exactly}
 use Rattle.nested_cycles.proofs.GoodReplies.{good_have_reply}
 use Rattle.nested_cycles.proofs.Levels.{reply_beats, good_with}
 use Rattle.nested_cycles.proofs.Games.{parts_after, fewer_others, others_are_good, others_are_labels, in_others, same_words_are_good}
-use Rattle.player.specs.NestedPlay.{IsNestedPlay, IsGoodConfiguration, LastsForEver}
+use Rattle.player.specs.NestedPlay.{IsNestedPlay, IsGoodConfiguration}
 
 -- ---- a reply to good words
 
@@ -43,7 +43,7 @@ has_label levels others good =
 few_others : (levels : ℕ) (board : PlainBoard) (configuration : List ℕ) (pebble : ℕ) → IsNestedPlay levels board → IsGoodConfiguration levels board configuration → pebble < board.pebbles
     → length (other_words pebble configuration) < levels
 few_others levels board configuration pebble nested good inside =
-    let long = good.is_configuration.each_pebble in
+    let long = good.are_labels.0 in
     let fewer = fewer_others configuration pebble (omega arith) in
     let most = nested.pebbles in
     omega arith
@@ -51,23 +51,19 @@ few_others levels board configuration pebble nested good inside =
 is_legal : (levels : ℕ) (board : PlainBoard) (configuration : List ℕ) (pebble label : ℕ) → IsNestedPlay levels board → IsGoodConfiguration levels board configuration → pebble < board.pebbles
     → label < labels_of levels → NestedReply levels (other_words pebble configuration) label → Legal board configuration pebble label
 is_legal levels board configuration pebble label nested good inside low reply =
-    let labels : All (λ n. n < labels_of levels) configuration = rw nested.labels at good.is_configuration.each_label in
-    let beats = reply_beats levels (other_words pebble configuration) label (few_others levels board configuration pebble nested good inside) (others_are_labels (labels_of levels) configuration pebble labels) reply in
+    let beats = reply_beats levels (other_words pebble configuration) label (few_others levels board configuration pebble nested good inside) (others_are_labels (labels_of levels) configuration pebble good.are_labels.1) reply in
     record {
       is_label = rw nested.labels low;
-      dominates = λ other other_inside differ.
-          let there : other < length configuration = omega (arith, good.is_configuration.each_pebble) in
-          (nested.beats label (get_or configuration other 0) (rw nested.labels low, All-get_or (λ n. n < board.labels) configuration other 0 there good.is_configuration.each_label)).1 (All-contains (λ n. NestedBeats levels label n) (other_words pebble configuration) (get_or configuration other 0) beats (in_others configuration pebble other there differ));
+      dominates = λ other other_inside differ is_label.
+          let there : other < length configuration = omega (arith, good.are_labels.0) in
+          (nested.beats label (get_or configuration other 0) (rw nested.labels low, is_label)).1 (All-contains (λ n. NestedBeats levels label n) (other_words pebble configuration) (get_or configuration other 0) beats (in_others configuration pebble other there differ));
     }
 
 pub after_request : (levels : ℕ) (board : PlainBoard) (configuration : List ℕ) (pebble label : ℕ) → IsNestedPlay levels board → IsGoodConfiguration levels board configuration → pebble < board.pebbles
     → label < labels_of levels → NestedReply levels (other_words pebble configuration) label → IsGoodConfiguration levels board (moved configuration pebble label)
 after_request levels board configuration pebble label nested good inside low reply = record {
-  is_configuration = record {
-    each_pebble = length-set configuration pebble label ∙ good.is_configuration.each_pebble;
-    each_label = All-set (λ n. n < board.labels) configuration pebble label (rw nested.labels low) good.is_configuration.each_label;
-  };
-  good = rw (parts_after configuration pebble label (omega (arith, good.is_configuration.each_pebble)))
+  are_labels = (length-set configuration pebble label ∙ good.are_labels.0, All-set (λ n. n < labels_of levels) configuration pebble label low good.are_labels.1);
+  good = rw (parts_after configuration pebble label (omega (arith, good.are_labels.0)))
       (good_with levels (other_words pebble configuration) label (few_others levels board configuration pebble nested good inside) reply (take pebble configuration) (drop (pebble + 1) configuration) refl);
 }
 
@@ -75,7 +71,7 @@ pub lasts : (levels : ℕ) (board : PlainBoard) (depth : ℕ) (configuration : L
 lasts levels board zero configuration nested good = tt
 lasts levels board (suc depth) configuration nested good =
     λ pebble inside.
-    let others_good = others_are_good levels configuration pebble (omega (arith, good.is_configuration.each_pebble)) good.good in
+    let others_good = others_are_good levels configuration pebble (omega (arith, good.are_labels.0)) good.good in
     let found = has_label levels (other_words pebble configuration) others_good in (
       found.label,
       is_legal levels board configuration pebble found.label nested good inside found.is_label found.reply,
@@ -84,12 +80,9 @@ lasts levels board (suc depth) configuration nested good =
 
 -- ---- boards
 
-pub start_of_zeros : (levels : ℕ) (board : PlainBoard) (pebbles : ℕ) → board.labels ≡ labels_of levels → board.pebbles ≡ pebbles → board.start ≡ replicate pebbles 0 → IsGoodConfiguration levels board board.start
-start_of_zeros levels board pebbles labels same start = record {
-  is_configuration = record {
-    each_pebble = ap length start ∙ length-replicate pebbles 0 ∙ sym same;
-    each_label = rw (start, labels) (All-replicate (λ n. n < labels_of levels) pebbles 0 (one-le-pow (levels - 1) 3 (omega arith)));
-  };
+pub start_of_zeros : (levels : ℕ) (board : PlainBoard) (pebbles : ℕ) → board.pebbles ≡ pebbles → board.start ≡ replicate pebbles 0 → IsGoodConfiguration levels board board.start
+start_of_zeros levels board pebbles same start = record {
+  are_labels = (ap length start ∙ length-replicate pebbles 0 ∙ sym same, rw start (All-replicate (λ n. n < labels_of levels) pebbles 0 (one-le-pow (levels - 1) 3 (omega arith))));
   good = rw start (same_words_are_good (levels - 1) 0 pebbles);
 }
 
@@ -139,4 +132,4 @@ pub has_board : (levels pebbles : ℕ) → pebbles ≤ levels → HasBoard level
 has_board levels pebbles few =
     let pairs = has_pairs levels (labels_of levels * labels_of levels) (omega arith) in
     let board : PlainBoard = plain_board (labels_of levels) pebbles (replicate pebbles 0) pairs.0 in
-    (board, record { labels = refl; pebbles = few; beats = beats_exactly levels pairs.0 pairs.1 }, refl, start_of_zeros levels board pebbles refl refl refl)
+    (board, record { labels = refl; pebbles = few; beats = beats_exactly levels pairs.0 pairs.1 }, refl, start_of_zeros levels board pebbles refl refl)

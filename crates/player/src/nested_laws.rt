@@ -3,15 +3,17 @@
 ghost use Rattle.std.specs.Prelude.{◌≡◌, ◌≤◌, ℕ, List};
 ghost use Rattle.board_text.specs.PlainBoard.{PlainBoard};
 ghost use Rattle.nested_cycles.specs.NestedBoard.{IsNestedBoard};
-ghost use Rattle.player.specs.NestedPlay.{IsNestedPlay, IsGoodConfiguration, LastsForEver};
+ghost use Rattle.positions.specs.declared.value.Value.TheVariants.{Forever};
+ghost use Rattle.positions.specs.Value.{HasValue};
+ghost use Rattle.player.specs.NestedPlay.{IsNestedPlay, IsGoodConfiguration};
 
 /// From good words a labeller answers any number of requests on the nested board of a level, with at most as many pebbles as levels.
 /// This holds of each level, and each has such a board, though few are built; a board that is built lasts for ever from its start.
 pub fn nested_boards_last_for_ever()
     ensures good { (levels : ℕ) → (board : PlainBoard) → (configuration : List ℕ) → IsNestedPlay levels board
-        → IsGoodConfiguration levels board configuration → LastsForEver board configuration }
+        → IsGoodConfiguration levels board configuration → HasValue board configuration Forever }
     ensures each_level { (levels : ℕ) → (pebbles : ℕ) → pebbles ≤ levels
         → (board : PlainBoard) × IsNestedPlay levels board × (board.pebbles ≡ pebbles) × IsGoodConfiguration levels board board.start }
     ensures built { (levels : ℕ) → (pebbles : ℕ) → (board : PlainBoard) → pebbles ≤ levels → IsNestedBoard levels pebbles board → IsNestedPlay levels board }
-    ensures start { (levels : ℕ) → (pebbles : ℕ) → (board : PlainBoard) → pebbles ≤ levels → IsNestedBoard levels pebbles board → LastsForEver board board.start }
+    ensures start { (levels : ℕ) → (pebbles : ℕ) → (board : PlainBoard) → pebbles ≤ levels → IsNestedBoard levels pebbles board → HasValue board board.start Forever }
 {}

@@ -6,5 +6,5 @@ returns c = record {
   good = λ levels board configuration nested good depth. lasts levels board depth configuration nested good;
   each_level = has_board;
   built = built_board;
-  start = λ levels pebbles board few is depth. lasts levels board depth board.start (built_board levels pebbles board few is) (start_of_zeros levels board pebbles is.labels is.pebbles is.start);
+  start = λ levels pebbles board few is depth. lasts levels board depth board.start (built_board levels pebbles board few is) (start_of_zeros levels board pebbles is.pebbles is.start);
 }
