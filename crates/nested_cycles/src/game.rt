@@ -37,6 +37,14 @@ impl NestedGame {
         Ok(NestedGame { levels, words })
     }
 
+    /// The level, which is also the number of pebbles.
+    pub fn levels(&self) -> u8
+        ensures levels { result ≡ self.now.levels }
+        ensures good { IsGood self.now }
+    {
+        self.levels
+    }
+
     /// Puts the pebble on a word that dominates the words of all other pebbles, and answers it.
     pub fn request(&mut self, pebble: u8) -> u64
         requires { pebble < self.old.levels }

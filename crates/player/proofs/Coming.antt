@@ -1,17 +1,16 @@
 -- The lines that came so far, and what is left of what was read.
-use Rattle.std.proofs.Common.{◌≡◌, ◌≢◌, ℕ, ◌+◌, ◌≤◌, ◌<◌, Bool, true, false, List, [], ◌∷◌, ◌++◌, length, All, inl, inr, refl, sym, ap, ◌∙◌, subst, arith, append-nil, append_assoc}
+use Rattle.std.proofs.Common.{◌≡◌, ℕ, ◌≤◌, true, false, List, [], ◌∷◌, ◌++◌, length, All, inl, inr, refl, sym, ap, ◌∙◌, subst, arith, append-nil, append_assoc}
 use Rattle.std.specs.Prelude.{Option, None, Some, ◌⊎◌}
 use Rattle.std.specs.List.{flat_map}
 use Rattle.std.specs.Io.KnownBytes.{Consumes, IsAtEnd}
 use Rattle.std.proofs.lemmas.List.{flat_map_more}
 use Rattle.std.proofs.lemmas.List.Elements.{All-push}
-use Rattle.board_text.specs.Ends.{GaveAll}
 use Rattle.board_text.specs.LineForms.{closed}
 use Rattle.board_text.proofs.Moves.{Consumes-trans}
 use Rattle.player.specs.Words.{IsLine, BeginsTooLong, Spells, most_lines}
 use Rattle.player.specs.declared.lines.LineFault.{LineFault}
 use Rattle.player.specs.declared.lines.LineFault.TheVariants.{Read, Limit}
-use Rattle.player.specs.Reading.{Unread, IsEmptyAtEnd, IsClosedLine, IsLastLine, GivesLine, GivesNoLine}
+use Rattle.player.specs.Reading.{Unread, IsEmptyAtEnd, GivesLine, GivesNoLine}
 use Rattle.player.specs.Play.{Came, CameClosed, CameWhole}
 use Rattle.player.specs.declared.word.Word.{Word}
 

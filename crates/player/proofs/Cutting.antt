@@ -1,7 +1,7 @@
 -- Lines that are cut from what was read.
-use Rattle.std.proofs.Common.{◌≡◌, ◌≢◌, ℕ, suc, ◌+◌, ◌≤◌, ◌<◌, true, false, List, [], ◌∷◌, ◌++◌, length, take, drop, All, inl, inr, refl, sym, ap, ◌∙◌, subst, arith, append-nil, append_assoc, take-append-drop, length-take-le}
+use Rattle.std.proofs.Common.{◌≡◌, ◌≢◌, ℕ, suc, ◌+◌, ◌≤◌, ◌<◌, true, false, List, [], ◌∷◌, ◌++◌, length, take, drop, inl, inr, sym, ap, ◌∙◌, subst, arith, append-nil, append_assoc, take-append-drop, length-take-le}
 use Rattle.std.specs.Prelude.{Option, None, Some, MatchOption, slice_index}
-use Rattle.std.specs.Io.KnownBytes.{Consumes, IsAtEnd}
+use Rattle.std.specs.Io.KnownBytes.{Consumes}
 use Rattle.std.proofs.lemmas.List.{take_all, drop_more}
 use Rattle.std.proofs.lemmas.List.Elements.{All-take}
 use lib.Seq.{take-take}
@@ -9,7 +9,7 @@ use Rattle.board_text.specs.Ends.{GaveAll}
 use Rattle.board_text.specs.LineForms.{closed}
 use Rattle.board_text.proofs.Moves.{Consumes-trans}
 use Rattle.player.specs.Words.{HasNoFeed, IsLine, BeginsTooLong, Spells, most_bytes}
-use Rattle.player.specs.Reading.{Unread, IsClosedLine, IsLastLine, GivesLine}
+use Rattle.player.specs.Reading.{Unread, GivesLine}
 use Rattle.player.specs.declared.word.Word.{Word}
 
 -- a front without a line feed is longer than a line

@@ -1,5 +1,5 @@
 -- How long plays last.
-use Rattle.std.proofs.Common.{◌≡◌, ◌≢◌, ℕ, zero, suc, ◌+◌, ◌≤◌, ◌<◌, ◌⊎◌, List, [], ◌∷◌, inl, inr, refl, sym, ap, ◌∙◌, subst, arith}
+use Rattle.std.proofs.Common.{◌≡◌, ℕ, zero, suc, ◌+◌, ◌≤◌, List, [], ◌∷◌, inl, inr, refl, sym, ap, subst, arith}
 use Rattle.std.proofs.lemmas.Bool.{cases_lt}
 use Rattle.board_text.specs.PlainBoard.{PlainBoard, IsConfiguration}
 use Rattle.positions.specs.declared.value.Value.{Value}
@@ -10,12 +10,12 @@ use Rattle.positions.proofs.Configurations.{moved_is_configuration}
 use Rattle.positions.proofs.Trees.{lasts_at_most, not_both_trees}
 use Rattle.strategies.specs.Best.{IsBestAnswer, IsBestRequest}
 use Rattle.strategies.proofs.Answers.{lasts_after, best_answer}
-use Rattle.strategies.proofs.Requests.{best_request, same_request}
+use Rattle.strategies.proofs.Requests.{best_request}
 use Rattle.strategies.proofs.Comparing.{less_than_finite}
 use Rattle.std.specs.Prelude.{Option}
 use Rattle.player.specs.Play.{Ends, HasEnded}
-use Rattle.player.specs.Laws.{KeepsToValue, HasReached, IsWithin, IsNoSooner, IsNoLater, EndsBestPlay}
-use Rattle.player.specs.Transcript.{Game, Standing, Going, Over, PersonAsks, PersonAnswers, Opens, Asks, Brings, BringInTurn, IsPlayed, IsTranscript}
+use Rattle.player.specs.Laws.{KeepsToValue, HasReached, IsWithin, IsNoSooner, IsNoLater, IsStopped, EndsBestPlay}
+use Rattle.player.specs.Transcript.{Game, Standing, Going, Over, PersonAsks, PersonAnswers, PersonClimbs, Opens, Asks, Brings, BringInTurn, IsPlayed, IsTranscript}
 use Rattle.player.specs.declared.end.PlayEnd.{PlayEnd}
 use Rattle.player.specs.declared.end.PlayEnd.TheVariants.{Stuck, Stopped, NoStrategy}
 
@@ -107,19 +107,41 @@ pub no_later : (board : PlainBoard) (lines : List (List ℕ)) (text : List ℕ) 
 no_later board lines text end (inl played) = left_by board lines text (Over end) played
 no_later board lines text end (inr stops) = subst (IsNoLater board) (sym stops.5) (within board lines stops.1 stops.0 stops.2 stops.3)
 
--- ---- both
+-- ---- the person climbs
+
+-- where the play is over, it was stopped
+abbrev StopsOnly : Standing → Type 0
+StopsOnly (Going at requests) = Unit {0}
+StopsOnly (Over end) = IsStopped end
+
+stop_on : (levels : ℕ) (from : Standing) (line said : List ℕ) (to : Standing) → Brings (PersonClimbs levels) from line said to → StopsOnly from → StopsOnly to
+stop_on levels (Over end) line said to brings stops = subst StopsOnly (sym brings.1) stops
+stop_on levels (Going at requests) line said to (inl (pebble, inside, spelled, (label, below, reply, text, goes))) stops = subst StopsOnly (sym goes) tt
+stop_on levels (Going at requests) line said to (inr (inl (spelled, text, over))) stops = subst StopsOnly (sym over) (requests, refl)
+stop_on levels (Going at requests) line said to (inr (inr (other, text, goes))) stops = subst StopsOnly (sym goes) tt
+
+stop_in_turn : (levels : ℕ) (from : Standing) (lines : List (List ℕ)) (text : List ℕ) (to : Standing) → BringInTurn (PersonClimbs levels) from lines text to → StopsOnly from → StopsOnly to
+stop_in_turn levels from [] text to brought stops = subst StopsOnly brought.1 stops
+stop_in_turn levels from (line ∷ lines) text to brought stops =
+    stop_in_turn levels brought.2 lines brought.1 to brought.4 (stop_on levels from line brought.0 brought.2 brought.3 stops)
+
+pub only_stops : (levels : ℕ) (lines : List (List ℕ)) (text : List ℕ) (end : PlayEnd) → IsTranscript (PersonClimbs levels) lines text end → IsStopped end
+only_stops levels lines text end (inl played) = stop_in_turn levels played.first lines played.more (Over end) played.brings (subst StopsOnly (sym played.opens.1) tt)
+only_stops levels lines text end (inr stops) = (stops.2, stops.5)
+
+-- ---- all of them
+
+transcript : (game : Game) (left : Option (List ℕ)) (lines : List (List ℕ)) (rest text : List ℕ) (end : PlayEnd) → Ends (IsPlayed game) left lines rest text end → IsTranscript game lines text end
+transcript game left lines rest text end (inl over) = inl over
+transcript game left lines rest text end (inr stops) = inr stops.0
 
 pub keeps_to_value : (game : Game) (left_old left_new taken_old taken_new : Option (List ℕ)) (end : PlayEnd) → HasEnded (IsPlayed game) left_old left_new taken_old taken_new end → KeepsToValue game end
-keeps_to_value (PersonAsks board) left_old left_new taken_old taken_new end ended = no_sooner board ended.0 ended.2 end (transcript ended.4)
+keeps_to_value game left_old left_new taken_old taken_new end ended = by game ended.0 ended.2 (transcript game left_new ended.0 ended.1 ended.2 end ended.4)
   where
-    transcript : Ends (IsPlayed (PersonAsks board)) left_new ended.0 ended.1 ended.2 end → IsTranscript (PersonAsks board) ended.0 ended.2 end
-    transcript (inl over) = inl over
-    transcript (inr stops) = inr stops.0
-keeps_to_value (PersonAnswers board) left_old left_new taken_old taken_new end ended = no_later board ended.0 ended.2 end (transcript ended.4)
-  where
-    transcript : Ends (IsPlayed (PersonAnswers board)) left_new ended.0 ended.1 ended.2 end → IsTranscript (PersonAnswers board) ended.0 ended.2 end
-    transcript (inl over) = inl over
-    transcript (inr stops) = inr stops.0
+    by : (game : Game) (lines : List (List ℕ)) (text : List ℕ) → IsTranscript game lines text end → KeepsToValue game end
+    by (PersonAsks board) lines text told = no_sooner board lines text end told
+    by (PersonAnswers board) lines text told = no_later board lines text end told
+    by (PersonClimbs levels) lines text told = only_stops levels lines text end told
 
 -- ---- best play
 

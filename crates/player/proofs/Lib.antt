@@ -9,3 +9,4 @@ pub mod Answering
 pub mod Lasting
 pub mod Unique
 pub mod NestedTrees
+pub mod NestedTexts

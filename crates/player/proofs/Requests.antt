@@ -12,13 +12,13 @@ use Rattle.positions.specs.declared.value.Value.{Value}
 use Rattle.positions.proofs.Ranks.{configuration_at-rank_of}
 use Rattle.positions.specs.Game.{Legal, moved}
 use Rattle.strategies.specs.Best.{IsBestAnswer}
-use Rattle.player.specs.Words.{quit}
-use Rattle.player.specs.Transcript.{Standing, Going, Over, PersonAsks, Opens, Replies, opening_lines, no_request_line, stopped_line, stuck_line, takes_line, at_line}
+use Rattle.player.specs.Words.{quit, Spells}
+use Rattle.player.specs.Transcript.{Standing, Going, Over, PersonAsks, Opens, RepliesToLine, Replies, opening_lines, no_request_line, stuck_line, takes_line, at_line}
 use Rattle.player.specs.Seats.{Seat, at}
-use Rattle.player.specs.Turns.{BringsAll, Says}
+use Rattle.player.specs.Turns.{Says}
 use Rattle.player.proofs.Moving.{moved_at}
-use Rattle.player.specs.declared.word.Word.TheVariants.{Number, Quit, Other}
-use Rattle.player.specs.declared.end.PlayEnd.TheVariants.{Stopped, Stuck}
+use Rattle.player.specs.declared.word.Word.TheVariants.{Number}
+use Rattle.player.specs.declared.end.PlayEnd.TheVariants.{Stuck}
 
 -- a number isn't the word
 pub no_quit : (number : ℕ) → number < 2 ^ 32 → decimal number ≢ quit
@@ -27,42 +27,33 @@ no_quit number small same =
     let first = (tells_digits.parts 113 (codes "uit") all).0 in
     omega (arith, first.0, first.1)
 
-module _ (board : PlainBoard) (there : List ℕ) (requests : ℕ) where
-  pub replied : (pebble : ℕ) (said : List ℕ) (to : Standing) → pebble < board.pebbles → Replies board there requests pebble said to
-      → BringsAll (PersonAsks board) (Going there requests) (Number pebble) said to
-  replied pebble said to inside replies line spells = inl (pebble, inside, spells.1, replies)
-
-  pub asked_to_stop : BringsAll (PersonAsks board) (Going there requests) Quit (stopped_line requests) (Over (Stopped requests))
-  asked_to_stop line spells = inr (inl (spells, refl, refl))
-
-  pub no_pebble : (number : ℕ) → board.pebbles ≤ number → BringsAll (PersonAsks board) (Going there requests) (Number number) no_request_line (Going there requests)
-  no_pebble number outside line spells =
-      inr (inr (
-        (
-          λ same. no_quit number spells.0 (sym spells.1 ∙ same),
-          λ pebble inside same. let equal : number ≡ pebble = decimal_injective number pebble (omega (arith, spells.0)) (omega (arith, spells.0, inside, outside)) (sym spells.1 ∙ same) in omega (arith, equal, inside, outside),
-        ),
-        refl,
-        refl,
-      ))
-
-  pub no_number : board.pebbles ≤ 6 → BringsAll (PersonAsks board) (Going there requests) Other no_request_line (Going there requests)
-  no_number few line spells = inr (inr ((spells.0, λ pebble inside. spells.1 pebble (omega (arith, inside, few))), refl, refl))
+-- a number that names none of so many pebbles
+pub no_pebble : (pebbles : ℕ) (Answers : ℕ → List ℕ → Standing → Type 0) (there : List ℕ) (requests number : ℕ) → pebbles ≤ number
+    → (line : List ℕ) → Spells line (Number number) → RepliesToLine pebbles Answers there requests line no_request_line (Going there requests)
+no_pebble pebbles Answers there requests number outside line spells =
+    inr (inr (
+      (
+        λ same. no_quit number spells.0 (sym spells.1 ∙ same),
+        λ pebble inside same. let equal : number ≡ pebble = decimal_injective number pebble (omega (arith, spells.0)) (omega (arith, spells.0, inside, outside)) (sym spells.1 ∙ same) in omega (arith, equal, inside, outside),
+      ),
+      refl,
+      refl,
+    ))
 
 -- ---- at a seat, which is known by its parts
 
 module _ (inside seat : Seat) (same : inside ≡ seat) where
   -- the pebble was put on the label of the best answer
   pub reply_said : (space : PlainBoard) (to pebble label : ℕ) (old new : List ℕ) → space ≡ inside.board → inside.rank < configurations inside.board → IsBestAnswer inside.board (at inside) pebble label
-      → to ≡ rank_of space (moved (configuration_at space inside.rank) pebble label) → new ≡ old ++ (takes_line pebble label ++ at_line space (configuration_at space to))
+      → to ≡ rank_of space (moved (configuration_at space inside.rank) pebble label) → new ≡ old ++ (takes_line pebble (decimal label) ++ at_line space (configuration_at space to))
       → Says old new (λ said. Replies seat.board (at seat) seat.requests pebble said (Going (configuration_at inside.board to) (inside.requests + 1)))
   reply_said space to pebble label old new of_board within best to_is said =
       let there : configuration_at inside.board to ≡ moved (at inside) pebble label = moved_at inside.board inside.rank to pebble label within best.0.legal.is_label
       (subst (λ b. to ≡ rank_of b (moved (configuration_at b inside.rank) pebble label)) of_board to_is) in
       subst (λ s. Says old new (λ said. Replies s.board (at s) s.requests pebble said (Going (configuration_at inside.board to) (inside.requests + 1)))) same (
-        takes_line pebble label ++ at_line inside.board (configuration_at inside.board to),
-        subst (λ b. new ≡ old ++ (takes_line pebble label ++ at_line b (configuration_at b to))) of_board said,
-        inl (label, best, ap (λ c. takes_line pebble label ++ at_line inside.board c) there, rw (there, add-one) refl),
+        takes_line pebble (decimal label) ++ at_line inside.board (configuration_at inside.board to),
+        subst (λ b. new ≡ old ++ (takes_line pebble (decimal label) ++ at_line b (configuration_at b to))) of_board said,
+        inl (label, best, ap (λ c. takes_line pebble (decimal label) ++ at_line inside.board c) there, rw (there, add-one) refl),
       )
 
   -- no label is legal

@@ -1,11 +1,12 @@
 -- What plays have to do with the value of the start.
 use Rattle.std.specs.Prelude.{◌≡◌, ℕ, zero, suc, ◌≤◌, List}
-use Rattle.board_text.specs.PlainBoard.{PlainBoard}
+use Rattle.board_text.specs.Ranges.{InRange}
+use Rattle.board_text.specs.PlainBoard.{PlainBoard, IsBoard}
 use Rattle.positions.specs.declared.value.Value.TheVariants.{Finite, Forever}
 use Rattle.positions.specs.Game.{Legal, moved}
 use Rattle.positions.specs.Value.{HasValue}
 use Rattle.strategies.specs.Best.{IsBestAnswer, IsBestRequest}
-use Rattle.player.specs.Transcript.{Game, PersonAsks, PersonAnswers}
+use Rattle.player.specs.Transcript.{Game, PersonAsks, PersonAnswers, PersonClimbs}
 use Rattle.player.specs.declared.end.PlayEnd.{PlayEnd}
 use Rattle.player.specs.declared.end.PlayEnd.TheVariants.{Stuck, Stopped, NoStrategy}
 
@@ -29,15 +30,21 @@ IsNoLater board (Stuck requests) = IsWithin board requests
 IsNoLater board (Stopped requests) = IsWithin board requests
 IsNoLater board NoStrategy = HasValue board board.start Forever
 
--- the board that is played on
-abbrev pub board_of : Game → PlainBoard
-board_of (PersonAsks board) = board
-board_of (PersonAnswers board) = board
+-- an end of a play on a nested board: the person stopped, or the input ended
+abbrev pub IsStopped : PlayEnd → Type 0
+IsStopped end = (requests : ℕ) × (end ≡ Stopped requests)
 
--- an end of the play that its value allows
+-- the board that is played on is within the limits
+abbrev pub IsGame : Game → Type 0
+IsGame (PersonAsks board) = IsBoard board
+IsGame (PersonAnswers board) = IsBoard board
+IsGame (PersonClimbs levels) = InRange 1 24 levels
+
+-- an end of the play that its value allows, which on a nested board is forever
 abbrev pub KeepsToValue : Game → PlayEnd → Type 0
 KeepsToValue (PersonAsks board) end = IsNoSooner board end
 KeepsToValue (PersonAnswers board) end = IsNoLater board end
+KeepsToValue (PersonClimbs levels) end = IsStopped end
 
 -- a play of best requests and best answers ends after so many answers
 abbrev pub EndsBestPlay : PlainBoard → List ℕ → ℕ → Type 0

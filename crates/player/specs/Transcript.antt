@@ -1,13 +1,18 @@
 -- What a play writes: a text for each line of the person, by the moves of the pebble game.
-use Rattle.std.specs.Prelude.{◌≡◌, ◌≢◌, ℕ, suc, ◌<◌, ◌⊎◌, List, [], ◌∷◌, ◌++◌, Option, None, Some, codes}
+use Rattle.std.specs.Prelude.{◌≡◌, ◌≢◌, ℕ, suc, ◌<◌, ◌⊎◌, List, [], ◌∷◌, ◌++◌, map, replicate, Option, None, Some, codes}
 use Rattle.std.specs.Fmt.{decimal}
+use Rattle.std.specs.List.{flat_map}
 use Rattle.board_text.specs.LineForms.{closed, number_line}
+use Rattle.board_text.specs.Numerals.{spaced_texts}
 use Rattle.board_text.specs.PlaceForms.{places_line}
 use Rattle.board_text.specs.PlainBoard.{PlainBoard}
 use Rattle.positions.specs.declared.value.Value.{Value}
 use Rattle.positions.specs.declared.value.Value.TheVariants.{Finite, Forever}
 use Rattle.positions.specs.Game.{Legal, moved}
 use Rattle.positions.specs.Value.{HasValue}
+use Rattle.nested_cycles.specs.Domination.{labels_of, label_word}
+use Rattle.nested_cycles.specs.NestedGame.{other_words}
+use Rattle.nested_cycles.specs.Reply.{NestedReply}
 use Rattle.proof_text.specs.ProofText.{claim_line}
 use Rattle.strategies.specs.Best.{IsBestAnswer, IsBestRequest}
 use Rattle.strategies.specs.Document.{claim_of}
@@ -15,9 +20,10 @@ use Rattle.player.specs.Words.{quit}
 use Rattle.player.specs.declared.end.PlayEnd.{PlayEnd}
 use Rattle.player.specs.declared.end.PlayEnd.TheVariants.{Stuck, Stopped, NoStrategy}
 
--- who the person is, and the board that is played on
+-- who the person is, and the board that is played on; or the person asks on the nested board of a level, which isn't built
 pub data Game : Type 0 where
   PersonAsks PersonAnswers : PlainBoard → Game
+  PersonClimbs : ℕ → Game
 
 -- where a play stands: it goes on from a configuration, after so many answered requests, or it is over
 pub data Standing : Type 0 where
@@ -43,9 +49,9 @@ at_line board configuration = places_line board.labels (codes "at") configuratio
 abbrev pub opening_lines : PlainBoard → Value → List ℕ → List ℕ
 opening_lines board value start = value_line value ++ at_line board start
 
--- the answer to a request
-abbrev pub takes_line : ℕ → ℕ → List ℕ
-takes_line pebble label = closed (codes "pebble " ++ decimal pebble ++ codes " takes " ++ decimal label)
+-- the answer to a request: the pebble, and the text of the label that it takes
+abbrev pub takes_line : ℕ → List ℕ → List ℕ
+takes_line pebble label = closed (codes "pebble " ++ decimal pebble ++ codes " takes " ++ label)
 
 -- a request
 abbrev pub ask_line : ℕ → List ℕ
@@ -68,23 +74,48 @@ no_answer_line = closed (codes "not an answer")
 
 -- ---- the person asks
 
+-- the line names none of so many pebbles, and isn't `quit`
+abbrev pub IsNoRequest : ℕ → List ℕ → Type 0
+IsNoRequest pebbles line = (line ≢ quit) × ((pebble : ℕ) → pebble < pebbles → line ≢ decimal pebble)
+
+-- what a line brings where the person names one of so many pebbles, each of which is answered so
+abbrev pub RepliesToLine : ℕ → (ℕ → List ℕ → Standing → Type 0) → List ℕ → ℕ → List ℕ → List ℕ → Standing → Type 0
+RepliesToLine pebbles Answers at requests line said to =
+    ((pebble : ℕ) × (pebble < pebbles) × (line ≡ decimal pebble) × Answers pebble said to)
+    ⊎ ((line ≡ quit) × (said ≡ stopped_line requests) × (to ≡ Over (Stopped requests)))
+    ⊎ (IsNoRequest pebbles line × (said ≡ no_request_line) × (to ≡ Going at requests))
+
 -- the best answer to a request, where some label is legal
 abbrev pub Replies : PlainBoard → List ℕ → ℕ → ℕ → List ℕ → Standing → Type 0
 Replies board at requests pebble said to =
     ((label : ℕ) × IsBestAnswer board at pebble label
-    × (said ≡ takes_line pebble label ++ at_line board (moved at pebble label)) × (to ≡ Going (moved at pebble label) (suc requests)))
+    × (said ≡ takes_line pebble (decimal label) ++ at_line board (moved at pebble label)) × (to ≡ Going (moved at pebble label) (suc requests)))
     ⊎ (((label : ℕ) → Legal board at pebble label → ⊥) × (said ≡ stuck_line pebble requests) × (to ≡ Over (Stuck requests)))
 
--- the line names no pebble of the board, and isn't `quit`
-abbrev pub IsNoRequest : PlainBoard → List ℕ → Type 0
-IsNoRequest board line = (line ≢ quit) × ((pebble : ℕ) → pebble < board.pebbles → line ≢ decimal pebble)
+-- ---- the person asks on a nested board
 
--- what a line brings where the person is the adversary
-abbrev pub RepliesToLine : PlainBoard → List ℕ → ℕ → List ℕ → List ℕ → Standing → Type 0
-RepliesToLine board at requests line said to =
-    ((pebble : ℕ) × (pebble < board.pebbles) × (line ≡ decimal pebble) × Replies board at requests pebble said to)
-    ⊎ ((line ≡ quit) × (said ≡ stopped_line requests) × (to ≡ Over (Stopped requests)))
-    ⊎ (IsNoRequest board line × (said ≡ no_request_line) × (to ≡ Going at requests))
+-- the digits of a word, and a dot for the word without digits
+abbrev pub digits_text : List ℕ → List ℕ
+digits_text [] = codes "."
+digits_text (digit ∷ others) = flat_map decimal (digit ∷ others)
+
+-- the word of a label of the nested board of a level
+abbrev pub word_text : ℕ → ℕ → List ℕ
+word_text levels label = digits_text (label_word levels label)
+
+-- the words of the pebbles
+abbrev pub words_line : ℕ → List ℕ → List ℕ
+words_line levels at = closed (codes "at" ++ spaced_texts (map (word_text levels) at))
+
+-- the level, and all pebbles on the label 0
+abbrev pub nested_opening_lines : ℕ → List ℕ
+nested_opening_lines levels = number_line (codes "levels") levels ++ words_line levels (replicate levels 0)
+
+-- the reply to a request, which there always is
+abbrev pub NestedReplies : ℕ → List ℕ → ℕ → ℕ → List ℕ → Standing → Type 0
+NestedReplies levels at requests pebble said to =
+    (label : ℕ) × (label < labels_of levels) × NestedReply levels (other_words pebble at) label
+    × (said ≡ takes_line pebble (word_text levels label) ++ words_line levels (moved at pebble label)) × (to ≡ Going (moved at pebble label) (suc requests))
 
 -- ---- the person answers
 
@@ -112,7 +143,7 @@ AsksAfterLine board at requests line said to =
 
 -- ---- the play
 
--- what is written before a line is read: the value, the start, and where the person is the labeller the first request, or that there is no strategy
+-- what is written before a line is read: the value or the level, the start, and where the person is the labeller the first request, or that there is no strategy
 abbrev pub Opens : Game → List ℕ → Standing → Type 0
 Opens (PersonAsks board) said to =
     (value : Value) × HasValue board board.start value × (said ≡ opening_lines board value board.start) × (to ≡ Going board.start 0)
@@ -120,12 +151,14 @@ Opens (PersonAnswers board) said to =
     (HasValue board board.start Forever × (said ≡ opening_lines board Forever board.start ++ no_strategy_line) × (to ≡ Over NoStrategy))
     ⊎ ((number : ℕ) × (asked : List ℕ) × HasValue board board.start (Finite number)
     × (said ≡ opening_lines board (Finite number) board.start ++ asked) × Asks board board.start 0 asked to)
+Opens (PersonClimbs levels) said to = (said ≡ nested_opening_lines levels) × (to ≡ Going (replicate levels 0) 0)
 
 -- what one line brings; nothing where the play is over
 abbrev pub Brings : Game → Standing → List ℕ → List ℕ → Standing → Type 0
 Brings game (Over end) line said to = (said ≡ []) × (to ≡ Over end)
-Brings (PersonAsks board) (Going at requests) line said to = RepliesToLine board at requests line said to
+Brings (PersonAsks board) (Going at requests) line said to = RepliesToLine board.pebbles (Replies board at requests) at requests line said to
 Brings (PersonAnswers board) (Going at requests) line said to = AsksAfterLine board at requests line said to
+Brings (PersonClimbs levels) (Going at requests) line said to = RepliesToLine levels (NestedReplies levels at requests) at requests line said to
 
 -- what these lines bring, one after the other
 abbrev pub BringInTurn : Game → Standing → List (List ℕ) → List ℕ → Standing → Type 0

@@ -1,13 +1,12 @@
 -- What one turn of a play writes.
-use Rattle.std.specs.Prelude.{◌≡◌, ℕ, List, [], ◌++◌, Option}
+use Rattle.std.specs.Prelude.{◌≡◌, ℕ, List, ◌++◌, Option}
 use Rattle.std.specs.Io.KnownBytes.{Appends, Keeps}
 use Rattle.board_text.specs.Ends.{AppendsFront}
 use Rattle.player.specs.Words.{Spells}
-use Rattle.player.specs.Transcript.{Game, Standing, Going, Brings, standing}
+use Rattle.player.specs.Transcript.{Game, Standing, Brings}
 use Rattle.player.specs.declared.word.Word.{Word}
-use Rattle.player.specs.declared.end.PlayEnd.{PlayEnd}
 use Rattle.player.specs.declared.end.PlayFault.{PlayFault}
-use Rattle.player.specs.declared.end.PlayFault.TheVariants.{Read, Write, Memory, Limit}
+use Rattle.player.specs.declared.end.PlayFault.TheVariants.{Write, Memory}
 
 -- this is what each line brings that says the word
 abbrev pub BringsAll : Game → Standing → Word → List ℕ → Standing → Type 0

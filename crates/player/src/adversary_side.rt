@@ -5,7 +5,7 @@ ghost use Rattle.positions.specs.Ranks.{configurations};
 ghost use Rattle.player.specs.Laws.{KeepsToValue};
 ghost use Rattle.player.specs.Play.{HasEnded, BreaksOff};
 ghost use Rattle.player.specs.Seats.{at};
-ghost use Rattle.player.specs.Transcript.{Going, IsPlayed, PersonAsks, Replies, no_request_line, standing};
+ghost use Rattle.player.specs.Transcript.{Going, IsPlayed, PersonAsks, Replies, standing};
 ghost use Rattle.player.specs.Turns.{Says};
 ghost use Rattle.player.specs.declared.end.PlayFault.TheVariants.{Read, Write};
 
@@ -13,7 +13,7 @@ use crate::end::{PlayEnd, PlayFault};
 use crate::play::{Play, play_on};
 use crate::showing::show;
 use crate::word::Word;
-use crate::writing::{stopped, write_opening, write_reply, write_stuck};
+use crate::writing::{refused, stopped, write_opening, write_reply, write_stuck};
 use board_text::{Board, Sink, Source};
 use retro_core::Values;
 use std::alloc::{AllocError, Global};
@@ -132,23 +132,15 @@ impl Play for AdversarySide<'_> {
                 if number < pebbles {
                     self.request(number as u8, text)
                 } else {
-                    refuse(text)
+                    refused(text)
                 }
             }
             Word::Quit => stopped(text, self.requests),
-            Word::Other => refuse(text),
+            Word::Other => refused(text),
         }
     }
 
     fn requests(&self) -> u32 {
         self.requests
     }
-}
-
-/// Says that a line is no request.
-fn refuse(text: &mut String) -> Result<Option<PlayEnd>, AllocError>
-    ensures { IfOk result (λ end. (end ≡ None) × (string_bytes text.new ≡ string_bytes text.old ++ no_request_line)) }
-{
-    text.push_str("not a request\n")?;
-    Ok(None)
 }

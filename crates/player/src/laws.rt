@@ -1,16 +1,16 @@
 //! Laws of plays, each the contract of a function without a body.
 
 ghost use Rattle.std.specs.Prelude.{◌≡◌, ℕ, List};
-ghost use Rattle.board_text.specs.PlainBoard.{PlainBoard, IsBoard, IsConfiguration};
+ghost use Rattle.board_text.specs.PlainBoard.{PlainBoard, IsConfiguration};
 ghost use Rattle.positions.specs.declared.value.Value.TheVariants.{Finite};
 ghost use Rattle.positions.specs.Value.{HasValue};
-ghost use Rattle.player.specs.Laws.{board_of, IsWithin, IsNoSooner, IsNoLater, EndsBestPlay};
-ghost use Rattle.player.specs.Transcript.{Game, Going, PersonAsks, PersonAnswers, IsPlayed, IsTranscript};
+ghost use Rattle.player.specs.Laws.{IsGame, IsWithin, IsNoSooner, IsNoLater, IsStopped, EndsBestPlay};
+ghost use Rattle.player.specs.Transcript.{Game, Going, PersonAsks, PersonAnswers, PersonClimbs, IsPlayed, IsTranscript};
 ghost use Rattle.player.specs.declared.end.PlayEnd.{PlayEnd as End};
 
 /// Against a person who is the adversary the labeller's side is stuck only after as many answered requests as the start's value,
 /// and never where that is forever. A person who is the labeller answers at most that many,
-/// and there is no strategy against the person exactly where the value is forever.
+/// and there is no strategy against the person exactly where the value is forever. On a nested board no one is ever stuck.
 pub fn plays_last_by_the_value()
     ensures asking { (board : PlainBoard) → (lines : List (List ℕ)) → (text : List ℕ) → (end : End)
         → IsTranscript (PersonAsks board) lines text end → IsNoSooner board end }
@@ -18,11 +18,13 @@ pub fn plays_last_by_the_value()
         → IsTranscript (PersonAnswers board) lines text end → IsNoLater board end }
     ensures going { (board : PlainBoard) → (lines : List (List ℕ)) → (text : List ℕ) → (at : List ℕ) → (requests : ℕ)
         → IsPlayed (PersonAnswers board) lines text (Going at requests) → IsWithin board requests }
+    ensures climbing { (levels : ℕ) → (lines : List (List ℕ)) → (text : List ℕ) → (end : End)
+        → IsTranscript (PersonClimbs levels) lines text end → IsStopped end }
 {}
 
 /// Lines have one transcript at most, which tells one end.
 pub fn one_transcript()
-    ensures { (game : Game) → (lines : List (List ℕ)) → (first : List ℕ) → (second : List ℕ) → (end : End) → (other : End) → IsBoard (board_of game)
+    ensures { (game : Game) → (lines : List (List ℕ)) → (first : List ℕ) → (second : List ℕ) → (end : End) → (other : End) → IsGame game
         → IsTranscript game lines first end → IsTranscript game lines second other → (first ≡ second) × (end ≡ other) }
 {}
 

@@ -2,17 +2,20 @@
 #![tactic(auto)]
 
 mod adversary_side;
+mod climbing;
 mod end;
 mod labeller_side;
 mod laws;
 mod lines;
 mod nested_laws;
+mod nested_writing;
 mod play;
 mod showing;
 mod word;
 mod writing;
 
 pub use adversary_side::play_adversary_side;
+pub use climbing::play_nested;
 pub use end::{PlayEnd, PlayFault};
 pub use labeller_side::play_labeller_side;
 pub use laws::{best_play_ends_by_the_value, one_transcript, plays_last_by_the_value};

@@ -1,8 +1,9 @@
 //! The lines that a play writes.
 
-ghost use Rattle.std.specs.Prelude.{◌≡◌, ◌<◌, ◌++◌, Some, IfOk, OnOk, string_bytes};
+ghost use Rattle.std.specs.Prelude.{◌≡◌, ◌<◌, ◌++◌, None, Some, IfOk, OnOk, string_bytes};
+ghost use Rattle.std.specs.Fmt.{decimal};
 ghost use Rattle.positions.specs.Ranks.{configurations, configuration_at, rank_of};
-ghost use Rattle.player.specs.Transcript.{at_line, opening_lines, stopped_line, stuck_line, takes_line};
+ghost use Rattle.player.specs.Transcript.{at_line, no_request_line, opening_lines, stopped_line, stuck_line, takes_line};
 ghost use Rattle.player.specs.declared.end.PlayEnd.TheVariants.{Stopped};
 
 use crate::end::PlayEnd;
@@ -46,7 +47,7 @@ pub(crate) fn write_reply(
     rank: u32,
 ) -> Result<(), AllocError>
     requires { rank < configurations space.now }
-    ensures { OnOk result (string_bytes text.new ≡ string_bytes text.old ++ (takes_line pebble label ++ at_line space.now (configuration_at space.now rank))) }
+    ensures { OnOk result (string_bytes text.new ≡ string_bytes text.old ++ (takes_line pebble (decimal label) ++ at_line space.now (configuration_at space.now rank))) }
 {
     write!(text, "pebble {pebble} takes {label}\n")?;
     write_at(text, space, rank)
@@ -75,4 +76,12 @@ pub(crate) fn stopped(text: &mut String, requests: u32) -> Result<Option<PlayEnd
 {
     write_stopped(text, requests)?;
     Ok(Some(PlayEnd::Stopped { requests }))
+}
+
+/// Says that a line is no request.
+pub(crate) fn refused(text: &mut String) -> Result<Option<PlayEnd>, AllocError>
+    ensures { IfOk result (λ end. (end ≡ None) × (string_bytes text.new ≡ string_bytes text.old ++ no_request_line)) }
+{
+    text.push_str("not a request\n")?;
+    Ok(None)
 }

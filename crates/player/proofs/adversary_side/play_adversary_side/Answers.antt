@@ -1,9 +1,8 @@
-use Rattle.std.proofs.Common.{◌++◌, sym, ap, ◌∙◌, subst, rules}
+use Rattle.std.proofs.Common.{◌∙◌, subst}
 use Rattle.std.proofs.lemmas.Result.{IfOk-weaker, IfErr-weaker, err_from_is_err_and}
 use Rattle.std.specs.Io.KnownBytes.{Appends}
 use Rattle.board_text.specs.Ends.{AppendsFront}
-use Rattle.positions.specs.Ranks.{configuration_at}
-use Rattle.player.specs.Transcript.{opening_lines, Going, PersonAsks}
+use Rattle.player.specs.Transcript.{PersonAsks}
 use Rattle.player.proofs.Moving.{opening_text}
 use Rattle.player.proofs.Requests.{begins}
 use Rattle.player.proofs.Lasting.{keeps_to_value}

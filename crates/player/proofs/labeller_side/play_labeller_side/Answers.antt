@@ -1,9 +1,9 @@
-use Rattle.std.proofs.Common.{◌≡◌, ◌++◌, [], sym, ap, ◌∙◌, subst, refl}
+use Rattle.std.proofs.Common.{◌++◌, ap, ◌∙◌, subst}
 use Rattle.std.proofs.lemmas.Result.{IfOk-weaker, IfErr-weaker, err_from_is_err_and}
 use Rattle.std.specs.Io.KnownBytes.{Appends}
 use Rattle.board_text.specs.Ends.{AppendsFront}
 use Rattle.positions.proofs.Finiteness.{some_value}
-use Rattle.player.specs.Transcript.{PersonAnswers, Opens, Going}
+use Rattle.player.specs.Transcript.{PersonAnswers, Opens}
 use Rattle.player.proofs.Answering.{has_opening}
 use Rattle.player.proofs.Lasting.{keeps_to_value}
 use Rattle.player.proofs.Opening.{has_ended, breaks_off, over_at_once, unopened, unshown_opening, Keeps-same}

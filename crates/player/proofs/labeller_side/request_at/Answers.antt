@@ -1,4 +1,3 @@
-use Rattle.std.proofs.Common.{sym, ◌∙◌}
 use Rattle.positions.specs.Ranks.{configuration_at}
 use Rattle.player.proofs.Answering.{request_is, some_request}
 use Rattle.player.proofs.labeller_side.request_at.Goals as goal

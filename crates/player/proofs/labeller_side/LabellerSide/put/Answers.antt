@@ -1,5 +1,4 @@
-use Rattle.std.proofs.Common.{sym, ap, subst, ◌∙◌}
-use Rattle.positions.specs.Ranks.{configuration_at}
+use Rattle.std.proofs.Common.{sym, subst, ◌∙◌}
 use Rattle.positions.specs.Value.{HasValue}
 use Rattle.positions.specs.declared.value.Value.TheVariants.{Finite}
 use Rattle.player.proofs.Moving.{moved_at}

@@ -1,6 +1,6 @@
 use Rattle.std.proofs.Common.{None, Some, inl, inr, ap, ◌∙◌, ◌≤◌, subst, arith}
 use Rattle.player.specs.Seats.{at}
-use Rattle.player.specs.Transcript.{no_answer_line, stopped_line, AsksAfterLine, PersonAnswers, Going, standing}
+use Rattle.player.specs.Transcript.{no_answer_line, stopped_line, PersonAnswers, Going, standing}
 use Rattle.player.specs.Turns.{BringsAll}
 use Rattle.player.specs.declared.end.PlayEnd.TheVariants.{Stopped}
 use Rattle.player.proofs.Answering.{no_legal_number, no_label, stop_asked, says_all}

@@ -1,4 +1,4 @@
-use Rattle.std.proofs.Common.{◌++◌, take, sym, ap, ◌∙◌, arith, length-take-le}
+use Rattle.std.proofs.Common.{◌++◌, take, ap, ◌∙◌, arith, length-take-le}
 use Rattle.player.proofs.Filling.{filled}
 use Rattle.player.proofs.lines.Lines.fill.Goals as goal
 

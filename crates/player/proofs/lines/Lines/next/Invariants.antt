@@ -1,4 +1,4 @@
-use Rattle.std.proofs.Common.{◌≡◌, ◌++◌, ◌-◌, ◌≤◌, ℕ, List, length, false}
+use Rattle.std.proofs.Common.{◌≡◌, ◌++◌, ◌-◌, ℕ, List, length, false}
 use Rattle.std.specs.Io.KnownBytes.{Consumes}
 use Rattle.player.proofs.lines.Lines.next.Given as goal
 

@@ -1,0 +1,119 @@
+//! Plays on nested boards that are never built, with a person who is the adversary.
+
+ghost use Rattle.std.specs.Prelude.{◌≡◌, ◌↔◌, ◌+◌, ◌<◌, ◌^◌, replicate, true, false, Err, IfOk, IfErr, string_bytes};
+ghost use Rattle.board_text.specs.Ranges.{InRange};
+ghost use Rattle.nested_cycles.specs.NestedGame.{plain_game};
+ghost use Rattle.player.specs.Laws.{KeepsToValue};
+ghost use Rattle.player.specs.Play.{HasEnded, BreaksOff};
+ghost use Rattle.player.specs.Transcript.{IsPlayed, NestedReplies, PersonClimbs, standing};
+ghost use Rattle.player.specs.Turns.{Says};
+ghost use Rattle.player.specs.declared.end.PlayFault.TheVariants.{Read, Write};
+
+use crate::end::{PlayEnd, PlayFault};
+use crate::nested_writing::{write_levels, write_nested_reply};
+use crate::play::{Play, play_on};
+use crate::showing::show;
+use crate::word::Word;
+use crate::writing::{refused, stopped};
+use board_text::{Memory, Sink, Source};
+use nested_cycles::NestedGame;
+use std::alloc::{AllocError, Global};
+
+/// Plays on the nested board of a level, 1 to 24, with as many pebbles as levels: each line of the person names a pebble,
+/// which is put on the word of the nested reply.
+///
+/// The reader and the writer must not have failed before.
+/// The play ends with a line `quit`, or at the end of the input: some label is always legal.
+/// A line of any other kind is answered and changes nothing.
+/// Each answer is written before the next line is read.
+pub fn play_nested<R: Source, W: Sink>(
+    alloc: Global,
+    levels: u8,
+    reader: &mut R,
+    writer: &mut W,
+) -> Result<PlayEnd, PlayFault>
+    requires level { InRange 1 24 levels }
+    requires reader_ready { R.has_failed reader.old ≡ false }
+    requires writer_ready { W.has_failed writer.old ≡ false }
+    ensures ok { IfOk result (HasEnded (IsPlayed (PersonClimbs levels)) (R.left reader.old) (R.left reader.new) (W.taken writer.old) (W.taken writer.new)) }
+    ensures fault { IfErr result (BreaksOff (IsPlayed (PersonClimbs levels)) (R.left reader.old) (R.left reader.new) (W.taken writer.old) (W.taken writer.new)) }
+    ensures value { IfOk result (KeepsToValue (PersonClimbs levels)) }
+    ensures read { (R.has_failed reader.new ≡ true) ↔ (result ≡ Err Read) }
+    ensures write { (W.has_failed writer.new ≡ true) ↔ (result ≡ Err Write) }
+{
+    let Ok(mut play) = Climb::new(alloc, levels) else {
+        return Err(PlayFault::Memory);
+    };
+    let mut text = String::new(alloc);
+    let Ok(()) = write_levels(&mut text, levels, play.nested.words()) else {
+        return Err(PlayFault::Memory);
+    };
+    show(&mut text, writer)?;
+    play_on(&mut play, &mut text, reader, writer)
+}
+
+/// A play on a nested board.
+#[derive(Drop)]
+struct Climb {
+    nested: NestedGame,
+    /// How many requests were answered.
+    requests: u32,
+}
+
+impl Climb {
+    /// No request was answered yet, and all pebbles are on the label 0.
+    fn new(alloc: Global, levels: u8) -> Result<Climb, Memory>
+        requires { InRange 1 24 levels }
+        ensures { IfOk result (λ play. (play.nested ≡ plain_game levels (replicate levels 0)) × (play.requests ≡ 0)) }
+    {
+        let nested = NestedGame::new(alloc, levels)?;
+        Ok(Climb {
+            nested,
+            requests: 0,
+        })
+    }
+
+    /// Answers a request of a pebble.
+    fn request(&mut self, pebble: u8, text: &mut String) -> Result<Option<PlayEnd>, AllocError>
+        requires pebble { pebble < self.old.nested.levels }
+        requires few { self.old.requests + 1 < 2 ^ 32 }
+        ensures levels { self.new.nested.levels ≡ self.old.nested.levels }
+        ensures count { self.new.requests ≡ self.old.requests + 1 }
+        ensures said { IfOk result (λ end. Says (string_bytes text.old) (string_bytes text.new)
+            (λ said. NestedReplies self.old.nested.levels self.old.nested.words self.old.requests pebble said
+            (standing end self.new.nested.words self.new.requests))) }
+    {
+        let levels = self.nested.levels();
+        let word = self.nested.request(pebble);
+        self.requests += 1;
+        write_nested_reply(text, levels, pebble, word, self.nested.words())?;
+        Ok(None)
+    }
+}
+
+impl Play for Climb {
+    ghost game = { λ s. PersonClimbs s.nested.levels };
+
+    ghost at = { λ s. s.nested.words };
+
+    ghost requests = { λ s. s.requests };
+
+    fn answer(&mut self, word: Word, text: &mut String) -> Result<Option<PlayEnd>, AllocError> {
+        let pebbles = u32::from(self.nested.levels());
+        match word {
+            Word::Number(number) => {
+                if number < pebbles {
+                    self.request(number as u8, text)
+                } else {
+                    refused(text)
+                }
+            }
+            Word::Quit => stopped(text, self.requests),
+            Word::Other => refused(text),
+        }
+    }
+
+    fn requests(&self) -> u32 {
+        self.requests
+    }
+}
