@@ -7,7 +7,7 @@ use Rattle.clap.specs.Faults.{entered_fault, fault_of, level_fault}
 use Rattle.clap.specs.Kinds.{Kinds}
 use Rattle.clap.specs.Takes.{entered_passes, level_passes, takes}
 use Rattle.clap.specs.Walk.{Row, Text, answers_to, nothing_held, texts, walk}
-use Rattle.command_line.specs.Commands.{check, nested, play_among, program, program_among, report, side_words, solve, somewhere}
+use Rattle.command_line.specs.Commands.{check, climb, nested, play_among, program, program_among, report, side_words, solve, somewhere}
 use Rattle.command_line.proofs.NamesMoved.{rows_after_same}
 use Rattle.command_line.proofs.TakesMoved.{level_same}
 use Rattle.command_line.proofs.FaultsMoved.{level_same as level_faults_same}
@@ -31,63 +31,66 @@ abbrev built_play : Bor (List (Bor Text)) → Shape
 built_play sides = built_below (play_among sides)
 
 -- the command that was named, by what the name is
-abbrev named : Bor (List (Bor Text)) → Bool → Bool → Bool → Bool → Bool → Bool → Option Shape
-named sides s c r n l h =
+abbrev named : Bor (List (Bor Text)) → Bool → Bool → Bool → Bool → Bool → Bool → Bool → Option Shape
+named sides s c r n l m h =
     cond s (Some (built_below solve)) (cond c (Some (built_below check)) (cond r (Some (built_below report)) (cond n (Some (built_below nested))
-    (cond l (Some (built_play sides)) (cond h (Some (built_leaf help_shape)) None)))))
+    (cond l (Some (built_play sides)) (cond m (Some (built_below climb)) (cond h (Some (built_leaf help_shape)) None))))))
 
 passes_same : (sides : Bor (List (Bor Text))) (stop : Option (Text × List Text))
     → entered_passes (built (program_among (away sides))) stop ≡ entered_passes (built (program_among sides)) stop
 passes_same sides None = refl
 passes_same sides (Some p) =
     go (answers_to p.0 (label_of solve)) (answers_to p.0 (label_of check)) (answers_to p.0 (label_of report))
-    (answers_to p.0 (label_of nested)) (answers_to p.0 (codes "play", [])) (answers_to p.0 (codes "help", []))
+    (answers_to p.0 (label_of nested)) (answers_to p.0 (codes "play", [])) (answers_to p.0 (label_of climb)) (answers_to p.0 (codes "help", []))
   where
-    go : (s c r n l h : Bool)
-        → option_map_or (λ s. level_passes s [] nothing_held p.1 false) (named (away sides) s c r n l h) true
-        ≡ option_map_or (λ s. level_passes s [] nothing_held p.1 false) (named sides s c r n l h) true
-    go true c r n l h = refl
-    go false true r n l h = refl
-    go false false true n l h = refl
-    go false false false true l h = refl
-    go false false false false true h = level_same (built_play sides) [] nothing_held p.1 false
-    go false false false false false true = refl
-    go false false false false false false = refl
+    go : (s c r n l m h : Bool)
+        → option_map_or (λ s. level_passes s [] nothing_held p.1 false) (named (away sides) s c r n l m h) true
+        ≡ option_map_or (λ s. level_passes s [] nothing_held p.1 false) (named sides s c r n l m h) true
+    go true c r n l m h = refl
+    go false true r n l m h = refl
+    go false false true n l m h = refl
+    go false false false true l m h = refl
+    go false false false false true m h = level_same (built_play sides) [] nothing_held p.1 false
+    go false false false false false true h = refl
+    go false false false false false false true = refl
+    go false false false false false false false = refl
 
 below_same : (sides : Bor (List (Bor Text))) (stop : Option (Text × List Text))
     → entered_fault (built (program_among (away sides))) stop ≡ entered_fault (built (program_among sides)) stop
 below_same sides None = refl
 below_same sides (Some p) =
     go (answers_to p.0 (label_of solve)) (answers_to p.0 (label_of check)) (answers_to p.0 (label_of report))
-    (answers_to p.0 (label_of nested)) (answers_to p.0 (codes "play", [])) (answers_to p.0 (codes "help", []))
+    (answers_to p.0 (label_of nested)) (answers_to p.0 (codes "play", [])) (answers_to p.0 (label_of climb)) (answers_to p.0 (codes "help", []))
   where
-    go : (s c r n l h : Bool)
-        → option_map_or (λ s. level_fault s [] nothing_held p.1 false []) (named (away sides) s c r n l h) []
-        ≡ option_map_or (λ s. level_fault s [] nothing_held p.1 false []) (named sides s c r n l h) []
-    go true c r n l h = refl
-    go false true r n l h = refl
-    go false false true n l h = refl
-    go false false false true l h = refl
-    go false false false false true h = level_faults_same (built_play sides) [] nothing_held p.1 false []
-    go false false false false false true = refl
-    go false false false false false false = refl
+    go : (s c r n l m h : Bool)
+        → option_map_or (λ s. level_fault s [] nothing_held p.1 false []) (named (away sides) s c r n l m h) []
+        ≡ option_map_or (λ s. level_fault s [] nothing_held p.1 false []) (named sides s c r n l m h) []
+    go true c r n l m h = refl
+    go false true r n l m h = refl
+    go false false true n l m h = refl
+    go false false false true l m h = refl
+    go false false false false true m h = level_faults_same (built_play sides) [] nothing_held p.1 false []
+    go false false false false false true h = refl
+    go false false false false false false true = refl
+    go false false false false false false false = refl
 
 enters_same : (sides : Bor (List (Bor Text))) (stop : Option (Text × List Text))
     → entered (built (program_among (away sides))) stop ≡ entered (built (program_among sides)) stop
 enters_same sides None = refl
 enters_same sides (Some p) =
     go (answers_to p.0 (label_of solve)) (answers_to p.0 (label_of check)) (answers_to p.0 (label_of report))
-    (answers_to p.0 (label_of nested)) (answers_to p.0 (codes "play", [])) (answers_to p.0 (codes "help", []))
+    (answers_to p.0 (label_of nested)) (answers_to p.0 (codes "play", [])) (answers_to p.0 (label_of climb)) (answers_to p.0 (codes "help", []))
   where
-    go : (s c r n l h : Bool)
-        → option_map (λ s. rows_at s p.1) (named (away sides) s c r n l h) ≡ option_map (λ s. rows_at s p.1) (named sides s c r n l h)
-    go true c r n l h = refl
-    go false true r n l h = refl
-    go false false true n l h = refl
-    go false false false true l h = refl
-    go false false false false true h = ap (λ (rows : List Row). Some (codes "play", rows)) (rows_after_same (built_play sides).rules [] p.1)
-    go false false false false false true = refl
-    go false false false false false false = refl
+    go : (s c r n l m h : Bool)
+        → option_map (λ s. rows_at s p.1) (named (away sides) s c r n l m h) ≡ option_map (λ s. rows_at s p.1) (named sides s c r n l m h)
+    go true c r n l m h = refl
+    go false true r n l m h = refl
+    go false false true n l m h = refl
+    go false false false true l m h = refl
+    go false false false false true m h = ap (λ (rows : List Row). Some (codes "play", rows)) (rows_after_same (built_play sides).rules [] p.1)
+    go false false false false false true h = refl
+    go false false false false false false true = refl
+    go false false false false false false false = refl
 
 takes_same : (sides : Bor (List (Bor Text))) (words : List Text) → takes (program_among (away sides)) words ≡ takes (program_among sides) words
 takes_same sides words =

@@ -13,7 +13,7 @@ use Rattle.clap.specs.Faults.{is_simple_and_free}
 use Rattle.clap.specs.Takes.{built_takes, default_passes, entered_passes, is_given, is_valid, level_passes, other_passes, settle_passes, step_passes, takes, turn_passes, walk_passes, word_passes}
 use Rattle.clap.proofs.OnLiterals.{clap_on_literals}
 use Rattle.clap.proofs.WalkLemmas.{both}
-use Rattle.command_line.specs.Commands.{check, nested, play_among, program, program_among, side_words, solving, somewhere, workers}
+use Rattle.command_line.specs.Commands.{check, climb, nested, play_among, program, program_among, side_words, solving, somewhere, workers}
 use Rattle.command_line.specs.Reading.{can_solve, is_read}
 use Rattle.command_line.proofs.RowFacts.{either}
 use Rattle.command_line.proofs.Defaults.{default_row, given_row}
@@ -44,6 +44,9 @@ built_play = built_leaf (inherited program.top (play_among (somewhere (map somew
 
 abbrev built_nested : Shape
 built_nested = built_leaf (inherited program.top nested)
+
+abbrev built_climb : Shape
+built_climb = built_leaf (inherited program.top climb)
 
 check_good : Good built_check.rules
 check_good = ((refl, inl (refl, omega arith)), ((refl, inl (refl, omega arith)), ((refl, inr refl), tt)))
@@ -113,6 +116,18 @@ play_read words pass =
     (given_row (codes "side") rows side) in
     let has_board = text_there built_play.rules _ (codes "board") rows level.0 refl (given_row (codes "board") rows board) in
     rw (has_a_side, has_board) refl
+
+climb_good : Good built_climb.rules
+climb_good = ((refl, inl (refl, omega arith)), ((refl, inr refl), tt))
+
+climb_read : (words : List Text) → level_passes built_climb [] nothing_held words false ≡ true
+    → is_read (Some (rows_at built_climb words)) ≡ true
+climb_read words pass =
+    let rows = rows_after built_climb.rules [] words in
+    let level = level_fits built_climb words climb_good pass in
+    let levels = (both (is_given (codes "levels") rows) true level.1).0 in
+    let has_levels = number_there built_climb.rules _ (codes "levels") 24 rows level.0 refl refl (λ t e. e) (given_row (codes "levels") rows levels) in
+    rw has_levels refl
 
 -- ---- a walk that passes stops at no `help`
 
@@ -187,24 +202,25 @@ stop_read : (stop : Option (Text × List Text)) → IsNoHelp stop → entered_pa
 stop_read None fine pass some = absurd (true≢false (sym some))
 stop_read (Some p) fine pass some =
     go (answers_to p.0 (label_of (built_solving (codes "solve")))) (answers_to p.0 (label_of built_check)) (answers_to p.0 (label_of (built_solving (codes "report"))))
-    (answers_to p.0 (label_of built_nested)) (answers_to p.0 (label_of built_play)) (answers_to p.0 (codes "help", [])) refl pass some
+    (answers_to p.0 (label_of built_nested)) (answers_to p.0 (label_of built_play)) (answers_to p.0 (label_of built_climb)) (answers_to p.0 (codes "help", [])) refl pass some
   where
     help : Shape
     help = built_leaf help_shape
 
-    shape : Bool → Bool → Bool → Bool → Bool → Bool → Option Shape
-    shape s c r n l h = cond s (Some (built_solving (codes "solve"))) (cond c (Some built_check) (cond r (Some (built_solving (codes "report"))) (cond n (Some built_nested) (cond l (Some built_play) (cond h (Some help) None)))))
+    shape : Bool → Bool → Bool → Bool → Bool → Bool → Bool → Option Shape
+    shape s c r n l m h = cond s (Some (built_solving (codes "solve"))) (cond c (Some built_check) (cond r (Some (built_solving (codes "report"))) (cond n (Some built_nested) (cond l (Some built_play) (cond m (Some built_climb) (cond h (Some help) None))))))
 
-    go : (s c r n l h : Bool) → answers_to p.0 (codes "help", []) ≡ h
-        → option_map_or (λ s. level_passes s [] nothing_held p.1 false) (shape s c r n l h) true ≡ true
-        → is_some (option_map (λ s. rows_at s p.1) (shape s c r n l h)) ≡ true
-        → is_read (option_map (λ s. rows_at s p.1) (shape s c r n l h)) ≡ true
-    go true c r n l h e pass some = solve_read p.1 pass
-    go false true r n l h e pass some = check_read p.1 pass
-    go false false true n l h e pass some = report_read p.1 pass
-    go false false false true l h e pass some = nested_read p.1 pass
-    go false false false false true h e pass some = play_read p.1 pass
-    go false false false false false true e pass some =
+    go : (s c r n l m h : Bool) → answers_to p.0 (codes "help", []) ≡ h
+        → option_map_or (λ s. level_passes s [] nothing_held p.1 false) (shape s c r n l m h) true ≡ true
+        → is_some (option_map (λ s. rows_at s p.1) (shape s c r n l m h)) ≡ true
+        → is_read (option_map (λ s. rows_at s p.1) (shape s c r n l m h)) ≡ true
+    go true c r n l m h e pass some = solve_read p.1 pass
+    go false true r n l m h e pass some = check_read p.1 pass
+    go false false true n l m h e pass some = report_read p.1 pass
+    go false false false true l m h e pass some = nested_read p.1 pass
+    go false false false false true m h e pass some = play_read p.1 pass
+    go false false false false false true h e pass some = climb_read p.1 pass
+    go false false false false false false true e pass some =
         elim (either (bytes_eq (codes "help") p.0) false e) [
           | inl same ↦
               let is : codes "help" ≡ p.0 = (bytes_eq-Decides (codes "help") p.0).0 same in
@@ -212,7 +228,7 @@ stop_read (Some p) fine pass some =
               absurd (true≢false (sym again ∙ fine))
           | inr bad ↦ absurd (true≢false (sym bad))
         ]
-    go false false false false false false e pass some = absurd (true≢false (sym some))
+    go false false false false false false false e pass some = absurd (true≢false (sym some))
 
 pub taken : (words : List Text) → takes program words ≡ true → is_read (subcommand_of program words) ≡ true
 taken words e =

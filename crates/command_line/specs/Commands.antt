@@ -60,11 +60,14 @@ side_among words = record (new_rule (codes "side")) {
 abbrev pub play_among : Bor (List (Bor Text)) → Shape
 play_among words = command (codes "play") (side_among words ∷ path (codes "board") ∷ [])
 
+abbrev pub climb : Shape
+climb = command (codes "climb") (number (codes "levels") 24 ∷ [])
+
 -- the program: one of its commands has to be named
 abbrev pub program_among : Bor (List (Bor Text)) → App
 program_among words = record {
   top = record (new_shape (codes "pebbles")) { is_leaf = false; subcommand_required = true };
-  subs = solve ∷ check ∷ report ∷ nested ∷ play_among words ∷ [];
+  subs = solve ∷ check ∷ report ∷ nested ∷ play_among words ∷ climb ∷ [];
 }
 
 -- a value behind a reference; what `clap` reads doesn't depend on where it lies

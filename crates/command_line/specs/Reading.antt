@@ -8,7 +8,7 @@ use Rattle.std.specs.Str.Parse.{digits_value, without_leading_plus}
 use Rattle.clap.specs.ValueTests.{is_unsigned_in}
 use Rattle.clap.specs.Walk.{Row, Text, first_of, one_of}
 use Rattle.command_line.specs.declared.asked.Job.{Job}
-use Rattle.command_line.specs.declared.asked.Job.TheVariants.{Joined, Check, Nested, Solve, Report, Play}
+use Rattle.command_line.specs.declared.asked.Job.TheVariants.{Joined, Check, Nested, Solve, Report, Play, Climb}
 use Rattle.command_line.specs.declared.asked.Player.{Player}
 use Rattle.command_line.specs.declared.asked.Player.TheVariants.{Labeller, Adversary}
 use Rattle.command_line.specs.Commands.{side_words}
@@ -41,13 +41,14 @@ AsksFor name rows (Report workers board) = (name ≡ codes "report")
 AsksFor name rows (Play side board) = (name ≡ codes "play")
     × (first_of (codes "side") rows ≡ Some (word_of side))
     × (first_of (codes "board") rows ≡ Some board.now)
+AsksFor name rows (Climb levels) = (name ≡ codes "climb") × HasNumber rows (codes "levels") 24 levels
 
 -- what `clap` finds on the words asks for the job
 abbrev pub IsReadAs : Option (Text × List Row) → Job → Type 0
 IsReadAs None job = ⊥
 IsReadAs (Some found) job = AsksFor found.0 found.1 job
 
--- the numbers of the job are those of boards that can be made, and of workers that can be started
+-- the numbers of the job are those of boards that can be made or played on unmade, and of workers that can be started
 abbrev pub IsInRange : Job → Type 0
 IsInRange Joined = Unit {0}
 IsInRange (Check board proof) = Unit {0}
@@ -55,6 +56,7 @@ IsInRange (Nested levels pebbles) = (1 ≤ levels) × (levels ≤ 6) × (1 ≤ p
 IsInRange (Solve workers board) = (1 ≤ workers) × (workers ≤ 16)
 IsInRange (Report workers board) = (1 ≤ workers) × (workers ≤ 16)
 IsInRange (Play side board) = Unit {0}
+IsInRange (Climb levels) = (1 ≤ levels) × (levels ≤ 24)
 
 -- the same as a test, of some job
 abbrev pub has_number : List Row → Text → ℕ → Bool
@@ -76,8 +78,9 @@ asks name rows =
     && (has_number rows (codes "levels") 6 && has_number rows (codes "pebbles") 6))
     || ((bytes_eq name (codes "solve") && can_solve rows)
     || ((bytes_eq name (codes "report") && can_solve rows)
-    || (bytes_eq name (codes "play")
-    && (has_side rows && is_some (first_of (codes "board") rows))))))
+    || ((bytes_eq name (codes "play")
+    && (has_side rows && is_some (first_of (codes "board") rows)))
+    || (bytes_eq name (codes "climb") && has_number rows (codes "levels") 24)))))
 
 abbrev pub is_read : Option (Text × List Row) → Bool
 is_read None = false

@@ -20,6 +20,8 @@ pub enum Job<'a> {
     Report { workers: u8, board: &'a str },
     /// Play on the board, a path. The person plays this side, by lines of standard input, and the program the other one.
     Play { side: Player, board: &'a str },
+    /// Play on the nested board with so many levels, 1 to 24, and as many pebbles. The person is the adversary, by lines of standard input.
+    Climb { levels: u8 },
 }
 
 /// One of the two that play.

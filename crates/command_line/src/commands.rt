@@ -52,7 +52,8 @@ fn program_among<'a>(alloc: Global, sides: &'a [&'a str]) -> Result<Command<'a>,
         .subcommand(check(alloc)?)?
         .subcommand(report(alloc)?)?
         .subcommand(nested(alloc)?)?
-        .subcommand(play(alloc, sides)?)
+        .subcommand(play(alloc, sides)?)?
+        .subcommand(climb(alloc)?)
 }
 
 fn solve<'a>(alloc: Global) -> Result<Command<'a>, AllocError>
@@ -138,6 +139,29 @@ fn play<'a>(alloc: Global, sides: &'a [&'a str]) -> Result<Command<'a>, AllocErr
         )
         .arg(side(alloc, sides))?
         .arg(board)
+}
+
+fn climb<'a>(alloc: Global) -> Result<Command<'a>, AllocError>
+    ensures shape { IfOk result (λ c. shape_of c ≡ commands.climb) }
+    ensures local { IfOk result (λ c. (out-Command c).has_globals ≡ false) }
+{
+    let levels = count(
+        alloc,
+        "levels",
+        "LEVELS",
+        24,
+        "How many levels and pebbles, 1 to 24",
+    );
+    Command::new(alloc, "climb")
+        .about(
+            "Answers your requests on a nested board, whose strategy needs no search and lasts for ever",
+        )
+        .after_help(
+            "The board has as many pebbles as levels, and is never built. Lines come from standard input: \
+            the number of a pebble, or `quit`. A label is written as its word, a digit for each level but the first.\n\n\
+            Example:\n  pebbles climb 3",
+        )
+        .arg(levels)
 }
 
 /// The side that the person plays, one of these words.

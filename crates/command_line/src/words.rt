@@ -80,6 +80,7 @@ fn chosen<'a>(matches: &ArgMatches<'a>) -> Option<Job<'a>>
         "report" => report_job(values),
         "nested" => nested_job(values),
         "play" => play_job(values),
+        "climb" => climb_job(values),
         _ => None,
     }
 }
@@ -140,6 +141,15 @@ fn play_job<'a>(values: &ArgMatches<'a>) -> Option<Job<'a>>
     let side = side(values)?;
     let board = text(values, "board")?;
     Some(Job::Play { side, board })
+}
+
+fn climb_job<'a>(values: &ArgMatches<'a>) -> Option<Job<'a>>
+    ensures asked { MatchOption result (asks (codes "climb") (rows_of (found_of values.now)) ≡ false)
+        (AsksFor (codes "climb") (rows_of (found_of values.now))) }
+    ensures numbers { IfSome result IsInRange }
+{
+    let levels = number(values, "levels", 24)?;
+    Some(Job::Climb { levels })
 }
 
 fn side(matches: &ArgMatches<'_>) -> Option<Player>
