@@ -1,4 +1,4 @@
-//! Solves boards of the pebble game, checks strategies for them, counts values, plays with a person and writes nested boards.
+//! Solves boards of the pebble game, checks strategies for them, counts values, plays with a person, and writes nested boards and plays on them.
 //!
 //! Without a command a board and a strategy document behind it are read from standard input, and one
 //! line is written to standard output. `pebbles --help` lists the commands.
@@ -31,8 +31,8 @@ use board_text::Through;
 use checking::run_check;
 use command_line::{Job, JobFault, Player, job};
 use nesting::run_nested;
-use player::PlayEnd;
-use playing::run_play;
+use player::{PlayEnd, PlayFault, play_nested};
+use playing::{fault_of, run_play};
 use positions::Value;
 use proof_check::Side;
 use reporting::run_report;
@@ -101,6 +101,10 @@ fn main(rt: HostRuntime) -> ExitCode {
             }
             Err(_) => failed(&rt, RunFault::Read),
         },
+        Ok(Job::Climb { levels }) => {
+            let mut lines = Through::new(rt.stdin());
+            climbed(&rt, play_nested(alloc, levels, &mut lines, &mut writer))
+        }
         Ok(Job::Nested { levels, pebbles }) => {
             done(&rt, run_nested(alloc, levels, pebbles, &mut writer))
         }
@@ -135,6 +139,14 @@ fn played(rt: &HostRuntime, answer: Result<PlayEnd, RunFault>) -> ExitCode {
     match answer {
         Ok(_) => ExitCode::SUCCESS,
         Err(fault) => failed(rt, fault),
+    }
+}
+
+/// The status of a play on a nested board, however it ended.
+fn climbed(rt: &HostRuntime, answer: Result<PlayEnd, PlayFault>) -> ExitCode {
+    match answer {
+        Ok(_) => ExitCode::SUCCESS,
+        Err(fault) => failed(rt, fault_of(fault)),
     }
 }
 

@@ -72,7 +72,7 @@ fn play<L: Source, W: Sink>(
 }
 
 /// The fault of a run whose play was broken off.
-fn fault_of(fault: PlayFault) -> RunFault
+pub(crate) fn fault_of(fault: PlayFault) -> RunFault
     ensures { result ≡ run_fault_of fault }
 {
     match fault {
