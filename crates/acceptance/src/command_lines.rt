@@ -129,6 +129,17 @@ fn plays(rt: HostRuntime) {
 }
 
 #[test]
+fn climbs(rt: HostRuntime) {
+    for (words, levels) in [
+        (["pebbles", "climb", "1"].as_slice(), 1),
+        (["pebbles", "climb", "24"].as_slice(), 24),
+        (["pebbles", "climb", "--", "07"].as_slice(), 7),
+    ] {
+        assert_asks(&rt, rt.alloc(), words, Job::Climb { levels });
+    }
+}
+
+#[test]
 fn wrong_words(rt: HostRuntime) {
     for words in [
         ["pebbles", ""].as_slice(),
@@ -162,6 +173,13 @@ fn wrong_words(rt: HostRuntime) {
         ["pebbles", "play", "--side", "Labeller", "a"].as_slice(),
         ["pebbles", "play", "--side", "", "a"].as_slice(),
         ["pebbles", "play", "--side=labeller", "--workers=2", "a"].as_slice(),
+        ["pebbles", "climb"].as_slice(),
+        ["pebbles", "climb", "0"].as_slice(),
+        ["pebbles", "climb", "25"].as_slice(),
+        ["pebbles", "climb", "-1"].as_slice(),
+        ["pebbles", "climb", "three"].as_slice(),
+        ["pebbles", "climb", "3", "3"].as_slice(),
+        ["pebbles", "climb", "--side=labeller", "3"].as_slice(),
         ["pebbles", "--version"].as_slice(),
     ] {
         assert_usage(&rt, rt.alloc(), words);
@@ -179,6 +197,7 @@ fn help(rt: HostRuntime) {
         (["pebbles", "nested", "-h"].as_slice(), "<LEVELS> <PEBBLES>"),
         (["pebbles", "solve", "--help"].as_slice(), "[default: 1]"),
         (["pebbles", "help", "report"].as_slice(), "--workers <N>"),
+        (["pebbles", "climb", "--help"].as_slice(), "<LEVELS>"),
     ] {
         assert_help(&rt, rt.alloc(), words, within);
     }

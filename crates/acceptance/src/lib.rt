@@ -12,6 +12,8 @@ mod building;
 #[cfg(test)]
 mod checks;
 #[cfg(test)]
+mod climbs;
+#[cfg(test)]
 mod command_lines;
 #[cfg(test)]
 mod document_texts;

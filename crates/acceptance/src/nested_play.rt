@@ -6,9 +6,12 @@ ghost use Rattle.nested_cycles.specs.Domination.{labels_of};
 ghost use Rattle.nested_cycles.specs.NestedGame.{plain_game};
 
 use crate::assertions::assert_same;
+use crate::nested::nested;
+use crate::strategy_documents::values_of;
 use board_text::{Board, Memory};
-use nested_cycles::{NestedGame, nested_board, nested_good, nested_reply};
-use positions::Space;
+use nested_cycles::{NestedGame, nested_beats, nested_good, nested_reply};
+use positions::Value;
+use retro_core::Values;
 use std::alloc::Global;
 use std::process::Abort;
 
@@ -94,39 +97,65 @@ fn games_of_the_highest_and_the_lowest_level(rt: HostRuntime) {
     assert_request(&rt, &mut game_of(&rt, rt.alloc(), 1), 0, 0);
 }
 
-/// Asserts that the requests are answered by labels that are legal on the board of the third level with three pebbles.
+/// Asserts that four requests are answered by labels that are legal on the board, and that lead to configurations from which a labeller lasts for ever.
 ///
-/// A number below 81 gives the four requests: the digits in which it is written in base 3.
-fn assert_legal(
+/// The pebbles that are asked for are the digits of a number, from the last one on, with as many digits as there are levels.
+fn assert_lasting(
     rt: &impl Abort,
     game: &mut NestedGame,
     board: &Board,
-    space: &Space,
-    mut requests: u8,
+    values: &Values,
+    mut requests: u32,
 )
-    requires levels { game.old.levels ≡ 3 }
-    requires same_board { space.now ≡ board.now }
+    requires { values.now ≡ board.now }
 {
+    let levels = u32::from(game.levels());
+    let space = values.space();
     let mut rank = space.rank(board.start());
     for _ in 0..4 {
-        let pebble = requests % 3;
+        let pebble = (requests % levels) as u8;
         let label = u16::try_from(game.request(pebble))
             .ok()
             .expect(rt, "a label");
         assert!(rt; pebble < space.pebbles() && space.legal(board, rank, pebble, label));
         rank = space.with(rank, pebble, label);
-        requests /= 3;
+        assert_same(rt, rank, values.of(rank), Value::Forever);
+        requests /= levels;
     }
 }
 
 #[test]
-fn replies_are_legal_on_the_board(rt: HostRuntime) {
-    let board = nested_board(rt.alloc(), 3, 3)
-        .ok()
-        .expect(&rt, "a nested board");
-    let space = Space::of(&board).ok().expect(&rt, "a space");
-    for requests in 0..81 {
-        let mut game = game_of(&rt, rt.alloc(), 3);
-        assert_legal(&rt, &mut game, &board, &space, requests);
+fn replies_keep_the_value(rt: HostRuntime) {
+    for levels in 2..5 {
+        let board = nested(&rt, rt.alloc(), levels, levels);
+        let values = values_of(rt.alloc(), &board).expect(&rt, "values");
+        for requests in 0..256 {
+            let mut game = game_of(&rt, rt.alloc(), levels);
+            assert_lasting(&rt, &mut game, &board, &values, requests);
+        }
+    }
+}
+
+/// How many labels the nested board of the highest level has: 3^23.
+const MOST_LABELS: u64 = 94_143_178_827;
+
+/// Whether a label of the highest level dominates another one.
+fn dominates(label: u64, other: u64) -> bool {
+    label < MOST_LABELS && other < MOST_LABELS && nested_beats(24, label, other)
+}
+
+#[test]
+fn ten_thousand_requests_at_the_highest_level(rt: HostRuntime) {
+    let mut game = game_of(&rt, rt.alloc(), 24);
+    let mut drawn = 1_u64;
+    for _ in 0..10_000 {
+        drawn = drawn
+            .wrapping_mul(6_364_136_223_846_793_005)
+            .wrapping_add(1_442_695_040_888_963_407);
+        let pebble = ((drawn >> 33) % 24) as u8;
+        let reply = game.request(pebble);
+        for (other, word) in game.words().iter().enumerate() {
+            assert!(rt; other == usize::from(pebble) || dominates(reply, *word));
+        }
     }
 }

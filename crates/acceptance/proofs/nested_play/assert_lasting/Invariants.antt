@@ -1,10 +1,10 @@
 use Rattle.std.proofs.Common.{◌≡◌, ◌<◌}
 use Rattle.positions.specs.Ranks.{configurations}
-use Rattle.acceptance.proofs.nested_play.assert_legal.Given as goal
+use Rattle.acceptance.proofs.nested_play.assert_lasting.Given as goal
 
 abbrev pub invariant-loop : goal.invariant-loop
 invariant-loop g l = record {
-  levels : l.game.levels ≡ 3;
-  same_board : l.space ≡ l.board;
-  rank : l.rank < configurations l.space;
+  levels : l.game.levels ≡ l.levels;
+  same_board : l.values ≡ l.board;
+  rank : l.rank < configurations l.board;
 }
