@@ -153,9 +153,7 @@ fn climb<'a>(alloc: Global) -> Result<Command<'a>, AllocError>
         "How many levels and pebbles, 1 to 24",
     );
     Command::new(alloc, "climb")
-        .about(
-            "Answers your requests on a nested board, whose strategy needs no search and lasts for ever",
-        )
+        .about("Answers your requests on a nested board, for ever and without a search")
         .after_help(
             "The board has as many pebbles as levels, and is never built. Lines come from standard input: \
             the number of a pebble, or `quit`. A label is written as its word, a digit for each level but the first.\n\n\
