@@ -1,5 +1,5 @@
 -- Labeller's trees on nested boards.
-use Rattle.std.proofs.Common.{◌≡◌, ◌⊎◌, ℕ, zero, suc, ◌+◌, ◌-◌, ◌*◌, ◌/◌, ◌%◌, ◌<◌, ◌≤◌, List, [], ◌∷◌, ◌++◌, length, take, drop, get_or, replicate, refl, sym, ap, ◌∙◌, subst, arith, inl, inr}
+use Rattle.std.proofs.Common.{◌≡◌, ◌⊎◌, ℕ, zero, suc, ◌+◌, ◌-◌, ◌*◌, ◌/◌, ◌%◌, ◌<◌, ◌≤◌, List, [], ◌∷◌, ◌++◌, length, take, drop, get_or, replicate, refl, sym, ◌∙◌, subst, arith, inl, inr}
 use Rattle.std.proofs.Math.Nat.{one-le-pow}
 use Rattle.std.proofs.lemmas.Bool.{cases_eq}
 use Rattle.std.proofs.lemmas.List.{length-set, length-replicate}
@@ -20,6 +20,7 @@ use Rattle.nested_cycles.proofs.GoodReplies.{good_have_reply}
 use Rattle.nested_cycles.proofs.Levels.{reply_beats, good_with}
 use Rattle.nested_cycles.proofs.Games.{parts_after, fewer_others, others_are_good, others_are_labels, in_others, same_words_are_good}
 use Rattle.player.specs.NestedPlay.{IsNestedPlay, IsGoodConfiguration}
+use Rattle.player.specs.Transcript.{Standing, Going, Over, PersonClimbs, Brings, BringInTurn, IsPlayed}
 
 -- ---- a reply to good words
 
@@ -48,7 +49,7 @@ few_others levels board configuration pebble nested good inside =
     let most = nested.pebbles in
     omega arith
 
-is_legal : (levels : ℕ) (board : PlainBoard) (configuration : List ℕ) (pebble label : ℕ) → IsNestedPlay levels board → IsGoodConfiguration levels board configuration → pebble < board.pebbles
+pub is_legal : (levels : ℕ) (board : PlainBoard) (configuration : List ℕ) (pebble label : ℕ) → IsNestedPlay levels board → IsGoodConfiguration levels board configuration → pebble < board.pebbles
     → label < labels_of levels → NestedReply levels (other_words pebble configuration) label → Legal board configuration pebble label
 is_legal levels board configuration pebble label nested good inside low reply =
     let beats = reply_beats levels (other_words pebble configuration) label (few_others levels board configuration pebble nested good inside) (others_are_labels (labels_of levels) configuration pebble good.are_labels.1) reply in
@@ -80,14 +81,41 @@ lasts levels board (suc depth) configuration nested good =
 
 -- ---- boards
 
-pub start_of_zeros : (levels : ℕ) (board : PlainBoard) (pebbles : ℕ) → board.pebbles ≡ pebbles → board.start ≡ replicate pebbles 0 → IsGoodConfiguration levels board board.start
-start_of_zeros levels board pebbles same start = record {
-  are_labels = (ap length start ∙ length-replicate pebbles 0 ∙ sym same, rw start (All-replicate (λ n. n < labels_of levels) pebbles 0 (one-le-pow (levels - 1) 3 (omega arith))));
-  good = rw start (same_words_are_good (levels - 1) 0 pebbles);
+zeros_are_good : (levels : ℕ) (board : PlainBoard) (pebbles : ℕ) → board.pebbles ≡ pebbles → IsGoodConfiguration levels board (replicate pebbles 0)
+zeros_are_good levels board pebbles same = record {
+  are_labels = (length-replicate pebbles 0 ∙ sym same, All-replicate (λ n. n < labels_of levels) pebbles 0 (one-le-pow (levels - 1) 3 (omega arith)));
+  good = same_words_are_good (levels - 1) 0 pebbles;
 }
+
+pub start_of_zeros : (levels : ℕ) (board : PlainBoard) (pebbles : ℕ) → board.pebbles ≡ pebbles → board.start ≡ replicate pebbles 0 → IsGoodConfiguration levels board board.start
+start_of_zeros levels board pebbles same start = subst (IsGoodConfiguration levels board) (sym start) (zeros_are_good levels board pebbles same)
 
 pub built_board : (levels pebbles : ℕ) (board : PlainBoard) → pebbles ≤ levels → IsNestedBoard levels pebbles board → IsNestedPlay levels board
 built_board levels pebbles board few is = record { labels = is.labels; pebbles = omega (arith, is.pebbles); beats = is.beats }
+
+-- ---- plays
+
+-- where a play goes on, the words are good
+abbrev StandsWell : ℕ → PlainBoard → Standing → Type 0
+StandsWell levels board (Going at requests) = IsGoodConfiguration levels board at
+StandsWell levels board (Over end) = Unit {0}
+
+module _ (levels : ℕ) (board : PlainBoard) (nested : IsNestedPlay levels board) (each : board.pebbles ≡ levels) where
+  stands_on : (from : Standing) (line said : List ℕ) (to : Standing) → Brings (PersonClimbs levels) from line said to → StandsWell levels board from → StandsWell levels board to
+  stands_on (Over end) line said to brings well = subst (StandsWell levels board) (sym brings.1) tt
+  stands_on (Going at requests) line said to (inl (pebble, inside, spelled, (label, low, reply, text, goes))) well =
+      subst (StandsWell levels board) (sym goes) (after_request levels board at pebble label nested well (rw each inside) low reply)
+  stands_on (Going at requests) line said to (inr (inl (spelled, text, over))) well = subst (StandsWell levels board) (sym over) tt
+  stands_on (Going at requests) line said to (inr (inr (other, text, goes))) well = subst (StandsWell levels board) (sym goes) well
+
+  stands_in_turn : (from : Standing) (lines : List (List ℕ)) (text : List ℕ) (to : Standing) → BringInTurn (PersonClimbs levels) from lines text to → StandsWell levels board from → StandsWell levels board to
+  stands_in_turn from [] text to brought well = subst (StandsWell levels board) brought.1 well
+  stands_in_turn from (line ∷ lines) text to brought well = stands_in_turn brought.2 lines brought.1 to brought.4 (stands_on from line brought.0 brought.2 brought.3 well)
+
+  pub plays_stand_well : (lines : List (List ℕ)) (text at : List ℕ) (requests : ℕ) → IsPlayed (PersonClimbs levels) lines text (Going at requests) → IsGoodConfiguration levels board at
+  plays_stand_well lines text at requests played =
+      stands_in_turn played.first lines played.more (Going at requests) played.brings
+      (subst (StandsWell levels board) (sym played.opens.1) (zeros_are_good levels board levels each))
 
 -- ---- each level has its pairs
 
