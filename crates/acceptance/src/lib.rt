@@ -32,6 +32,8 @@ mod plays;
 #[cfg(test)]
 mod printing;
 #[cfg(test)]
+mod rounds;
+#[cfg(test)]
 mod solving;
 #[cfg(test)]
 mod solving_calls;

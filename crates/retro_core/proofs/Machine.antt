@@ -8,7 +8,9 @@ use Rattle.positions.specs.Gaps.{gap_of, IsDominator}
 use Rattle.positions.specs.Counts.{IsSmallest}
 use Rattle.retro_core.specs.Solving.{Solving, IsSolving}
 use Rattle.retro_core.specs.Round.{PlainSeat, Round, round_of, spent, seat_at, IsDue, IsLawful, first_of, seat_struck, seat_tried, seat_kept, seat_new, seat_joined, struck, first_is_open, tried}
-use Rattle.retro_core.specs.Stepping.{Strikes, Tries, Splits, Joins}
+use Rattle.retro_core.specs.declared.step.Step.TheVariants as steps
+use Rattle.retro_core.specs.declared.step.StepFault.TheVariants as faults
+use Rattle.retro_core.specs.Stepping.{Strikes, Tries, Splits, Joins, ClosesGap, Refuses}
 use Rattle.index_lists.proofs.Times.{cond_other}
 use Rattle.retro_core.proofs.Sums.{total-set, total-at, get-elsewhere, width-total}
 use Rattle.retro_core.proofs.RoundLaws.{seat-there}
@@ -95,6 +97,21 @@ module _ (s : Solving) (w : ℕ) (counts : List ℕ) (values : List (Option ℕ)
         });
       }
 
+  -- where a strike takes memory, it closes the gap
+  pub closing : (v : PlainSeat) (ranks : List ℕ) (pebble gap count : ℕ) → v ≡ get_or seats id v → ranks ≡ v.todo → 0 < length ranks
+      → IsDominator s.board (configuration_at s.board (get_or ranks 0 0)) pebble → gap ≡ gap_of s.board (configuration_at s.board (get_or ranks 0 0)) pebble → count ≡ get_or counts gap 0
+      → count ≡ 1 → Refuses old (steps.Strike id) faults.Memory
+  closing v ranks pebble gap count v_is e some dominates gap_is count_is one =
+      let todo : ranks ≡ (get_or seats id spent).todo = read-list (λ u. u.todo) v ranks v_is e in
+      subst (λ r. (0 < length (seat_at r id).todo) × ClosesGap r id) is (
+        subst (λ (l : List ℕ). 0 < length l) todo some,
+        record {
+          pebble = pebble;
+          dominates = subst (λ (l : List ℕ). IsDominator s.board (configuration_at s.board (get_or l 0 0)) pebble) todo dominates;
+          last = ap (λ (l : List ℕ). get_or counts (gap_of s.board (configuration_at s.board (get_or l 0 0)) pebble) 0) (sym todo) ∙ ap (λ g. get_or counts g 0) (sym gap_is) ∙ sym count_is ∙ one;
+        },
+      )
+
   -- ---- try
 
   pub owed-read : (v : PlainSeat) (ranks : List ℕ) → v ≡ get_or seats id v → ranks ≡ v.owed → 0 < length ranks → get_or ranks 0 0 < length values
@@ -104,6 +121,16 @@ module _ (s : Solving) (w : ℕ) (counts : List ℕ) (values : List (Option ℕ)
       let same = ap (λ (l : List ℕ). get_or l 0 0) owed in
       let long = law.values_length in
       omega arith
+
+  -- where a try takes memory, the first that is owed is open
+  pub winning : (v : PlainSeat) (ranks : List ℕ) (word : Option ℕ) (won : Bool) → v ≡ get_or seats id v → ranks ≡ v.owed → 0 < length ranks
+      → word ≡ get_or values (get_or ranks 0 0) word → won ≡ is_none word → won ≡ true → Refuses old (steps.Try id) faults.Memory
+  winning v ranks word won v_is e some word_is won_is is_won =
+      let owed : ranks ≡ (get_or seats id spent).owed = read-list (λ u. u.owed) v ranks v_is e in
+      subst (λ r. (0 < length (seat_at r id).owed) × (first_is_open r id ≡ true)) is (
+        subst (λ (l : List ℕ). 0 < length l) owed some,
+        sym (won_is ∙ ap is_none (word_is ∙ get_or_default values (get_or ranks 0 0) word None (owed-read v ranks v_is e some) ∙ ap (λ (l : List ℕ). get_or values (get_or l 0 0) None) owed)) ∙ is_won,
+      )
 
   pub record IsTrying (ranks : List ℕ) (won : Bool) (values' : List (Option ℕ)) (after : PlainSeat) : Type 0 where
     pub lawful : IsLawful (round_of s w counts values' (set seats id after))

@@ -13,12 +13,12 @@ use Rattle.positions.proofs.GapLaws.{gap_below}
 use Rattle.retro_core.specs.Arena.{live, lasts}
 use Rattle.retro_core.specs.BoardArena.{arena_of}
 use Rattle.retro_core.specs.Solving.{Solving, IsSolving, AnswerLasts}
-use Rattle.retro_core.specs.Round.{PlainSeat, Round, round_of, spent, seat_at, together, all_todo, all_owed, all_won, IsWorth, IsDue, IsLawful, AreToStrike, AreFirstCounts, AreFirstValues, opening, IsOpening, IsWorkedOff, first_of, rest_of, seat_tried, struck, first_is_open, tried, split, joined}
+use Rattle.retro_core.specs.Round.{PlainSeat, Round, round_of, spent, seat_at, together, all_todo, all_owed, all_won, IsWorth, IsDue, IsLawful, AreToStrike, AreFirstCounts, AreFirstValues, opening, IsOpening, IsWorkedOff, HasWonAll, first_of, rest_of, seat_tried, struck, first_is_open, tried, split, joined}
 use Rattle.retro_core.specs.declared.step.Step.{Step}
 use Rattle.retro_core.specs.declared.step.Step.TheVariants as steps
 use Rattle.retro_core.specs.declared.step.Seen.{Seen}
 use Rattle.retro_core.specs.declared.step.Seen.TheVariants as seen
-use Rattle.retro_core.specs.Stepping.{Does}
+use Rattle.retro_core.specs.Stepping.{Does, LeadTo}
 use Rattle.retro_core.specs.Rules.{total, rules_of}
 use Rattle.retro_core.proofs.Lasting.{next-fails}
 use Rattle.retro_core.proofs.BoardArenas.{arena_is, at_member, tree_of_lasts, lasts_of_value}
@@ -177,9 +177,8 @@ none-together list none seats each x = times-together x list seats ∙ by seats 
     by (v ∷ seats) each = let here = ap (times x) (each 0) in let rest = by seats (λ id. each (suc id)) in omega arith
 
 -- with no work left, what is won is what has the next value, each once
-pub worked-off : (round : Round) → IsBoard round.solving.board → IsLawful round → IsWorkedOff round → (rank : ℕ)
-    → (times rank (all_won round) ≤ 1) × ((0 < times rank (all_won round)) ↔ IsWorth round.solving.board rank (suc round.solving.rounds))
-worked-off round board_is law off rank = (
+pub worked-off : (round : Round) → IsBoard round.solving.board → IsLawful round → IsWorkedOff round → HasWonAll round
+worked-off round board_is law off = λ rank. (
   law.won_once rank,
   (
     law.won rank,
@@ -235,6 +234,43 @@ step-lawful before (steps.Split seat) seen.Joined after sol law does = absurd do
 step-lawful before (steps.Join into from) (seen.Struck config closed) after sol law does = absurd does
 step-lawful before (steps.Join into from) (seen.Tried config won) after sol law does = absurd does
 step-lawful before (steps.Join into from) (seen.Parted new_seat) after sol law does = absurd does
+
+pub same-solving : (before : Round) (step : Step) (answer : Seen) (after : Round) → Does before step answer after → after.solving ≡ before.solving
+same-solving before (steps.Strike seat) (seen.Struck config closed) after does = ap (λ r. r.solving) does.after_is
+same-solving before (steps.Try seat) (seen.Tried config won) after does = ap (λ r. r.solving) does.after_is
+same-solving before (steps.Split seat) (seen.Parted new_seat) after does = ap (λ r. r.solving) does.after_is
+same-solving before (steps.Join into from) seen.Joined after does = ap (λ r. r.solving) does.after_is
+same-solving before (steps.Strike seat) (seen.Tried config won) after does = absurd does
+same-solving before (steps.Strike seat) (seen.Parted new_seat) after does = absurd does
+same-solving before (steps.Strike seat) seen.Joined after does = absurd does
+same-solving before (steps.Try seat) (seen.Struck config closed) after does = absurd does
+same-solving before (steps.Try seat) (seen.Parted new_seat) after does = absurd does
+same-solving before (steps.Try seat) seen.Joined after does = absurd does
+same-solving before (steps.Split seat) (seen.Struck config closed) after does = absurd does
+same-solving before (steps.Split seat) (seen.Tried config won) after does = absurd does
+same-solving before (steps.Split seat) seen.Joined after does = absurd does
+same-solving before (steps.Join into from) (seen.Struck config closed) after does = absurd does
+same-solving before (steps.Join into from) (seen.Tried config won) after does = absurd does
+same-solving before (steps.Join into from) (seen.Parted new_seat) after does = absurd does
+
+-- ---- any steps
+
+pub steps-lawful : (first : Round) (made : List (Step × Seen)) (last : Round) → IsSolving first.solving → IsLawful first → LeadTo first made last → IsLawful last × (last.solving ≡ first.solving)
+steps-lawful first [] last sol law same = (subst IsLawful same law, ap (λ r. r.solving) (sym same))
+steps-lawful first (one ∷ more) last sol law lead =
+    let between : Round = lead.0 in
+    let kept : between.solving ≡ first.solving = same-solving first one.0 one.1 between lead.1 in
+    let rest = steps-lawful between more last (subst IsSolving (sym kept) sol) (step-lawful first one.0 one.1 between sol law lead.1) lead.2 in
+    (rest.0, rest.1 ∙ kept)
+
+-- a round that was opened from a solver, and worked off by any steps
+pub opened-and-worked-off : (s : Solving) (width : ℕ) (first : Round) (made : List (Step × Seen)) (last : Round)
+    → IsSolving s → IsOpening s width first → LeadTo first made last → IsWorkedOff last → (last.solving ≡ s) × HasWonAll last
+opened-and-worked-off s width first made last sol opens lead off =
+    let from : first.solving ≡ s = ap (λ r. r.solving) opens.is in
+    let rest = steps-lawful first made last (subst IsSolving (sym from) sol) opens.lawful lead in
+    let same : last.solving ≡ s = rest.1 ∙ from in
+    (same, worked-off last (subst IsSolving (sym same) sol).is_board rest.0 off)
 
 -- ---- the opening as the machine has it
 

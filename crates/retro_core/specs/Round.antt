@@ -143,6 +143,10 @@ pub record IsWorkedOff (round : Round) : Type 0 where
   pub no_todo : (seat : ℕ) → (seat_at round seat).todo ≡ []
   pub no_owed : (seat : ℕ) → (seat_at round seat).owed ≡ []
 
+-- what is won is exactly what has the value behind the round's, each configuration once
+abbrev pub HasWonAll : Round → Type 0
+HasWonAll round = (rank : ℕ) → (times rank (all_won round) ≤ 1) × ((0 < times rank (all_won round)) ↔ IsWorth round.solving.board rank (suc round.solving.rounds))
+
 -- the first of a list
 abbrev pub first_of : List ℕ → ℕ
 first_of ranks = slice_index ranks 0

@@ -1,5 +1,5 @@
 -- What a step of a round does and answers, and why it is refused.
-use Rattle.std.specs.Prelude.{◌≡◌, ℕ, ◌<◌, ◌≤◌, ◌⊎◌, ◌==◌, Bool, cond, [], length, slice_index, Option, Some, None}
+use Rattle.std.specs.Prelude.{◌≡◌, ℕ, ◌<◌, ◌≤◌, ◌⊎◌, ◌==◌, Bool, true, cond, List, [], ◌∷◌, length, slice_index, Option, Some, None}
 use Rattle.positions.specs.Ranks.{configuration_at}
 use Rattle.positions.specs.Gaps.{gap_of, IsDominator}
 use Rattle.retro_core.specs.declared.step.Step.{Step}
@@ -49,6 +49,11 @@ Does round (steps.Split seat) (seen.Parted new_seat) after = Splits round seat n
 Does round (steps.Join into from) seen.Joined after = Joins round into from after
 Does round step answer after = ⊥
 
+-- the steps lead from one round to another, one after the other, with these answers
+abbrev pub LeadTo : Round → List (Step × Seen) → Round → Type 0
+LeadTo first [] last = first ≡ last
+LeadTo first (made ∷ more) last = (between : Round) × Does first made.0 made.1 between × LeadTo between more last
+
 -- a number of the step is that of no seat, or a seat would be joined with itself
 abbrev pub LacksSeat : Round → Step → Type 0
 LacksSeat round (steps.Strike seat) = (seat_at round seat).width ≡ 0
@@ -63,6 +68,19 @@ IsAllowed round (steps.Try seat) = 0 < length (seat_at round seat).owed
 IsAllowed round (steps.Split seat) = 2 ≤ (seat_at round seat).width
 IsAllowed round (steps.Join into from) = (into ≡ from → ⊥) × (0 < (seat_at round into).width) × (0 < (seat_at round from).width)
 
+-- the first that the seat has to strike is the last live answer of the gap that it is struck in
+pub record ClosesGap (round : Round) (seat : ℕ) : Type 0 where
+  pub pebble : ℕ
+  pub dominates : IsDominator round.solving.board (configuration_at round.solving.board (first_of (seat_at round seat).todo)) pebble
+  pub last : slice_index round.counts (gap_of round.solving.board (configuration_at round.solving.board (first_of (seat_at round seat).todo)) pebble) ≡ 1
+
+-- the step makes a list longer or makes a seat, for which memory is taken
+abbrev pub TakesMemory : Round → Step → Type 0
+TakesMemory round (steps.Strike seat) = ClosesGap round seat
+TakesMemory round (steps.Try seat) = first_is_open round seat ≡ true
+TakesMemory round (steps.Split seat) = Unit {0}
+TakesMemory round (steps.Join into from) = Unit {0}
+
 -- the first fault of the step
 abbrev pub Refuses : Round → Step → StepFault → Type 0
 Refuses round step faults.NoSuchSeat = LacksSeat round step
@@ -72,4 +90,4 @@ Refuses round (steps.Strike seat) faults.NothingToStrike = (0 < (seat_at round s
 Refuses round step faults.NothingToStrike = ⊥
 Refuses round (steps.Try seat) faults.NothingOwed = (0 < (seat_at round seat).width) × ((seat_at round seat).owed ≡ [])
 Refuses round step faults.NothingOwed = ⊥
-Refuses round step faults.Memory = IsAllowed round step
+Refuses round step faults.Memory = IsAllowed round step × TakesMemory round step

@@ -1,12 +1,11 @@
 //! Laws of rounds, each the contract of a function without a body.
 
-ghost use Rattle.std.specs.Prelude.{◌≡◌, ℕ, suc, ◌<◌, ◌≤◌, ◌↔◌, List, Option, length};
-ghost use Rattle.index_lists.specs.Lists.{times};
+ghost use Rattle.std.specs.Prelude.{◌≡◌, ℕ, ◌<◌, List, Option, length};
 ghost use Rattle.positions.specs.Ranks.{configurations};
 ghost use Rattle.positions.specs.Gaps.{gaps};
 ghost use Rattle.retro_core.specs.Solving.{Solving, IsSolving};
-ghost use Rattle.retro_core.specs.Round.{Round, AreFirstCounts, AreFirstValues, AreToStrike, opening, IsOpening, IsLawful, all_won, IsWorkedOff, IsWorth};
-ghost use Rattle.retro_core.specs.Stepping.{Does};
+ghost use Rattle.retro_core.specs.Round.{Round, AreFirstCounts, AreFirstValues, AreToStrike, opening, IsOpening, IsLawful, IsWorkedOff, HasWonAll};
+ghost use Rattle.retro_core.specs.Stepping.{Does, LeadTo};
 ghost use Rattle.retro_core.specs.declared.step.Step.{Step as Doing};
 ghost use Rattle.retro_core.specs.declared.step.Seen.{Seen as Answer};
 
@@ -17,14 +16,18 @@ pub fn rounds_open_lawfully()
         → AreFirstCounts s counts → AreFirstValues s values → AreToStrike s ranks → IsOpening s width (opening s width counts values ranks) }
 {}
 
-/// Each step of a lawful round leads to a lawful one.
+/// Each step of a lawful round leads to a lawful one, and so do any steps, in any order and of any seats.
 pub fn steps_keep_rounds_lawful()
-    ensures { (before : Round) → (step : Doing) → (seen : Answer) → (after : Round)
+    ensures one { (before : Round) → (step : Doing) → (seen : Answer) → (after : Round)
         → IsSolving before.solving → IsLawful before → Does before step seen after → IsLawful after }
+    ensures any { (first : Round) → (steps : List (Doing × Answer)) → (last : Round)
+        → IsSolving first.solving → IsLawful first → LeadTo first steps last → IsLawful last × (last.solving ≡ first.solving) }
 {}
 
-/// When no seat of a lawful round has work left, what is won is exactly what has the next value, each configuration once.
+/// When no seat has work left, what is won is exactly what has the next value, each configuration once: in a lawful
+/// round, and so in each that was opened from a solver, whatever steps were made, and in whatever order.
 pub fn worked_off_rounds_have_won_all()
-    ensures { (round : Round) → IsSolving round.solving → IsLawful round → IsWorkedOff round → (rank : ℕ)
-        → (times rank (all_won round) ≤ 1) × ((0 < times rank (all_won round)) ↔ IsWorth round.solving.board rank (suc round.solving.rounds)) }
+    ensures lawful { (round : Round) → IsSolving round.solving → IsLawful round → IsWorkedOff round → HasWonAll round }
+    ensures opened { (s : Solving) → (width : ℕ) → (first : Round) → (steps : List (Doing × Answer)) → (last : Round)
+        → IsSolving s → IsOpening s width first → LeadTo first steps last → IsWorkedOff last → (last.solving ≡ s) × HasWonAll last }
 {}

@@ -185,6 +185,13 @@ impl<'a, S: ListStore> RoundState<'a, S> {
         }
     }
 
+    /// How many seats were ever made, those that were joined into others included.
+    pub fn seats(&self) -> usize
+        ensures { result ≡ length self.now.seats }
+    {
+        self.seats.len()
+    }
+
     /// What a seat has to strike.
     pub fn todo(&self, seat: usize) -> &[u32]
         requires { seat < length self.now.seats }

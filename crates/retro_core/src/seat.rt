@@ -1,6 +1,6 @@
 //! A seat of a round.
 
-ghost use Rattle.std.specs.Prelude.{◌≡◌, ◌+◌, ◌++◌, ◌^◌, ◌<◌, ◌≤◌, [], length, is_ok, if◌then◌else◌, IfOk};
+ghost use Rattle.std.specs.Prelude.{◌≡◌, ◌+◌, ◌++◌, ◌^◌, ◌<◌, ◌≤◌, true, false, [], length, is_ok, if◌then◌else◌, IfOk};
 ghost use Rattle.positions.specs.Gaps.{gaps};
 ghost use Rattle.retro_core.specs.Solving.{source};
 ghost use Rattle.retro_core.specs.Round.{spent, seat_struck, seat_tried, seat_kept, seat_new, seat_joined};
@@ -82,7 +82,8 @@ impl Seat {
     ) -> Result<(), Memory>
         requires some { 0 < length self.old.todo }
         requires gap { gap < gaps solver.now.board }
-        ensures { self.new ≡ (if is_ok result then seat_struck solver.now gap count self.old else self.old) }
+        ensures seat { self.new ≡ (if is_ok result then seat_struck solver.now gap count self.old else self.old) }
+        ensures memory { is_ok result ≡ false → count ≡ 1 }
     {
         if count == 1 {
             owe_members(&mut self.owed, solver, gap)?;
@@ -94,7 +95,8 @@ impl Seat {
     /// Takes off the first that is owed, and wins it if it is open.
     pub(crate) fn settle(&mut self, is_open: bool) -> Result<(), Memory>
         requires { 0 < length self.old.owed }
-        ensures { self.new ≡ (if is_ok result then seat_tried is_open self.old else self.old) }
+        ensures seat { self.new ≡ (if is_ok result then seat_tried is_open self.old else self.old) }
+        ensures memory { is_ok result ≡ false → is_open ≡ true }
     {
         let first = self.owed.as_slice()[0];
         if is_open && self.won.push(first).is_err() {

@@ -54,8 +54,11 @@ returns-then-is_err-clause-refused g c =
     ap (λ x. set (set (set seats c.args.from x) c.args.into c.absorb.new.self) c.args.from c.replace-other.result) emptied
     ∙ put-back _ _ _ _ _ _ c.self.view_is c.self.invariant.0 c.self.invariant.1 c.args.into c.seat_width.result c.seat_width.ensures.value c.if-seat_width-eq0.false
     c.args.from c.seat_width-else-seat_width-eq0.result c.seat_width-else-seat_width-eq0.ensures.value c.if-seat_width-eq0-2.false c.if-into-from.false c.absorb.new.self c.replace-other.result (unchanged ∙ v_is) u_is in (
-      allowed _ _ _ _ _ _ c.self.view_is c.self.invariant.0 c.self.invariant.1 c.args.into c.seat_width.result c.seat_width.ensures.value c.if-seat_width-eq0.false
-          c.args.from c.seat_width-else-seat_width-eq0.result c.seat_width-else-seat_width-eq0.ensures.value c.if-seat_width-eq0-2.false c.if-into-from.false,
+      (
+        allowed _ _ _ _ _ _ c.self.view_is c.self.invariant.0 c.self.invariant.1 c.args.into c.seat_width.result c.seat_width.ensures.value c.if-seat_width-eq0.false
+            c.args.from c.seat_width-else-seat_width-eq0.result c.seat_width-else-seat_width-eq0.ensures.value c.if-seat_width-eq0-2.false c.if-into-from.false,
+        tt,
+      ),
       ap (round_of c.self.inside.solver.now c.self.inside.width c.self.inside.counts.items c.self.inside.values.items) same ∙ c.self.view_is,
     )
 
