@@ -1,7 +1,7 @@
 //! Boards that are built of their parts, and the faults of such parts.
 
 use crate::assertions::assert_same;
-use crate::texts::{THREE_CYCLE, build_board, print_board};
+use crate::texts::{PAIR_WITHOUT_LABELS, THREE_CYCLE, build_board, print_board};
 use board_text::BoardKind;
 use std::alloc::Global;
 use std::process::Abort;
@@ -33,6 +33,9 @@ fn built_and_printed(rt: HostRuntime) {
     );
     let text = print_board(rt.alloc(), &board).expect(&rt, "the text of a board");
     assert_eq!(rt; text.as_str(), THREE_CYCLE);
+    let board = build_board(rt.alloc(), 2, 2, &[2, 2], &[(1, 0)]).expect(&rt, "parts of a board");
+    let text = print_board(rt.alloc(), &board).expect(&rt, "the text of a board");
+    assert_eq!(rt; text.as_str(), PAIR_WITHOUT_LABELS);
 }
 
 /// Asserts the fault of parts of which the only pair is faulty, too.

@@ -2,11 +2,13 @@
 
 use crate::assertions::assert_same;
 use crate::documents::{
-    CHAIN_LEAST_TWO, CHAIN_MOST_TWO, CHAIN_VALUE_TWO, CYCLE_FOREVER, PAIR_VALUE_ONE,
+    CHAIN_LEAST_TWO, CHAIN_MOST_TWO, CHAIN_VALUE_TWO, CYCLE_FOREVER, CYCLE_WITHOUT_LABELS_FOREVER,
+    LONE_WITHOUT_LABEL_FOREVER, PAIR_VALUE_ONE, PAIR_WITHOUT_LABELS_VALUE_TWO,
     THREE_PEBBLES_VALUE_ONE, WAY_IN_VALUE_ONE, print_document, read_document,
 };
 use crate::texts::{
-    CHAIN_OF_THREE, CYCLE_WITH_A_WAY_IN, ONE_PAIR, THREE_CYCLE, THREE_PEBBLES, board_of,
+    CHAIN_OF_THREE, CYCLE_WITH_A_WAY_IN, CYCLE_WITHOUT_LABELS, LONE_WITHOUT_LABEL, ONE_PAIR,
+    PAIR_WITHOUT_LABELS, THREE_CYCLE, THREE_PEBBLES, board_of,
 };
 use positions::{Claim, Space, Turns};
 use proof_text::{AdversaryRow, LabellerRow, ProofKind};
@@ -89,6 +91,9 @@ fn documents_are_printed_as_they_were_read(rt: HostRuntime) {
         (THREE_PEBBLES, THREE_PEBBLES_VALUE_ONE),
         (CHAIN_OF_THREE, CHAIN_LEAST_TWO),
         (CHAIN_OF_THREE, CHAIN_MOST_TWO),
+        (PAIR_WITHOUT_LABELS, PAIR_WITHOUT_LABELS_VALUE_TWO),
+        (CYCLE_WITHOUT_LABELS, CYCLE_WITHOUT_LABELS_FOREVER),
+        (LONE_WITHOUT_LABEL, LONE_WITHOUT_LABEL_FOREVER),
     ] {
         assert_printed(&rt, rt.alloc(), board, text);
     }
@@ -273,6 +278,38 @@ fn adversarys_rows(rt: HostRuntime) {
     assert_faults(&rt, rt.alloc(), &space, &faults);
     let none = request!("at 0 0 for 0 ask 0");
     assert_eq!(&rt; fault_of(rt.alloc(), &space, none.as_bytes()), None);
+}
+
+/// Rows of a labeller in which a hyphen stands where none may, or the number of labels in place of one.
+const HYPHENS: &[(&str, u32, ProofKind)] = &[
+    (answers!("at - - for 1 take 1 -"), 4, ProofKind::Row),
+    (answers!("at - - for 1 take - -"), 4, ProofKind::Row),
+    (answers!("at - - for - take 1 1"), 4, ProofKind::Row),
+    (answers!("at - -- for 1 take 1 1"), 4, ProofKind::Row),
+    (answers!("at -0 - for 1 take 1 1"), 4, ProofKind::Row),
+    (answers!("at 0- - for 1 take 1 1"), 4, ProofKind::Row),
+    (answers!("at - for 1 take 1 1"), 4, ProofKind::Row),
+    (answers!("at - 2 for 1 take 1 1"), 4, ProofKind::Label),
+    (answers!("at 2 - for 1 take 1 1"), 4, ProofKind::Label),
+    (answers!("at - 3 for 1 take 1 1"), 4, ProofKind::Label),
+    (answers!("at - - for 1 take 2 1"), 4, ProofKind::Label),
+    (request!("at - - for 1 ask -"), 6, ProofKind::Row),
+    (request!("at - 0 for 1 ask 0"), 7, ProofKind::Order),
+    (request!("at - - for 1 ask 0"), 7, ProofKind::Order),
+];
+
+#[test]
+fn rows_with_hyphens(rt: HostRuntime) {
+    let space = space_of(&rt, rt.alloc(), PAIR_WITHOUT_LABELS);
+    assert_faults(&rt, rt.alloc(), &space, HYPHENS);
+    let space = space_of(&rt, rt.alloc(), ONE_PAIR);
+    let faults = [
+        (answers!("at - 0 for 1 take 1 1"), 4, ProofKind::Row),
+        (answers!("at - - for 1 take 1 1"), 4, ProofKind::Row),
+        (request!("at 0 - for 1 ask 0"), 6, ProofKind::Row),
+        (PAIR_WITHOUT_LABELS_VALUE_TWO, 4, ProofKind::Row),
+    ];
+    assert_faults(&rt, rt.alloc(), &space, &faults);
 }
 
 #[test]

@@ -48,6 +48,22 @@ pub const CHAIN_LEAST_TWO: &str = "proof 1\nleast 2\nlabeller 3\n\
 pub const CHAIN_MOST_TWO: &str = "proof 1\nmost 2\nadversary 4\nat 0 0 for 2 ask 0\n\
     at 1 0 for 1 ask 1\nat 1 2 for 0 ask 0\nat 2 0 for 0 ask 1\nend\n";
 
+/// For one label and a pebble that doesn't hold it yet: it takes the label and stays there.
+pub const LONE_WITHOUT_LABEL_FOREVER: &str =
+    "proof 1\nforever\nlabeller 2\nat 0 for * take 0\nat - for * take 0\nend\n";
+
+/// For two labels and pebbles that hold none yet: the pair's own play stands behind two first answers.
+pub const PAIR_WITHOUT_LABELS_VALUE_TWO: &str = "proof 1\nvalue 2\nlabeller 3\n\
+    at 0 - for 1 take 0 1\nat - 0 for 1 take 1 0\nat - - for 2 take 0 0\n\
+    adversary 4\nat 0 1 for 0 ask 0\nat 0 - for 1 ask 1\nat 1 - for 0 ask 1\n\
+    at - - for 2 ask 0\nend\n";
+
+/// For the three-cycle: a pebble that holds no label bounds none.
+pub const CYCLE_WITHOUT_LABELS_FOREVER: &str = "proof 1\nforever\nlabeller 9\n\
+    at 0 1 for * take 2 1\nat 0 2 for * take 0 1\nat 0 - for * take 0 1\n\
+    at 1 0 for * take 1 2\nat 1 2 for * take 0 2\nat 2 0 for * take 1 0\n\
+    at 2 1 for * take 2 0\nat - 0 for * take 1 0\nat - - for * take 0 0\nend\n";
+
 /// What `parse` answers where it is refused no growth.
 pub fn read_document(alloc: Global, space: &Space, bytes: &[u8]) -> Result<Proof, ProofFault>
     ensures { IfOk result (λ proof. IsDocument space.now proof) }

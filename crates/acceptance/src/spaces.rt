@@ -5,8 +5,9 @@ ghost use Rattle.board_text.specs.PlainBoard.{IsConfiguration};
 
 use crate::assertions::assert_same;
 use crate::texts::{
-    CHAIN_OF_THREE, CYCLE_WITH_A_WAY_IN, LONE_LABEL, NO_PAIRS, ONE_PAIR, SHARED_LABEL, THREE_CYCLE,
-    THREE_PEBBLES, board_of, build_board,
+    CHAIN_OF_THREE, CYCLE_WITH_A_WAY_IN, CYCLE_WITHOUT_LABELS, LONE_LABEL, LONE_WITHOUT_LABEL,
+    NO_PAIRS, ONE_PAIR, PAIR_WITHOUT_LABELS, SHARED_LABEL, THREE_CYCLE, THREE_PEBBLES, board_of,
+    build_board,
 };
 use board_text::Board;
 use positions::{Space, TooLarge, is_legal};
@@ -165,6 +166,41 @@ fn sizes(rt: HostRuntime) {
     assert_same(&rt, 32, count_configurations(&board), Ok(1_048_576));
     let board = build_board(rt.alloc(), 33, 4, &[0, 0, 0, 0], &[]).expect(&rt, "parts of a board");
     assert_same(&rt, 33, count_configurations(&board), Err(TooLarge));
+    let board = build_board(rt.alloc(), 31, 4, &[31, 31, 31, 31], &[]).expect(
+        &rt,
+        "parts of a board",
+    );
+    assert_same(
+        &rt,
+        "31 and none",
+        count_configurations(&board),
+        Ok(1_048_576),
+    );
+    let board = build_board(rt.alloc(), 32, 4, &[0, 0, 0, 32], &[]).expect(&rt, "parts of a board");
+    assert_same(
+        &rt,
+        "32 and none",
+        count_configurations(&board),
+        Err(TooLarge),
+    );
+}
+
+#[test]
+fn a_pebble_without_a_label(rt: HostRuntime) {
+    let board = board_of(&rt, rt.alloc(), LONE_WITHOUT_LABEL);
+    let space = Space::of(&board).expect(&rt, "a small board");
+    assert!(rt; space.configurations() == 2 && space.pebbles() == 1);
+    assert_same(&rt, "places", (space.places(), space.blank()), (2, Some(1)));
+    assert_same(&rt, "with its label", space.dominator(&board, 0), Some(0));
+    assert_same(&rt, "without one", space.dominator(&board, 1), None);
+    let board = board_of(&rt, rt.alloc(), LONE_LABEL);
+    let space = Space::of(&board).expect(&rt, "a small board");
+    assert_same(
+        &rt,
+        "labels alone",
+        (space.places(), space.blank()),
+        (1, None),
+    );
 }
 
 /// Asserts that the space of a board and the slow program agree about answers.
@@ -195,6 +231,9 @@ fn legal_answers(rt: HostRuntime) {
         SHARED_LABEL,
         CYCLE_WITH_A_WAY_IN,
         THREE_PEBBLES,
+        PAIR_WITHOUT_LABELS,
+        CYCLE_WITHOUT_LABELS,
+        LONE_WITHOUT_LABEL,
     ] {
         assert_answers(&rt, rt.alloc(), text);
     }
@@ -205,6 +244,8 @@ fn most_labels_and_most_pebbles(rt: HostRuntime) {
     for (labels, pebbles, start, configurations) in [
         (256, 1, [0].as_slice(), 256),
         (3, 6, &[0, 0, 0, 0, 0, 0], 729),
+        (256, 1, &[256], 257),
+        (2, 6, &[0, 2, 0, 0, 0, 0], 729),
     ] {
         let board = build_board(rt.alloc(), labels, pebbles, start, &[]).expect(
             &rt,

@@ -8,7 +8,8 @@ ghost use Rattle.proof_text.specs.Proof.{IsDocument};
 
 use crate::assertions::assert_same;
 use crate::documents::{
-    CHAIN_VALUE_TWO, CYCLE_FOREVER, PAIR_VALUE_ONE, THREE_PEBBLES_VALUE_ONE, WAY_IN_VALUE_ONE,
+    CHAIN_VALUE_TWO, CYCLE_FOREVER, CYCLE_WITHOUT_LABELS_FOREVER, LONE_WITHOUT_LABEL_FOREVER,
+    PAIR_VALUE_ONE, PAIR_WITHOUT_LABELS_VALUE_TWO, THREE_PEBBLES_VALUE_ONE, WAY_IN_VALUE_ONE,
     check_document, print_document,
 };
 use crate::nested::nested;
@@ -25,22 +26,6 @@ use std::alloc::{AllocError, Global};
 use std::process::Abort;
 use std::thread::Threads;
 use strategies::{best_answer, best_request, document};
-
-/// For one label and a pebble that doesn't hold it yet: it takes the label and stays there.
-const LONE_WITHOUT_LABEL_FOREVER: &str =
-    "proof 1\nforever\nlabeller 2\nat 0 for * take 0\nat - for * take 0\nend\n";
-
-/// For two labels and pebbles that hold none yet: the pair's own play stands behind two first answers.
-const PAIR_WITHOUT_LABELS_VALUE_TWO: &str = "proof 1\nvalue 2\nlabeller 3\n\
-    at 0 - for 1 take 0 1\nat - 0 for 1 take 1 0\nat - - for 2 take 0 0\n\
-    adversary 4\nat 0 1 for 0 ask 0\nat 0 - for 1 ask 1\nat 1 - for 0 ask 1\n\
-    at - - for 2 ask 0\nend\n";
-
-/// For the three-cycle: a pebble that holds no label bounds none.
-const CYCLE_WITHOUT_LABELS_FOREVER: &str = "proof 1\nforever\nlabeller 9\n\
-    at 0 1 for * take 2 1\nat 0 2 for * take 0 1\nat 0 - for * take 0 1\n\
-    at 1 0 for * take 1 2\nat 1 2 for * take 0 2\nat 2 0 for * take 1 0\n\
-    at 2 1 for * take 2 0\nat - 0 for * take 1 0\nat - - for * take 0 0\nend\n";
 
 /// For one label and one pebble: it stays where it is.
 const LONE_LABEL_FOREVER: &str = "proof 1\nforever\nlabeller 1\nat 0 for * take 0\nend\n";
