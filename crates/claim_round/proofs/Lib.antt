@@ -6,3 +6,4 @@ pub mod Ends
 pub mod Seats
 pub mod Lookup
 pub mod Openings
+pub mod Sharing

@@ -25,3 +25,4 @@ pub mod RoundSteps
 pub mod Owing
 pub mod Machine
 pub mod SharedSteps
+pub mod Sharing
