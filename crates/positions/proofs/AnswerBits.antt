@@ -92,14 +92,21 @@ answer_bits board gap place rest words below all narrowed x small =
       λ is. let each = answer.0 is in (narrowed.bits x small).1 (each.0, subst (All (BeatsPlace board x)) (sym whole) each.1),
     )
 
+-- the smallest bit from a bound on is the smallest number from there on of which the fact holds that the bits show
+pub smallest_bit : (P : ℕ → Type 0) (from : ℕ) (words : List ℕ) (found : Option ℕ)
+    → ((x : ℕ) → x < 256 → (has_bit words x ≡ true) ↔ P x) → ((x : ℕ) → P x → x < 256)
+    → IsSmallest (HasBitFrom words from) found → IsSmallest (λ x. (from ≤ x) × P x) found
+smallest_bit P from words found bits small is =
+    smallest_of (HasBitFrom words from) (λ x. (from ≤ x) × P x) found
+    (λ x. (
+      λ has. (has.0, (bits x has.1).0 has.2),
+      λ holds. (holds.0, small x holds.1, (bits x (small x holds.1)).1 holds.1),
+    ))
+    is
+
 -- the smallest bit of an answer set from a bound on is the smallest answer from there on
 pub smallest_answer : (board : PlainBoard) (gap from : ℕ) (words : List ℕ) (found : Option ℕ)
     → ((x : ℕ) → x < 256 → (has_bit words x ≡ true) ↔ IsAnswer board gap x) → board.labels ≤ 256
     → IsSmallest (HasBitFrom words from) found → IsSmallest (λ label. (from ≤ label) × IsAnswer board gap label) found
 smallest_answer board gap from words found bits few is =
-    smallest_of (HasBitFrom words from) (λ label. (from ≤ label) × IsAnswer board gap label) found
-    (λ label. (
-      λ has. (has.0, (bits label has.1).0 has.2),
-      λ answer. let small : label < 256 = omega (arith, answer.1.is_label, few) in (answer.0, small, (bits label small).1 answer.1),
-    ))
-    is
+    smallest_bit (IsAnswer board gap) from words found bits (λ label answer. omega (arith, answer.is_label, few)) is

@@ -1,0 +1,114 @@
+//! The moves from a configuration.
+
+ghost use Rattle.std.specs.Prelude.{◌≡◌, ℕ, ◌+◌, ◌*◌, ◌<◌, ◌≤◌, ◌↔◌, true, IsTrue};
+ghost use Rattle.board_text.specs.Domination.{has_bit};
+ghost use Rattle.positions.specs.Game.{Legal, moved};
+ghost use Rattle.positions.specs.Position.{position_at};
+ghost use Rattle.positions.specs.Ranks.{configurations, rank_of};
+
+use crate::answer_set::AnswerSet;
+use crate::members::Members;
+use crate::space::{MAX_CONFIGURATIONS, Space};
+use board_text::Board;
+use std::marker::Model;
+
+/// The moves from a configuration, whose places are found once for all of them.
+///
+/// Contracts see the board and the configuration.
+#[derive(Drop)]
+pub struct Moves<'a> {
+    board: &'a Board,
+    space: &'a Space,
+    rank: u32,
+    /// The place of each pebble of the board.
+    places: [u16; 6],
+}
+
+impl<'a> Model for Moves<'a> {
+    ghost use Rattle.positions.specs.Position.{Position, position_at, HasPlaces};
+
+    ghost Value = { Position };
+
+    ghost view = { λ m. position_at m.board.now m.rank };
+
+    ghost invariant = { λ m. HasPlaces m.board.now m.space.now m.rank m.places };
+}
+
+impl Space {
+    /// The moves from the configuration of a rank.
+    ///
+    /// The board is the one that the space was made for.
+    pub fn moves<'a>(&'a self, board: &'a Board, rank: u32) -> Moves<'a>
+        requires same_board { self.now ≡ board.now }
+        requires rank { rank < configurations self.now }
+        ensures { result ≡ position_at board.now rank }
+    {
+        let mut places = [0; 6];
+        let mut rest = rank;
+        for pebble in 0..self.pebbles() {
+            let weight = self.weight(pebble);
+            places[pebble as usize] = (rest / weight) as u16;
+            rest %= weight;
+        }
+        Moves {
+            board,
+            space: self,
+            rank,
+            places,
+        }
+    }
+}
+
+impl<'a> Moves<'a> {
+    /// Whether a request of the pebble may be answered with the label.
+    pub fn is_legal(&self, pebble: u8, label: u16) -> bool
+        ensures { IsTrue result ↔ Legal self.now.board self.now.configuration pebble label }
+    {
+        if label >= self.board.labels() {
+            return false;
+        }
+        for other in 0..self.space.pebbles() {
+            if other != pebble && !self.board.beats_place(label, self.places[other as usize]) {
+                return false;
+            }
+        }
+        true
+    }
+
+    /// The labels that a request of the pebble may be answered with.
+    pub fn answers(&self, pebble: u8) -> AnswerSet
+        ensures bits { (label : ℕ) → label < 256 → (has_bit result label ≡ true) ↔ Legal self.now.board self.now.configuration pebble label }
+        ensures few { self.now.board.labels ≤ 256 }
+    {
+        let mut answers = self.space.every_label();
+        for other in 0..self.space.pebbles() {
+            let held = self.places[other as usize];
+            if other != pebble && held < self.board.labels() {
+                answers = answers.intersection(self.board.dominators(held));
+            }
+        }
+        AnswerSet::new(answers)
+    }
+
+    /// The ranks of the configurations after a request of the pebble, by the label of the answer.
+    pub fn results(&self, pebble: u8) -> Members
+        requires { pebble < self.now.board.pebbles }
+        ensures ranks { (label : ℕ) → label < self.now.board.labels → result.first + label * result.step ≡ rank_of self.now.board (moved self.now.configuration pebble label) }
+        ensures below { (label : ℕ) → label < self.now.board.labels → result.first + label * result.step < configurations self.now.board }
+        ensures few { configurations self.now.board ≤ MAX_CONFIGURATIONS }
+    {
+        let step = self.space.weight(pebble);
+        let first = self.rank - self.places[pebble as usize] as u32 * step;
+        Members { first, step }
+    }
+
+    /// The rank of the configuration after the pebble is put on a label.
+    pub fn after(&self, pebble: u8, label: u16) -> u32
+        requires pebble { pebble < self.now.board.pebbles }
+        requires label { label < self.now.board.labels }
+        ensures rank { result ≡ rank_of self.now.board (moved self.now.configuration pebble label) }
+        ensures below { result < configurations self.now.board }
+    {
+        self.results(pebble).rank(label)
+    }
+}
