@@ -1,22 +1,26 @@
 -- What is found of rows by rank, said of configurations.
-use Rattle.std.proofs.Common.{◌≡◌, ℕ, ◌<◌, List, length, map, get_or, sym, ap, ◌∙◌, arith, inl, inr}
+use Rattle.std.proofs.Common.{◌≡◌, ℕ, zero, suc, ◌<◌, List, [], ◌∷◌, length, map, get_or, Option, Some, None, MatchOption, Bor, refl, sym, ap, ◌∙◌, arith, inl, inr}
 use Rattle.std.specs.List.{Contains}
 use Rattle.std.proofs.lemmas.Bool.{cases_order}
 use Rattle.std.proofs.lemmas.List.{get_or-map, length-map, get_or_default}
 use Rattle.std.proofs.lemmas.List.Elements.{All-contains}
-use Rattle.board_text.specs.PlainBoard.{PlainBoard, IsConfiguration}
+use Rattle.board_text.specs.PlainBoard.{PlainBoard}
 use Rattle.positions.specs.Ranks.{rank_of, configuration_at, configurations}
 use Rattle.positions.proofs.Ranks.{rank_of-configuration_at, configuration_at-rank_of}
+use Rattle.proof_check.specs.Checker.{IsRowFor, FindsRow}
 use Rattle.proof_check.specs.RowIndex.{AreRanked, HasNone, IsRowOf}
 
-pub Contains-map : {R X : Type 0} (f : R → X) (rows : List R) (row : R) → Contains rows row → Contains (map f rows) (f row)
+Contains-map : {R X : Type 0} (f : R → X) (rows : List R) (row : R) → Contains rows row → Contains (map f rows) (f row)
 Contains-map f rows row is =
     (is.0, omega (arith, length-map rows f, is.1), get_or-map f rows is.0 row (f row) is.1 ∙ ap f is.2)
 
-pub Contains-map_cases : {R X : Type 0} (f : R → X) (rows : List R) (d : R) (x : X) → Contains (map f rows) x → (row : R) × Contains rows row × (f row ≡ x)
-Contains-map_cases f rows d x is =
-    let inside : is.0 < length rows = omega (arith, length-map rows f, is.1) in
-    (get_or rows is.0 d, (is.0, inside, get_or_default rows is.0 (get_or rows is.0 d) d inside), sym (get_or-map f rows is.0 d x inside) ∙ is.2)
+Contains-map_cases : {R X : Type 0} (f : R → X) (rows : List R) (x : X) → Contains (map f rows) x → (row : R) × Contains rows row × (f row ≡ x)
+Contains-map_cases f [] x (k, inside, is) = absurd (omega (arith, inside))
+Contains-map_cases f (row ∷ rows) x (zero, inside, is) = (row, (zero, omega arith, refl), is)
+Contains-map_cases f (row ∷ rows) x (suc k, inside, is) =
+    let rest = Contains-map_cases f rows x (k, omega (arith, inside), is) in
+    let low : rest.1.0 < length rows = rest.1.1 in
+    (rest.0, (suc rest.1.0, omega (arith, low), rest.1.2), rest.2)
 
 -- rows of one rank are one
 same_row : {R : Type 0} (rank : R → ℕ) (size : ℕ) (rows : List R) (one other : R) → AreRanked rank size rows → Contains rows one → Contains rows other → rank one ≡ rank other → one ≡ other
@@ -38,23 +42,26 @@ same_row {R} rank size rows one other are is_one is_other same =
     ]
 
 -- f shows a row with its configuration in place of the rank
-module _ {R X : Type 0} (board : PlainBoard) (f : R → X) (rank : R → ℕ) (at : X → List ℕ) (shows : (row : R) → at (f row) ≡ configuration_at board (rank row))
-    (rows : List R) (are : AreRanked rank (configurations board) rows) (configuration : List ℕ) (is : IsConfiguration board configuration) (number : ℕ) (number_is : number ≡ rank_of board configuration) where
-  rank_is : (row : R) → Contains rows row → at (f row) ≡ configuration → rank row ≡ number
-  rank_is row among e =
-      let low : rank row < configurations board = All-contains (λ (r : R). rank r < configurations board) rows row are.each among in
-      sym (rank_of-configuration_at board (rank row) low) ∙ ap (rank_of board) (sym (shows row) ∙ e) ∙ sym number_is
+pub found_for : {R X : Type 0} (board : PlainBoard) (f : R → X) (rank : R → ℕ) (at : X → List ℕ) (shows : (row : R) → at (f row) ≡ configuration_at board (rank row))
+    (rows : List R) (number : ℕ) (found : Option (Bor R)) → AreRanked rank (configurations board) rows
+    → MatchOption found (HasNone rank rows number) (λ row. IsRowOf rank rows number row.now)
+    → FindsRow board f at (map f rows) number found
+found_for {R} {X} board f rank at shows rows number found are is configuration is_one number_is = by found is
+  where
+    rank_is : (row : R) → Contains rows row → at (f row) ≡ configuration → rank row ≡ number
+    rank_is row among e =
+        let low : rank row < configurations board = All-contains (λ (r : R). rank r < configurations board) rows row are.each among in
+        sym (rank_of-configuration_at board (rank row) low) ∙ ap (rank_of board) (sym (shows row) ∙ e) ∙ sym number_is
 
-  pub none_there : (d : R) → HasNone rank rows number → (x : X) → Contains (map f rows) x → at x ≡ configuration → ⊥
-  none_there d none x among e =
-      let row = Contains-map_cases f rows d x among in
-      none row.0 row.1 (rank_is row.0 row.1 (ap at row.2 ∙ e))
-
-  pub row_there : (row : R) → IsRowOf rank rows number row → Contains (map f rows) (f row) × (at (f row) ≡ configuration)
-  row_there row is_row =
-      (Contains-map f rows row is_row.0, shows row ∙ ap (configuration_at board) (is_row.1 ∙ number_is) ∙ configuration_at-rank_of board configuration is)
-
-  pub only_there : (row : R) → IsRowOf rank rows number row → (x : X) → Contains (map f rows) x → at x ≡ configuration → x ≡ f row
-  only_there row is_row x among e =
-      let other = Contains-map_cases f rows row x among in
-      sym other.2 ∙ ap f (same_row rank (configurations board) rows other.0 row are other.1 is_row.0 (rank_is other.0 other.1 (ap at other.2 ∙ e) ∙ sym is_row.1))
+    by : (found : Option (Bor R)) → MatchOption found (HasNone rank rows number) (λ row. IsRowOf rank rows number row.now)
+        → MatchOption found ((row : X) × Contains (map f rows) row × (at row ≡ configuration) → ⊥) (λ row. IsRowFor at (map f rows) configuration (f row.now))
+    by None none = λ has.
+        let row = Contains-map_cases f rows has.0 has.1 in
+        none row.0 row.1 (rank_is row.0 row.1 (ap at row.2 ∙ has.2))
+    by (Some row) is_row = record {
+      among = Contains-map f rows row.now is_row.0;
+      at_is = shows row.now ∙ ap (configuration_at board) (is_row.1 ∙ number_is) ∙ configuration_at-rank_of board configuration is_one;
+      only = λ x among e.
+          let other = Contains-map_cases f rows x among in
+          sym other.2 ∙ ap f (same_row rank (configurations board) rows other.0 row.now are other.1 is_row.0 (rank_is other.0 other.1 (ap at other.2 ∙ e) ∙ sym is_row.1));
+    }

@@ -15,7 +15,6 @@ use Rattle.proof_check.specs.declared.fault.Side.TheVariants.{Labeller, Adversar
 use Rattle.proof_check.specs.declared.fault.CheckFault.{CheckFault}
 use Rattle.proof_check.specs.declared.fault.CheckFault.TheVariants as faults
 use Rattle.proof_check.specs.CheckFaults.{FirstWrong, FirstPebble, IsWrongAnswer, IsWrongRequest, LabellerFault, AdversaryFault, IsWrongStart, IsWrongBound, bound_of, StartServes, IsCheckFault, NamesRanks}
-use Rattle.proof_check.specs.Steps.{IsWrongStartFor, IsWrongBoundOf}
 
 -- the first that isn't right is among them
 is_among : {X : Type 0} (before : List X) (x : X) (after : List X) → Contains (before ++ x ∷ after) x
@@ -35,7 +34,7 @@ start_right board proof (faults.NotStuck at label) serves h = absurd h
 start_right board proof (faults.TooLarge at label) serves h = absurd h
 start_right board proof faults.Memory serves h = absurd h
 
-bound_met : (rows : List RequestRow) (start : List ℕ) (claim : Claim) (number : ℕ) → bound_of claim ≡ Some number → StartIsBelow rows start claim → IsListedBelow rows start (suc number)
+pub bound_met : (rows : List RequestRow) (start : List ℕ) (claim : Claim) (number : ℕ) → bound_of claim ≡ Some number → StartIsBelow rows start claim → IsListedBelow rows start (suc number)
 bound_met rows start (Exactly n) number is below = let same : n ≡ number = cc in subst (λ k. IsListedBelow rows start (suc k)) same below
 bound_met rows start (AtMost n) number is below = let same : n ≡ number = cc in subst (λ k. IsListedBelow rows start (suc k)) same below
 bound_met rows start (AtLeast n) number is below = absurd cc
@@ -134,30 +133,6 @@ module _ (board : PlainBoard) (proof : PlainProof) where
   is_fault (faults.TooSmall at pebble) is = is
   is_fault (faults.NotStuck at label) is = is
   is_fault (faults.TooLarge at label) is = is
-
-  pub wrong_start : (fault : CheckFault) → IsWrongStartFor board proof.labeller (wanted_of proof.claim) fault → IsWrongStart board proof fault
-  wrong_start (faults.StartMissing Labeller) is = is
-  wrong_start (faults.StartNumber Labeller) is = is
-  wrong_start (faults.StartMissing Adversary) is = absurd is
-  wrong_start (faults.StartNumber Adversary) is = absurd is
-  wrong_start (faults.IllegalAnswer at pebble) is = absurd is
-  wrong_start (faults.Unlisted side at turn) is = absurd is
-  wrong_start (faults.TooSmall at pebble) is = absurd is
-  wrong_start (faults.NotStuck at label) is = absurd is
-  wrong_start (faults.TooLarge at label) is = absurd is
-  wrong_start faults.Memory is = absurd is
-
-  pub wrong_bound : (fault : CheckFault) → IsWrongBoundOf board proof.adversary proof.claim fault → IsWrongBound board proof fault
-  wrong_bound (faults.StartMissing Adversary) is = (is.0, is.1, is.2)
-  wrong_bound (faults.StartNumber Adversary) is = (is.0, is.1, is.2.0, is.2.1)
-  wrong_bound (faults.StartMissing Labeller) is = absurd is.2
-  wrong_bound (faults.StartNumber Labeller) is = absurd is.2
-  wrong_bound (faults.IllegalAnswer at pebble) is = absurd is.2
-  wrong_bound (faults.Unlisted side at turn) is = absurd is.2
-  wrong_bound (faults.TooSmall at pebble) is = absurd is.2
-  wrong_bound (faults.NotStuck at label) is = absurd is.2
-  wrong_bound (faults.TooLarge at label) is = absurd is.2
-  wrong_bound faults.Memory is = absurd is.2
 
   -- what the adversary's rows are found to be is what the document is found to be
   pub by_adversary : (found : Option CheckFault) → StartServes board proof → LabellerObeys board proof.labeller

@@ -16,7 +16,7 @@ use Rattle.proof_text.specs.declared.proof.AdversaryRow.{AdversaryRow}
 use Rattle.proof_text.specs.Proof.{PlainProof, IsProof, IsAnswerRow, AreAnswerRows, AreRequestRows, AreTurns, answer_row, request_row, answer_rows, request_rows}
 use Rattle.proof_text.proofs.RankedRows.{rank_small, answer_each, request_each}
 use Rattle.proof_text.specs.Rules.{BreaksNoRule, Serves, wanted_of, StartIsBelow}
-use Rattle.proof_check.specs.Steps.{IsAnswering, AreAnswering, IsRequesting, AreRequesting}
+use Rattle.proof_check.specs.Checker.{IsAnswering, AreAnswering, IsRequesting, AreRequesting}
 use Rattle.proof_check.proofs.Answering as answering
 use Rattle.proof_check.proofs.Stopping as stopping
 
@@ -61,6 +61,7 @@ shows board proof is rules = by proof.claim is.labeller is.adversary rules.start
 module _ (board : PlainBoard) (is_board : IsBoard board) where
   answering_row : (claim : Claim) (row : LabellerRow) → IsAnswerRow board claim (answer_row board row) → IsAnswering board row
   answering_row claim row is = record {
+    is_board = is_board;
     is_rank = rank_small board row.at is_board is.at;
     gives = λ pebble below.
         let label : get_or (take board.pebbles row.take) pebble 0 < board.labels = is.answers.1 pebble 0 (omega (arith, is.answers.0, below)) in
@@ -71,7 +72,6 @@ module _ (board : PlainBoard) (is_board : IsBoard board) where
   are_answering claim rows are =
       let each : (k : ℕ) (d : LabellerRow) → k < length rows → IsAnswering board (get_or rows k d) = λ k d lt. answering_row claim (get_or rows k d) (answer_each board claim rows are k d lt) in
       record {
-        is_board = is_board;
         ranked = record {
           few = omega (arith, are.few, length-map rows (answer_row board));
           each = λ k d lt. (each k d lt).is_rank;
@@ -90,9 +90,8 @@ module _ (board : PlainBoard) (is_board : IsBoard board) where
   pub are_requesting : (rows : List AdversaryRow) → AreRequestRows board (request_rows board rows) → AreRequesting board rows
   are_requesting rows are =
       let each : (k : ℕ) (d : AdversaryRow) → k < length rows → IsRequesting board (get_or rows k d) =
-      λ k d lt. record { is_rank = rank_small board (get_or rows k d).at is_board (request_each board rows are k d lt).at; is_pebble = (request_each board rows are k d lt).request } in
+      λ k d lt. record { is_board = is_board; is_rank = rank_small board (get_or rows k d).at is_board (request_each board rows are k d lt).at; is_pebble = (request_each board rows are k d lt).request } in
       record {
-        is_board = is_board;
         ranked = record {
           few = omega (arith, are.few, length-map rows (request_row board));
           each = λ k d lt. (each k d lt).is_rank;

@@ -60,17 +60,19 @@ IsWrongRequest board rows row (faults.TooLarge at label) = (rank_of board row.at
     × HasRequest rows (moved row.at row.request label) × ¬ IsListedBelow rows (moved row.at row.request label) row.left
 IsWrongRequest board rows row fault = ⊥
 
+-- the first faulty row has the fault
+pub record FirstFault {X : Type 0} (IsRight : X → Type 0) (IsWrong : X → CheckFault → Type 0) (rows : List X) (fault : CheckFault) : Type 0 where
+  pub row : X
+  pub first : FirstWrong IsRight rows row
+  pub wrong : IsWrong row fault
+
 -- the first faulty labeller's row has the fault
-pub record LabellerFault (board : PlainBoard) (rows : List AnswerRow) (fault : CheckFault) : Type 0 where
-  pub row : AnswerRow
-  pub first : FirstWrong (MeetsRequests board rows) rows row
-  pub wrong : IsWrongAnswer board rows row fault
+abbrev pub LabellerFault : PlainBoard → List AnswerRow → CheckFault → Type 0
+LabellerFault board rows fault = FirstFault (MeetsRequests board rows) (IsWrongAnswer board rows) rows fault
 
 -- the first faulty adversary's row has the fault
-pub record AdversaryFault (board : PlainBoard) (rows : List RequestRow) (fault : CheckFault) : Type 0 where
-  pub row : RequestRow
-  pub first : FirstWrong (MeetsAnswers board rows) rows row
-  pub wrong : IsWrongRequest board rows row fault
+abbrev pub AdversaryFault : PlainBoard → List RequestRow → CheckFault → Type 0
+AdversaryFault board rows fault = FirstFault (MeetsAnswers board rows) (IsWrongRequest board rows) rows fault
 
 -- what is wrong with the start's number in the labeller's rows
 abbrev pub IsWrongStart : PlainBoard → PlainProof → CheckFault → Type 0

@@ -1,3 +1,4 @@
 pub mod CheckFaults
+pub mod Checker
 pub mod RowIndex
 pub mod Steps

@@ -4,19 +4,15 @@ ghost use Rattle.std.specs.Prelude.{◌≡◌, ◌≤◌, OnOk, IfOk, IfErr, Mat
 ghost use Rattle.positions.specs.Ranks.{configurations};
 ghost use Rattle.positions.specs.Claim.{Shows};
 ghost use Rattle.proof_text.specs.Proof.{IsDocument, plain_proof, answer_rows, request_rows};
-ghost use Rattle.proof_text.specs.Rules as rules;
-ghost use Rattle.proof_text.specs.Rules.{BreaksNoRule, StartIsBelow};
+ghost use Rattle.proof_text.specs.Rules.{BreaksNoRule};
 ghost use Rattle.proof_check.specs.CheckFaults.{IsCheckFault, NamesRanks};
-ghost use Rattle.proof_check.specs.Steps.{AreAnswering, AreRequesting, IsWrongBoundOf, proof_of};
 ghost use Rattle.proof_check.specs.declared.fault.CheckFault.TheVariants.{Memory as OutOfMemory};
 
-use crate::adversary::{self, adversary_fault};
+use crate::checker::Checker;
 use crate::fault::CheckFault;
-use crate::labeller::{self, labeller_fault};
-use crate::row_index::RowIndex;
 use board_text::Board;
-use positions::{MAX_CONFIGURATIONS, Space};
-use proof_text::{AdversaryRow, Claim, LabellerRow, Proof, Turns};
+use positions::MAX_CONFIGURATIONS;
+use proof_text::{Claim, Proof};
 use std::alloc::Global;
 use std::thread::Threads;
 
@@ -48,78 +44,31 @@ pub fn check(
     // A fault names rows by ranks of the board.
     ensures named { IfErr result (NamesRanks board.now) }
 {
-    let Ok(space) = Space::of(board) else {
-        unreachable!();
-    };
-    let size = space.configurations();
-    let Ok(labeller) = RowIndex::new(alloc, size, &proof.labeller) else {
+    let Ok(checker) = Checker::new(alloc, board, proof) else {
         return Err(CheckFault::Memory);
     };
-    let Ok(adversary) = RowIndex::new(alloc, size, &proof.adversary) else {
-        return Err(CheckFault::Memory);
-    };
-    match first_fault(rt, board, &space, proof.claim, &labeller, &adversary) {
+    match checker.fault(rt) {
         Some(fault) => Err(fault),
         None => Ok(Shown { claim: proof.claim }),
     }
 }
 
-/// The first fault of the document in the order of checking, if there is one.
-fn first_fault(
-    rt: &(impl Threads + Sync),
-    board: &Board,
-    space: &Space,
-    claim: Claim,
-    labeller: &RowIndex<'_, LabellerRow>,
-    adversary: &RowIndex<'_, AdversaryRow>,
-) -> Option<CheckFault>
-    requires same_board { space.now ≡ board.now }
-    requires answering { AreAnswering board.now labeller.now }
-    requires requesting { AreRequesting board.now adversary.now }
-    ensures { MatchOption result
-        (BreaksNoRule board.now (proof_of board.now claim labeller.now adversary.now))
-        (λ fault. IsCheckFault board.now (proof_of board.now claim labeller.now adversary.now) fault) }
-{
-    if let Some(fault) = labeller::start_fault(board, space, labeller, wanted_of(claim)) {
-        return Some(fault);
-    }
-    if let Some(fault) = bound_fault(board, space, adversary, claim) {
-        return Some(fault);
-    }
-    if let Some(fault) = labeller_fault(rt, board, space, labeller) {
-        return Some(fault);
-    }
-    adversary_fault(rt, board, space, adversary)
-}
-
-/// The turns that a claim wants of the start.
-fn wanted_of(claim: Claim) -> Turns
-    ensures { result ≡ rules.wanted_of claim }
-{
-    match claim {
-        Claim::Exactly(number) | Claim::AtLeast(number) => Turns::Count(number),
-        Claim::AtMost(_) => Turns::Count(0),
-        Claim::Forever => Turns::Always,
-    }
-}
-
-/// What is wrong with the start's number in the adversary's rows, if the claim says that the value is at most some number.
-fn bound_fault(
-    board: &Board,
-    space: &Space,
-    rows: &RowIndex<'_, AdversaryRow>,
-    claim: Claim,
-) -> Option<CheckFault>
-    requires same_board { space.now ≡ board.now }
-    requires rows { AreRequesting board.now rows.now }
-    ensures { MatchOption result
-        (StartIsBelow (request_rows board.now rows.now) board.now.start claim)
-        (IsWrongBoundOf board.now (request_rows board.now rows.now) claim) }
-{
-    match claim {
-        Claim::Exactly(most) | Claim::AtMost(most) => {
-            adversary::start_fault(board, space, rows, most)
+impl Checker<'_> {
+    /// The first fault of the document in the order of checking, if there is one.
+    fn fault(&self, rt: &(impl Threads + Sync)) -> Option<CheckFault>
+        ensures { MatchOption result
+            (BreaksNoRule self.now.board self.now.proof)
+            (λ fault. IsCheckFault self.now.board self.now.proof fault) }
+    {
+        if let Some(fault) = self.start_fault() {
+            return Some(fault);
         }
-        Claim::AtLeast(_) | Claim::Forever => None,
+        if let Some(fault) = self.bound_fault() {
+            return Some(fault);
+        }
+        if let Some(fault) = self.labeller_fault(rt) {
+            return Some(fault);
+        }
+        self.adversary_fault(rt)
     }
 }

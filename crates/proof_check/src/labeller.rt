@@ -1,17 +1,19 @@
 //! The labeller's rows of a document, checked.
 
-ghost use Rattle.std.specs.Prelude.{◌≡◌, ◌↔◌, ◌<◌, ◌≤◌, IsTrue, MatchBool, MatchOption};
-ghost use Rattle.proof_text.specs.Proof.{answer_row, answer_rows};
+ghost use Rattle.std.specs.Prelude.{◌≡◌, ◌↔◌, ◌<◌, ◌≤◌, IsTrue, MatchOption};
+ghost use Rattle.positions.specs.Position.{position_at};
+ghost use Rattle.proof_text.specs.Proof.{answer_row};
+ghost use Rattle.proof_text.specs.Rules as rules;
 ghost use Rattle.proof_text.specs.Rules.{IsEnough, IsWanted, one_less, Serves, MeetsRequest, MeetsRequests, LabellerObeys};
-ghost use Rattle.proof_check.specs.CheckFaults.{IsWrongAnswer, LabellerFault};
-ghost use Rattle.proof_check.specs.Steps.{IsAnswering, AreAnswering, AnswerFaultAt, HasWrongAnswer, IsWrongStartFor};
+ghost use Rattle.proof_check.specs.CheckFaults.{IsWrongAnswer, IsWrongStart, LabellerFault};
+ghost use Rattle.proof_check.specs.Checker.{IsAnswering};
+ghost use Rattle.proof_check.specs.Steps.{AnswerFaultAt};
 
+use crate::checked_row::{CheckedRow, first_fault};
+use crate::checker::Checker;
 use crate::fault::{CheckFault, Side};
-use crate::row_index::RowIndex;
-use board_text::Board;
-use positions::{Space, Turns};
-use proof_text::LabellerRow;
-use rayon::prelude::*;
+use positions::{Moves, Turns};
+use proof_text::{Claim, LabellerRow};
 use std::thread::Threads;
 
 /// Whether so many turns are enough where these are wanted.
@@ -45,122 +47,96 @@ fn is_wanted(turns: Turns) -> bool
     }
 }
 
-/// What is wrong with the row's answer to a request of the pebble, if anything is.
-fn answer_fault(
-    board: &Board,
-    space: &Space,
-    rows: &RowIndex<'_, LabellerRow>,
-    row: &LabellerRow,
-    pebble: u8,
-) -> Option<CheckFault>
-    requires same_board { space.now ≡ board.now }
-    requires rows { AreAnswering board.now rows.now }
-    requires row { IsAnswering board.now row.now }
-    requires pebble { pebble < board.now.pebbles }
-    ensures { MatchOption result
-        (MeetsRequest board.now (answer_rows board.now rows.now) (answer_row board.now row.now) pebble)
-        (AnswerFaultAt board.now (answer_rows board.now rows.now) (answer_row board.now row.now) pebble) }
+/// The turns that a claim wants of the start.
+fn wanted_of(claim: Claim) -> Turns
+    ensures { result ≡ rules.wanted_of claim }
 {
-    let label = row.take[pebble as usize];
-    if !space.legal(board, row.at, pebble, label) {
-        return Some(CheckFault::IllegalAnswer { at: row.at, pebble });
-    }
-    let left = after_one(row.turns);
-    if !is_wanted(left) {
-        return None;
-    }
-    let Some(next) = rows.find(space.with(row.at, pebble, label)) else {
-        return Some(CheckFault::Unlisted {
-            side: Side::Labeller,
-            at: row.at,
-            turn: pebble as u16,
-        });
-    };
-    if is_enough(left, next.turns) {
-        None
-    } else {
-        Some(CheckFault::TooSmall { at: row.at, pebble })
+    match claim {
+        Claim::Exactly(number) | Claim::AtLeast(number) => Turns::Count(number),
+        Claim::AtMost(_) => Turns::Count(0),
+        Claim::Forever => Turns::Always,
     }
 }
 
-/// The fault of the row's first faulty pebble, if it has one.
-fn row_fault(
-    board: &Board,
-    space: &Space,
-    rows: &RowIndex<'_, LabellerRow>,
-    row: &LabellerRow,
-) -> Option<CheckFault>
-    requires same_board { space.now ≡ board.now }
-    requires rows { AreAnswering board.now rows.now }
-    requires row { IsAnswering board.now row.now }
-    ensures { MatchOption result
-        (MeetsRequests board.now (answer_rows board.now rows.now) (answer_row board.now row.now))
-        (IsWrongAnswer board.now (answer_rows board.now rows.now) (answer_row board.now row.now)) }
-{
-    for pebble in 0..board.pebbles() {
-        if let Some(fault) = answer_fault(board, space, rows, row, pebble) {
-            return Some(fault);
+impl CheckedRow for LabellerRow {
+    ghost is_ready = { IsAnswering };
+
+    ghost meets = { λ c row. MeetsRequests c.board c.proof.labeller (answer_row c.board row) };
+
+    ghost is_wrong = { λ c row. IsWrongAnswer c.board c.proof.labeller (answer_row c.board row) };
+
+    /// The fault of the row's first faulty pebble, if it has one.
+    fn fault(&self, checker: &Checker<'_>) -> Option<CheckFault> {
+        let moves = checker.moves(self.at);
+        for pebble in 0..checker.pebbles() {
+            if let Some(fault) = checker.answer_fault(self, &moves, pebble) {
+                return Some(fault);
+            }
+        }
+        None
+    }
+}
+
+impl Checker<'_> {
+    /// What is wrong with the row's answer to a request of the pebble, if anything is. The moves are those from the row's configuration.
+    fn answer_fault(&self, row: &LabellerRow, moves: &Moves<'_>, pebble: u8) -> Option<CheckFault>
+        requires row { IsAnswering self.now.board row.now }
+        requires moves { moves.now ≡ position_at self.now.board row.now.at }
+        requires pebble { pebble < self.now.board.pebbles }
+        ensures { MatchOption result
+            (MeetsRequest self.now.board self.now.proof.labeller (answer_row self.now.board row.now) pebble)
+            (AnswerFaultAt self.now.board self.now.proof.labeller (answer_row self.now.board row.now) pebble) }
+    {
+        let label = row.take[pebble as usize];
+        if !moves.is_legal(pebble, label) {
+            return Some(CheckFault::IllegalAnswer { at: row.at, pebble });
+        }
+        let left = after_one(row.turns);
+        if !is_wanted(left) {
+            return None;
+        }
+        let Some(next) = self.labeller_row(moves.after(pebble, label)) else {
+            return Some(CheckFault::Unlisted {
+                side: Side::Labeller,
+                at: row.at,
+                turn: pebble as u16,
+            });
+        };
+        if is_enough(left, next.turns) {
+            None
+        } else {
+            Some(CheckFault::TooSmall { at: row.at, pebble })
         }
     }
-    None
-}
 
-/// The fault of the first faulty row, if there is one. The rows are looked at in parallel.
-pub(crate) fn labeller_fault(
-    rt: &(impl Threads + Sync),
-    board: &Board,
-    space: &Space,
-    rows: &RowIndex<'_, LabellerRow>,
-) -> Option<CheckFault>
-    requires same_board { space.now ≡ board.now }
-    requires rows { AreAnswering board.now rows.now }
-    ensures { MatchOption result
-        (LabellerObeys board.now (answer_rows board.now rows.now))
-        (LabellerFault board.now (answer_rows board.now rows.now)) }
-{
-    let faulty = rows.rows().par_iter().find_first(
-        rt,
-        |row: &&LabellerRow| -> bool
-            requires same_board { space.now ≡ board.now }
-            requires rows { AreAnswering board.now rows.now }
-            requires row { IsAnswering board.now row.now.now }
-            ensures { MatchBool result
-                (HasWrongAnswer board.entry.now (answer_rows board.entry.now rows.entry.now) (answer_row board.entry.now row.now.now))
-                (MeetsRequests board.entry.now (answer_rows board.entry.now rows.entry.now) (answer_row board.entry.now row.now.now)) }
-        { row_fault(board, space, rows, row).is_some() },
-    );
-    match faulty {
-        Some(row) => row_fault(board, space, rows, row),
-        None => None,
+    /// The fault of the labeller's first faulty row, if there is one.
+    pub(crate) fn labeller_fault(&self, rt: &(impl Threads + Sync)) -> Option<CheckFault>
+        ensures { MatchOption result (LabellerObeys self.now.board self.now.proof.labeller) (LabellerFault self.now.board self.now.proof.labeller) }
+    {
+        first_fault(rt, self, self.labeller_rows())
     }
-}
 
-/// What is wrong with the start's number in the labeller's rows, if anything is.
-pub(crate) fn start_fault(
-    board: &Board,
-    space: &Space,
-    rows: &RowIndex<'_, LabellerRow>,
-    wanted: Turns,
-) -> Option<CheckFault>
-    requires same_board { space.now ≡ board.now }
-    requires rows { AreAnswering board.now rows.now }
-    ensures { MatchOption result
-        (Serves (answer_rows board.now rows.now) board.now.start wanted)
-        (IsWrongStartFor board.now (answer_rows board.now rows.now) wanted) }
-{
-    if !is_wanted(wanted) {
-        return None;
-    }
-    let Some(row) = rows.find(space.rank(board.start())) else {
-        return Some(CheckFault::StartMissing {
-            side: Side::Labeller,
-        });
-    };
-    if is_enough(wanted, row.turns) {
-        None
-    } else {
-        Some(CheckFault::StartNumber {
-            side: Side::Labeller,
-        })
+    /// What is wrong with the start's number in the labeller's rows, if anything is.
+    pub(crate) fn start_fault(&self) -> Option<CheckFault>
+        ensures { MatchOption result
+            (Serves self.now.proof.labeller self.now.board.start (rules.wanted_of self.now.proof.claim))
+            (IsWrongStart self.now.board self.now.proof) }
+    {
+        let wanted = wanted_of(self.claim());
+        if !is_wanted(wanted) {
+            return None;
+        }
+        let Some(row) = self.labeller_row(self.start()) else {
+            return Some(CheckFault::StartMissing {
+                side: Side::Labeller,
+            });
+        };
+        if is_enough(wanted, row.turns) {
+            None
+        } else {
+            Some(CheckFault::StartNumber {
+                side: Side::Labeller,
+            })
+        }
     }
 }

@@ -2,6 +2,8 @@
 #![tactic(auto)]
 
 mod adversary;
+mod checked_row;
+mod checker;
 mod checking;
 mod fault;
 mod labeller;

@@ -1,0 +1,124 @@
+//! A document's rows, ready to be checked.
+
+ghost use Rattle.std.specs.Prelude.{◌≡◌, ◌<◌, ◌≤◌, IfOk};
+ghost use Rattle.std.specs.List.{All};
+ghost use Rattle.board_text.specs.PlainBoard.{IsConfiguration};
+ghost use Rattle.positions.specs.Position.{position_at};
+ghost use Rattle.positions.specs.Ranks.{configurations, rank_of};
+ghost use Rattle.proof_text.specs.Proof.{IsDocument, plain_proof, answer_row, answer_rows, request_row, request_rows};
+ghost use Rattle.proof_check.specs.Checker.{IsAnswering, IsRequesting, FindsRow};
+
+use crate::row_index::RowIndex;
+use board_text::Board;
+use positions::{MAX_CONFIGURATIONS, Moves, Space};
+use proof_text::{AdversaryRow, Claim, LabellerRow, Proof};
+use std::alloc::{AllocError, Global};
+use std::marker::Model;
+
+/// A board, and a document for it whose rows are found by their configurations.
+///
+/// Contracts see the board and the document.
+#[derive(Drop)]
+pub(crate) struct Checker<'a> {
+    board: &'a Board,
+    space: Space,
+    claim: Claim,
+    labeller: RowIndex<'a, LabellerRow>,
+    adversary: RowIndex<'a, AdversaryRow>,
+}
+
+impl<'a> Model for Checker<'a> {
+    ghost use Rattle.proof_check.specs.Checker.{Checked, checked, IsChecker};
+
+    ghost Value = { Checked };
+
+    ghost view = { λ c. checked c.board.now c.claim c.labeller c.adversary };
+
+    ghost invariant = { λ c. IsChecker c.board.now c.space c.labeller c.adversary };
+}
+
+impl<'a> Checker<'a> {
+    /// The document's rows by their configurations.
+    pub(crate) fn new(
+        alloc: Global,
+        board: &'a Board,
+        proof: &'a Proof,
+    ) -> Result<Checker<'a>, AllocError>
+        requires few { configurations board.now ≤ MAX_CONFIGURATIONS }
+        requires document { IsDocument board.now proof.now }
+        ensures board { IfOk result (λ checker. checker.board ≡ board.now) }
+        ensures proof { IfOk result (λ checker. checker.proof ≡ plain_proof board.now proof.now) }
+    {
+        let Ok(space) = Space::of(board) else {
+            unreachable!();
+        };
+        let size = space.configurations();
+        Ok(Checker {
+            board,
+            space,
+            claim: proof.claim,
+            labeller: RowIndex::new(alloc, size, &proof.labeller)?,
+            adversary: RowIndex::new(alloc, size, &proof.adversary)?,
+        })
+    }
+
+    /// The document's claim.
+    pub(crate) fn claim(&self) -> Claim
+        ensures { result ≡ self.now.proof.claim }
+    {
+        self.claim
+    }
+
+    /// How many pebbles the board has.
+    pub(crate) fn pebbles(&self) -> u8
+        ensures { result ≡ self.now.board.pebbles }
+    {
+        self.board.pebbles()
+    }
+
+    /// The rank of the start.
+    pub(crate) fn start(&self) -> u32
+        ensures rank { result ≡ rank_of self.now.board self.now.board.start }
+        ensures start { IsConfiguration self.now.board self.now.board.start }
+    {
+        self.space.rank(self.board.start())
+    }
+
+    /// The moves from the configuration of a rank.
+    pub(crate) fn moves(&self, rank: u32) -> Moves<'_>
+        requires { rank < configurations self.now.board }
+        ensures { result ≡ position_at self.now.board rank }
+    {
+        self.space.moves(self.board, rank)
+    }
+
+    /// The labeller's rows.
+    pub(crate) fn labeller_rows(&self) -> &'a [LabellerRow]
+        ensures rows { answer_rows self.now.board result.now ≡ self.now.proof.labeller }
+        ensures each { All (IsAnswering self.now.board) result.now }
+    {
+        self.labeller.rows()
+    }
+
+    /// The adversary's rows.
+    pub(crate) fn adversary_rows(&self) -> &'a [AdversaryRow]
+        ensures rows { request_rows self.now.board result.now ≡ self.now.proof.adversary }
+        ensures each { All (IsRequesting self.now.board) result.now }
+    {
+        self.adversary.rows()
+    }
+
+    /// The labeller's row for the configuration of a rank.
+    pub(crate) fn labeller_row(&self, rank: u32) -> Option<&'a LabellerRow>
+        ensures { FindsRow self.now.board (answer_row self.now.board) (λ row. row.at) self.now.proof.labeller rank result }
+    {
+        self.labeller.find(rank)
+    }
+
+    /// The adversary's row for the configuration of a rank.
+    pub(crate) fn adversary_row(&self, rank: u32) -> Option<&'a AdversaryRow>
+        ensures { FindsRow self.now.board (request_row self.now.board) (λ row. row.at) self.now.proof.adversary rank result }
+    {
+        self.adversary.find(rank)
+    }
+}
