@@ -13,17 +13,15 @@ use Rattle.positions.proofs.Counting.{count_below, count_below-same, count_below
 abbrev pub with_bit : List ℕ → ℕ → List ℕ
 with_bit words label = set words (label / 64) (bit_or (get_or words (label / 64) 0) (1 * 2 ^ (label % 64) % 2 ^ 64))
 
-has_bit-set_same : (words : List ℕ) (label : ℕ) → length words ≡ 4 → label < 256 → has_bit (with_bit words label) label ≡ true
-has_bit-set_same words label size small =
-    let inside : label / 64 < length words = omega arith in
+pub has_bit-set_same : (words : List ℕ) (label : ℕ) → label / 64 < length words → has_bit (with_bit words label) label ≡ true
+has_bit-set_same words label inside =
     let bit : label % 64 < 64 = omega arith in
     let more : ℕ = bit_or (get_or words (label / 64) 0) (1 * 2 ^ (label % 64) % 2 ^ 64) in
     ap (λ (w : ℕ). nat_eq (bit_at w (label % 64)) 1) (get_or-set_same words (label / 64) more 0 inside)
     ∙ eq-eqb (bit_at more (label % 64)) 1 (bit_at_set_same w64 (get_or words (label / 64) 0) (label % 64) bit)
 
-has_bit-set_other : (words : List ℕ) (label x : ℕ) → length words ≡ 4 → label < 256 → x < 256 → x ≢ label → has_bit (with_bit words label) x ≡ has_bit words x
-has_bit-set_other words label x size small low other =
-    let inside : label / 64 < length words = omega arith in
+pub has_bit-set_other : (words : List ℕ) (label x : ℕ) → label / 64 < length words → x ≢ label → has_bit (with_bit words label) x ≡ has_bit words x
+has_bit-set_other words label x inside other =
     let bit : label % 64 < 64 = omega arith in
     let word : ℕ = get_or words (label / 64) 0 in
     let more : ℕ = bit_or word (1 * 2 ^ (label % 64) % 2 ^ 64) in
@@ -48,11 +46,11 @@ below_more words bound small has = record {
   each = λ x low. elim (cases_eq x bound) [
     | inl same ↦ (
       λ set. omega arith,
-      λ less. ap (has_bit (with_bit words bound)) same ∙ has_bit-set_same words bound has.size small,
+      λ less. ap (has_bit (with_bit words bound)) same ∙ has_bit-set_same words bound (omega (arith, has.size, small)),
     )
     | inr other ↦ (
-      λ set. let less : x < bound = (has.each x low).0 (sym (has_bit-set_other words bound x has.size small low other) ∙ set) in omega arith,
-      λ less. has_bit-set_other words bound x has.size small low other ∙ (has.each x low).1 (omega arith),
+      λ set. let less : x < bound = (has.each x low).0 (sym (has_bit-set_other words bound x (omega (arith, has.size, small)) other) ∙ set) in omega arith,
+      λ less. has_bit-set_other words bound x (omega (arith, has.size, small)) other ∙ (has.each x low).1 (omega arith),
     )
   ];
 }

@@ -13,10 +13,8 @@ use Rattle.positions.proofs.Configurations.{moved_is_configuration}
 use Rattle.positions.proofs.GapLaws.{member_of-gap_of, legal_is_answer}
 use Rattle.positions.proofs.Ranks.{configuration_at-rank_of}
 use Rattle.positions.proofs.Finiteness.{some_value}
-use Rattle.positions.proofs.Values.{same_value}
-use Rattle.retro_core.specs.Solving.{AnswerForever}
 use Rattle.strategies.specs.declared.gap_best.Best.{Best}
-use Rattle.strategies.specs.Best.{IsLess, HasNoGreaterValue, HasGreatestResult}
+use Rattle.strategies.specs.Best.{IsLess, HasGreatestResult}
 use Rattle.strategies.specs.GapBest.{IsBestFor}
 use Rattle.strategies.proofs.Comparing.{cases_value, not_above}
 use Rattle.strategies.proofs.Answers.{IsBestBelow, NoneBelow, first_next, better_next, as_good_next, best_of_all}
@@ -119,40 +117,33 @@ module _ (board : PlainBoard) (configuration : List ℕ) (pebble gap : ℕ) (is 
         ];
       }
 
-  -- an answer that lasts forever is best
-  pub safest : (label : ℕ) → IsSmallest (AnswerForever board gap) (Some label) → IsBestFor board configuration pebble (Some (record { label = label; value = Forever }))
-  safest label smallest = ((greatest, least), has)
+  -- one that lasts forever is the best of all, where it is the best of those before it
+  pub found_forever : (from : ℕ) (best : Best) → IsFoundBelow board configuration pebble from (Some best) → best.value ≡ Forever → IsBestFor board configuration pebble (Some best)
+  found_forever from best found forever = (best_of_all board configuration pebble best.label best.value all, all.has)
     where
-      legal : Legal board configuration pebble label
-      legal = (legal_there label).1 smallest.0.0
+      less_or_same : (value : Value) → IsLess value Forever ⊎ (value ≡ Forever)
+      less_or_same (Finite number) = inl tt
+      less_or_same Forever = inr refl
 
-      has : HasValue board (moved configuration pebble label) Forever
-      has = subst (λ (c : List ℕ). HasValue board c Forever) (member_there label) smallest.0.1
-
-      greatest : HasGreatestResult board configuration pebble label
-      greatest = record {
-        legal = legal;
-        greatest = λ other is_legal.
-            let value = some_value board (moved configuration pebble other) (moved_is_configuration board configuration pebble other is_legal.is_label is.is_configuration) in
-            record { value = value.0; bound = Forever; of_first = value.1; of_second = has; not_greater = λ less. less };
+      all : IsBestBelow board configuration pebble board.labels best.label best.value
+      all = record {
+        early = found.legal.is_label;
+        legal = found.legal;
+        has = found.has;
+        best = λ other below legal. elim (cases_lt other from) [
+          | inl early ↦ found.best other early legal
+          | inr late ↦
+              let value = some_value board (moved configuration pebble other) (moved_is_configuration board configuration pebble other legal.is_label is.is_configuration) in
+              let before : best.label ≤ other = omega (arith, found.early, late) in (
+                value.0,
+                value.1,
+                elim (less_or_same value.0) [
+                  | inl less ↦ inl (subst (IsLess value.0) (sym forever) less)
+                  | inr same ↦ inr (same ∙ sym forever, before)
+                ],
+              )
+        ];
       }
-
-      forever : (other : ℕ) (most : HasNoGreaterValue board (moved configuration pebble label) (moved configuration pebble other))
-          → HasValue board (moved configuration pebble other) Forever
-      forever other most = by most.value most.bound most.of_first most.of_second most.not_greater
-        where
-          by : (value bound : Value) → HasValue board (moved configuration pebble label) value → HasValue board (moved configuration pebble other) bound
-              → ¬ IsLess bound value → HasValue board (moved configuration pebble other) Forever
-          by value Forever one two not = two
-          by Forever (Finite bound) one two not = absurd (not tt)
-          by (Finite value) (Finite bound) one two not =
-              let same : Forever ≡ Finite value = same_value board (moved configuration pebble label) Forever (Finite value) has one in absurd cc
-
-      least : (other : ℕ) → HasGreatestResult board configuration pebble other → label ≤ other
-      least other also = smallest.1 other (
-        (legal_there other).0 also.legal,
-        subst (λ (c : List ℕ). HasValue board c Forever) (sym (member_there other)) (forever other (also.greatest label legal)),
-      )
 
 -- ---- what a best answer says of a request
 

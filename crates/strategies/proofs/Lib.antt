@@ -12,6 +12,7 @@ pub mod Building
 pub mod Finding
 pub mod Showing
 pub mod Lone
+pub mod BitMarks
 pub mod Marking
 pub mod GapAnswers
 pub mod Lowering

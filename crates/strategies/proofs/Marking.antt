@@ -1,11 +1,11 @@
 -- Marks of the ranks that were reached.
-use Rattle.std.proofs.Common.{◌≡◌, ◌≢◌, ℕ, zero, suc, ◌<◌, ◌≤◌, ◌↔◌, inl, inr, Bool, true, false, List, [], ◌∷◌, ◌++◌, length, get_or, slice_index_or, slice_set, refl, sym, ◌∙◌, subst, arith}
+use Rattle.std.proofs.Common.{◌≡◌, ◌≢◌, ℕ, zero, suc, ◌<◌, ◌≤◌, inl, inr, Bool, true, false, List, [], ◌∷◌, ◌++◌, length, slice_index_or, slice_set, refl, sym, ◌∙◌, subst, arith}
 use Rattle.std.specs.List.{Contains}
 use Rattle.std.proofs.Math.Dec.{eqb}
 use Rattle.std.proofs.Math.ListN.{replicate}
 use Rattle.std.proofs.lemmas.Bool.{cases_lt, cases_eq, eqb-true}
 use Rattle.std.proofs.lemmas.Bool.Decides.{Decides-eqb}
-use Rattle.std.proofs.lemmas.List.{get_or-set_same, get_or-set_other, get_or_past, get_or_read}
+use Rattle.std.proofs.lemmas.List.{get_or-set_same, get_or-set_other, get_or_past}
 use Rattle.std.proofs.lemmas.List.Elements.{Contains-get_or, Contains-append_left, Contains-append_right, Contains-append_cases}
 use Rattle.std.proofs.lemmas.List.Quantifiers.{all_pairs_push}
 use Rattle.std.proofs.lemmas.Map.Made.{IsDistinct-from_AllPairs}
@@ -17,10 +17,15 @@ pub false_not_true : (b : Bool) → b ≡ false → b ≡ true → ⊥
 false_not_true true p q = absurd cc
 false_not_true false p q = absurd cc
 
+pub all_false : (size rank : ℕ) → slice_index_or (replicate size false) rank false ≡ false
+all_false zero rank = refl
+all_false (suc size) zero = refl
+all_false (suc size) (suc rank) = all_false size rank
+
 -- nothing is marked
-pub no_marks : (marks : List Bool) → ((rank : ℕ) → slice_index_or marks rank false ≡ false) → AreMarked marks []
-no_marks marks none = record {
-  marked = λ rank. (λ marked. absurd (false_not_true (slice_index_or marks rank false) (none rank) marked), λ among. absurd (let inside : among.0 < 0 = among.1 in omega arith));
+pub no_marks : (size : ℕ) → AreMarked (replicate size false) []
+no_marks size = record {
+  marked = λ rank. (λ marked. absurd (false_not_true (slice_index_or (replicate size false) rank false) (all_false size rank) marked), λ among. absurd (let inside : among.0 < 0 = among.1 in omega arith));
   once = λ i j d less inside. absurd (omega arith);
 }
 
@@ -59,25 +64,8 @@ few_ranks marks ranks are =
           ((are.marked rank).1 (Contains-from_any {eq = eqb} eqb-true rank ranks any)))
     ])
 
--- whether there is a mark, as it is read
-pub is_marked : (marks : List Bool) (ranks : List ℕ) (rank : ℕ) (read : Bool) → AreMarked marks ranks → rank < length marks → read ≡ get_or marks rank read
-    → (read ≡ true) ↔ Contains ranks rank
-is_marked marks ranks rank read are inside is =
-    let same : read ≡ get_or marks rank false = get_or_read marks rank read inside is false in
-    (λ marked. (are.marked rank).0 (sym same ∙ marked), λ among. same ∙ (are.marked rank).1 among)
+pub known_stays : (marks : List Bool) (ranks : List ℕ) (rank : ℕ) → AreMarked marks ranks → slice_index_or marks rank false ≡ true → IsWith ranks rank ranks
+known_stays marks ranks rank are marked = record { known = λ _. refl; other = λ not. absurd (not ((are.marked rank).0 marked)) }
 
-pub known_stays : (marks : List Bool) (ranks : List ℕ) (rank : ℕ) (read : Bool) → AreMarked marks ranks → rank < length marks → read ≡ get_or marks rank read
-    → read ≡ true → IsWith ranks rank ranks
-known_stays marks ranks rank read are inside is marked =
-    let among : Contains ranks rank = (is_marked marks ranks rank read are inside is).0 marked in
-    record { known = λ _. refl; other = λ not. absurd (not among) }
-
-pub new_added : (marks : List Bool) (ranks : List ℕ) (rank : ℕ) (read : Bool) → AreMarked marks ranks → rank < length marks → read ≡ get_or marks rank read
-    → read ≡ false → ¬ Contains ranks rank
-new_added marks ranks rank read are inside is unmarked among =
-    false_not_true read unmarked ((is_marked marks ranks rank read are inside is).1 among)
-
-pub all_false : (size rank : ℕ) → slice_index_or (replicate size false) rank false ≡ false
-all_false zero rank = refl
-all_false (suc size) zero = refl
-all_false (suc size) (suc rank) = all_false size rank
+pub new_added : (marks : List Bool) (ranks : List ℕ) (rank : ℕ) → AreMarked marks ranks → slice_index_or marks rank false ≡ false → ¬ Contains ranks rank
+new_added marks ranks rank are unmarked among = false_not_true (slice_index_or marks rank false) unmarked ((are.marked rank).1 among)

@@ -2,4 +2,5 @@ pub mod Best
 pub mod Document
 pub mod Example
 pub mod GapBest
+pub mod Marks
 pub mod Spreading

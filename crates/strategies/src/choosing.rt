@@ -1,17 +1,15 @@
 //! The best answer to a request, and the best request.
 
-ghost use Rattle.std.specs.Prelude.{◌≡◌, ℕ, ◌<◌, ◌↔◌, Option, None, Some, IsTrue};
+ghost use Rattle.std.specs.Prelude.{◌≡◌, ℕ, ◌<◌, ◌↔◌, None};
 ghost use Rattle.positions.specs.Ranks.{configurations, configuration_at};
 ghost use Rattle.positions.specs.Counts.{IsSmallest};
 ghost use Rattle.positions.specs.Game.{Legal};
 ghost use Rattle.positions.specs.Value.{HasValue};
 ghost use Rattle.positions.specs.declared.value.Value.TheVariants.{Forever};
 ghost use Rattle.strategies.specs.Best.{HasGreatestResult, LowersValue};
-ghost use Rattle.strategies.specs.GapBest.{IsBestFor, LeadsBelow};
 
-use crate::gap_best::{Best, best_of_gap, is_less};
+use crate::best_moves::BestMoves;
 use board_text::Board;
-use positions::Value;
 use retro_core::Values;
 
 /// The best answer to a request of a pebble at the configuration of a rank, if a label is legal:
@@ -25,7 +23,7 @@ pub fn best_answer(board: &Board, values: &Values, rank: u32, pebble: u8) -> Opt
     ensures best { IsSmallest (HasGreatestResult board.now (configuration_at board.now rank) pebble) result }
     ensures none { (result ≡ None) ↔ ((label : ℕ) → Legal board.now (configuration_at board.now rank) pebble label → ⊥) }
 {
-    match best_at(board, values, rank, pebble) {
+    match BestMoves::new(board, values, &[]).answer(rank, pebble) {
         Some(best) => Some(best.label),
         None => None,
     }
@@ -41,32 +39,5 @@ pub fn best_request(board: &Board, values: &Values, rank: u32) -> Option<u8>
     ensures best { IsSmallest (LowersValue board.now (configuration_at board.now rank)) result }
     ensures none { (result ≡ None) ↔ HasValue board.now (configuration_at board.now rank) Forever }
 {
-    let space = values.space();
-    let value = values.of(rank);
-    for pebble in 0..space.pebbles() {
-        if leads_below(best_at(board, values, rank, pebble), value) {
-            return Some(pebble);
-        }
-    }
-    None
-}
-
-/// The best answer to a request of a pebble at the configuration of a rank, with its value.
-fn best_at(board: &Board, values: &Values, rank: u32, pebble: u8) -> Option<Best>
-    requires same_board { values.now ≡ board.now }
-    requires rank { rank < configurations board.now }
-    requires pebble { pebble < board.now.pebbles }
-    ensures { IsBestFor board.now (configuration_at board.now rank) pebble result }
-{
-    best_of_gap(board, values, values.space().gap(rank, pebble))
-}
-
-/// Whether a request with this best answer leads below a value, whatever is answered.
-pub(crate) fn leads_below(best: Option<Best>, value: Value) -> bool
-    ensures { IsTrue result ↔ LeadsBelow best value }
-{
-    match best {
-        Some(best) => is_less(best.value, value),
-        None => true,
-    }
+    BestMoves::new(board, values, &[]).request(rank)
 }

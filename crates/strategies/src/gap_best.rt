@@ -2,14 +2,13 @@
 
 ghost use Rattle.std.specs.Prelude.{◌≡◌, ◌<◌, ◌↔◌, None, Some, IfOk, IsTrue, length};
 ghost use Rattle.positions.specs.Gaps.{gaps};
-ghost use Rattle.positions.specs.Ranks.{configurations, configuration_at};
 ghost use Rattle.positions.specs.declared.value.Value.TheVariants.{Finite};
 ghost use Rattle.strategies.specs.declared.gap_best.Best.{Best as BestOfGap};
 ghost use Rattle.strategies.specs.Best.{IsLess};
-ghost use Rattle.strategies.specs.GapBest.{IsBestFor, IsGapBest, AreGapsBest};
+ghost use Rattle.strategies.specs.GapBest.{IsGapBest, AreGapsBest};
 
 use board_text::{Board, Memory};
-use positions::{Space, Value};
+use positions::Value;
 use retro_core::Values;
 use std::alloc::Global;
 
@@ -37,33 +36,12 @@ pub(crate) fn best_of_gaps(
     Ok(answers)
 }
 
-/// The best answer to a request of a pebble at the configuration of a rank, from those of all gaps.
-pub(crate) fn best_in(
-    answers: &[Option<Best>],
-    space: &Space,
-    rank: u32,
-    pebble: u8,
-) -> Option<Best>
-    requires answers { AreGapsBest space.now answers.now }
-    requires rank { rank < configurations space.now }
-    requires pebble { pebble < space.now.pebbles }
-    ensures { IsBestFor space.now (configuration_at space.now rank) pebble result }
-{
-    answers[space.gap(rank, pebble) as usize]
-}
-
 /// The best answer of a gap, if it has an answer.
 pub(crate) fn best_of_gap(board: &Board, values: &Values, gap: u32) -> Option<Best>
     requires same_board { values.now ≡ board.now }
     requires gap { gap < gaps board.now }
     ensures { IsGapBest board.now gap result }
 {
-    if let Some(label) = values.safe_answer(gap) {
-        return Some(Best {
-            label,
-            value: Value::Forever,
-        });
-    }
     let space = values.space();
     let answers = space.answer_set(board, gap);
     let members = space.members(gap);
@@ -71,7 +49,12 @@ pub(crate) fn best_of_gap(board: &Board, values: &Values, gap: u32) -> Option<Be
     let mut from = 0;
     while let Some(label) = answers.first_from(from) {
         let value = values.of(members.rank(label));
-        best = Some(better(best, Best { label, value }));
+        let found = better(best, Best { label, value });
+        // None leads to more, and all others that last forever stand behind.
+        if let Value::Forever = found.value {
+            return Some(found);
+        }
+        best = Some(found);
         from = label + 1;
     }
     best

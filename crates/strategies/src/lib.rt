@@ -1,11 +1,13 @@
 //! Best answers, best requests, and the document that shows the value of a board's start.
 #![tactic(auto)]
 
+mod best_moves;
 mod choosing;
 mod documents;
 mod gap_best;
 mod laws;
 mod laws_of_documents;
+mod marks;
 mod reached;
 mod sections;
 mod spreading;

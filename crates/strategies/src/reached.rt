@@ -3,6 +3,7 @@
 ghost use Rattle.std.specs.Prelude.{◌≡◌, ◌<◌, ◌≤◌, ◌↔◌, [], length, Contains, IfOk, IsTrue, slice_get};
 ghost use Rattle.strategies.specs.Spreading.{IsWith};
 
+use crate::marks::Marks;
 use board_text::Memory;
 use std::alloc::Global;
 use std::marker::Model;
@@ -11,7 +12,7 @@ use std::marker::Model;
 #[derive(Drop)]
 pub(crate) struct Reached {
     /// Whether each configuration was reached.
-    marks: Vec<bool>,
+    marks: Marks,
     ranks: Vec<u32>,
 }
 
@@ -21,9 +22,9 @@ impl Model for Reached {
 
     ghost Value = { ReachedRanks };
 
-    ghost view = { λ s. record { size = length s.marks.items; ranks = s.ranks.items } };
+    ghost view = { λ s. record { size = length s.marks; ranks = s.ranks.items } };
 
-    ghost invariant = { λ s. AreMarked s.marks.items s.ranks.items };
+    ghost invariant = { λ s. AreMarked s.marks s.ranks.items };
 }
 
 impl Reached {
@@ -32,9 +33,8 @@ impl Reached {
         ensures size { IfOk result (λ reached. reached.size ≡ size) }
         ensures empty { IfOk result (λ reached. reached.ranks ≡ []) }
     {
-        let marks = vec![in alloc; false; size as usize]?;
         Ok(Reached {
-            marks,
+            marks: Marks::new(alloc, size)?,
             ranks: Vec::new(alloc),
         })
     }
@@ -45,11 +45,11 @@ impl Reached {
         ensures size { IfOk result (λ _. self.new.size ≡ self.old.size) }
         ensures added { IfOk result (λ _. IsWith self.old.ranks rank self.new.ranks) }
     {
-        if !self.marks[rank as usize] {
+        if !self.marks.get(rank) {
             if self.ranks.push(rank).is_err() {
                 return Err(Memory);
             }
-            self.marks[rank as usize] = true;
+            self.marks.set(rank);
         }
         Ok(())
     }
@@ -59,7 +59,14 @@ impl Reached {
         requires { rank < self.now.size }
         ensures { IsTrue result ↔ Contains self.now.ranks rank }
     {
-        self.marks[rank as usize]
+        self.marks.get(rank)
+    }
+
+    /// How many were reached.
+    pub(crate) fn len(&self) -> usize
+        ensures { result ≡ length self.now.ranks }
+    {
+        self.ranks.len()
     }
 
     /// The rank that was reached after so many others.

@@ -7,18 +7,20 @@ use Rattle.strategies.proofs.documents.document.Goals as goal
 pub returns-clause-document : goal.returns-clause-document
 returns-clause-document c =
     let b = c.args.board.now in
-    is_whole b c.rank-start.result c.of-value.result c.claim.result _ _ c.start.ensures.is_board.start
-    (rw (c.space-space.ensures, c.requires.same_board, c.start.ensures.value) at c.rank-start.ensures.rank) (rw c.requires.same_board at c.of-value.ensures) c.claim.ensures
-    (rw c.requires.same_board at c.in_ok-labeller.ensures.rows) c.in_ok-adversary.ensures
+    let start = rw c.new-moves.ensures at c.start.ensures in
+    is_whole b c.start.result c.value-value.result c.claim.result _ _ start.is_board.start start.rank (rw c.new-moves.ensures at c.value-value.ensures) c.claim.ensures
+    (rw c.new-moves.ensures at c.in_ok-labeller_section.ensures.rows) (rw c.new-moves.ensures at c.in_ok-adversary_section.ensures)
 
 pub returns-clause-form : goal.returns-clause-form
-returns-clause-form c = record {
-  is_proof = is_formed c.args.board.now _ c.start.ensures.is_board.start (rw (c.space-space.ensures, c.requires.same_board) at c.configurations.ensures.few) (returns-clause-document c);
-  padded = rw c.requires.same_board at c.in_ok-labeller.ensures.padded;
-}
+returns-clause-form c =
+    let start = rw c.new-moves.ensures at c.start.ensures in
+    record {
+      is_proof = is_formed c.args.board.now _ start.is_board.start start.few (returns-clause-document c);
+      padded = rw c.new-moves.ensures at c.in_ok-labeller_section.ensures.padded;
+    }
 
 pub returns-clause-rules : goal.returns-clause-rules
-returns-clause-rules c = breaks_no_rule c.args.board.now _ c.start.ensures.is_board.start (returns-clause-document c)
+returns-clause-rules c = let start = rw c.new-moves.ensures at c.start.ensures in breaks_no_rule c.args.board.now _ start.is_board.start (returns-clause-document c)
 
 pub returns-clause-shows : goal.returns-clause-shows
-returns-clause-shows c = shows_claim c.args.board.now _ c.start.ensures.is_board.start (returns-clause-document c)
+returns-clause-shows c = let start = rw c.new-moves.ensures at c.start.ensures in shows_claim c.args.board.now _ start.is_board.start (returns-clause-document c)

@@ -1,0 +1,50 @@
+use Rattle.std.proofs.Common.{sym, ◌∙◌, arith}
+use Rattle.strategies.proofs.Steps.{none_expanded}
+use Rattle.strategies.proofs.Spread.{somewhere, request_below, requests_begin, requests_step, requests_end}
+use Rattle.strategies.proofs.best_moves.BestMoves.reached_by_requests.Goals as goal
+
+pub add-requires : goal.add-requires
+add-requires c = omega (arith, c.start.ensures.below, c.in_ok-reached.ensures.size, rw c.space-space.ensures at c.configurations.ensures.value)
+
+pub loop-rank-init : goal.loop-rank-init
+loop-rank-init c =
+    let b = c.args.self.now in
+    let is = c.start.ensures.is_board in
+    record {
+      size = c.in_ok-add.ensures.size ∙ c.in_ok-reached.ensures.size ∙ (rw c.space-space.ensures at c.configurations.ensures.value);
+      expanded = rw c.in_ok-expanded.ensures (none_expanded b c.gaps.result _ (rw c.space-space.ensures at c.gaps.ensures.value));
+      spread = requests_begin b is.start _ (rw (c.start.ensures.rank, c.in_ok-reached.ensures.empty) at c.in_ok-add.ensures.added);
+    }
+
+pub add_results-requires-clause-rank : goal.add_results-requires-clause-rank
+add_results-requires-clause-rank c = request_below _ _ _ _ c.loop-rank.invariant.spread (sym c.in-Some.ensures.rank)
+
+pub overflow_add-place : goal.overflow_add-place
+overflow_add-place c =
+    let inside = somewhere c.loop-rank.reached.ranks c.loop-rank.place c.in-Some.rank (sym c.in-Some.ensures.rank) in
+    let few = c.in-Some.ensures.few in
+    let size = c.loop-rank.invariant.size in
+    let most = c.start.ensures.few in
+    omega (arith, inside, few, size, most)
+
+pub loop-rank-smaller : goal.loop-rank-smaller
+loop-rank-smaller c =
+    let inside = somewhere c.loop-rank.reached.ranks c.loop-rank.place c.in-Some.rank (sym c.in-Some.ensures.rank) in
+    let few = c.in-Some.ensures.few in
+    let size = c.loop-rank.invariant.size in
+    omega (arith, inside, few, size)
+
+pub loop-rank-preserved : goal.loop-rank-preserved
+loop-rank-preserved c =
+    let is = c.start.ensures.is_board in
+    record {
+      size = c.in_ok-add_results.ensures.size ∙ c.loop-rank.invariant.size;
+      expanded = c.in_ok-add_results.ensures.expanded;
+      spread = requests_step c.args.self.now is.start c.loop-rank.place c.in-Some.rank _ _
+          c.loop-rank.invariant.spread (sym c.in-Some.ensures.rank) c.in_ok-add_results.ensures.added;
+    }
+
+pub returns-clause-reached : goal.returns-clause-reached
+returns-clause-reached c =
+    let is = c.start.ensures.is_board in
+    requests_end c.args.self.now is.start c.loop-rank.place _ c.loop-rank.invariant.spread (sym c.in_default.ensures.rank)

@@ -1,7 +1,0 @@
-use Rattle.proof_text.specs.Proof.{request_rows}
-use Rattle.strategies.specs.Document.{IsAdversaryRow}
-use Rattle.strategies.proofs.Building.{AreExactlyBelow}
-use Rattle.strategies.proofs.sections.adversary_rows.Given as goal
-
-abbrev pub invariant-loop-rank : goal.invariant-loop-rank
-invariant-loop-rank l = AreExactlyBelow l.values (IsAdversaryRow l.values) (λ row. row.at) l.rank (request_rows l.values l.rows.items)

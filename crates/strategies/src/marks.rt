@@ -1,0 +1,55 @@
+//! Marks, a bit each.
+
+ghost use Rattle.std.specs.Prelude.{◌≡◌, ◌<◌, true, false, length, IfOk, replicate, slice_index_or, slice_set};
+
+use board_text::Memory;
+use std::alloc::Global;
+use std::marker::Model;
+
+/// The number of marks in a word.
+const WORD: u32 = 64;
+
+/// Whether each of so many numbers is marked, a bit each. Contracts see a list of truth values.
+#[derive(Drop)]
+pub(crate) struct Marks {
+    size: u32,
+    words: Vec<u64>,
+}
+
+impl Model for Marks {
+    ghost use Rattle.std.specs.Prelude.{◌*◌, ◌≤◌, List, Bool, length};
+    ghost use Rattle.strategies.specs.Marks.{marks_of};
+
+    ghost Value = { List Bool };
+
+    ghost view = { λ m. marks_of m.size m.words.items };
+
+    ghost invariant = { λ m. m.size ≤ 64 * length m.words.items };
+}
+
+impl Marks {
+    /// None of so many numbers is marked.
+    pub(crate) fn new(alloc: Global, size: u32) -> Result<Marks, Memory>
+        ensures { IfOk result (λ marks. marks ≡ replicate size false) }
+    {
+        let words = vec![in alloc; 0u64; size.div_ceil(WORD) as usize]?;
+        Ok(Marks { size, words })
+    }
+
+    /// Whether the number is marked.
+    pub(crate) fn get(&self, number: u32) -> bool
+        requires { number < length self.now }
+        ensures { result ≡ slice_index_or self.now number false }
+    {
+        let word = self.words[(number / WORD) as usize];
+        (word >> (number % WORD)) & 1 == 1
+    }
+
+    /// Marks the number.
+    pub(crate) fn set(&mut self, number: u32)
+        requires { number < length self.old }
+        ensures { self.new ≡ slice_set self.old number true }
+    {
+        self.words[(number / WORD) as usize] |= 1 << (number % WORD);
+    }
+}
