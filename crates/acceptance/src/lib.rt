@@ -34,6 +34,8 @@ mod printing;
 #[cfg(test)]
 mod rounds;
 #[cfg(test)]
+mod shared_rounds;
+#[cfg(test)]
 mod solving;
 #[cfg(test)]
 mod solving_calls;

@@ -14,7 +14,7 @@ use std::alloc::Global;
 use std::process::Abort;
 
 /// A solver of a board that has filed value 0.
-fn opened(rt: &impl Abort, alloc: Global, board: &Board) -> Solver<LinkLists>
+pub(crate) fn opened(rt: &impl Abort, alloc: Global, board: &Board) -> Solver<LinkLists>
     ensures { result.is_done ≡ false }
 {
     let solver: Solver<LinkLists> = open(rt, alloc, board);
@@ -187,7 +187,7 @@ fn two_seats_on_the_chain(rt: HostRuntime) {
 
 /// How often seats struck, closed a gap, tried and won.
 #[derive(Clone, Copy, Debug, PartialEq)]
-struct Tally {
+pub(crate) struct Tally {
     strikes: u32,
     closed: u32,
     tries: u32,
@@ -195,7 +195,7 @@ struct Tally {
 }
 
 /// What the rounds of three pebbles on the cycle come to at value 0.
-const NINE: Tally = Tally {
+pub(crate) const NINE: Tally = Tally {
     strikes: 9,
     closed: 9,
     tries: 9,
@@ -204,7 +204,7 @@ const NINE: Tally = Tally {
 
 impl Tally {
     /// Nothing was done.
-    const fn none() -> Tally {
+    pub(crate) const fn none() -> Tally {
         Tally {
             strikes: 0,
             closed: 0,
@@ -214,7 +214,7 @@ impl Tally {
     }
 
     /// Notes what a step did.
-    fn note(&mut self, seen: Seen) {
+    pub(crate) fn note(&mut self, seen: Seen) {
         match seen {
             Seen::Struck { closed, .. } => {
                 self.strikes = self.strikes.saturating_add(1);
@@ -351,7 +351,7 @@ fn work_in_drawn_order(round: &mut RoundState<'_, LinkLists>, state: &mut u64) {
 }
 
 /// Whether the list has each rank of the other, and is as long.
-fn has_each(won: &[u32], wanted: &[u32]) -> bool {
+pub(crate) fn has_each(won: &[u32], wanted: &[u32]) -> bool {
     won.len() == wanted.len() && wanted.iter().all(|rank| won.contains(rank))
 }
 

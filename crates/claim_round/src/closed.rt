@@ -1,4 +1,5 @@
-// A closed round.
+//! A closed round.
+
 ghost use Rattle.std.specs.Prelude.{◌≡◌, ◌<◌, length, slice_index, slice_index_or, None};
 
 use atomic_table::Closed as Rows;
@@ -6,7 +7,7 @@ use retro_core::RoundEnd;
 use std::alloc::Global;
 use std::marker::Model;
 
-/// A closed round: the words, of which the first so many are counts, and what was won.
+/// A round that was closed: its words, of which the first so many are counts, and what was won.
 pub struct Closed {
     pub(crate) rows: Rows<(), Global>,
     pub(crate) gaps: usize,

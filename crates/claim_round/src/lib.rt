@@ -1,7 +1,12 @@
-//! A round that threads share.
+//! A round of a solver that threads share: a word for the count of each gap, and a word for the value of each configuration.
+//!
+//! A round is opened with one seat, which has all to strike. Seats are split and joined, and each strikes and claims on
+//! its own, from whatever thread; no call waits for another. The rule of the words and of all seats' lists is the lawful
+//! state of a round, between any two steps of any threads.
 #![tactic(auto)]
 
 mod closed;
+mod room;
 mod round;
 mod seat;
 mod table;

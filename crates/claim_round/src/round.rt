@@ -1,4 +1,5 @@
-// A round over a table of words.
+//! A round that threads share, over a table of words.
+
 ghost use Rattle.std.specs.VecDeque.{deque_capacity};
 ghost use Rattle.std.specs.Prelude.{◌≡◌, ℕ, ◌<◌, ◌≤◌, ◌++◌, ◌+◌, ◌==◌, ◌∷◌, ◌⊎◌, [], length, cond, false, Some, None, vec_capacity, MatchBool, IfOk, IfErr, IsTrue};
 ghost use Rattle.board_text.specs.PlainBoard.{places};
@@ -12,6 +13,7 @@ ghost use Rattle.claim_round.specs.Telling.{Opens, HasStruck, HasClaimed};
 ghost use Rattle.claim_round.specs.Reasons.{IsReason};
 
 use crate::closed::Closed;
+use crate::room::{append, make_places, make_room, owe_members, places_for};
 use crate::seat::RoundSeat;
 use crate::table::{Halves, Hand, Look, Plan, Rule, Strike, Try};
 use crate::words::{OPEN, first_words, to_strike};
@@ -23,7 +25,10 @@ use std::alloc::Global;
 use std::collections::VecDeque;
 use std::marker::Model;
 
-/// A round of a solver: a word for each gap's count, and then a word for each configuration.
+/// A round of a solver at the value that it has reached, over shared words: one for each gap's count, and then one for each configuration.
+///
+/// Each call makes one step, and waits for no other thread. Contracts see which table of words it is, and the solver and
+/// the width that it was opened with. What the words and all seats hold is lawful between any two steps.
 #[derive(Drop)]
 pub struct SharedRound<'a, S: ListStore> {
     alloc: Global,
@@ -45,84 +50,41 @@ impl<'a, S: ListStore> Model for SharedRound<'a, S> {
 }
 
 /// What a strike did.
-#[derive(Clone, Copy, Drop)]
+#[derive(Clone, Copy, Debug, Drop, PartialEq, Eq)]
 pub struct Struck {
+    /// The rank of the configuration that was struck.
     pub config: u32,
+    /// The gap, where that was its last live answer: its open members are now owed.
     pub closed: Option<u32>,
 }
 
 /// What a claim did.
-#[derive(Clone, Copy, Drop)]
+#[derive(Clone, Copy, Debug, Drop, PartialEq, Eq)]
 pub struct Claim {
+    /// The rank of the configuration that was claimed.
     pub config: u32,
+    /// Whether it was won by this claim. Else it stands in a won list already, the seat's own or another's.
     pub won: bool,
 }
 
-/// Why a round was not closed.
-#[derive(Drop)]
+/// Why a round was not closed. The first that holds is told.
+#[derive(Clone, Copy, Debug, Drop, PartialEq, Eq)]
 pub enum Why {
+    /// Some of the round's width is with other seats.
     SeatsOut,
+    /// The seat has something to strike, or owes something.
     WorkLeft,
 }
 
-/// A round that was not closed, with the seat.
+/// A round that was not closed.
 #[derive(Drop)]
 pub struct NotClosed<'a, S: ListStore> {
+    /// The round, as it was.
     pub round: SharedRound<'a, S>,
+    /// The seat, as it was.
     pub seat: RoundSeat,
+    /// Why it was not closed.
     pub why: Why,
-}
-
-// How many places a list needs of what is won, where so many entries may be owed yet. No more are won than there are configurations.
-fn places_for<S: ListStore>(solver: &Solver<S>, entries: usize) -> usize
-    ensures { (configurations solver.now.board ≤ result) ⊎ (entries ≤ result) }
-{
-    let most = solver.space().configurations() as usize;
-    if entries < most { entries } else { most }
-}
-
-// Appends the members, for which there is room.
-fn append(list: &mut VecDeque<u32>, members: &[u32])
-    requires { length list.old.items + length members.now ≤ deque_capacity list.old }
-    ensures items { list.new.items ≡ list.old.items ++ members.now }
-    ensures room { deque_capacity list.new ≡ deque_capacity list.old }
-{
-    for member in members {
-        list.push_back_reserved(*member);
-    }
-}
-
-// Makes room for so many more, if there is memory.
-fn make_room(list: &mut VecDeque<u32>, more: usize) -> bool
-    ensures items { list.new.items ≡ list.old.items }
-    ensures capacity { deque_capacity list.old ≤ deque_capacity list.new }
-    ensures room { IsTrue result → length list.old.items + more ≤ deque_capacity list.new }
-{
-    list.reserve(more).is_ok()
-}
-
-// Makes so many places in all, if there is memory.
-fn make_places(list: &mut Vec<u32>, places: usize) -> bool
-    ensures items { list.new.items ≡ list.old.items }
-    ensures room { MatchBool result (places ≤ vec_capacity list.new) (vec_capacity list.new ≡ vec_capacity list.old) }
-{
-    let more = places.saturating_sub(list.len());
-    list.reserve_exact(more).is_ok()
-}
-
-// Owes the open members of a gap, for which there is room.
-fn owe_members<S: ListStore>(owed: &mut VecDeque<u32>, solver: &Solver<S>, gap: u32)
-    requires gap { gap < gaps solver.now.board }
-    requires room { length owed.old.items + length (source solver.now gap) ≤ deque_capacity owed.old }
-    ensures items { owed.new.items ≡ owed.old.items ++ source solver.now gap }
-    ensures room { deque_capacity owed.new ≡ deque_capacity owed.old }
-{
-    let _ = solver.round_number();
-    let mut at = solver.first_source(gap);
-    while let Some(rank) = at {
-        owed.push_back_reserved(rank);
-        at = solver.next_source(gap, rank);
-    }
 }
 
 impl<'a, S: ListStore> SharedRound<'a, S> {
@@ -219,7 +181,8 @@ impl<'a, S: ListStore> SharedRound<'a, S> {
         Claim { config, won: false }
     }
 
-    /// Cuts the to-strike list and the width in two. Owed and won stay with the first seat.
+    /// Cuts what is to strike and the width in two, the larger half first. What is owed and won stays with the first seat.
+    /// A refusal comes before the step, and gives the seat back as it was.
     pub fn split(&self, mut seat: RoundSeat) -> Result<(RoundSeat, RoundSeat), (RoundSeat, Memory)>
         requires mine { IsOf self.now seat }
         requires width { 2 ≤ seat.view.has.width }
@@ -253,7 +216,8 @@ impl<'a, S: ListStore> SharedRound<'a, S> {
         Ok((seat, new))
     }
 
-    /// Appends the second seat's lists to the first's, and adds the widths. The second seat is spent.
+    /// Appends the second seat's lists to the first's, and adds the widths. A refusal comes before the step, and gives
+    /// both seats back as they were.
     pub fn join(
         &self,
         mut into: RoundSeat,

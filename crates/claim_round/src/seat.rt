@@ -1,4 +1,5 @@
-// A seat of a round.
+//! A seat of a round.
+
 ghost use Rattle.std.specs.Prelude.{◌≡◌, length};
 
 use crate::table::Hand;
@@ -6,7 +7,9 @@ use atomic_table::Seat;
 use std::collections::VecDeque;
 use std::marker::Model;
 
-/// A worker's share of a round.
+/// A worker's share of a round: a width, and what it has to strike, owes and has won.
+///
+/// It is what lets its holder make steps: each call on the round takes the seat. A seat that is dropped leaves its round open for good.
 #[derive(Drop)]
 pub struct RoundSeat {
     pub(crate) seat: Seat<(), Hand>,
@@ -36,21 +39,21 @@ impl RoundSeat {
         self.todo.len() as u32
     }
 
-    /// How many it owes.
+    /// How many configurations it owes.
     pub fn owed(&self) -> u32
         ensures { result ≡ length self.now.view.has.owed }
     {
         self.owed.len() as u32
     }
 
-    /// What it won.
+    /// The ranks of the configurations that it has won, in the order of its claims.
     pub fn won(&self) -> &[u32]
         ensures { result.now ≡ self.now.view.has.won }
     {
         self.won.as_slice()
     }
 
-    /// Its share of the round's width.
+    /// Its share of the round's width: how many seats of width 1 it can be split to.
     pub fn width(&self) -> u32
         ensures { result ≡ self.now.view.has.width }
     {

@@ -1,4 +1,5 @@
-// The table of a round.
+//! The rule of a round's table, and what each kind of step tells.
+
 use atomic_table::{Join, Play, Split, TableRule};
 use index_lists::ListStore;
 use retro_core::Solver;

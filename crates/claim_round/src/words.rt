@@ -1,4 +1,5 @@
-// What a round reads from a solver before its first step.
+//! What a round reads from a solver before its first step.
+
 ghost use Rattle.std.specs.Prelude.{◌≡◌, ◌+◌, ◌<◌, false, length, IfOk};
 ghost use Rattle.positions.specs.Ranks.{configurations};
 ghost use Rattle.positions.specs.Gaps.{gaps};

@@ -3,7 +3,7 @@ use Rattle.retro_core.specs.Solving.{source}
 use Rattle.retro_core.proofs.Owing.{owing-start, owing-some, owing-more, goes-on}
 use Rattle.retro_core.proofs.RoundLaws.{source-rank, source-once}
 use Rattle.claim_round.proofs.Openings.{owing_room}
-use Rattle.claim_round.proofs.round.owe_members.Goals as goal
+use Rattle.claim_round.proofs.room.owe_members.Goals as goal
 
 pub loop-at-init : goal.loop-at-init
 loop-at-init g c = record { owing = owing-start (source c.args.solver.now c.args.gap) c.args.owed.now.items c.first_source-at.result c.first_source-at.ensures.first; room = refl }

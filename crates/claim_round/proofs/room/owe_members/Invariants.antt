@@ -3,7 +3,7 @@ use Rattle.std.specs.VecDeque.{deque_capacity}
 use Rattle.retro_core.specs.Solving.{source}
 use Rattle.retro_core.specs.Tables.{rest_from}
 use Rattle.retro_core.proofs.Owing.{IsOwing}
-use Rattle.claim_round.proofs.round.owe_members.Given as goal
+use Rattle.claim_round.proofs.room.owe_members.Given as goal
 
 abbrev pub invariant-loop-at : goal.invariant-loop-at
 invariant-loop-at g l = record {

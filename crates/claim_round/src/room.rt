@@ -1,0 +1,63 @@
+//! Room in a seat's lists, which is made before a step and filled behind it.
+
+ghost use Rattle.std.specs.VecDeque.{deque_capacity};
+ghost use Rattle.std.specs.Prelude.{◌≡◌, ◌<◌, ◌≤◌, ◌++◌, ◌+◌, ◌⊎◌, length, vec_capacity, MatchBool, IsTrue};
+ghost use Rattle.positions.specs.Ranks.{configurations};
+ghost use Rattle.positions.specs.Gaps.{gaps};
+ghost use Rattle.retro_core.specs.Solving.{source};
+
+use index_lists::ListStore;
+use retro_core::Solver;
+use std::collections::VecDeque;
+
+/// How many places a list needs of what is won, where so many entries may be owed yet. No more are won than there are configurations.
+pub(crate) fn places_for<S: ListStore>(solver: &Solver<S>, entries: usize) -> usize
+    ensures { (configurations solver.now.board ≤ result) ⊎ (entries ≤ result) }
+{
+    let most = solver.space().configurations() as usize;
+    if entries < most { entries } else { most }
+}
+
+/// Appends the members, for which there is room.
+pub(crate) fn append(list: &mut VecDeque<u32>, members: &[u32])
+    requires { length list.old.items + length members.now ≤ deque_capacity list.old }
+    ensures items { list.new.items ≡ list.old.items ++ members.now }
+    ensures room { deque_capacity list.new ≡ deque_capacity list.old }
+{
+    for member in members {
+        list.push_back_reserved(*member);
+    }
+}
+
+/// Makes room for so many more, if there is memory.
+pub(crate) fn make_room(list: &mut VecDeque<u32>, more: usize) -> bool
+    ensures items { list.new.items ≡ list.old.items }
+    ensures capacity { deque_capacity list.old ≤ deque_capacity list.new }
+    ensures room { IsTrue result → length list.old.items + more ≤ deque_capacity list.new }
+{
+    list.reserve(more).is_ok()
+}
+
+/// Makes so many places in all, if there is memory.
+pub(crate) fn make_places(list: &mut Vec<u32>, places: usize) -> bool
+    ensures items { list.new.items ≡ list.old.items }
+    ensures room { MatchBool result (places ≤ vec_capacity list.new) (vec_capacity list.new ≡ vec_capacity list.old) }
+{
+    let more = places.saturating_sub(list.len());
+    list.reserve_exact(more).is_ok()
+}
+
+/// Owes the open members of a gap, for which there is room.
+pub(crate) fn owe_members<S: ListStore>(owed: &mut VecDeque<u32>, solver: &Solver<S>, gap: u32)
+    requires gap { gap < gaps solver.now.board }
+    requires room { length owed.old.items + length (source solver.now gap) ≤ deque_capacity owed.old }
+    ensures items { owed.new.items ≡ owed.old.items ++ source solver.now gap }
+    ensures room { deque_capacity owed.new ≡ deque_capacity owed.old }
+{
+    let _ = solver.round_number();
+    let mut at = solver.first_source(gap);
+    while let Some(rank) = at {
+        owed.push_back_reserved(rank);
+        at = solver.next_source(gap, rank);
+    }
+}
