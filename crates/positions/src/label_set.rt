@@ -9,7 +9,7 @@ use board_text::ROW_WORDS;
 /// A set of labels: the label x is bit `x % 64` of word `x / 64`.
 #[derive(Clone, Copy)]
 pub(crate) struct LabelSet {
-    words: [u64; ROW_WORDS],
+    pub(crate) words: [u64; ROW_WORDS],
 }
 
 impl LabelSet {
