@@ -1,22 +1,16 @@
--- A configuration entered, and all of them.
-use Rattle.std.proofs.Common.{◌≡◌, ℕ, ◌+◌, ◌<◌, ◌≤◌, ◌==◌, ◌&&◌, ◌↔◌, not, inl, inr, Bool, true, false, cond, zero, suc, refl, arith, sym, ap, ◌∙◌, subst, List, [], ◌∷◌, Contains, length, slice_index, slice_set, get_or-set_other, get_or-set_same}
-use Rattle.std.proofs.Math.ListN.{length-set}
-use Rattle.std.proofs.lemmas.Bool.{cases_lt}
-use Rattle.index_lists.specs.Lists.{times, AreLists}
+-- How many answers of a gap lead to where a test holds.
+use Rattle.std.proofs.Common.{◌≡◌, ℕ, ◌+◌, ◌<◌, ◌&&◌, ◌↔◌, Bool, true, false, cond, zero, suc, refl, arith, sym, ap, ◌∙◌, subst, List, [], ◌∷◌, Contains, length, slice_index}
 use Rattle.board_text.specs.PlainBoard.{PlainBoard, places}
 use Rattle.board_text.proofs.Places.{label_is_place}
 use Rattle.positions.specs.Gaps.{gaps, IsAnswer}
 use Rattle.positions.specs.Counts.{HasSize}
 use Rattle.positions.proofs.Counting.{size_of, count_below as count_to, count_below-zero as count_to-zero, count_below-add as count_to-add}
 use Rattle.positions.proofs.Sizes.{same_size, size_zero}
-use Rattle.retro_core.specs.Arena.{Arena, IsArena, count_below, live, next, lasts}
+use Rattle.retro_core.specs.Arena.{count_below, live, lasts}
 use Rattle.retro_core.specs.BoardArena.{answers, arena_of}
-use Rattle.retro_core.specs.Tables.{below, IsCounted, AreLive, IsEntered, IsStage}
+use Rattle.retro_core.specs.Tables.{IsCounted}
 use Rattle.retro_core.proofs.BoardArenas.{answers_is}
-use Rattle.retro_core.proofs.Lasting.{both_true, and_true, same_or_not, differ_is, next-from, next-gives, true_or_false, true_not_false}
-use Rattle.retro_core.proofs.Listed.{filed-pushed, open-after, open-elsewhere, open_word}
-use Rattle.retro_core.proofs.Struck.{AreLive-same}
-use Rattle.retro_core.proofs.Entering.{IsPush, below_is, push-ascends}
+use Rattle.retro_core.proofs.Lasting.{both_true, and_true, true_not_false}
 
 -- ---- counts of answers
 
@@ -79,97 +73,4 @@ pub counted-all : (b : PlainBoard) (counts : List ℕ) → length counts ≡ gap
 counted-all b counts size each = record {
   counts_length = size;
   counted = λ g i. answers-size b g (slice_index counts g) i (each g i);
-}
-
-pub none-stuck : (a : Arena) → IsArena a → (counts : List ℕ) (c : ℕ) → IsCounted a (lasts a 0) counts → c < a.configurations → ((p : ℕ) → p < a.pebbles → 0 < slice_index counts (a.gap c p)) → false ≡ not (next a (lasts a 0) c)
-none-stuck a is counts c k i some = sym (ap not (next-from a (lasts a 0) c (λ p j. let e = k.counted (a.gap c p) (is.gap_in c p i j) in let h = some p j in omega arith)))
-
-pub some-stuck : (a : Arena) → IsArena a → (counts : List ℕ) (c p g : ℕ) → IsCounted a (lasts a 0) counts → c < a.configurations → p < a.pebbles → g ≡ a.gap c p → slice_index counts g ≡ 0
-    → true ≡ not (next a (lasts a 0) c)
-some-stuck a is counts c p g k i j g_is none = elim (true_or_false (next a (lasts a 0) c)) [
-  | inr stuck ↦ sym (ap not stuck)
-  | inl free ↦ absurd (
-      let some : 0 < live a (lasts a 0) (a.gap c p) = next-gives a (lasts a 0) c p free j in
-      let counted : slice_index counts (a.gap c p) ≡ live a (lasts a 0) (a.gap c p) = k.counted (a.gap c p) (is.gap_in c p i j) in
-      let here : slice_index counts (a.gap c p) ≡ 0 = ap (slice_index counts) (sym g_is) ∙ none in
-      omega arith)
-]
-
--- ---- one more
-
-next_false : (b : Bool) → true ≡ not b → b ≡ false
-next_false false e = refl
-next_false true e = e
-
-next_true : (b : Bool) → false ≡ not b → b ≡ true
-next_true true e = refl
-next_true false e = e
-
-module _ (a : Arena) (n : ℕ) (values counts : List ℕ) (bn bl : ℕ) (bucket : ℕ → List ℕ) (ln ll : ℕ) (living : ℕ → List ℕ)
-    (e : IsEntered a n values counts bn bl bucket ln ll living) (i : n < a.configurations) (few : a.configurations ≤ 1048576) where
-  -- what is filed at 0 is entered
-  filed-below : (x : ℕ) → 0 < times x (bucket 0) → x < n
-  filed-below x h = elim (cases_lt x n) [
-    | inl low ↦ low
-    | inr high ↦ absurd (
-        let in_range : x < a.configurations = (let b = e.filed_are.are_lists.below 0 x h in let s = e.filed_are.nodes_is in omega arith) in
-        let word = open_word values x (e.to_come x in_range high) in
-        let filed = e.filed_are.once 0 x (omega arith) in_range in
-        let none : cond {A = ℕ} (slice_index values x == 0) 1 0 ≡ 0 = rw (differ_is (slice_index values x) 0 (λ z. omega arith)) refl in
-        omega arith)
-  ]
-
-  pub entered-stuck : (bn' bl' : ℕ) (bucket' : ℕ → List ℕ) (ln' ll' : ℕ) (living' : ℕ → List ℕ) → true ≡ not (next a (lasts a 0) n)
-      → bn' ≡ bn → bl' ≡ bl → AreLists bn' bl' bucket' → IsPush bucket bucket' 0 n → AreLive a (below (n + 1)) ln' ll' living'
-      → IsEntered a (n + 1) (slice_set values n 0) counts bn' bl' bucket' ln' ll' living'
-  entered-stuck bn' bl' bucket' ln' ll' living' stuck nodes_same lists_same are pushed lives =
-      let place : n < length values = (let s = e.values_length in omega arith) in
-      let was_open = e.to_come n i (omega arith) in record {
-        counts_are = e.counts_are;
-        values_length = length-set values n 0 ∙ e.values_length;
-        entered = λ x h. elim (same_or_not x n) [
-          | inl here ↦ rw here (open-after values n 0 place (λ z. omega arith) ∙ sym (next_false (next a (lasts a 0) n) stuck))
-          | inr other ↦ open-elsewhere values n 0 x other ∙ e.entered x (omega arith)
-        ];
-        zeros = λ x j shut. elim (same_or_not x n) [
-          | inl here ↦ rw here (get_or-set_same values n 0 0 place)
-          | inr other ↦ get_or-set_other values n x 0 0 other ∙ e.zeros x j (sym (open-elsewhere values n 0 x other) ∙ shut)
-        ];
-        to_come = λ x j h. open-elsewhere values n 0 x (λ z. omega arith) ∙ e.to_come x j (omega arith);
-        filed_are = filed-pushed a.configurations values bn bl bn' bl' bucket bucket' n 0 e.filed_are few e.values_length i (omega arith) was_open nodes_same lists_same are pushed;
-        ascending = push-ascends bucket bucket' 0 n 0 pushed filed-below e.ascending;
-        live_are = lives;
-      }
-
-  pub entered-waits : (ln' ll' : ℕ) (living' : ℕ → List ℕ) → false ≡ not (next a (lasts a 0) n)
-      → AreLive a (below (n + 1)) ln' ll' living'
-      → IsEntered a (n + 1) values counts bn bl bucket ln' ll' living'
-  entered-waits ln' ll' living' free lives =
-      let was_open = e.to_come n i (omega arith) in record {
-        counts_are = e.counts_are;
-        values_length = e.values_length;
-        entered = λ x h. elim (same_or_not x n) [
-          | inl here ↦ rw here (was_open ∙ sym (next_true (next a (lasts a 0) n) free))
-          | inr other ↦ e.entered x (omega arith)
-        ];
-        zeros = e.zeros;
-        to_come = λ x j h. e.to_come x j (omega arith);
-        filed_are = e.filed_are;
-        ascending = e.ascending;
-        live_are = lives;
-      }
-
--- all are entered
-pub entered-all : (a : Arena) (values counts : List ℕ) (bn bl : ℕ) (bucket : ℕ → List ℕ) (ln ll : ℕ) (living : ℕ → List ℕ)
-    → IsEntered a a.configurations values counts bn bl bucket ln ll living → IsStage a (lasts a 0) values counts bn bl bucket ln ll living
-entered-all a values counts bn bl bucket ln ll living e = record {
-  counts_are = e.counts_are;
-  words_are = record {
-    values_length = e.values_length;
-    opened = λ x i. e.entered x i;
-    lasting = λ x i shut. rw (e.zeros x i shut) refl;
-    stopping = λ x i shut. rw (e.zeros x i shut) (sym (e.entered x i) ∙ shut);
-  };
-  filed_are = e.filed_are;
-  live_are = AreLive-same a (below a.configurations) (lasts a 0) ln ll living (λ x i. below_is a.configurations x i) e.live_are;
 }

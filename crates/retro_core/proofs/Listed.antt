@@ -1,11 +1,11 @@
--- Lists of filed configurations after a push, and the words while a gap closes.
-use Rattle.std.proofs.Common.{◌≡◌, ◌≢◌, ℕ, ◌+◌, ◌<◌, ◌≤◌, ◌==◌, inl, inr, Bool, true, false, cond, refl, arith, sym, ap, ◌∙◌, List, [], ◌∷◌, ◌++◌, length, slice_index, slice_set, get_or-set_other, get_or-set_same}
+-- Words of configurations, and what becomes of them while a gap closes.
+use Rattle.std.proofs.Common.{◌≡◌, ◌≢◌, ℕ, ◌+◌, ◌<◌, ◌==◌, inl, inr, Bool, true, false, cond, refl, arith, sym, ap, ◌∙◌, List, [], ◌∷◌, length, slice_index, slice_set, get_or-set_other, get_or-set_same}
 use Rattle.std.proofs.Math.ListN.{length-set}
 use Rattle.std.proofs.lemmas.Bool.{cases_lt}
-use Rattle.index_lists.specs.Lists.{times, IsFree, AreLists}
-use Rattle.index_lists.proofs.Times.{same_is, differ_is, cond_same, cond_other, times-later, times-append}
+use Rattle.index_lists.specs.Lists.{times}
+use Rattle.index_lists.proofs.Times.{same_is, differ_is, times-later}
 use Rattle.retro_core.specs.Arena.{Arena, IsArena}
-use Rattle.retro_core.specs.Tables.{is_open, AreFiled, IsClosing, IsClosed}
+use Rattle.retro_core.specs.Tables.{is_open, IsClosing, IsClosed}
 use Rattle.retro_core.proofs.Lasting.{true_or_false, true_not_false, same_or_not}
 
 pub open_word : (values : List ℕ) (x : ℕ) → is_open values x ≡ true → slice_index values x ≡ 4294967295
@@ -17,62 +17,11 @@ open_word values x e = elim (same_or_not (slice_index values x) 4294967295) [
 pub shut_word : (values : List ℕ) (x : ℕ) → slice_index values x ≢ 4294967295 → is_open values x ≡ false
 shut_word values x other = differ_is (slice_index values x) 4294967295 other
 
--- ---- filed configurations
-
--- an open configuration stands in no list of filed ones
-pub filed-free : (n : ℕ) (values : List ℕ) (nodes lists : ℕ) (bucket : ℕ → List ℕ) (rank : ℕ) → AreFiled n values nodes lists bucket → n ≤ 1048576 → rank < n → is_open values rank ≡ true → IsFree bucket rank
-filed-free n values nodes lists bucket rank are few i was_open = record {
-  free = λ l. elim (cases_lt n l) [
-    | inl above ↦ ap (times rank) (are.are_lists.beyond l (let e = are.lists_is in omega arith))
-    | inr below ↦ are.once l rank below i ∙ cond_other (slice_index values rank) l 1 0 (let w = open_word values rank was_open in λ e. omega arith)
-  ];
-}
-
--- the list of a value after a push
-pushed-other : (bucket bucket' : ℕ → List ℕ) (to node v : ℕ) → ((l : ℕ) → bucket' l ≡ cond (l == to) (bucket l ++ node ∷ []) (bucket l)) → v ≢ to → bucket' v ≡ bucket v
-pushed-other bucket bucket' to node v pushed d = pushed v ∙ cond_other v to (bucket v ++ node ∷ []) (bucket v) d
-
-pub others-kept : (bucket bucket' : ℕ → List ℕ) (to node : ℕ) → ((l : ℕ) → bucket' l ≡ cond (l == to) (bucket l ++ node ∷ []) (bucket l)) → (v : ℕ) → v ≢ to → bucket' v ≡ bucket v
-others-kept bucket bucket' to node pushed v d = pushed-other bucket bucket' to node v pushed d
-
-times-pushed : (bucket bucket' : ℕ → List ℕ) (to node x : ℕ) → ((l : ℕ) → bucket' l ≡ cond (l == to) (bucket l ++ node ∷ []) (bucket l)) → times x (bucket' to) ≡ times x (bucket to) + times x (node ∷ [])
-times-pushed bucket bucket' to node x pushed = ap (times x) (pushed to ∙ cond_same to to (bucket to ++ node ∷ []) (bucket to) refl) ∙ times-append x (bucket to) (node ∷ [])
-
 pub times_one : (node : ℕ) → times node (node ∷ []) ≡ 1
 times_one node = rw (same_is node node refl) refl
 
 pub times_none : (node x : ℕ) → x ≢ node → times x (node ∷ []) ≡ 0
 times_none node x d = times-later node x [] (λ e. d (sym e))
-
-pub filed-pushed : (n : ℕ) (values : List ℕ) (nodes lists nodes' lists' : ℕ) (bucket bucket' : ℕ → List ℕ) (rank value : ℕ) → AreFiled n values nodes lists bucket → n ≤ 1048576 → length values ≡ n
-    → rank < n → value ≤ n → is_open values rank ≡ true → nodes' ≡ nodes → lists' ≡ lists → AreLists nodes' lists' bucket'
-    → ((l : ℕ) → bucket' l ≡ cond (l == value) (bucket l ++ rank ∷ []) (bucket l)) → AreFiled n (slice_set values rank value) nodes' lists' bucket'
-filed-pushed n values nodes lists nodes' lists' bucket bucket' rank value are few size i j was_open nodes_same lists_same are' pushed = record {
-  nodes_is = nodes_same ∙ are.nodes_is;
-  lists_is = lists_same ∙ are.lists_is;
-  are_lists = are';
-  once = λ v x k l. elim (same_or_not x rank) [
-    | inl here ↦ (
-        let word : slice_index (slice_set values rank value) x ≡ value = ap (slice_index (slice_set values rank value)) here ∙ get_or-set_same values rank value 0 (omega arith) in
-        let free = (filed-free n values nodes lists bucket rank are few i was_open).free v in
-        elim (same_or_not v value) [
-          | inl same ↦ ap (λ m. times x (bucket' m)) same ∙ times-pushed bucket bucket' value rank x pushed
-              ∙ (let free' : times x (bucket value) ≡ 0 = ap (λ m. times m (bucket value)) here ∙ ap (λ m. times rank (bucket m)) (sym same) ∙ free in
-              let one : times x (rank ∷ []) ≡ 1 = ap (λ m. times m (rank ∷ [])) here ∙ times_one rank in omega arith)
-              ∙ sym (cond_same (slice_index (slice_set values rank value) x) v 1 0 (word ∙ sym same))
-          | inr other ↦ ap (times x) (pushed-other bucket bucket' value rank v pushed other) ∙ ap (λ m. times m (bucket v)) here ∙ free
-              ∙ sym (cond_other (slice_index (slice_set values rank value) x) v 1 0 (λ e. other (sym e ∙ word)))
-        ])
-    | inr other ↦ (
-        let word : slice_index (slice_set values rank value) x ≡ slice_index values x = get_or-set_other values rank x value 0 other in
-        elim (same_or_not v value) [
-          | inl same ↦ ap (λ m. times x (bucket' m)) same ∙ times-pushed bucket bucket' value rank x pushed
-              ∙ (let none = times_none rank x other in let before : times x (bucket v) ≡ times x (bucket value) = ap (λ m. times x (bucket m)) same in omega arith)
-              ∙ are.once v x k l ∙ ap (λ w. cond (w == v) 1 0) (sym word)
-          | inr apart ↦ ap (times x) (pushed-other bucket bucket' value rank v pushed apart) ∙ are.once v x k l ∙ ap (λ w. cond (w == v) 1 0) (sym word)
-        ])
-  ];
-}
 
 pub times_true : (b : Bool) (n : ℕ) → 0 < n → n ≡ cond b 1 0 → b ≡ true
 times_true true n h e = refl

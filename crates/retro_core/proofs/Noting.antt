@@ -1,8 +1,9 @@
 -- Noting the dominators gap by gap.
-use Rattle.std.proofs.Common.{◌≡◌, ◌≢◌, ℕ, ◌+◌, ◌*◌, ◌<◌, ◌≤◌, inl, inr, true, refl, sym, ap, ◌∙◌, subst, arith, List, ◌++◌, length, take, drop, replicate, Option, Some, None, get_or, slice_set, get_or-set_other, get_or-set_same}
+use Rattle.std.proofs.Common.{◌≡◌, ◌≢◌, ℕ, ◌+◌, ◌*◌, ◌<◌, ◌≤◌, inl, inr, true, sym, ap, ◌∙◌, subst, arith, List, [], ◌∷◌, ◌++◌, length, take, drop, replicate, Some, None, slice_index, slice_set, get_or-set_other, get_or-set_same}
 use Rattle.std.proofs.Math.ListN.{length-set}
 use Rattle.std.proofs.lemmas.Bool.{cases_lt}
-use Rattle.std.proofs.lemmas.List.{length-replicate, get_or-replicate, take_at}
+use Rattle.std.proofs.lemmas.List.{length-replicate, get_or-replicate, take_at, get_or_append_left, get_or_push}
+use Rattle.index_lists.proofs.Times.{cond_same, cond_other}
 use Rattle.board_text.specs.PlainBoard.{PlainBoard, IsBoard, places}
 use Rattle.board_text.proofs.Places.{label_is_place}
 use Rattle.board_text.specs.Domination.{has_bit}
@@ -13,23 +14,9 @@ use Rattle.positions.proofs.Sizes.{same_fact_size}
 use Rattle.retro_core.specs.Arena.{Dominant}
 use Rattle.retro_core.specs.BoardArena.{arena_of}
 use Rattle.retro_core.specs.Opening.{AreAnswers, AreNoted}
-use Rattle.retro_core.specs.Tables.{AreDominators}
+use Rattle.retro_core.specs.Stored.{AreDominators}
 use Rattle.retro_core.proofs.BoardArenas.{answers_is, arena_is, dominant_is, dominant_label}
 use Rattle.retro_core.proofs.Lasting.{same_or_not}
-
-abbrev no_one : Option ℕ
-no_one = None
-
-held : Option ℕ → ℕ
-held None = 0
-held (Some x) = x
-
-some_same : (x y : ℕ) → Some x ≡ Some y → x ≡ y
-unfolding held
-some_same x y e = ap held e
-
-none_not_some : (x : ℕ) → None ≡ Some x → ⊥
-none_not_some x e = cc e
 
 -- the bits of a gap's answers that are at least a bound
 abbrev pub IsBitFrom : List ℕ → ℕ → ℕ → Type 0
@@ -42,34 +29,52 @@ answers_sized b gap count words are size =
     same_fact_size (λ x. (x < 256) × (has_bit words x ≡ true)) (IsAnswer b gap) count
     (λ x. (
       λ has. (are.bits x has.0).0 has.1,
-      λ answer. let small : x < 256 = omega (arith, answer.is_label, are.few) in (small, (are.bits x small).1 answer),
+      λ answer. let small : x < 256 = omega (arith, answer.is_label, are.is_board.labels.1) in (small, (are.bits x small).1 answer),
     ))
     size
 
-pub counted_step : (b : PlainBoard) (counts : List ℕ) (gap count : ℕ) → gap < gaps b → length counts ≡ gaps b → ((g : ℕ) → g < gap → HasSize (IsAnswer b g) (get_or counts g 0)) → HasSize (IsAnswer b gap) count
-    → (g : ℕ) → g < gap + 1 → HasSize (IsAnswer b g) (get_or (slice_set counts gap count) g 0)
-counted_step b counts gap count i size before here g low = elim (same_or_not g gap) [
-  | inl same ↦ subst (λ h. HasSize (IsAnswer b h) (get_or (slice_set counts gap count) h 0)) (sym same) (subst (HasSize (IsAnswer b gap)) (sym (get_or-set_same counts gap count 0 (omega arith))) here)
-  | inr other ↦ subst (HasSize (IsAnswer b g)) (sym (get_or-set_other counts gap g count 0 other)) (before g (omega arith))
+pub counted_push : (b : PlainBoard) (counts : List ℕ) (gap count : ℕ) → length counts ≡ gap → ((g : ℕ) → g < gap → HasSize (IsAnswer b g) (slice_index counts g)) → HasSize (IsAnswer b gap) count
+    → (g : ℕ) → g < gap + 1 → HasSize (IsAnswer b g) (slice_index (counts ++ count ∷ []) g)
+counted_push b counts gap count size before here g low = elim (cases_lt g gap) [
+  | inl old ↦ subst (HasSize (IsAnswer b g)) (sym (get_or_append_left counts (count ∷ []) 0 g (omega arith))) (before g old)
+  | inr late ↦
+      let last : gap ≡ g = omega arith in
+      subst (λ h. HasSize (IsAnswer b h) (slice_index (counts ++ count ∷ []) h)) last (subst (HasSize (IsAnswer b gap)) (sym (get_or_push counts count 0 gap size)) here)
 ]
 
 -- ---- before the first gap and behind the last
 
 -- a vector that was lent as a slice
-pub written : (items new : List (Option ℕ)) (n : ℕ) → length new ≡ n → take n (new ++ drop (length new) items) ≡ new
+pub written : (items new : List ℕ) (n : ℕ) → length new ≡ n → take n (new ++ drop (length new) items) ≡ new
 written items new n size = take_at new (drop (length new) items) n size
 
-pub noted-start : (b : PlainBoard) (n : ℕ) → n ≡ configurations b → AreNoted b 0 (replicate n no_one)
+pub noted-start : (b : PlainBoard) (n : ℕ) → n ≡ configurations b → AreNoted b 0 (replicate n 255)
 noted-start b n size = record {
-  noted_length = length-replicate n no_one ∙ size;
-  sound = λ c p i e. absurd (none_not_some p (sym (get_or-replicate n c no_one no_one (omega arith)) ∙ e));
+  noted_length = length-replicate n 255 ∙ size;
+  sound = λ c i d. absurd (d (get_or-replicate n c 255 0 (omega arith)));
   found = λ c p i d h. absurd (omega arith);
 }
 
-pub noted-all : (b : PlainBoard) → IsBoard b → (dominators : List (Option ℕ)) → AreNoted b (256 * gaps b) dominators → AreDominators b dominators
+pub noted-all : (b : PlainBoard) → IsBoard b → (dominators : List ℕ) → AreNoted b (256 * gaps b) dominators → AreDominators b dominators
 noted-all b is dominators noted = record {
   dominators_length = noted.noted_length;
-  each = λ c i. by c i (get_or dominators c None) refl;
+  each = λ c i. elim (same_or_not (slice_index dominators c) 255) [
+    | inl none ↦ subst (IsSmallest (IsDominator b (configuration_at b c))) (sym (cond_same (slice_index dominators c) 255 None (Some (slice_index dominators c)) none)) (λ p dominator.
+        let d = (dominant_is b c p i dominator.is_pebble).0 dominator in
+        let byte = noted.found c p i d (within c p i d) in
+        let low : p < b.pebbles = dominator.is_pebble in
+        let few : b.pebbles ≤ 6 = is.pebbles.1 in
+        omega arith)
+    | inr some ↦
+        let d = noted.sound c i some in
+        subst (IsSmallest (IsDominator b (configuration_at b c))) (sym (cond_other (slice_index dominators c) 255 None (Some (slice_index dominators c)) some)) (
+          (dominant_is b c (slice_index dominators c) i d.0).1 d,
+          λ q dominator.
+              let other = (dominant_is b c q i dominator.is_pebble).0 dominator in
+              let same = (arena_is b is).one_dominator c (slice_index dominators c) q i d.0 other.0 d.1 other.1 in
+              omega arith,
+        )
+  ];
 }
   where
     within : (c p : ℕ) → c < configurations b → Dominant (arena_of b) c p → 256 * (arena_of b).gap c p + (arena_of b).place c p < 256 * gaps b
@@ -79,22 +84,9 @@ noted-all b is dominators noted = record {
         let few : b.labels ≤ 256 = is.labels.1 in
         omega arith
 
-    by : (c : ℕ) → c < configurations b → (o : Option ℕ) → get_or dominators c None ≡ o → IsSmallest (IsDominator b (configuration_at b c)) o
-    by c i None e = λ p dominator.
-        let d = (dominant_is b c p i dominator.is_pebble).0 dominator in
-        none_not_some p (sym e ∙ noted.found c p i d (within c p i d))
-    by c i (Some p) e =
-        let d = noted.sound c p i e in (
-          (dominant_is b c p i d.0).1 d,
-          λ q dominator.
-              let other = (dominant_is b c q i dominator.is_pebble).0 dominator in
-              let same = (arena_is b is).one_dominator c p q i d.0 other.0 d.1 other.1 in
-              omega arith,
-        )
-
 -- ---- one answer more
 
-module _ (b : PlainBoard) (is : IsBoard b) (gap from : ℕ) (words : List ℕ) (dominators : List (Option ℕ)) (in_gaps : gap < gaps b) (are : AreAnswers b gap words)
+module _ (b : PlainBoard) (is : IsBoard b) (gap from : ℕ) (words : List ℕ) (dominators : List ℕ) (in_gaps : gap < gaps b) (are : AreAnswers b gap words)
     (noted : AreNoted b (256 * gap + from) dominators) where
   -- what comes before the next gap and not before the bound is an answer of this gap
   late : (c p : ℕ) → c < configurations b → Dominant (arena_of b) c p → 256 * gap + from ≤ 256 * (arena_of b).gap c p + (arena_of b).place c p
@@ -104,7 +96,7 @@ module _ (b : PlainBoard) (is : IsBoard b) (gap from : ℕ) (words : List ℕ) (
       let a = arena_of b in
       let label : ℕ = a.place c p in
       let low : label < b.labels = dominant_label b is c p i d in
-      let small : label < 256 = omega (arith, are.few) in
+      let small : label < 256 = omega (arith, are.is_board.labels.1) in
       let same : a.gap c p ≡ gap = omega arith in
       let answer = (answers_is b gap label in_gaps).0 (subst (λ g. a.is_answer g label ≡ true) same d.1) in
       (same, (omega arith, small, (are.bits label small).1 answer))
@@ -152,23 +144,25 @@ module _ (b : PlainBoard) (is : IsBoard b) (gap from : ℕ) (words : List ℕ) (
           other (sym ((arena_is b is).member_of_gap c p i d.0) ∙ ap (λ g. a.member g (a.place c p)) gap_is ∙ ap (a.member gap) label_is))
     ]
 
-    pub noted-step : (rank pebble : ℕ) → rank ≡ (arena_of b).member gap label → pebble ≡ pebble_of b gap → AreNoted b (256 * gap + (label + 1)) (slice_set dominators rank (Some pebble))
+    pub noted-step : (rank pebble : ℕ) → rank ≡ (arena_of b).member gap label → pebble ≡ pebble_of b gap → AreNoted b (256 * gap + (label + 1)) (slice_set dominators rank pebble)
     noted-step rank pebble rank_is pebble_is =
         let a = arena_of b in
         let ok = arena_is b is in
         let i0 : rank < configurations b = (let inside = ok.member_in gap label in_gaps low_place in omega arith) in
         let d0 : Dominant a rank pebble = subst (λ p. Dominant a rank p) (sym pebble_is) (subst (λ c. Dominant a c (pebble_of b gap)) (sym rank_is) dominant-there) in
         let place : rank < length dominators = (let size = noted.noted_length in omega arith) in
-        let here_is : (c : ℕ) → c ≡ rank → get_or (slice_set dominators rank (Some pebble)) c None ≡ Some pebble =
-        λ c here. ap (λ x. get_or (slice_set dominators rank (Some pebble)) x None) here ∙ get_or-set_same dominators rank (Some pebble) None place in
+        let here_is : (c : ℕ) → c ≡ rank → slice_index (slice_set dominators rank pebble) c ≡ pebble =
+        λ c here. ap (slice_index (slice_set dominators rank pebble)) here ∙ get_or-set_same dominators rank pebble 0 place in
         record {
-          noted_length = length-set dominators rank (Some pebble) ∙ noted.noted_length;
-          sound = λ c p i e. elim (same_or_not c rank) [
-            | inl here ↦ subst (λ q. Dominant a c q) (some_same pebble p (sym (here_is c here) ∙ e)) (subst (λ x. Dominant a x pebble) (sym here) d0)
-            | inr other ↦ noted.sound c p i (sym (get_or-set_other dominators rank c (Some pebble) None other) ∙ e)
+          noted_length = length-set dominators rank pebble ∙ noted.noted_length;
+          sound = λ c i e. elim (same_or_not c rank) [
+            | inl here ↦ subst (λ q. Dominant a c q) (sym (here_is c here)) (subst (λ x. Dominant a x pebble) (sym here) d0)
+            | inr other ↦
+                let same = get_or-set_other dominators rank c pebble 0 other in
+                subst (λ q. Dominant a c q) (sym same) (noted.sound c i (λ z. e (same ∙ z)))
           ];
           found = λ c p i d before. elim (same_or_not c rank) [
-            | inl here ↦ here_is c here ∙ ap Some (let d' = subst (λ x. Dominant a x p) here d in ok.one_dominator rank pebble p i0 d0.0 d'.0 d0.1 d'.1)
-            | inr other ↦ get_or-set_other dominators rank c (Some pebble) None other ∙ noted.found c p i d (earlier c p i d (λ e. other (e ∙ sym rank_is)) before)
+            | inl here ↦ here_is c here ∙ (let d' = subst (λ x. Dominant a x p) here d in ok.one_dominator rank pebble p i0 d0.0 d'.0 d0.1 d'.1)
+            | inr other ↦ get_or-set_other dominators rank c pebble 0 other ∙ noted.found c p i d (earlier c p i d (λ e. other (e ∙ sym rank_is)) before)
           ];
         }

@@ -26,7 +26,7 @@ live-elsewhere a above c g other =
     ])
 
 -- if an answer member of g is c, then the pebble of g dominates in c, and g is that pebble's gap
-answer-dominates : (a : Arena) → IsArena a → (c g v : ℕ) → g < a.gaps → v < a.places → a.is_answer g v ≡ true → a.member g v ≡ c → (Dominant a c (a.pebble g)) × (a.gap c (a.pebble g) ≡ g)
+pub answer-dominates : (a : Arena) → IsArena a → (c g v : ℕ) → g < a.gaps → v < a.places → a.is_answer g v ≡ true → a.member g v ≡ c → (Dominant a c (a.pebble g)) × (a.gap c (a.pebble g) ≡ g)
 answer-dominates a is c g v i j legal e =
     let same_gap : a.gap c (a.pebble g) ≡ g = subst (λ x. a.gap x (a.pebble g) ≡ g) e (is.gap_of_member g v i j) in
     let same_label : a.place c (a.pebble g) ≡ v = subst (λ x. a.place x (a.pebble g) ≡ v) e (is.place_of_member g v i j) in

@@ -1,13 +1,15 @@
 -- How many configurations have a value, by the lists of the values.
-use Rattle.std.proofs.Common.{◌≡◌, ◌≢◌, ℕ, ◌+◌, ◌<◌, ◌≤◌, ◌==◌, ◌++◌, not, inl, inr, Bool, true, false, refl, arith, sym, ap, ◌∙◌, subst, List, [], ◌∷◌, length, get_or, slice_index, Option, Some, None}
+use Rattle.std.proofs.Common.{◌≡◌, ◌≢◌, ℕ, ◌+◌, ◌<◌, ◌≤◌, ◌==◌, ◌++◌, not, nat_lt, inl, inr, Bool, true, false, cond, zero, suc, refl, take, arith, sym, ap, ◌∙◌, subst, List, [], ◌∷◌, length, get_or, slice_index, Some, None}
 use Rattle.std.proofs.Math.ListN.{get_or-append}
 use Rattle.std.proofs.Math.Seq.{get_or-append_seam}
 use Rattle.std.proofs.lemmas.Bool.{cases_lt}
 use Rattle.std.proofs.lemmas.Bool.Decides.{nat_tests}
-use Rattle.std.proofs.lemmas.List.{length-append}
+use Rattle.std.proofs.lemmas.List.{length-append, take_all}
+use Rattle.std.proofs.lemmas.List.Sums.{sum_by_more}
+use Rattle.std.specs.List.{sum}
 use Rattle.index_lists.specs.Lists.{times}
 use Rattle.index_lists.proofs.Times.{times-here, times-more, times-later}
-use Rattle.board_text.specs.PlainBoard.{PlainBoard, IsBoard}
+use Rattle.board_text.specs.PlainBoard.{PlainBoard}
 use Rattle.positions.specs.declared.value.Value.TheVariants.{Finite, Forever}
 use Rattle.positions.specs.Laws.{Occurs}
 use Rattle.positions.specs.Ranks.{configurations, rank_of, configuration_at}
@@ -19,12 +21,13 @@ use Rattle.positions.proofs.Sizes.{size_zero}
 use Rattle.positions.proofs.Values.{same_value}
 use Rattle.retro_core.specs.Arena.{count_below}
 use Rattle.retro_core.specs.Sizes.{HasCount, IsGreatest, AreSizes, AreCounts}
-use Rattle.retro_core.specs.Tables.{is_open, AreFiled, IsState, AreValues}
+use Rattle.retro_core.specs.Stage.{PlainStage, filed_at, turned, IsFiled, IsKept, IsState}
+use Rattle.retro_core.specs.Tables.{is_open, AreValues}
 use Rattle.retro_core.proofs.Counts.{some_below, count_below-none, count_below-same, count_below-some, count_below-without}
 use Rattle.retro_core.proofs.Entered.{count-same}
 use Rattle.retro_core.proofs.Lasting.{true_or_false, same_or_not, same_is, differ_is}
-use Rattle.retro_core.proofs.Listed.{shut_word}
-use Rattle.retro_core.proofs.Solved.{word-few}
+use Rattle.retro_core.proofs.Listed.{open_word, shut_word}
+use Rattle.retro_core.proofs.States.{word-few, filed-few, filed-there}
 
 -- ---- lists without repetitions
 
@@ -50,72 +53,125 @@ list-size n (y ∷ ys) once below =
     omega arith
 
 -- the list of a value is as long as the count of its words
-pub filed-size : (n : ℕ) (values : List ℕ) (bn bl : ℕ) (bucket : ℕ → List ℕ) (v : ℕ) → AreFiled n values bn bl bucket → v ≤ n → length (bucket v) ≡ count_below n (λ x. slice_index values x == v)
-filed-size n values bn bl bucket v are low =
-    list-size n (bucket v) (are.are_lists.once v) (λ x h. (let below = are.are_lists.below v x h in let size = are.nodes_is in omega arith))
-    ∙ count_below-same n (stands (bucket v)) (λ x. slice_index values x == v) (λ x i. elim (same_or_not (slice_index values x) v) [
-      | inl e ↦ stands_is (bucket v) x (let once = are.once v x low i in let one : 0 < 1 = omega arith in rw once (rw (same_is (slice_index values x) v e) one)) ∙ sym (same_is (slice_index values x) v e)
-      | inr d ↦ stands_not (bucket v) x (are.once v x low i ∙ rw (differ_is (slice_index values x) v d) refl) ∙ sym (differ_is (slice_index values x) v d)
+pub filed-size : (s : PlainStage) (v : ℕ) → IsFiled s → v ≤ configurations s.board → length (filed_at s v) ≡ count_below (configurations s.board) (λ x. slice_index s.values x == v)
+filed-size s v are low =
+    list-size (configurations s.board) (filed_at s v) (λ x. filed-few s v x are) (λ x h. are.below v x h)
+    ∙ count_below-same (configurations s.board) (stands (filed_at s v)) (λ x. slice_index s.values x == v) (λ x i. elim (same_or_not (slice_index s.values x) v) [
+      | inl e ↦ stands_is (filed_at s v) x (filed-there s v x are low i e) ∙ sym (same_is (slice_index s.values x) v e)
+      | inr d ↦ stands_not (filed_at s v) x (are.once v x low i ∙ rw (differ_is (slice_index s.values x) v d) refl) ∙ sym (differ_is (slice_index s.values x) v d)
     ])
 
 -- ---- the lengths, round by round
 
-pub sizes-start : (n capacity size : ℕ) (bucket : ℕ → List ℕ) (sizes : List ℕ) → sizes ≡ [] ++ size ∷ [] → size ≡ length (bucket 0) → n ≤ capacity → AreSizes n 0 capacity bucket sizes
-sizes-start n capacity size bucket sizes sizes_is size_is room = rw sizes_is (record {
+pub sizes-start : (s : PlainStage) (capacity size : ℕ) (sizes : List ℕ) → sizes ≡ [] ++ size ∷ [] → s.value ≡ 0 → size ≡ length (filed_at s s.value) → configurations s.board ≤ capacity → AreSizes (turned s) 0 capacity sizes
+sizes-start s capacity size sizes sizes_is value_is size_is room = rw sizes_is (record {
   sized = refl;
-  lengths = λ v h. (let none : v ≡ 0 = omega arith in rw none size_is);
+  lengths = λ v h. (let none : v ≡ 0 = omega arith in rw none (size_is ∙ ap (λ u. length (filed_at s u)) value_is));
   some = λ v h i. absurd (omega arith);
   room = room;
 })
 
-pub sizes-kept : (n round capacity : ℕ) (bucket bucket' : ℕ → List ℕ) (sizes : List ℕ) → ((v : ℕ) → v ≢ round + 1 → bucket' v ≡ bucket v) → AreSizes n round capacity bucket sizes → AreSizes n round capacity bucket' sizes
-sizes-kept n round capacity bucket bucket' sizes same are = record {
+pub sizes-kept : (s s' : PlainStage) (round capacity : ℕ) (sizes : List ℕ) → s.value ≡ suc round → IsKept s s' → AreSizes s round capacity sizes → AreSizes s' round capacity sizes
+sizes-kept s s' round capacity sizes value_is kept are = record {
   sized = are.sized;
-  lengths = λ v h. are.lengths v h ∙ sym (ap length (same v (λ e. omega arith)));
+  lengths = λ v h. are.lengths v h ∙ sym (ap length (kept.others v (λ e. omega arith)));
   some = are.some;
-  room = are.room;
+  room = rw kept.board_is are.room;
 }
 
-pub sizes-more : (n round capacity capacity' size : ℕ) (bucket bucket' : ℕ → List ℕ) (sizes sizes' : List ℕ) → ((v : ℕ) → v ≢ round + 1 → bucket' v ≡ bucket v) → sizes' ≡ sizes ++ size ∷ [] → size ≡ length (bucket' (round + 1)) → size ≢ 0 → capacity ≤ capacity'
-    → AreSizes n round capacity bucket sizes → AreSizes n (round + 1) capacity' bucket' sizes'
-sizes-more n round capacity capacity' size bucket bucket' sizes sizes' same sizes_is size_is filed capacity_is are = record {
+pub sizes-more : (s s' : PlainStage) (round capacity capacity' size : ℕ) (sizes sizes' : List ℕ) → s.value ≡ suc round → IsKept s s' → sizes' ≡ sizes ++ size ∷ [] → size ≡ length (filed_at s' s'.value) → size ≢ 0 → capacity' ≡ capacity
+    → AreSizes s round capacity sizes → AreSizes (turned s') (suc round) capacity' sizes'
+sizes-more s s' round capacity capacity' size sizes sizes' value_is kept sizes_is size_is filed capacity_is are = record {
   sized = ap length sizes_is ∙ length-append sizes (size ∷ []) ∙ (let sized = are.sized in omega arith);
-  lengths = λ v h. elim (cases_lt v (round + 1)) [
-    | inl before ↦ old v before ∙ are.lengths v (omega arith) ∙ sym (ap length (same v (λ e. omega arith)))
-    | inr now ↦ (let last : v ≡ round + 1 = omega arith in ap (slice_index sizes') last ∙ new ∙ size_is ∙ sym (ap (λ u. length (bucket' u)) last))
+  lengths = λ v h. elim (cases_lt v (suc round)) [
+    | inl before ↦ old v before ∙ are.lengths v (omega arith) ∙ sym (ap length (kept.others v (λ e. omega arith)))
+    | inr now ↦ (let last : v ≡ suc round = omega arith in ap (slice_index sizes') last ∙ new ∙ size_is ∙ ap (λ u. length (filed_at s' u)) (kept.value_is ∙ value_is ∙ sym last))
   ];
-  some = λ v h i. elim (cases_lt v (round + 1)) [
+  some = λ v h i. elim (cases_lt v (suc round)) [
     | inl before ↦ (let there = are.some v h (omega arith) in let e = old v before in omega arith)
-    | inr now ↦ (let last : v ≡ round + 1 = omega arith in let e : slice_index sizes' v ≡ size = ap (slice_index sizes') last ∙ new in omega arith)
+    | inr now ↦ (let last : v ≡ suc round = omega arith in let e : slice_index sizes' v ≡ size = ap (slice_index sizes') last ∙ new in omega arith)
   ];
-  room = (let room = are.room in omega arith);
+  room = rw (capacity_is, kept.board_is) are.room;
 }
   where
-    old : (v : ℕ) → v < round + 1 → slice_index sizes' v ≡ slice_index sizes v
+    old : (v : ℕ) → v < suc round → slice_index sizes' v ≡ slice_index sizes v
     old v h = ap (λ (l : List ℕ). get_or l v 0) sizes_is ∙ get_or-append sizes (size ∷ []) 0 v (let sized = are.sized in omega arith)
 
-    new : slice_index sizes' (round + 1) ≡ size
-    new = ap (λ (l : List ℕ). get_or l (round + 1) 0) sizes_is ∙ ap (λ m. get_or (sizes ++ size ∷ []) m 0) (sym are.sized) ∙ get_or-append_seam sizes size [] 0
+    new : slice_index sizes' (suc round) ≡ size
+    new =
+        let sized : suc round ≡ length sizes = (let e = are.sized in omega arith) in
+        ap (λ (l : List ℕ). get_or l (suc round) 0) sizes_is ∙ ap (λ m. get_or (sizes ++ size ∷ []) m 0) sized ∙ get_or-append_seam sizes size [] 0
 
-pub sizes-room : (n round capacity : ℕ) (bucket : ℕ → List ℕ) (sizes : List ℕ) → AreSizes n round capacity bucket sizes → round + 1 < n → length sizes < capacity
-sizes-room n round capacity bucket sizes are low = let sized = are.sized in let room = are.room in omega arith
+pub sizes-room : (s : PlainStage) (round capacity : ℕ) (sizes : List ℕ) → AreSizes s round capacity sizes → suc round < configurations s.board → length sizes < capacity
+sizes-room s round capacity sizes are low = let sized = are.sized in let room = are.room in omega arith
 
 -- ---- the counts of a solver that is done
 
-module _ (b : PlainBoard) (board_is : IsBoard b) (few : configurations b ≤ 1048576) (dominators : List (Option ℕ)) (values counts : List ℕ) (bn bl : ℕ) (list : ℕ → List ℕ) (ln ll : ℕ) (living : ℕ → List ℕ) (round : ℕ) (is_done : Bool)
-    (s : IsState b dominators values counts bn bl list ln ll living round is_done) where
-  pub counts-are : (capacity forever : ℕ) (sizes : List ℕ) → AreSizes (configurations b) round capacity list sizes → forever ≡ count_below (configurations b) (is_open values) → AreCounts (configurations b) values sizes forever
-  counts-are capacity forever sizes are forever_is =
-      let sized = are.sized in
-      let some = s.some in
-      let bound = s.bound in record {
-        made = omega arith;
-        few = omega arith;
-        counted = λ v h. are.lengths v (omega arith) ∙ filed-size (configurations b) values bn bl list v s.stage.filed_are (omega arith);
-        some = λ v h i. are.some v h (omega arith);
-        inside = λ x i shut. (let most = word-few b board_is few dominators values counts bn bl list ln ll living round is_done s x i shut in omega arith);
-        forever_is = forever_is;
-      }
+pub counts-are : (s : PlainStage) (round capacity : ℕ) (is_done : Bool) (sizes : List ℕ) → IsState s round is_done → AreSizes s round capacity sizes
+    → AreCounts (configurations s.board) s.values sizes (count_below (configurations s.board) (is_open s.values))
+counts-are s round capacity is_done sizes st are =
+    let sized = are.sized in
+    let some = st.some in
+    let bound = st.bound in record {
+      made = omega arith;
+      few = omega arith;
+      counted = λ v h. are.lengths v (omega arith) ∙ filed-size s v st.stage.filed_are (omega arith);
+      some = λ v h i. are.some v h (omega arith);
+      inside = λ x i shut. (let most = word-few s round is_done st x i shut in omega arith);
+      forever_is = refl;
+    }
+
+-- ---- all configurations, by their words
+
+-- numbers that pass one of two tests, no one both
+both_tests : (n : ℕ) (f g h : ℕ → Bool) → ((x : ℕ) → x < n → cond {A = ℕ} (f x) 1 0 + cond (g x) 1 0 ≡ cond (h x) 1 0) → count_below n f + count_below n g ≡ count_below n h
+both_tests zero f g h parts = refl
+both_tests (suc n) f g h parts =
+    let rest = both_tests n f g h (λ x i. parts x (omega arith)) in
+    let last = parts n (omega arith) in
+    omega (arith, rest, last)
+
+all_pass : (n : ℕ) → count_below n (λ x. true) ≡ n
+all_pass zero = refl
+all_pass (suc n) = let rest = all_pass n in omega (arith, rest)
+
+less_or_same : (w v : ℕ) → cond {A = ℕ} (nat_lt w v) 1 0 + cond (w == v) 1 0 ≡ cond (nat_lt w (v + 1)) 1 0
+less_or_same w v = grind (arith, nat_tests)
+
+-- the first sizes add up to how many words are less than their number
+first-sizes : (n forever : ℕ) (values sizes : List ℕ) → AreCounts n values sizes forever → (v : ℕ) → v ≤ length sizes → sum (take v sizes) ≡ count_below n (λ x. nat_lt (slice_index values x) v)
+first-sizes n forever values sizes counts zero low = sym (count_below-none n (λ x. nat_lt (slice_index values x) 0) (λ x i. never (slice_index values x)))
+  where
+    never : (w : ℕ) → nat_lt w 0 ≡ false
+    never w = grind (arith, nat_tests)
+first-sizes n forever values sizes counts (suc v) low =
+    let inside : v < length sizes = omega arith in
+    let next : suc v ≡ v + 1 = omega arith in
+    ap (λ m. sum (take m sizes)) next ∙ sum_by_more (λ n. n) sizes v 0 inside
+    ∙ ap (λ m. m + get_or sizes v 0) (first-sizes n forever values sizes counts v (omega arith))
+    ∙ ap (λ m. count_below n (λ x. nat_lt (slice_index values x) v) + m) (counts.counted v inside)
+    ∙ both_tests n (λ x. nat_lt (slice_index values x) v) (λ x. slice_index values x == v) (λ x. nat_lt (slice_index values x) (v + 1)) (λ x i. less_or_same (slice_index values x) v)
+    ∙ ap (λ m. count_below n (λ x. nat_lt (slice_index values x) m)) (sym next)
+
+-- all sizes and what is worth forever
+pub all-sizes : (n forever : ℕ) (values sizes : List ℕ) → n ≤ 1048576 → AreCounts n values sizes forever → sum sizes + forever ≡ n
+all-sizes n forever values sizes few counts =
+    let k : ℕ = length sizes in
+    let total : sum sizes ≡ count_below n (λ x. nat_lt (slice_index values x) k) = ap sum (sym (take_all k sizes (omega arith))) ∙ first-sizes n forever values sizes counts k (omega arith) in
+    let either : count_below n (λ x. nat_lt (slice_index values x) k) + count_below n (is_open values) ≡ count_below n (λ x. true) =
+    both_tests n (λ x. nat_lt (slice_index values x) k) (is_open values) (λ x. true) (λ x i. elim (true_or_false (is_open values x)) [
+      | inl still ↦ (let word = open_word values x still in let most = counts.few in above (slice_index values x) k (is_open values x) (omega arith) still)
+      | inr shut ↦ less (slice_index values x) k (is_open values x) (counts.inside x i shut) shut
+    ]) in
+    let all = all_pass n in
+    let last = counts.forever_is in
+    omega (arith, total, either, all, last)
+  where
+    above : (w k : ℕ) (still : Bool) → k ≤ w → still ≡ true → cond {A = ℕ} (nat_lt w k) 1 0 + cond still 1 0 ≡ 1
+    above w k still h e = grind (arith, nat_tests)
+
+    less : (w k : ℕ) (still : Bool) → w < k → still ≡ false → cond {A = ℕ} (nat_lt w k) 1 0 + cond still 1 0 ≡ 1
+    less w k still h e = grind (arith, nat_tests)
 
 -- ---- what they say of values
 
@@ -125,7 +181,7 @@ finite_same j k e = cc
 finite_not_forever : (j : ℕ) → Finite j ≡ Forever → ⊥
 finite_not_forever j e = cc
 
-module _ (b : PlainBoard) (values safe sizes : List ℕ) (forever : ℕ) (few : configurations b ≤ 1048576) (are : AreValues b values safe) (counts : AreCounts (configurations b) values sizes forever) where
+module _ (b : PlainBoard) (values sizes : List ℕ) (forever : ℕ) (few : configurations b ≤ 1048576) (are : AreValues b values) (counts : AreCounts (configurations b) values sizes forever) where
   -- a finite value is the word
   finite-word : (v x : ℕ) → x < configurations b → HasValue b (configuration_at b x) (Finite v) → (is_open values x ≡ false) × (slice_index values x ≡ v)
   finite-word v x i value = elim (true_or_false (is_open values x)) [

@@ -53,6 +53,10 @@ without above c x = above x && not (x == c)
 abbrev pub Dominant : Arena → ℕ → ℕ → Type 0
 Dominant a c p = (p < a.pebbles) × (a.is_answer (a.gap c p) (a.place c p) ≡ true)
 
+-- whether some pebble of c dominates all the others
+abbrev pub dominated : Arena → ℕ → Bool
+dominated a c = not (count_below a.pebbles (λ p. a.is_answer (a.gap c p) (a.place c p)) == 0)
+
 -- nothing that lasts r requests fails to last one more
 pub record IsLast (a : Arena) (r : ℕ) : Type 0 where
   pub lasting : (x : ℕ) → x < a.configurations → lasts a r x ≡ true → lasts a (suc r) x ≡ true

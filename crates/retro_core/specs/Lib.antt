@@ -2,6 +2,8 @@ pub mod Arena
 pub mod BoardArena
 pub mod Tables
 pub mod Solving
+pub mod Stage
+pub mod Stored
 pub mod Opening
 pub mod Sizes
 pub mod Round

@@ -6,6 +6,7 @@ use Rattle.positions.specs.Counts.{HasSize}
 use Rattle.positions.specs.Ranks.{configurations, configuration_at}
 use Rattle.positions.specs.Value.{HasValue}
 use Rattle.retro_core.specs.Arena.{count_below}
+use Rattle.retro_core.specs.Stage.{PlainStage, filed_at}
 use Rattle.retro_core.specs.Tables.{is_open}
 
 -- so many configurations have the value
@@ -18,11 +19,11 @@ IsGreatest P (Some number) = P number × ((other : ℕ) → P other → other �
 IsGreatest P None = (other : ℕ) → P other → ⊥
 
 -- the lengths of the lists of the values so far, and room for one of each configuration
-pub record AreSizes (n round capacity : ℕ) (bucket : ℕ → List ℕ) (sizes : List ℕ) : Type 0 where
+pub record AreSizes (s : PlainStage) (round capacity : ℕ) (sizes : List ℕ) : Type 0 where
   pub sized : length sizes ≡ round + 1
-  pub lengths : (v : ℕ) → v ≤ round → slice_index sizes v ≡ length (bucket v)
+  pub lengths : (v : ℕ) → v ≤ round → slice_index sizes v ≡ length (filed_at s v)
   pub some : (v : ℕ) → 0 < v → v ≤ round → 0 < slice_index sizes v
-  pub room : n ≤ capacity
+  pub room : configurations s.board ≤ capacity
 
 -- how many of n words are each finite value that there is, and how many stand for Forever
 pub record AreCounts (n : ℕ) (values sizes : List ℕ) (forever : ℕ) : Type 0 where

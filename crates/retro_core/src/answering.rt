@@ -1,21 +1,22 @@
 //! The answers of all gaps, in one pass.
 
 ghost use Rattle.std.specs.Prelude.{◌≡◌, ◌+◌, ◌*◌, ◌<◌, IfOk};
-ghost use Rattle.positions.specs.Gaps.{gaps};
+ghost use Rattle.positions.specs.Gaps.{gaps, pebble_of};
 ghost use Rattle.retro_core.specs.Arena.{lasts};
 ghost use Rattle.retro_core.specs.BoardArena.{arena_of};
 ghost use Rattle.retro_core.specs.Opening.{AreAnswers, AreNoted};
-ghost use Rattle.retro_core.specs.Tables.{IsCounted, AreDominators};
+ghost use Rattle.retro_core.specs.Stored.{AreDominators};
+ghost use Rattle.retro_core.specs.Tables.{IsCounted};
 
-use crate::members::member_step;
+use crate::stage::NO_PEBBLE;
 use board_text::{Board, Memory};
-use positions::{AnswerSet, Space};
+use positions::{AnswerSet, Space, TupleAnswers};
 use std::alloc::Global;
 
 /// How many answers each gap has, and which pebble dominates the others at each configuration.
 pub(crate) struct Answering {
     pub(crate) counts: Vec<u32>,
-    pub(crate) dominators: Vec<Option<u8>>,
+    pub(crate) dominators: Vec<u8>,
 }
 
 impl Answering {
@@ -26,11 +27,12 @@ impl Answering {
         ensures dominators { IfOk result (λ found. AreDominators space.now found.dominators.items) }
     {
         let gaps = space.gaps();
-        let mut counts = vec![in alloc; 0; gaps as usize]?;
-        let mut dominators = vec![in alloc; None; space.configurations() as usize]?;
+        let table = TupleAnswers::of(alloc, space, board)?;
+        let mut counts = Vec::with_capacity(alloc, gaps as usize)?;
+        let mut dominators = vec![in alloc; NO_PEBBLE; space.configurations() as usize]?;
         for gap in 0..gaps {
-            let answers = space.answer_set(board, gap);
-            counts[gap as usize] = answers.len();
+            let answers = table.answers(space.gap_tuple(gap));
+            counts.push_reserved(answers.len());
             note_dominator(&mut dominators, space, gap, &answers);
         }
         Ok(Answering { counts, dominators })
@@ -38,19 +40,17 @@ impl Answering {
 }
 
 /// Notes the pebble of a gap as the dominator of each configuration that an answer leads to.
-fn note_dominator(dominators: &mut [Option<u8>], space: &Space, gap: u32, answers: &AnswerSet)
+fn note_dominator(dominators: &mut [u8], space: &Space, gap: u32, answers: &AnswerSet)
     requires gap { gap < gaps space.now }
     requires answers { AreAnswers space.now gap answers.now }
     requires noted { AreNoted space.now (256 * gap) dominators.old }
     ensures { AreNoted space.now (256 * (gap + 1)) dominators.new }
 {
-    let _ = space.configurations();
     let pebble = space.gap_pebble(gap);
-    let first = space.member(gap, 0);
-    let step = member_step(space, gap);
+    let members = space.members(gap);
     let mut from = 0;
     while let Some(label) = answers.first_from(from) {
-        dominators[(first + label as u32 * step) as usize] = Some(pebble);
+        dominators[members.rank(label) as usize] = pebble;
         from = label + 1;
     }
 }

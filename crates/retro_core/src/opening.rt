@@ -1,121 +1,87 @@
-//! What a solver has before the first round.
+//! A stage before the first round.
 
-ghost use Rattle.std.specs.Prelude.{◌≡◌, ℕ, ◌+◌, ◌<◌, ◌==◌, ◌||◌, Bool, false, not, IfOk};
-ghost use Rattle.board_text.specs.PlainBoard.{places};
+ghost use Rattle.std.specs.Prelude.{◌≡◌, ◌≢◌, ℕ, ◌<◌, ◌==◌, cond, length, slice_index, IfOk};
+ghost use Rattle.positions.specs.Ranks.{configurations};
+ghost use Rattle.positions.specs.Gaps.{gaps};
 ghost use Rattle.retro_core.specs.Arena.{lasts, next};
 ghost use Rattle.retro_core.specs.BoardArena.{arena_of};
-ghost use Rattle.retro_core.specs.Opening.{IsRow, IsInRow};
-ghost use Rattle.retro_core.specs.Tables.{below, IsCounted, AreLive, AreDominators, IsEntered};
+ghost use Rattle.retro_core.specs.Tables.{IsCounted, AreFirstWords};
+ghost use Rattle.retro_core.specs.Stage.{IsUnlisted, IsOpened};
 
-use crate::row::Row;
-use crate::tables::{OPEN, Tables};
-use board_text::Memory;
+use crate::answering::Answering;
+use crate::stage::{OPEN, Stage};
+use board_text::{Board, Memory};
 use index_lists::ListStore;
 use positions::Space;
 use std::alloc::Global;
 
-impl<S: ListStore + Drop> Tables<S> {
-    /// Tables in which no configuration is entered, by the numbers of answers.
-    pub(crate) fn new(alloc: Global, space: &Space, counts: Vec<u32>) -> Result<Tables<S>, Memory>
-        requires counts { IsCounted (arena_of space.now) (lasts (arena_of space.now) 0) counts.items }
-        ensures { IfOk result (λ tables. IsEntered (arena_of space.now) 0 tables.values.items tables.counts.items (S.nodes tables.buckets) (S.lists tables.buckets) (S.list tables.buckets)
-            (S.nodes tables.living) (S.lists tables.living) (S.list tables.living)) }
+impl<S: ListStore + Drop> Stage<S> {
+    /// A stage of a board of this space, in which all that has the value 0 is filed, in ascending rank.
+    pub(crate) fn open(alloc: Global, space: Space, board: &Board) -> Result<Stage<S>, Memory>
+        requires { space ≡ board.now }
+        ensures board { IfOk result (λ stage. stage.board ≡ board.now) }
+        ensures opened { IfOk result (λ stage. IsOpened stage) }
     {
-        let configurations = space.configurations();
-        let gaps = space.gaps();
-        let values = vec![in alloc; OPEN; configurations as usize]?;
-        let buckets = S::new(alloc, configurations, configurations + 1)?;
-        let living = S::new(alloc, configurations, gaps)?;
-        Ok(Tables {
+        let size = space.configurations();
+        let Answering { counts, dominators } = Answering::of(alloc, &space, board)?;
+        let values = first_words(alloc, &space, &counts)?;
+        let buckets = S::new(alloc, size, size + 1)?;
+        let strikes = Vec::with_capacity(alloc, size as usize)?;
+        let next = Vec::with_capacity(alloc, size as usize)?;
+        let mut stage = Stage {
+            space,
+            value: 0,
             values,
+            dominators,
             counts,
             buckets,
-            living,
-        })
+            strikes,
+            next,
+            filed: 0,
+        };
+        stage.list_zeros();
+        Ok(stage)
     }
 }
 
-impl<S: ListStore> Tables<S> {
-    /// Enters all configurations, in ascending rank.
-    pub(crate) fn enter_all(&mut self, space: &Space, dominators: &[Option<u8>])
-        requires dominators { AreDominators space.now dominators.now }
-        requires entered { IsEntered (arena_of space.now) 0 self.old.values.items self.old.counts.items (S.nodes self.old.buckets) (S.lists self.old.buckets) (S.list self.old.buckets)
-            (S.nodes self.old.living) (S.lists self.old.living) (S.list self.old.living) }
-        ensures entered { IsEntered (arena_of space.now) (arena_of space.now).configurations self.new.values.items self.new.counts.items (S.nodes self.new.buckets) (S.lists self.new.buckets) (S.list self.new.buckets)
-            (S.nodes self.new.living) (S.lists self.new.living) (S.list self.new.living) }
+impl<S: ListStore> Stage<S> {
+    /// Lists what has the word 0, in ascending rank.
+    fn list_zeros(&mut self)
+        requires { IsUnlisted self.old }
+        ensures board { self.new.board ≡ self.old.board }
+        ensures opened { IsOpened self.new }
     {
-        let places = space.places() as u32;
-        for place in 0..space.configurations() / places {
-            let row = Row::at(space, place * places);
-            self.enter_row(space, &row, dominators);
-        }
-    }
-
-    /// Enters the configurations of a row.
-    fn enter_row(&mut self, space: &Space, row: &Row, dominators: &[Option<u8>])
-        requires row { IsRow space.now row.now.first row.now.gaps }
-        requires dominators { AreDominators space.now dominators.now }
-        requires entered { IsEntered (arena_of space.now) row.now.first self.old.values.items self.old.counts.items (S.nodes self.old.buckets) (S.lists self.old.buckets) (S.list self.old.buckets)
-            (S.nodes self.old.living) (S.lists self.old.living) (S.list self.old.living) }
-        ensures entered { IsEntered (arena_of space.now) (row.now.first + places space.now) self.new.values.items self.new.counts.items (S.nodes self.new.buckets) (S.lists self.new.buckets) (S.list self.new.buckets)
-            (S.nodes self.new.living) (S.lists self.new.living) (S.list self.new.living) }
-    {
-        let places = space.places() as u32;
-        for rank in row.first..row.first + places {
-            self.enter(space, row, dominators, rank);
-        }
-    }
-
-    /// Enters a configuration: it is filed at 0 if a request has no answer, and else stays open.
-    fn enter(&mut self, space: &Space, row: &Row, dominators: &[Option<u8>], rank: u32)
-        requires rank_in { rank < (arena_of space.now).configurations }
-        requires row { IsInRow space.now row.now.first row.now.gaps rank }
-        requires dominators { AreDominators space.now dominators.now }
-        requires entered { IsEntered (arena_of space.now) rank self.old.values.items self.old.counts.items (S.nodes self.old.buckets) (S.lists self.old.buckets) (S.list self.old.buckets)
-            (S.nodes self.old.living) (S.lists self.old.living) (S.list self.old.living) }
-        ensures entered { IsEntered (arena_of space.now) (rank + 1) self.new.values.items self.new.counts.items (S.nodes self.new.buckets) (S.lists self.new.buckets) (S.list self.new.buckets)
-            (S.nodes self.new.living) (S.lists self.new.living) (S.list self.new.living) }
-    {
-        let _ = space.configurations();
-        enter_live(&mut self.living, space, row, dominators, rank);
-        if is_stuck(&self.counts, space, row, rank) {
-            self.values[rank as usize] = 0;
-            self.buckets.push_back(0, rank);
+        for rank in 0..self.space.configurations() {
+            if self.values[rank as usize] == 0 {
+                self.list(rank);
+            }
         }
     }
 }
 
-/// Puts a configuration behind the live answers of its dominator's gap, if it has a dominator.
-fn enter_live<S: ListStore>(
-    living: &mut S,
-    space: &Space,
-    row: &Row,
-    dominators: &[Option<u8>],
-    rank: u32,
-)
-    requires rank_in { rank < (arena_of space.now).configurations }
-    requires row { IsInRow space.now row.now.first row.now.gaps rank }
-    requires dominators { AreDominators space.now dominators.now }
-    requires live { AreLive (arena_of space.now) (below rank) (S.nodes living.old) (S.lists living.old) (S.list living.old) }
-    ensures live { AreLive (arena_of space.now) (below (rank + 1)) (S.nodes living.new) (S.lists living.new) (S.list living.new) }
+/// The word of each configuration before the first round: 0 where a request has no answer.
+fn first_words(alloc: Global, space: &Space, counts: &[u32]) -> Result<Vec<u32>, Memory>
+    requires { IsCounted (arena_of space.now) (lasts (arena_of space.now) 0) counts.now }
+    ensures { IfOk result (λ words. AreFirstWords (arena_of space.now) words.items) }
 {
-    let _ = space.configurations();
-    if let Some(pebble) = dominators[rank as usize] {
-        living.push_back(row.gap(space, rank, pebble), rank);
-    }
-}
-
-/// Whether some request has no answer.
-fn is_stuck(counts: &[u32], space: &Space, row: &Row, rank: u32) -> bool
-    requires rank_in { rank < (arena_of space.now).configurations }
-    requires row { IsInRow space.now row.now.first row.now.gaps rank }
-    requires counts { IsCounted (arena_of space.now) (lasts (arena_of space.now) 0) counts.now }
-    ensures { result ≡ not (next (arena_of space.now) (lasts (arena_of space.now) 0) rank) }
-{
-    for pebble in 0..space.pebbles() {
-        if counts[row.gap(space, rank, pebble) as usize] == 0 {
-            return true;
+    let mut words = vec![in alloc; OPEN; space.configurations() as usize]?;
+    for gap in 0..space.gaps() {
+        if counts[gap as usize] == 0 {
+            stop_members(&mut words, space, gap);
         }
     }
-    false
+    Ok(words)
+}
+
+/// Writes 0 as the word of each member of a gap.
+fn stop_members(words: &mut [u32], space: &Space, gap: u32)
+    requires gap { gap < gaps space.now }
+    requires words { length words.old ≡ configurations space.now }
+    ensures members { (x : ℕ) → x < configurations space.now → (arena_of space.now).gap x ((arena_of space.now).pebble gap) ≡ gap → slice_index words.new x ≡ 0 }
+    ensures others { (x : ℕ) → x < configurations space.now → (arena_of space.now).gap x ((arena_of space.now).pebble gap) ≢ gap → slice_index words.new x ≡ slice_index words.old x }
+{
+    let members = space.members(gap);
+    for place in 0..space.places() {
+        words[members.rank(place) as usize] = 0;
+    }
 }

@@ -55,7 +55,7 @@ impl<'a, S: ListStore> RoundState<'a, S> {
         let _ = solver.round_number();
         let counts = first_counts(alloc, solver)?;
         let values = first_values(alloc, solver)?;
-        let todo = to_strike(alloc, solver)?;
+        let todo = Vec::from_slice(alloc, solver.to_strike())?;
         let mut seats = Vec::with_capacity(alloc, 1)?;
         if seats.push(Seat::first(alloc, width, todo)).is_err() {
             return Err(Memory);
@@ -270,20 +270,4 @@ fn first_values<S: ListStore>(alloc: Global, solver: &Solver<S>) -> Result<Vec<O
         }
     }
     Ok(values)
-}
-
-/// What is to be struck at the opening.
-fn to_strike<S: ListStore>(alloc: Global, solver: &Solver<S>) -> Result<Vec<u32>, Memory>
-    ensures { IfOk result (λ ranks. AreToStrike solver.now ranks.items) }
-{
-    let round = solver.round_number();
-    let mut ranks = Vec::new(alloc);
-    let mut at = solver.first_filed(round);
-    while let Some(rank) = at {
-        if solver.dominator(rank).is_some() && ranks.push(rank).is_err() {
-            return Err(Memory);
-        }
-        at = solver.next_filed(rank);
-    }
-    Ok(ranks)
 }

@@ -6,15 +6,13 @@ ghost use Rattle.positions.specs.Value.{HasValue};
 ghost use Rattle.positions.specs.Ranks.{configurations, configuration_at};
 ghost use Rattle.positions.specs.Gaps.{gaps, IsDominator};
 ghost use Rattle.positions.specs.Counts.{HasSize, IsSmallest};
+ghost use Rattle.retro_core.specs.Round.{AreToStrike};
 ghost use Rattle.retro_core.specs.Solving.{IsSolving, bucket, source, NoneHas, AnswerLasts, AnswerForever};
 
-use crate::answering::Answering;
 use crate::fault::SolveFault;
-use crate::members::open_member;
 use crate::progress::Progress;
-use crate::sizes::{count_open, put};
-use crate::tables::{OPEN, Tables};
-use crate::values::{Values, write_safe};
+use crate::stage::{OPEN, Stage};
+use crate::values::Values;
 use board_text::{Board, Memory};
 use index_lists::ListStore;
 use positions::{Space, TooLarge};
@@ -27,31 +25,23 @@ use std::marker::Model;
 /// No call but `open` takes memory.
 #[derive(Drop)]
 pub struct Solver<S: ListStore> {
-    space: Space,
-    dominators: Vec<Option<u8>>,
-    tables: Tables<S>,
+    stage: Stage<S>,
     /// How many configurations are filed at each value of at most the number of rounds.
     sizes: Vec<u32>,
-    round: u32,
     done: bool,
 }
 
 impl<S: ListStore> Model for Solver<S> {
-    ghost use Rattle.std.specs.Prelude.{vec_capacity};
-    ghost use Rattle.positions.specs.Ranks.{configurations};
-    ghost use Rattle.positions.specs.Gaps.{gaps};
-    ghost use Rattle.retro_core.specs.BoardArena.{arena_of};
-    ghost use Rattle.retro_core.specs.Solving.{Solving, first_lists};
+    ghost use Rattle.std.specs.Prelude.{◌-◌, vec_capacity};
+    ghost use Rattle.retro_core.specs.Solving.{Solving};
     ghost use Rattle.retro_core.specs.Sizes.{AreSizes};
-    ghost use Rattle.retro_core.specs.Tables.{open_members, IsState};
+    ghost use Rattle.retro_core.specs.Stage.{IsState, solving};
 
     ghost Value = { Solving };
 
-    ghost view = { λ s. record { board = s.space; rounds = s.round; is_done = s.done; buckets = first_lists (S.lists s.tables.buckets) (S.list s.tables.buckets); sources = first_lists (gaps s.space) (open_members (arena_of s.space) s.tables.values.items) } };
+    ghost view = { λ s. solving s.stage s.done };
 
-    ghost invariant = { λ s. IsState s.space s.dominators.items s.tables.values.items s.tables.counts.items (S.nodes s.tables.buckets) (S.lists s.tables.buckets) (S.list s.tables.buckets)
-        (S.nodes s.tables.living) (S.lists s.tables.living) (S.list s.tables.living) s.round s.done
-        × AreSizes (configurations s.space) s.round (vec_capacity s.sizes) (S.list s.tables.buckets) s.sizes.items };
+    ghost invariant = { λ s. IsState s.stage (s.stage.value - 1) s.done × AreSizes s.stage (s.stage.value - 1) (vec_capacity s.sizes) s.sizes.items };
 }
 
 impl<S: ListStore + Drop> Solver<S> {
@@ -79,18 +69,12 @@ impl<S: ListStore + Drop> Solver<S> {
         ensures start { IfOk result (λ solver. (solver.rounds ≡ 0) × (solver.is_done ≡ false)) }
         ensures kept { IfOk result (λ solver. IsSolving solver) }
     {
-        let _ = space.configurations();
-        let Answering { counts, dominators } = Answering::of(alloc, &space, board)?;
-        let mut tables = Tables::<S>::new(alloc, &space, counts)?;
         let mut sizes = Vec::with_capacity(alloc, space.configurations() as usize)?;
-        tables.enter_all(&space, &dominators);
-        put(&mut sizes, tables.buckets.len(0));
+        let mut stage = Stage::<S>::open(alloc, space, board)?;
+        sizes.push_reserved(stage.turn());
         Ok(Solver {
-            space,
-            dominators,
-            tables,
+            stage,
             sizes,
-            round: 0,
             done: false,
         })
     }
@@ -107,18 +91,16 @@ impl<S: ListStore> Solver<S> {
         ensures filed_before { (value : ℕ) → value ≤ self.old.rounds → bucket self.new value ≡ bucket self.old value }
         ensures kept { IsSolving self.new }
     {
-        let _ = self.space.configurations();
         if self.done {
             return Progress::Done;
         }
-        self.tables.strike_bucket(&self.space, self.round);
-        let filed = self.tables.buckets.len(self.round + 1);
-        if filed == 0 {
+        self.stage.strike_all();
+        if self.stage.filed() == 0 {
             self.done = true;
             return Progress::Done;
         }
-        put(&mut self.sizes, filed);
-        self.round += 1;
+        let filed = self.stage.turn();
+        self.sizes.push_reserved(filed);
         Progress::Filed(filed)
     }
 
@@ -135,15 +117,14 @@ impl<S: ListStore> Solver<S> {
         ensures below { result < configurations self.now.board }
         ensures kept { IsSolving self.now }
     {
-        let _ = self.space.configurations();
-        self.round
+        self.stage.value() - 1
     }
 
     /// The space of the board.
     pub fn space(&self) -> &Space
         ensures { result.now ≡ self.now.board }
     {
-        &self.space
+        self.stage.space()
     }
 
     /// The smallest pebble that dominates all others at the configuration of a rank, if one does. A lone pebble does where it holds a label.
@@ -151,7 +132,7 @@ impl<S: ListStore> Solver<S> {
         requires { rank < configurations self.now.board }
         ensures { IsSmallest (IsDominator self.now.board (configuration_at self.now.board rank)) result }
     {
-        self.dominators[rank as usize]
+        self.stage.dominator(rank)
     }
 
     /// The value of a configuration, if it is at most the number of rounds.
@@ -159,8 +140,7 @@ impl<S: ListStore> Solver<S> {
         requires { rank < configurations self.now.board }
         ensures { (value : ℕ) → (result ≡ Some value) ↔ ((value ≤ self.now.rounds) × HasValue self.now.board (configuration_at self.now.board rank) (Finite value)) }
     {
-        let _ = self.space.configurations();
-        let value = self.tables.values[rank as usize];
+        let value = self.stage.word(rank);
         if value == OPEN { None } else { Some(value) }
     }
 
@@ -170,8 +150,7 @@ impl<S: ListStore> Solver<S> {
         ensures before { self.now.is_done ≡ false → HasSize (AnswerLasts self.now.board gap self.now.rounds) result }
         ensures after { self.now.is_done ≡ true → HasSize (AnswerForever self.now.board gap) result }
     {
-        let _ = self.space.configurations();
-        self.tables.counts[gap as usize]
+        self.stage.count(gap)
     }
 
     /// The first configuration that is filed at a value.
@@ -179,10 +158,7 @@ impl<S: ListStore> Solver<S> {
         ensures first { result ≡ slice_get (bucket self.now value) 0 }
         ensures kept { IsSolving self.now }
     {
-        if value > self.space.configurations() {
-            return None;
-        }
-        self.tables.buckets.first(value)
+        self.stage.first_filed(value)
     }
 
     /// The configuration behind a filed one, among those of the same value. One that isn't filed has none.
@@ -191,8 +167,14 @@ impl<S: ListStore> Solver<S> {
         ensures behind { (value : ℕ) → (place : ℕ) → slice_get (bucket self.now value) place ≡ Some rank → result ≡ slice_get (bucket self.now value) (place + 1) }
         ensures not_filed { ((value : ℕ) → (place : ℕ) → slice_get (bucket self.now value) place ≡ Some rank → ⊥) → result ≡ None }
     {
-        let _ = self.space.configurations();
-        self.tables.buckets.next(rank)
+        self.stage.next_filed(rank)
+    }
+
+    /// What a round at the value of the solver strikes: the configurations of that value that have a dominator, in order of filing.
+    pub fn to_strike(&self) -> &[u32]
+        ensures { AreToStrike self.now result.now }
+    {
+        self.stage.strikes()
     }
 
     /// The first configuration of a gap that has no value of at most the number of rounds.
@@ -200,8 +182,7 @@ impl<S: ListStore> Solver<S> {
         requires { gap < gaps self.now.board }
         ensures first { result ≡ slice_get (source self.now gap) 0 }
     {
-        let _ = self.space.configurations();
-        open_member(&self.tables.values, &self.space, gap, 0)
+        self.stage.open_member(gap, 0)
     }
 
     /// The member behind one of a gap, among those that have no value of at most the number of rounds. What isn't such
@@ -212,13 +193,13 @@ impl<S: ListStore> Solver<S> {
         ensures behind { (place : ℕ) → slice_get (source self.now gap) place ≡ Some rank → result ≡ slice_get (source self.now gap) (place + 1) }
         ensures not_listed { ((place : ℕ) → slice_get (source self.now gap) place ≡ Some rank → ⊥) → result ≡ None }
     {
-        let _ = self.space.configurations();
-        let pebble = self.space.gap_pebble(gap);
-        if self.space.gap(rank, pebble) != gap || self.tables.values[rank as usize] != OPEN {
+        let space = self.stage.space();
+        let pebble = space.gap_pebble(gap);
+        if space.gap(rank, pebble) != gap || self.stage.word(rank) != OPEN {
             return None;
         }
-        let place = self.space.label_at(rank, pebble);
-        open_member(&self.tables.values, &self.space, gap, place + 1)
+        self.stage
+            .open_member(gap, space.label_at(rank, pebble) + 1)
     }
 }
 
@@ -235,24 +216,16 @@ impl<S: ListStore + Drop> Solver<S> {
         ensures values { IfOk result (λ values. (self.is_done ≡ true) × (values ≡ self.board)) }
         ensures unfinished { IfErr result (λ unfinished. (self.is_done ≡ false) × (unfinished.solver ≡ self)) }
     {
-        let _ = self.space.configurations();
         if !self.done {
             return Err(Unfinished { solver: self });
         }
-        let Solver {
+        let Solver { stage, sizes, .. } = self;
+        let Stage {
             space,
-            tables,
-            sizes,
-            ..
-        } = self;
-        let Tables {
             values,
-            mut counts,
-            living,
+            dominators,
             ..
-        } = tables;
-        write_safe(&mut counts, &space, &living);
-        let forever = count_open(&values);
-        Ok(Values::new(space, values, counts, sizes, forever))
+        } = stage;
+        Ok(Values::new(space, values, dominators, sizes))
     }
 }

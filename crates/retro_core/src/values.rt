@@ -1,6 +1,6 @@
 //! The values of a board.
 
-ghost use Rattle.std.specs.Prelude.{◌≡◌, ℕ, ◌<◌, length, slice_index};
+ghost use Rattle.std.specs.Prelude.{◌≡◌, ◌^◌, ◌<◌, sum};
 ghost use Rattle.positions.specs.Value.{HasValue};
 ghost use Rattle.positions.specs.Ranks.{configurations, configuration_at};
 ghost use Rattle.positions.specs.Gaps.{gaps};
@@ -9,14 +9,15 @@ ghost use Rattle.retro_core.specs.Solving.{AnswerForever};
 ghost use Rattle.positions.specs.declared.value.Value.TheVariants.{Finite};
 ghost use Rattle.positions.specs.Laws.{Occurs};
 ghost use Rattle.retro_core.specs.Sizes.{HasCount, IsGreatest, AreCounts};
-ghost use Rattle.retro_core.specs.Tables.{known_word, AreForever, AreValues};
+ghost use Rattle.retro_core.specs.Arena.{count_below};
+ghost use Rattle.retro_core.specs.Stored.{AreDominators};
+ghost use Rattle.retro_core.specs.Tables.{is_open, AreValues};
 
-use crate::tables::OPEN;
-use index_lists::ListStore;
+use crate::stage::OPEN;
 use positions::{Space, Value};
 use std::marker::Model;
 
-/// The value of each configuration of a board, and for each gap an answer that lasts forever, if there is one.
+/// The value of each configuration of a board.
 ///
 /// It holds no board: contracts see it as the board.
 #[derive(Drop)]
@@ -24,8 +25,8 @@ pub struct Values {
     space: Space,
     /// The value of each configuration, or `OPEN` for Forever.
     values: Vec<u32>,
-    /// The smallest answer of each gap that leads to Forever, or `OPEN` for none.
-    safe: Vec<u32>,
+    /// The pebble that dominates all others at each configuration, else `NO_PEBBLE`.
+    dominators: Vec<u8>,
     /// How many configurations have each finite value, 0 and up to the greatest that there is.
     sizes: Vec<u32>,
     /// How many configurations have the value Forever.
@@ -36,32 +37,34 @@ impl Model for Values {
     ghost use Rattle.board_text.specs.PlainBoard.{PlainBoard};
     ghost use Rattle.positions.specs.Ranks.{configurations};
     ghost use Rattle.retro_core.specs.Sizes.{AreCounts};
+    ghost use Rattle.retro_core.specs.Stored.{AreDominators};
     ghost use Rattle.retro_core.specs.Tables.{AreValues};
 
     ghost Value = { PlainBoard };
 
     ghost view = { λ s. s.space };
 
-    ghost invariant = { λ s. AreValues s.space s.values.items s.safe.items × AreCounts (configurations s.space) s.values.items s.sizes.items s.forever };
+    ghost invariant = { λ s. AreValues s.space s.values.items × AreDominators s.space s.dominators.items × AreCounts (configurations s.space) s.values.items s.sizes.items s.forever };
 }
 
 impl Values {
-    /// The values in these words, with the number of configurations of each finite value and of Forever.
+    /// The values in these words, with the number of configurations of each finite value.
     pub(crate) fn new(
         space: Space,
         values: Vec<u32>,
-        safe: Vec<u32>,
+        dominators: Vec<u8>,
         sizes: Vec<u32>,
-        forever: u32,
     ) -> Values
-        requires values { AreValues space values.items safe.items }
-        requires counts { AreCounts (configurations space) values.items sizes.items forever }
+        requires values { AreValues space values.items }
+        requires dominators { AreDominators space dominators.items }
+        requires counts { AreCounts (configurations space) values.items sizes.items (count_below (configurations space) (is_open values.items)) }
         ensures { result ≡ space }
     {
+        let forever = space.configurations() - total(&sizes);
         Values {
             space,
             values,
-            safe,
+            dominators,
             sizes,
             forever,
         }
@@ -118,13 +121,15 @@ impl Values {
         requires { gap < gaps self.now }
         ensures { IsSmallest (AnswerForever self.now gap) result }
     {
-        let _ = self.space.configurations();
-        let label = self.safe[gap as usize];
-        if label == OPEN {
-            None
-        } else {
-            Some(label as u16)
+        let pebble = self.space.gap_pebble(gap);
+        let members = self.space.members(gap);
+        for label in 0..self.space.labels() {
+            let rank = members.rank(label) as usize;
+            if self.dominators[rank] == pebble && self.values[rank] == OPEN {
+                return Some(label);
+            }
         }
+        None
     }
 
     /// The space of the board.
@@ -135,27 +140,10 @@ impl Values {
     }
 }
 
-/// Writes for each gap its smallest answer that lasts forever, or `OPEN` for none.
-pub(crate) fn write_safe<S: ListStore>(safe: &mut [u32], space: &Space, living: &S)
-    requires safe_length { length safe.old ≡ gaps space.now }
-    requires forever { AreForever space.now (S.nodes living.now) (S.lists living.now) (S.list living.now) }
-    ensures safe_length { length safe.new ≡ gaps space.now }
-    ensures safest { (gap : ℕ) → gap < gaps space.now → IsSmallest (AnswerForever space.now gap) (known_word (slice_index safe.new gap)) }
+/// The sum of numbers.
+fn total(numbers: &[u32]) -> u32
+    requires { sum numbers.now < 2 ^ 32 }
+    ensures { result ≡ sum numbers.now }
 {
-    for gap in 0..space.gaps() {
-        safe[gap as usize] = safe_word(space, living, gap);
-    }
-}
-
-/// The smallest answer of a gap that lasts forever, or `OPEN` for none.
-fn safe_word<S: ListStore>(space: &Space, living: &S, gap: u32) -> u32
-    requires gap { gap < gaps space.now }
-    requires forever { AreForever space.now (S.nodes living.now) (S.lists living.now) (S.list living.now) }
-    ensures { IsSmallest (AnswerForever space.now gap) (known_word result) }
-{
-    let _ = space.configurations();
-    match living.first(gap) {
-        Some(rank) => space.label_at(rank, space.gap_pebble(gap)) as u32,
-        None => OPEN,
-    }
+    numbers.iter().sum()
 }

@@ -1,4 +1,4 @@
-use Rattle.std.proofs.Common.{◌≡◌, ◌*◌, ◌<◌, ℕ, length, slice_index}
+use Rattle.std.proofs.Common.{◌≡◌, ◌*◌, ◌<◌, ◌≤◌, ℕ, length, slice_index, vec_capacity}
 use Rattle.positions.specs.Gaps.{gaps, IsAnswer}
 use Rattle.positions.specs.Counts.{HasSize}
 use Rattle.retro_core.specs.Opening.{AreNoted}
@@ -6,7 +6,8 @@ use Rattle.retro_core.proofs.answering.Answering.of.Given as goal
 
 abbrev pub invariant-loop-gap : goal.invariant-loop-gap
 invariant-loop-gap l = record {
-  len : length l.counts.items ≡ gaps l.space;
+  len : length l.counts.items ≡ l.gap;
+  room : gaps l.space ≤ vec_capacity l.counts;
   counted : (g : ℕ) → g < l.gap → HasSize (IsAnswer l.space g) (slice_index l.counts.items g);
   noted : AreNoted l.space (256 * l.gap) l.dominators.items;
 }

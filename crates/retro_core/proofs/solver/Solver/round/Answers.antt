@@ -1,101 +1,96 @@
-use Rattle.std.proofs.Common.{◌≡◌, ℕ, suc, true, length, refl, sym, ap, ◌∙◌, subst, arith}
-use Rattle.retro_core.specs.declared.progress.Progress.TheVariants.{Filed}
-use Rattle.retro_core.specs.Solving.{Solving, NoneHas}
-use Rattle.retro_core.proofs.Solved.{solving_of, none-has}
-use Rattle.retro_core.proofs.Rounds.{round-below, bucket-starts, last-state, further-state, shown-before, shown-next}
+use Rattle.std.proofs.Common.{◌≡◌, ◌≢◌, ◌-◌, ◌∙◌, ℕ, suc, true, false, refl, sym, ap, subst, arith, vec_capacity}
+use Rattle.retro_core.specs.Sizes.{AreSizes}
+use Rattle.retro_core.specs.Solving.{Solving, IsSolving, NoneHas}
+use Rattle.retro_core.specs.Stage.{PlainStage, turned, IsState}
+use Rattle.retro_core.proofs.States.{solving_of, none-has, to-begin, last-state, next-below, size-below, none-later, further-state}
 use Rattle.retro_core.proofs.ValueSizes.{sizes-kept, sizes-more, sizes-room}
 use Rattle.retro_core.proofs.solver.Solver.round.Goals as goal
 
 pub returns-then-self-clause-none : goal.returns-then-self-clause-none
-returns-then-self-clause-none g c =
-    let e = c.configurations.ensures in
-    λ _. subst (λ (v : Solving). NoneHas v.board (suc v.rounds) × (v.rounds ≡ v.rounds) × (v.is_done ≡ true)) c.self.view_is
-    (none-has _ e.is_board e.few _ _ _ _ _ _ _ _ _ _ _ c.self.invariant.0 c.if-self.true, refl, c.if-self.true)
+returns-then-self-clause-none g c = λ _.
+    subst (λ (v : Solving). NoneHas v.board (suc v.rounds) × (v.rounds ≡ v.rounds) × (v.is_done ≡ true)) c.self.view_is
+    (none-has c.self.inside.stage _ c.self.inside.done c.self.invariant.0 c.if-self.true, refl, c.if-self.true)
 
 pub returns-then-self-clause-kept : goal.returns-then-self-clause-kept
-returns-then-self-clause-kept g c =
-    let e = c.configurations.ensures in
-    rw (← c.self.view_is) (solving_of _ e.is_board e.few _ _ _ _ _ _ _ _ _ _ _ c.self.invariant.0)
+returns-then-self-clause-kept g c = subst IsSolving c.self.view_is (solving_of c.self.inside.stage _ c.self.inside.done c.self.invariant.0)
 
-pub strike_bucket-requires-clause-round_in : goal.strike_bucket-requires-clause-round_in
-strike_bucket-requires-clause-round_in g c =
-    let e = c.configurations.ensures in
-    round-below _ e.is_board e.few _ _ _ _ _ _ _ _ _ _ _ c.self.invariant.0
-
-pub strike_bucket-requires-clause-stage : goal.strike_bucket-requires-clause-stage
-strike_bucket-requires-clause-stage g c =
-    let e = c.configurations.ensures in
-    bucket-starts _ e.is_board e.few _ _ _ _ _ _ _ _ _ _ _ c.self.invariant.0 c.if-self.false
+pub strike_all-requires : goal.strike_all-requires
+strike_all-requires g c = to-begin c.self.inside.stage _ c.self.inside.done c.self.invariant.0 c.if-self.false
 
 pub invariant_of-self : goal.invariant_of-self
 invariant_of-self g c =
-    let e = c.configurations.ensures in
-    let t = c.strike_bucket.ensures in (
-      last-state _ e.is_board e.few _ _ _ _ _ _ _ _ _ _ _ c.self.invariant.0 _ _ _ _ _ _ _ _ t.stage t.other_buckets (sym c.len-filed.ensures.len ∙ c.if-filed-eq0.true),
-      sizes-kept _ _ _ _ _ _ t.other_buckets c.self.invariant.1,
+    let s : PlainStage = c.self.inside.stage in
+    let now : PlainStage = c.strike_all.new.self in
+    let e = c.strike_all.ensures in
+    let last = last-state s (s.value - 1) c.self.inside.done c.self.invariant.0 now e.struck e.kept (sym c.filed.ensures ∙ c.if-filed-eq0.true) in
+    let same : s.value - 1 ≡ now.value - 1 = ap (λ n. n - 1) (sym e.kept.value_is) in (
+      subst (λ n. IsState now n true) same last,
+      subst (λ n. AreSizes now n (vec_capacity c.self.inside.sizes) c.self.inside.sizes.items) same (sizes-kept s now (s.value - 1) _ _ c.self.invariant.0.value_is e.kept c.self.invariant.1),
     )
 
 pub returns-then-filed-eq0-clause-none : goal.returns-then-filed-eq0-clause-none
-returns-then-filed-eq0-clause-none g c =
-    let e = c.configurations.ensures in
-    let t = c.strike_bucket.ensures in
-    let state = last-state _ e.is_board e.few _ _ _ _ _ _ _ _ _ _ _ c.self.invariant.0 _ _ _ _ _ _ _ _ t.stage t.other_buckets (sym c.len-filed.ensures.len ∙ c.if-filed-eq0.true) in
-    λ _. subst (λ (v : Solving). NoneHas v.board (suc v.rounds) × (c.self.inside.round ≡ v.rounds) × (true ≡ true)) c.self.view_is
-    (none-has _ e.is_board e.few _ _ _ _ _ _ _ _ _ _ _ state refl, refl, refl)
-
-pub returns-then-filed-eq0-clause-filed_before : goal.returns-then-filed-eq0-clause-filed_before
-returns-then-filed-eq0-clause-filed_before g c =
-    let e = c.configurations.ensures in
-    let t = c.strike_bucket.ensures in
-    rw (← c.self.view_is) (shown-before _ e.is_board e.few _ _ _ _ _ _ _ _ _ _ _ c.self.invariant.0 _ _ _ _ _ _ _ _ t.stage t.other_buckets)
+returns-then-filed-eq0-clause-none g c = λ _.
+    let s : PlainStage = c.self.inside.stage in
+    let now : PlainStage = c.strike_all.new.self in
+    let e = c.strike_all.ensures in
+    let last = last-state s (s.value - 1) c.self.inside.done c.self.invariant.0 now e.struck e.kept (sym c.filed.ensures ∙ c.if-filed-eq0.true) in
+    subst (λ (v : Solving). NoneHas v.board (suc v.rounds) × (now.value - 1 ≡ v.rounds) × (true ≡ true)) c.self.view_is
+    (subst (λ p. NoneHas p (suc (s.value - 1))) e.kept.board_is (none-has now (s.value - 1) true last refl), ap (λ n. n - 1) e.kept.value_is, refl)
 
 pub returns-then-filed-eq0-clause-kept : goal.returns-then-filed-eq0-clause-kept
 returns-then-filed-eq0-clause-kept g c =
-    let e = c.configurations.ensures in
-    let t = c.strike_bucket.ensures in
-    solving_of _ e.is_board e.few _ _ _ _ _ _ _ _ _ _ _
-    (last-state _ e.is_board e.few _ _ _ _ _ _ _ _ _ _ _ c.self.invariant.0 _ _ _ _ _ _ _ _ t.stage t.other_buckets (sym c.len-filed.ensures.len ∙ c.if-filed-eq0.true))
+    let s : PlainStage = c.self.inside.stage in
+    let now : PlainStage = c.strike_all.new.self in
+    let e = c.strike_all.ensures in
+    let last = last-state s (s.value - 1) c.self.inside.done c.self.invariant.0 now e.struck e.kept (sym c.filed.ensures ∙ c.if-filed-eq0.true) in
+    let same : s.value - 1 ≡ now.value - 1 = ap (λ n. n - 1) (sym e.kept.value_is) in
+    solving_of now (now.value - 1) true (subst (λ n. IsState now n true) same last)
+
+-- what is filed isn't nothing
+some : (n : ℕ) (k : ℕ) → k ≡ n → k ≢ 0 → n ≢ 0
+some n k is d e = d (is ∙ e)
+
+pub turn-filed-requires-clause-value : goal.turn-filed-requires-clause-value
+turn-filed-requires-clause-value g c =
+    let e = c.strike_all.ensures in
+    next-below c.self.inside.stage _ c.self.inside.done c.self.invariant.0 c.strike_all.new.self e.struck e.kept (some _ _ c.filed.ensures c.if-filed-eq0.false)
+
+pub turn-filed-requires-clause-none_later : goal.turn-filed-requires-clause-none_later
+turn-filed-requires-clause-none_later g c =
+    let e = c.strike_all.ensures in
+    none-later c.self.inside.stage _ c.self.inside.done c.self.invariant.0 c.strike_all.new.self e.struck e.kept
+
+pub push_reserved-requires : goal.push_reserved-requires
+push_reserved-requires g c =
+    let e = c.strike_all.ensures in
+    let room = sizes-room c.self.inside.stage _ _ _ c.self.invariant.1 (size-below c.self.inside.stage _ c.self.inside.done c.self.invariant.0 c.strike_all.new.self e.struck e.kept (some _ _ c.filed.ensures c.if-filed-eq0.false)) in
+    omega (arith, room)
+
+-- the value behind
+next-round : (s now : PlainStage) (round : ℕ) → s.value ≡ suc round → now.value ≡ s.value → suc round ≡ (turned now).value - 1
+next-round s now round at same = omega arith
 
 pub invariant_of-self-2 : goal.invariant_of-self-2
 invariant_of-self-2 g c =
-    let e = c.configurations.ensures in
-    let t = c.strike_bucket.ensures in (
-      further-state _ e.is_board e.few _ _ _ _ _ _ _ _ _ _ _ c.self.invariant.0 _ _ _ _ _ _ _ _ t.stage t.other_buckets c.if-self.false (λ z. c.if-filed-eq0.false (c.len-filed.ensures.len ∙ z)),
-      sizes-more _ _ _ _ _ _ _ _ _ t.other_buckets c.put.ensures.items c.len-filed.ensures.len c.if-filed-eq0.false c.put.ensures.capacity c.self.invariant.1,
+    let s : PlainStage = c.self.inside.stage in
+    let now : PlainStage = c.strike_all.new.self in
+    let e = c.strike_all.ensures in
+    let st = c.self.invariant.0 in
+    let filed = some _ _ c.filed.ensures c.if-filed-eq0.false in
+    let next = next-round s now (s.value - 1) st.value_is e.kept.value_is in
+    rw (c.turn-filed.ensures.turned, c.if-self.false) (
+      subst (λ n. IsState (turned now) n false) next (further-state s (s.value - 1) c.self.inside.done st now e.struck e.kept c.if-self.false filed),
+      subst (λ n. AreSizes (turned now) n (vec_capacity c.push_reserved.new.self) c.push_reserved.new.self.items) next
+          (sizes-more s now (s.value - 1) _ _ c.turn-filed.result _ _ st.value_is e.kept c.push_reserved.ensures.items c.turn-filed.ensures.filed (λ z. filed (sym c.turn-filed.ensures.filed ∙ z)) c.push_reserved.ensures.capacity c.self.invariant.1),
     )
-
-pub put-requires : goal.put-requires
-put-requires g c =
-    let e = c.configurations.ensures in
-    let t = c.strike_bucket.ensures in
-    let further = further-state _ e.is_board e.few _ _ _ _ _ _ _ _ _ _ _ c.self.invariant.0 _ _ _ _ _ _ _ _ t.stage t.other_buckets c.if-self.false (λ z. c.if-filed-eq0.false (c.len-filed.ensures.len ∙ z)) in
-    sizes-room _ _ _ _ _ c.self.invariant.1 (let some = further.some in let bound = further.bound in omega arith)
-
-filed_is : (m n : ℕ) → Filed m ≡ Filed n → m ≡ n
-filed_is m n e = cc
-
-pub returns-clause-filed : goal.returns-clause-filed
-returns-clause-filed g c =
-    let e = c.configurations.ensures in
-    let t = c.strike_bucket.ensures in
-    let other = c.if-filed-eq0.false in
-    rw (← c.self.view_is) (λ n same.
-    let count : c.len-filed.result ≡ n = filed_is _ n same in (
-      (omega arith),
-      sym count ∙ c.len-filed.ensures.len ∙ ap length (sym (shown-next _ e.is_board e.few _ _ _ _ _ _ _ _ _ _ _ c.self.invariant.0 _ _ _ _ _ _ _ _ t.stage t.other_buckets)),
-      refl,
-      c.if-self.false,
-    ))
-
-pub returns-clause-filed_before : goal.returns-clause-filed_before
-returns-clause-filed_before g c =
-    let e = c.configurations.ensures in
-    let t = c.strike_bucket.ensures in
-    rw (← c.self.view_is) (shown-before _ e.is_board e.few _ _ _ _ _ _ _ _ _ _ _ c.self.invariant.0 _ _ _ _ _ _ _ _ t.stage t.other_buckets)
 
 pub returns-clause-kept : goal.returns-clause-kept
 returns-clause-kept g c =
-    let e = c.configurations.ensures in
-    let t = c.strike_bucket.ensures in
-    solving_of _ e.is_board e.few _ _ _ _ _ _ _ _ _ _ _
-    (further-state _ e.is_board e.few _ _ _ _ _ _ _ _ _ _ _ c.self.invariant.0 _ _ _ _ _ _ _ _ t.stage t.other_buckets c.if-self.false (λ z. c.if-filed-eq0.false (c.len-filed.ensures.len ∙ z)))
+    let s : PlainStage = c.self.inside.stage in
+    let now : PlainStage = c.strike_all.new.self in
+    let e = c.strike_all.ensures in
+    let st = c.self.invariant.0 in
+    let filed = some _ _ c.filed.ensures c.if-filed-eq0.false in
+    let next = next-round s now (s.value - 1) st.value_is e.kept.value_is in
+    rw (c.turn-filed.ensures.turned, c.if-self.false)
+    (solving_of (turned now) _ false (subst (λ n. IsState (turned now) n false) next (further-state s (s.value - 1) c.self.inside.done st now e.struck e.kept c.if-self.false filed)))

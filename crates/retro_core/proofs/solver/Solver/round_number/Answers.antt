@@ -1,7 +1,7 @@
-use Rattle.retro_core.proofs.Solved.{solving_of}
+use Rattle.std.proofs.Common.{subst}
+use Rattle.retro_core.specs.Solving.{IsSolving}
+use Rattle.retro_core.proofs.States.{solving_of}
 use Rattle.retro_core.proofs.solver.Solver.round_number.Goals as goal
 
 pub returns-clause-kept : goal.returns-clause-kept
-returns-clause-kept g c =
-    let e = c.configurations.ensures in
-    rw (← c.self.view_is) (solving_of _ e.is_board e.few _ _ _ _ _ _ _ _ _ _ _ c.self.invariant.0)
+returns-clause-kept g c = subst IsSolving c.self.view_is (solving_of c.self.inside.stage _ c.self.inside.done c.self.invariant.0)

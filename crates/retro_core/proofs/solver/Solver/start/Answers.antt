@@ -1,31 +1,60 @@
-use Rattle.std.proofs.Common.{ℕ, List, [], ◌∷◌, ◌++◌, ◌∙◌, ap, arith}
+use Rattle.std.proofs.Common.{◌≡◌, ◌+◌, ◌-◌, ◌<◌, ◌≤◌, ℕ, List, [], ◌∷◌, ◌++◌, ◌∙◌, false, length, vec_capacity, sym, ap, subst, arith}
 use Rattle.std.proofs.Math.Nat.{one-le-pow}
-use Rattle.board_text.specs.PlainBoard.{places}
+use Rattle.board_text.specs.PlainBoard.{PlainBoard, IsBoard, places}
 use Rattle.board_text.proofs.Places.{some_places}
-use Rattle.retro_core.proofs.Rounds.{start-state}
-use Rattle.retro_core.proofs.Solved.{solving_of}
+use Rattle.positions.specs.Ranks.{configurations}
+use Rattle.retro_core.specs.Sizes.{AreSizes}
+use Rattle.retro_core.specs.Stage.{PlainStage, turned, IsOpened, IsState}
+use Rattle.retro_core.proofs.States.{start-state, solving_of}
 use Rattle.retro_core.proofs.ValueSizes.{sizes-start}
 use Rattle.retro_core.proofs.solver.Solver.start.Goals as goal
 
-pub put-requires : goal.put-requires
-put-requires g c =
-    let b = c.args.space in
+some-configurations : (b : PlainBoard) → IsBoard b → 0 < configurations b
+some-configurations b is = one-le-pow b.pebbles (places b) (some_places b is)
+
+-- the stage of a board with few configurations, when it is opened
+opened-state : (s : PlainStage) (b : PlainBoard) → s.board ≡ b → IsBoard b → configurations b ≤ 1048576 → IsOpened s → IsState (turned s) 0 false
+opened-state s b same is few opened =
+    let is_board : IsBoard s.board = subst IsBoard (sym same) is in
+    start-state s is_board (subst (λ p. configurations p ≤ 1048576) (sym same) few) (some-configurations s.board is_board) opened
+
+first-round : (s : PlainStage) → s.value ≡ 0 → 0 ≡ s.value + 1 - 1
+first-round s is = omega arith
+
+pub turn-requires-clause-value : goal.turn-requires-clause-value
+turn-requires-clause-value g c =
+    let e = c.in_ok-stage.ensures in
+    let some = some-configurations c.args.space c.configurations.ensures.is_board in
+    let size = ap configurations (e.board ∙ sym c.requires) in
+    omega (arith, some, size, e.opened.value_is)
+
+pub turn-requires-clause-none_later : goal.turn-requires-clause-none_later
+turn-requires-clause-none_later g c = c.in_ok-stage.ensures.opened.none_later _ (omega arith)
+
+pub push_reserved-requires : goal.push_reserved-requires
+push_reserved-requires g c =
+    let some = some-configurations c.args.space c.configurations.ensures.is_board in
     let w = c.in_ok-sizes.ensures in
-    let some = one-le-pow b.pebbles (places b) (some_places b c.configurations.ensures.is_board) in
-    rw w.items (omega (arith, some, w.capacity, c.configurations-2.ensures.value))
+    let none = ap length w.items in
+    omega (arith, some, none, w.capacity, c.configurations.ensures.value)
 
 pub invariant_of-result : goal.invariant_of-result
 invariant_of-result g c =
-    let b = c.args.space in
-    let e = c.configurations.ensures in
-    let w = c.in_ok-sizes.ensures in (
-      start-state b e.is_board _ _ _ _ _ _ _ _ _ (one-le-pow b.pebbles (places b) (some_places b e.is_board)) c.in_ok-counts.ensures.dominators c.enter_all.ensures.entered,
-      sizes-start _ _ c.len.result _ _ (c.put.ensures.items ∙ ap (λ (l : List ℕ). l ++ c.len.result ∷ []) w.items) c.len.ensures.len (omega (arith, w.capacity, c.put.ensures.capacity, c.configurations-2.ensures.value)),
+    let s : PlainStage = c.in_ok-stage.stage in
+    let e = c.in_ok-stage.ensures in
+    let w = c.in_ok-sizes.ensures in
+    let size = ap configurations (e.board ∙ sym c.requires) in
+    let next = first-round s e.opened.value_is in
+    rw c.turn.ensures.turned (
+      subst (λ n. IsState (turned s) n false) next (opened-state s c.args.space (e.board ∙ sym c.requires) c.configurations.ensures.is_board c.configurations.ensures.few e.opened),
+      subst (λ n. AreSizes (turned s) n (vec_capacity c.push_reserved.new.self) c.push_reserved.new.self.items) next
+          (sizes-start s (vec_capacity c.push_reserved.new.self) c.turn.result c.push_reserved.new.self.items (c.push_reserved.ensures.items ∙ ap (λ (l : List ℕ). l ++ c.turn.result ∷ []) w.items) e.opened.value_is c.turn.ensures.filed (omega (arith, size, w.capacity, c.push_reserved.ensures.capacity, c.configurations.ensures.value))),
     )
 
 pub returns-clause-kept : goal.returns-clause-kept
 returns-clause-kept g c =
-    let b = c.args.space in
-    let e = c.configurations.ensures in
-    solving_of b e.is_board e.few _ _ _ _ _ _ _ _ _ _ _
-    (start-state b e.is_board _ _ _ _ _ _ _ _ _ (one-le-pow b.pebbles (places b) (some_places b e.is_board)) c.in_ok-counts.ensures.dominators c.enter_all.ensures.entered)
+    let s : PlainStage = c.in_ok-stage.stage in
+    let e = c.in_ok-stage.ensures in
+    let next = first-round s e.opened.value_is in
+    rw c.turn.ensures.turned (solving_of (turned s) _ false
+    (subst (λ n. IsState (turned s) n false) next (opened-state s c.args.space (e.board ∙ sym c.requires) c.configurations.ensures.is_board c.configurations.ensures.few e.opened)))

@@ -1,0 +1,15 @@
+use Rattle.std.proofs.Common.{◌+◌, ◌∙◌, ap, refl}
+use Rattle.std.proofs.lemmas.List.FromFn.{length-map-range_with_len}
+use Rattle.retro_core.proofs.Filing.{list-shown}
+use Rattle.retro_core.proofs.stage.Stage.open.Goals as goal
+
+pub list_zeros-requires : goal.list_zeros-requires
+list_zeros-requires g c =
+    let lists = c.in_ok-buckets.ensures in
+    record {
+      value_is = refl;
+      counts_are = c.in_ok-counts.ensures.counts;
+      words_are = c.in_ok-values.ensures;
+      lists_length = length-map-range_with_len (g.S.ListStore.list c.in_ok-buckets.buckets) 0 _ ∙ lists.list_count ∙ ap (λ n. n + 1) c.configurations-size.ensures.value;
+      lists_are = λ v. list-shown _ (g.S.ListStore.list c.in_ok-buckets.buckets) lists.kept.beyond v ∙ lists.empty v;
+    }

@@ -1,0 +1,101 @@
+//! What is read of a stage.
+
+ghost use Rattle.std.specs.Prelude.{◌≡◌, ℕ, ◌+◌, ◌-◌, ◌<◌, ◌≤◌, Some, None, slice_index, slice_get};
+ghost use Rattle.board_text.specs.PlainBoard.{IsBoard, places};
+ghost use Rattle.positions.specs.Ranks.{configurations, configuration_at};
+ghost use Rattle.positions.specs.Gaps.{gaps, IsDominator};
+ghost use Rattle.positions.specs.Counts.{IsSmallest};
+ghost use Rattle.retro_core.specs.BoardArena.{arena_of};
+ghost use Rattle.retro_core.specs.Tables.{is_open, members_from};
+ghost use Rattle.retro_core.specs.Stage.{filed_at};
+
+use crate::stage::{NO_PEBBLE, OPEN, Stage};
+use index_lists::ListStore;
+use positions::Space;
+
+impl<S: ListStore> Stage<S> {
+    /// The space of the board.
+    pub(crate) fn space(&self) -> &Space
+        ensures { result.now ≡ self.now.board }
+    {
+        &self.space
+    }
+
+    /// The value that configurations are filed at.
+    pub(crate) fn value(&self) -> u32
+        ensures { result ≡ self.now.value }
+    {
+        self.value
+    }
+
+    /// The word of a configuration.
+    pub(crate) fn word(&self, rank: u32) -> u32
+        requires { rank < configurations self.now.board }
+        ensures { result ≡ slice_index self.now.values rank }
+    {
+        self.values[rank as usize]
+    }
+
+    /// The count of a gap.
+    pub(crate) fn count(&self, gap: u32) -> u32
+        requires { gap < gaps self.now.board }
+        ensures { result ≡ slice_index self.now.counts gap }
+    {
+        self.counts[gap as usize]
+    }
+
+    /// The pebble that dominates all others at a configuration, if one does.
+    pub(crate) fn dominator(&self, rank: u32) -> Option<u8>
+        requires { rank < configurations self.now.board }
+        ensures { IsSmallest (IsDominator self.now.board (configuration_at self.now.board rank)) result }
+    {
+        let pebble = self.dominators[rank as usize];
+        if pebble == NO_PEBBLE {
+            None
+        } else {
+            Some(pebble)
+        }
+    }
+
+    /// What the round strikes.
+    pub(crate) fn strikes(&self) -> &[u32]
+        ensures { result.now ≡ self.now.strikes }
+    {
+        &self.strikes
+    }
+
+    /// The first configuration that is filed at a value.
+    pub(crate) fn first_filed(&self, value: u32) -> Option<u32>
+        ensures { result ≡ slice_get (filed_at self.now value) 0 }
+    {
+        if value > self.space.configurations() {
+            return None;
+        }
+        self.buckets.first(value)
+    }
+
+    /// The configuration behind a filed one, among those of the same value. One that isn't filed has none.
+    pub(crate) fn next_filed(&self, rank: u32) -> Option<u32>
+        requires { rank < configurations self.now.board }
+        ensures behind { (value : ℕ) → (place : ℕ) → slice_get (filed_at self.now value) place ≡ Some rank → result ≡ slice_get (filed_at self.now value) (place + 1) }
+        ensures not_filed { ((value : ℕ) → (place : ℕ) → slice_get (filed_at self.now value) place ≡ Some rank → ⊥) → result ≡ None }
+    {
+        self.buckets.next(rank)
+    }
+
+    /// The first open member of a gap whose place is at least a bound.
+    pub(crate) fn open_member(&self, gap: u32, from: u16) -> Option<u32>
+        requires gap { gap < gaps self.now.board }
+        requires from { from ≤ places self.now.board }
+        ensures { result ≡ slice_get (members_from (arena_of self.now.board) (is_open self.now.values) gap from (places self.now.board - from)) 0 }
+    {
+        let members = self.space.members(gap);
+        for place in from..self.space.places() {
+            let rank = members.rank(place);
+            if self.values[rank as usize] == OPEN {
+                return Some(rank);
+            }
+        }
+        None
+    }
+}

@@ -1,0 +1,149 @@
+//! A board's words and lists, and what a round does to them.
+
+ghost use Rattle.std.specs.Prelude.{◌≡◌, ℕ, ◌+◌, ◌-◌, ◌<◌, ◌≤◌, true, suc, List, [], ◌∷◌, length, filter, slice_index, slice_get};
+ghost use Rattle.index_lists.specs.Lists.{times};
+ghost use Rattle.board_text.specs.PlainBoard.{places};
+ghost use Rattle.positions.specs.Ranks.{configurations, configuration_at};
+ghost use Rattle.positions.specs.Gaps.{gaps, IsDominator};
+ghost use Rattle.positions.specs.Counts.{IsSmallest};
+ghost use Rattle.retro_core.specs.Arena.{dominated};
+ghost use Rattle.retro_core.specs.BoardArena.{arena_of};
+ghost use Rattle.retro_core.specs.Tables.{is_open, members_from};
+ghost use Rattle.retro_core.specs.Stage.{PlainStage, filed_at, listed, filed, turned, IsFiled, IsKept, Closes, IsStriking};
+
+use index_lists::ListStore;
+use positions::Space;
+use std::marker::Model;
+use std::mem;
+
+/// The word of a configuration that has no value yet.
+pub(crate) const OPEN: u32 = u32::MAX;
+
+/// The byte of a configuration at which no pebble dominates all others.
+pub(crate) const NO_PEBBLE: u8 = u8::MAX;
+
+/// A word for each configuration and each gap, and lists of ranks, while configurations are filed at one value after the other.
+///
+/// What is filed stands in its bucket for callers alone: a round strikes a list of its own.
+#[derive(Drop)]
+pub(crate) struct Stage<S: ListStore> {
+    pub(crate) space: Space,
+    /// The value that configurations are filed at now.
+    pub(crate) value: u32,
+    /// The value of each configuration that has one, else `OPEN`.
+    pub(crate) values: Vec<u32>,
+    /// The pebble that dominates all others at each configuration, else `NO_PEBBLE`.
+    pub(crate) dominators: Vec<u8>,
+    /// How many answers of each gap lead to what is not struck.
+    pub(crate) counts: Vec<u32>,
+    /// For each value the ranks that are filed at it.
+    pub(crate) buckets: S,
+    /// What this round strikes: what is filed at the value before and has a dominator.
+    pub(crate) strikes: Vec<u32>,
+    /// What is filed at the value and has a dominator: the next round strikes it.
+    pub(crate) next: Vec<u32>,
+    /// How many are filed at the value.
+    pub(crate) filed: u32,
+}
+
+impl<S: ListStore> Model for Stage<S> {
+    ghost use Rattle.std.specs.Prelude.{◌≡◌, ◌≤◌, length, vec_capacity};
+    ghost use Rattle.retro_core.specs.Solving.{first_lists};
+    ghost use Rattle.retro_core.specs.Stage.{PlainStage};
+    ghost use Rattle.retro_core.specs.Stored.{IsSmall, AreWide, AreDominators, AreNext, AreStored, HasRoom};
+
+    ghost Value = { PlainStage };
+
+    ghost view = { λ s. record { board = s.space; value = s.value; values = s.values.items; counts = s.counts.items; buckets = first_lists (S.lists s.buckets) (S.list s.buckets); strikes = s.strikes.items } };
+
+    ghost invariant = { λ s. IsSmall s.space s.value × AreWide s.space s.values.items s.counts.items × AreDominators s.space s.dominators.items × AreStored s.space (S.nodes s.buckets) (S.lists s.buckets) (S.list s.buckets)
+        × AreNext s.space (S.list s.buckets s.value) s.next.items s.filed × HasRoom s.space (vec_capacity s.strikes) (vec_capacity s.next) };
+}
+
+impl<S: ListStore> Stage<S> {
+    /// Puts a configuration that stands in no list behind the others of the value.
+    pub(crate) fn list(&mut self, rank: u32)
+        requires rank_in { rank < configurations self.old.board }
+        requires free { (v : ℕ) → times rank (filed_at self.old v) ≡ 0 }
+        ensures { self.new ≡ listed self.old rank }
+    {
+        self.buckets.push_back(self.value, rank);
+        self.filed += 1;
+        if self.dominators[rank as usize] != NO_PEBBLE {
+            self.next.push_reserved(rank);
+        }
+    }
+
+    /// Files an open configuration at the value.
+    fn file(&mut self, rank: u32)
+        requires rank_in { rank < configurations self.old.board }
+        requires filed { IsFiled self.old }
+        requires was_open { is_open self.old.values rank ≡ true }
+        ensures { self.new ≡ filed self.old rank }
+    {
+        self.values[rank as usize] = self.value;
+        self.list(rank);
+    }
+
+    /// Files the open members of a gap at the value.
+    fn close_gap(&mut self, gap: u32)
+        requires gap_in { gap < gaps self.old.board }
+        requires filed { IsFiled self.old }
+        ensures { Closes self.old gap self.new }
+    {
+        let places = self.space.places();
+        let members = self.space.members(gap);
+        for place in 0..places {
+            let rank = members.rank(place);
+            if self.values[rank as usize] == OPEN {
+                self.file(rank);
+            }
+        }
+    }
+
+    /// Strikes a configuration: its dominator's gap loses an answer, and the open members of that gap are filed if none is left.
+    fn strike(&mut self, rank: u32)
+        requires { (rest : List ℕ) × IsStriking self.old (rank ∷ rest) }
+        ensures struck { (rest : List ℕ) → IsStriking self.old (rank ∷ rest) → IsStriking self.new rest }
+        ensures kept { IsKept self.old self.new }
+    {
+        let gap = self.space.gap(rank, self.dominators[rank as usize]);
+        let left = self.counts[gap as usize] - 1;
+        self.counts[gap as usize] = left;
+        if left == 0 {
+            self.close_gap(gap);
+        }
+    }
+
+    /// Strikes all that the round has to strike.
+    pub(crate) fn strike_all(&mut self)
+        requires { IsStriking self.old self.old.strikes }
+        ensures struck { IsStriking self.new [] }
+        ensures kept { IsKept self.old self.new }
+    {
+        for place in 0..self.strikes.len() {
+            let rank = self.strikes[place];
+            self.strike(rank);
+        }
+    }
+
+    /// How many are filed at the value.
+    pub(crate) fn filed(&self) -> u32
+        ensures { result ≡ length (filed_at self.now self.now.value) }
+    {
+        self.filed
+    }
+
+    /// Goes on to the next value, and answers how many are filed at the one before.
+    pub(crate) fn turn(&mut self) -> u32
+        requires value { self.old.value < configurations self.old.board }
+        requires none_later { filed_at self.old (suc self.old.value) ≡ [] }
+        ensures filed { result ≡ length (filed_at self.old self.old.value) }
+        ensures turned { self.new ≡ turned self.old }
+    {
+        mem::swap(&mut self.strikes, &mut self.next);
+        self.next.clear();
+        self.value += 1;
+        mem::replace(&mut self.filed, 0)
+    }
+}
