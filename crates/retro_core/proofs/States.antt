@@ -17,7 +17,7 @@ use Rattle.retro_core.specs.Arena.{Arena, IsArena, count_below, live, lasts, IsL
 use Rattle.retro_core.specs.BoardArena.{arena_of}
 use Rattle.retro_core.specs.Round.{AreToStrike}
 use Rattle.retro_core.specs.Solving.{Solving, AreOpenMembers, IsSolving, NoneHas, AnswerLasts, AnswerForever, first_lists}
-use Rattle.retro_core.specs.Stage.{PlainStage, filed_at, turned, IsFiled, IsStage, IsKept, IsStriking, IsOpened, IsState}
+use Rattle.retro_core.specs.Stage.{PlainStage, filed_at, turned, IsFiled, IsStage, IsKept, IsStriking, IsUnstruck, IsOpened, IsState}
 use Rattle.retro_core.specs.Tables.{is_open, open_members, alive, struck_rounds, AreWords, AreValues}
 use Rattle.retro_core.proofs.Counts.{count_below-some, count_below-less, count_below-bound}
 use Rattle.retro_core.proofs.Lasting.{both_true, true_or_false, true_not_false, same_or_not, same_is, lasts-less, lasts-at-most}
@@ -374,6 +374,15 @@ module _ (s : PlainStage) (round : ℕ) (is_done : Bool) (st : IsState s round i
   pub to-begin : is_done ≡ false → IsStriking s s.strikes
   to-begin going = round-starts s st.is_board st.few round round-below st.value_is st.strikes_are
       (subst (λ d. IsStage (lasts arena (struck_rounds d round)) s) going st.stage)
+
+  -- the same, where nothing is to be struck again
+  pub unstruck-of : is_done ≡ false → IsUnstruck s
+  unstruck-of going = record {
+    round = round;
+    value_is = st.value_is;
+    small = record { is_board = st.is_board; few = st.few; low = (let at = st.value_is in let below = round-below in omega arith) };
+    stage = subst (λ d. IsStage (lasts arena (struck_rounds d round)) s) going st.stage;
+  }
 
   module _ (s' : PlainStage) (struck : IsStriking s' []) (kept : IsKept s s') where
     value_is : s'.value ≡ suc round

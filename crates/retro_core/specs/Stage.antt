@@ -7,6 +7,7 @@ use Rattle.positions.specs.Gaps.{gaps}
 use Rattle.retro_core.specs.Arena.{Arena, count_below, lasts, IsLast, dominated}
 use Rattle.retro_core.specs.BoardArena.{arena_of}
 use Rattle.retro_core.specs.Solving.{Solving, first_lists}
+use Rattle.retro_core.specs.Stored.{IsSmall}
 use Rattle.retro_core.specs.Tables.{alive, struck_rounds, open_members, IsCounted, AreWords, AreFirstWords, IsClosed}
 
 -- a board, the value that configurations are filed at, a word for each configuration, a count for each gap,
@@ -101,6 +102,27 @@ pub record IsStriking (s : PlainStage) (todo : List ℕ) : Type 0 where
   pub stage : IsStage (alive (arena_of s.board) round todo) s
   pub due : (x : ℕ) → 0 < times x todo → IsStruckAt (arena_of s.board) round x
   pub once : (x : ℕ) → times x todo ≤ 1
+
+-- nothing of the value before is struck yet
+pub record IsUnstruck (s : PlainStage) : Type 0 where
+  pub round : ℕ
+  pub value_is : s.value ≡ suc round
+  pub small : IsSmall s.board s.value
+  pub stage : IsStage (lasts (arena_of s.board) round) s
+
+-- these configurations have the value too and are filed at it, and nothing else changes
+pub record FilesAll (s : PlainStage) (ranks : List ℕ) (s' : PlainStage) : Type 0 where
+  pub kept : IsKept s s'
+  pub counts_is : s'.counts ≡ s.counts
+  pub there : (x : ℕ) → 0 < times x ranks → slice_index s'.values x ≡ s.value
+  pub elsewhere : (x : ℕ) → times x ranks ≡ 0 → slice_index s'.values x ≡ slice_index s.values x
+  pub filed_are : IsFiled s'
+
+-- the gaps have these counts, and nothing else changes
+pub record TakesCounts (s : PlainStage) (counts : List ℕ) (s' : PlainStage) : Type 0 where
+  pub rest : s' ≡ counting s s'.counts
+  pub counts_length : length s'.counts ≡ length s.counts
+  pub each : (gap : ℕ) → gap < gaps s.board → slice_index s'.counts gap ≡ slice_index counts gap
 
 -- each configuration has its first word, and none is filed
 pub record IsUnlisted (s : PlainStage) : Type 0 where

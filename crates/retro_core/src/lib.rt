@@ -4,7 +4,9 @@
 mod answering;
 mod end;
 mod fault;
+mod finishing;
 mod laws_of_rounds;
+mod next_value;
 mod opening;
 mod progress;
 mod queue;

@@ -7,9 +7,12 @@ ghost use Rattle.positions.specs.Ranks.{configurations, configuration_at};
 ghost use Rattle.positions.specs.Gaps.{gaps, IsDominator};
 ghost use Rattle.positions.specs.Counts.{HasSize, IsSmallest};
 ghost use Rattle.retro_core.specs.Round.{AreToStrike};
+ghost use Rattle.retro_core.specs.Ending.{IsRoundEnd};
 ghost use Rattle.retro_core.specs.Solving.{IsSolving, bucket, source, NoneHas, AnswerLasts, AnswerForever};
 
+use crate::end::RoundEnd;
 use crate::fault::SolveFault;
+use crate::next_value::{ByStrikes, FromEnd, NextValue};
 use crate::progress::Progress;
 use crate::stage::{OPEN, Stage};
 use crate::values::Values;
@@ -91,10 +94,38 @@ impl<S: ListStore> Solver<S> {
         ensures filed_before { (value : ℕ) → value ≤ self.old.rounds → bucket self.new value ≡ bucket self.old value }
         ensures kept { IsSolving self.new }
     {
+        self.file_next(&ByStrikes)
+    }
+
+    /// Files what a round of this value that was worked off has won, and takes over its counts; or finds that no configuration has the next value.
+    pub fn file_round<E: RoundEnd>(&mut self, end: &E) -> Progress
+        requires { IsRoundEnd self.old (E.won_list end.now) (E.counts end.now) }
+        ensures board { self.new.board ≡ self.old.board }
+        ensures after_done { self.old.is_done ≡ true → (result ≡ Progress.Done) × (self.new ≡ self.old) }
+        ensures filed { (n : ℕ) → result ≡ Progress.Filed n
+            → (0 < n) × (n ≡ length (bucket self.new (suc self.old.rounds))) × (self.new.rounds ≡ self.old.rounds + 1) × (self.new.is_done ≡ false) }
+        ensures none { result ≡ Progress.Done → NoneHas self.old.board (suc self.old.rounds) × (self.new.rounds ≡ self.old.rounds) × (self.new.is_done ≡ true) }
+        ensures filed_before { (value : ℕ) → value ≤ self.old.rounds → bucket self.new value ≡ bucket self.old value }
+        ensures kept { IsSolving self.new }
+    {
+        self.file_next(&FromEnd(end))
+    }
+
+    /// Files all configurations of the next value in this way, or finds that none has it.
+    fn file_next<N: NextValue>(&mut self, by: &N) -> Progress
+        requires { self.old.is_done ≡ false → N.serves by.now self.old }
+        ensures board { self.new.board ≡ self.old.board }
+        ensures after_done { self.old.is_done ≡ true → (result ≡ Progress.Done) × (self.new ≡ self.old) }
+        ensures filed { (n : ℕ) → result ≡ Progress.Filed n
+            → (0 < n) × (n ≡ length (bucket self.new (suc self.old.rounds))) × (self.new.rounds ≡ self.old.rounds + 1) × (self.new.is_done ≡ false) }
+        ensures none { result ≡ Progress.Done → NoneHas self.old.board (suc self.old.rounds) × (self.new.rounds ≡ self.old.rounds) × (self.new.is_done ≡ true) }
+        ensures filed_before { (value : ℕ) → value ≤ self.old.rounds → bucket self.new value ≡ bucket self.old value }
+        ensures kept { IsSolving self.new }
+    {
         if self.done {
             return Progress::Done;
         }
-        self.stage.strike_all();
+        by.file(&mut self.stage);
         if self.stage.filed() == 0 {
             self.done = true;
             return Progress::Done;

@@ -75,7 +75,7 @@ impl<S: ListStore> Stage<S> {
     }
 
     /// Files an open configuration at the value.
-    fn file(&mut self, rank: u32)
+    pub(crate) fn file(&mut self, rank: u32)
         requires rank_in { rank < configurations self.old.board }
         requires filed { IsFiled self.old }
         requires was_open { is_open self.old.values rank ≡ true }

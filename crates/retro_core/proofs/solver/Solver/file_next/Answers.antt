@@ -1,10 +1,10 @@
 use Rattle.std.proofs.Common.{◌≡◌, ◌≢◌, ◌-◌, ◌∙◌, ℕ, suc, true, false, refl, sym, ap, subst, arith, vec_capacity}
 use Rattle.retro_core.specs.Sizes.{AreSizes}
 use Rattle.retro_core.specs.Solving.{Solving, IsSolving, NoneHas}
-use Rattle.retro_core.specs.Stage.{PlainStage, turned, IsState}
-use Rattle.retro_core.proofs.States.{solving_of, none-has, to-begin, last-state, next-below, size-below, none-later, further-state}
+use Rattle.retro_core.specs.Stage.{PlainStage, solving, turned, IsState}
+use Rattle.retro_core.proofs.States.{solving_of, unstruck-of, none-has, to-begin, last-state, next-below, size-below, none-later, further-state}
 use Rattle.retro_core.proofs.ValueSizes.{sizes-kept, sizes-more, sizes-room}
-use Rattle.retro_core.proofs.solver.Solver.round.Goals as goal
+use Rattle.retro_core.proofs.solver.Solver.file_next.Goals as goal
 
 pub returns-then-self-clause-none : goal.returns-then-self-clause-none
 returns-then-self-clause-none g c = λ _.
@@ -14,14 +14,22 @@ returns-then-self-clause-none g c = λ _.
 pub returns-then-self-clause-kept : goal.returns-then-self-clause-kept
 returns-then-self-clause-kept g c = subst IsSolving c.self.view_is (solving_of c.self.inside.stage _ c.self.inside.done c.self.invariant.0)
 
-pub strike_all-requires : goal.strike_all-requires
-strike_all-requires g c = to-begin c.self.inside.stage _ c.self.inside.done c.self.invariant.0 c.if-self.false
+pub file-requires-clause-striking : goal.file-requires-clause-striking
+file-requires-clause-striking g c = to-begin c.self.inside.stage _ c.self.inside.done c.self.invariant.0 c.if-self.false
+
+pub file-requires-clause-unstruck : goal.file-requires-clause-unstruck
+file-requires-clause-unstruck g c = unstruck-of c.self.inside.stage _ c.self.inside.done c.self.invariant.0 c.if-self.false
+
+pub file-requires-clause-serves : goal.file-requires-clause-serves
+file-requires-clause-serves g c =
+    let going : c.args.self.now.is_done ≡ false = ap (λ (v : Solving). v.is_done) (sym c.self.view_is) ∙ c.if-self.false in
+    subst (g.N.NextValue.serves c.args.by.now) (sym c.self.view_is ∙ ap (solving c.self.inside.stage) c.if-self.false) (c.requires going)
 
 pub invariant_of-self : goal.invariant_of-self
 invariant_of-self g c =
     let s : PlainStage = c.self.inside.stage in
-    let now : PlainStage = c.strike_all.new.self in
-    let e = c.strike_all.ensures in
+    let now : PlainStage = c.file.new.stage in
+    let e = c.file.ensures in
     let last = last-state s (s.value - 1) c.self.inside.done c.self.invariant.0 now e.struck e.kept (sym c.filed.ensures ∙ c.if-filed-eq0.true) in
     let same : s.value - 1 ≡ now.value - 1 = ap (λ n. n - 1) (sym e.kept.value_is) in (
       subst (λ n. IsState now n true) same last,
@@ -31,8 +39,8 @@ invariant_of-self g c =
 pub returns-then-filed-eq0-clause-none : goal.returns-then-filed-eq0-clause-none
 returns-then-filed-eq0-clause-none g c = λ _.
     let s : PlainStage = c.self.inside.stage in
-    let now : PlainStage = c.strike_all.new.self in
-    let e = c.strike_all.ensures in
+    let now : PlainStage = c.file.new.stage in
+    let e = c.file.ensures in
     let last = last-state s (s.value - 1) c.self.inside.done c.self.invariant.0 now e.struck e.kept (sym c.filed.ensures ∙ c.if-filed-eq0.true) in
     subst (λ (v : Solving). NoneHas v.board (suc v.rounds) × (now.value - 1 ≡ v.rounds) × (true ≡ true)) c.self.view_is
     (subst (λ p. NoneHas p (suc (s.value - 1))) e.kept.board_is (none-has now (s.value - 1) true last refl), ap (λ n. n - 1) e.kept.value_is, refl)
@@ -40,8 +48,8 @@ returns-then-filed-eq0-clause-none g c = λ _.
 pub returns-then-filed-eq0-clause-kept : goal.returns-then-filed-eq0-clause-kept
 returns-then-filed-eq0-clause-kept g c =
     let s : PlainStage = c.self.inside.stage in
-    let now : PlainStage = c.strike_all.new.self in
-    let e = c.strike_all.ensures in
+    let now : PlainStage = c.file.new.stage in
+    let e = c.file.ensures in
     let last = last-state s (s.value - 1) c.self.inside.done c.self.invariant.0 now e.struck e.kept (sym c.filed.ensures ∙ c.if-filed-eq0.true) in
     let same : s.value - 1 ≡ now.value - 1 = ap (λ n. n - 1) (sym e.kept.value_is) in
     solving_of now (now.value - 1) true (subst (λ n. IsState now n true) same last)
@@ -52,18 +60,18 @@ some n k is d e = d (is ∙ e)
 
 pub turn-filed-requires-clause-value : goal.turn-filed-requires-clause-value
 turn-filed-requires-clause-value g c =
-    let e = c.strike_all.ensures in
-    next-below c.self.inside.stage _ c.self.inside.done c.self.invariant.0 c.strike_all.new.self e.struck e.kept (some _ _ c.filed.ensures c.if-filed-eq0.false)
+    let e = c.file.ensures in
+    next-below c.self.inside.stage _ c.self.inside.done c.self.invariant.0 c.file.new.stage e.struck e.kept (some _ _ c.filed.ensures c.if-filed-eq0.false)
 
 pub turn-filed-requires-clause-none_later : goal.turn-filed-requires-clause-none_later
 turn-filed-requires-clause-none_later g c =
-    let e = c.strike_all.ensures in
-    none-later c.self.inside.stage _ c.self.inside.done c.self.invariant.0 c.strike_all.new.self e.struck e.kept
+    let e = c.file.ensures in
+    none-later c.self.inside.stage _ c.self.inside.done c.self.invariant.0 c.file.new.stage e.struck e.kept
 
 pub push_reserved-requires : goal.push_reserved-requires
 push_reserved-requires g c =
-    let e = c.strike_all.ensures in
-    let room = sizes-room c.self.inside.stage _ _ _ c.self.invariant.1 (size-below c.self.inside.stage _ c.self.inside.done c.self.invariant.0 c.strike_all.new.self e.struck e.kept (some _ _ c.filed.ensures c.if-filed-eq0.false)) in
+    let e = c.file.ensures in
+    let room = sizes-room c.self.inside.stage _ _ _ c.self.invariant.1 (size-below c.self.inside.stage _ c.self.inside.done c.self.invariant.0 c.file.new.stage e.struck e.kept (some _ _ c.filed.ensures c.if-filed-eq0.false)) in
     omega (arith, room)
 
 -- the value behind
@@ -73,8 +81,8 @@ next-round s now round at same = omega arith
 pub invariant_of-self-2 : goal.invariant_of-self-2
 invariant_of-self-2 g c =
     let s : PlainStage = c.self.inside.stage in
-    let now : PlainStage = c.strike_all.new.self in
-    let e = c.strike_all.ensures in
+    let now : PlainStage = c.file.new.stage in
+    let e = c.file.ensures in
     let st = c.self.invariant.0 in
     let filed = some _ _ c.filed.ensures c.if-filed-eq0.false in
     let next = next-round s now (s.value - 1) st.value_is e.kept.value_is in
@@ -87,8 +95,8 @@ invariant_of-self-2 g c =
 pub returns-clause-kept : goal.returns-clause-kept
 returns-clause-kept g c =
     let s : PlainStage = c.self.inside.stage in
-    let now : PlainStage = c.strike_all.new.self in
-    let e = c.strike_all.ensures in
+    let now : PlainStage = c.file.new.stage in
+    let e = c.file.ensures in
     let st = c.self.invariant.0 in
     let filed = some _ _ c.filed.ensures c.if-filed-eq0.false in
     let next = next-round s now (s.value - 1) st.value_is e.kept.value_is in
