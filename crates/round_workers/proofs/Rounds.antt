@@ -1,0 +1,40 @@
+-- How many rounds there can be.
+use Rattle.std.proofs.Common.{◌≡◌, ℕ, suc, ◌-◌, ◌<◌, ◌≤◌, inl, inr, cond, List, [], ◌∷◌, length, refl, arith}
+use Rattle.std.proofs.lemmas.Bool.{cases_lt}
+use Rattle.board_text.specs.PlainBoard.{PlainBoard, IsConfiguration}
+use Rattle.index_lists.specs.Lists.{times}
+use Rattle.index_lists.proofs.Times.{times-here}
+use Rattle.positions.specs.declared.value.Value.TheVariants.{Finite, Forever}
+use Rattle.positions.specs.Ranks.{configurations, configuration_at}
+use Rattle.positions.specs.Value.{HasValue}
+use Rattle.positions.proofs.Finiteness.{forever_from_count}
+use Rattle.positions.proofs.Ranks.{configuration_at_is}
+use Rattle.positions.proofs.Trees.{lasts_at_most}
+use Rattle.positions.proofs.Values.{same_value}
+use Rattle.retro_core.specs.Solving.{Solving, bucket, IsSolving}
+
+-- how many rounds are left at most, and one more as long as the last isn't known
+abbrev pub rounds_left : Solving → ℕ
+rounds_left solver = cond solver.is_done 0 (suc (configurations solver.board - solver.rounds))
+
+-- a finite value is no greater than the number of configurations
+pub value_few : (board : PlainBoard) (configuration : List ℕ) (value : ℕ) → IsConfiguration board configuration → HasValue board configuration (Finite value)
+    → value ≤ configurations board
+value_few board configuration value is has = elim (cases_lt (configurations board) value) [
+  | inr few ↦ few
+  | inl many ↦
+      let forever = forever_from_count board configuration is (lasts_at_most board configuration (configurations board) value (omega arith) has.0) in
+      let same : Forever ≡ Finite value = same_value board configuration Forever (Finite value) forever has in absurd cc
+]
+
+some_filed : (ranks : List ℕ) → 0 < length ranks → (rank : ℕ) × (0 < times rank ranks)
+some_filed [] none = absurd (omega arith)
+some_filed (rank ∷ ranks) some = (rank, times-here rank rank ranks refl)
+
+-- a value that something is filed at is no greater
+pub rounds_few : (solver : Solving) → IsSolving solver → 0 < length (bucket solver solver.rounds) → solver.rounds ≤ configurations solver.board
+rounds_few solver is some =
+    let filed = some_filed (bucket solver solver.rounds) some in
+    let is_rank = is.buckets.ranks solver.rounds filed.0 filed.1 in
+    let has = ((is.buckets.filed solver.rounds filed.0 is_rank).0 filed.1).1 in
+    value_few solver.board (configuration_at solver.board filed.0) solver.rounds (configuration_at_is solver.board filed.0 is_rank) has

@@ -1,0 +1,13 @@
+use Rattle.std.proofs.Common.{◌≡◌}
+use Rattle.retro_core.specs.Solving.{IsSolving}
+use Rattle.round_workers.proofs.Rounds.{rounds_left}
+use Rattle.round_workers.proofs.solving.solve_values.Given as goal
+
+abbrev pub invariant-loop-values : goal.invariant-loop-values
+invariant-loop-values g l = record {
+  board : l.solver.board ≡ l.board;
+  kept : IsSolving l.solver;
+}
+
+abbrev pub decreases-loop-values : goal.decreases-loop-values
+decreases-loop-values g l = rounds_left l.solver

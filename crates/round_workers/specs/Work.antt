@@ -1,0 +1,7 @@
+-- What workers do to a seat.
+use Rattle.std.specs.Prelude.{◌≡◌, []}
+use Rattle.claim_round.specs.Shared.{Place, Stays}
+
+-- it is the same seat, with its whole width, nothing left to strike and nothing owed
+abbrev pub IsWorked : Place → Place → Type 0
+IsWorked p q = Stays p q × (q.view.has.width ≡ p.view.has.width) × (q.view.has.todo ≡ []) × (q.view.has.owed ≡ [])

@@ -1,0 +1,68 @@
+//! The values of a board, by workers.
+
+ghost use Rattle.std.specs.Prelude.{◌≡◌, ℕ, ◌<◌, ◌≤◌, ◌↔◌, false, Err, IfOk};
+ghost use Rattle.positions.specs.Ranks.{configurations};
+ghost use Rattle.retro_core.specs.Ending.{IsRoundEnd};
+
+use crate::fault::WorkFault;
+use crate::gate::Gate;
+use crate::tree::share;
+use board_text::Board;
+use claim_round::{Closed, SharedRound};
+use index_lists::{LinkLists, ListStore};
+use retro_core::{SolveFault, Solver, Values};
+use std::alloc::Global;
+use std::sync::Wait;
+use std::thread::Threads;
+
+/// So many workers, each in a thread of its own, work a round to its end. Worker 0 is this thread.
+fn work_round<S: ListStore + Sync, G: Gate, R: Threads + Wait + Sync>(
+    rt: &R,
+    alloc: Global,
+    solver: &Solver<S>,
+    workers: u32,
+    gate: &G,
+) -> Result<Closed, WorkFault>
+    requires going { solver.now.is_done ≡ false }
+    requires workers { (1 ≤ workers) × (workers ≤ 16) }
+    ensures end { IfOk result (λ c. IsRoundEnd solver.now c.won c.counts) }
+{
+    let (round, seat) = SharedRound::open(alloc, solver, workers)?;
+    let seat = share(rt, &round, gate, 0, solver.round_number(), seat)?;
+    let Ok(closed) = round.close(seat) else {
+        unreachable!();
+    };
+    Ok(closed)
+}
+
+/// The values of a board, found in rounds that so many workers share, 1 to 16.
+///
+/// Each round is shared by all workers: a seat of its own for each, the first on this thread, the others each on a thread
+/// that is started for the round and joined before it ends. One worker starts no thread. It may wait for its workers.
+/// The values are those of the board, whatever the number of workers, the gate and the schedule are.
+/// `Worker` is answered only where a thread's start was refused.
+pub fn solve_values<G: Gate, R: Threads + Wait + Sync>(
+    rt: &R,
+    alloc: Global,
+    board: &Board,
+    workers: u32,
+    gate: &G,
+) -> Result<Values, SolveFault>
+    requires workers { (1 ≤ workers) × (workers ≤ 16) }
+    ensures values { IfOk result (λ values. values ≡ board.now) }
+    ensures too_large { (result ≡ Err SolveFault.TooLarge) ↔ (1048576 < configurations board.now) }
+{
+    let mut solver = Solver::<LinkLists>::open(alloc, board)?;
+    loop {
+        match solver.finish() {
+            Ok(values) => return Ok(values),
+            Err(unfinished) => solver = unfinished.solver,
+        }
+        let closed = match work_round(rt, alloc, &solver, workers, gate) {
+            Ok(closed) => closed,
+            Err(WorkFault::Memory) => return Err(SolveFault::Memory),
+            Err(WorkFault::Worker) => return Err(SolveFault::Worker),
+        };
+        solver.file_round(&closed);
+    }
+}

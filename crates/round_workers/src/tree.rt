@@ -1,0 +1,113 @@
+//! The fork tree of a round: a seat is split down to width 1, left to right, and each worker has one part.
+
+ghost use Rattle.std.specs.Thread.{IsSync};
+ghost use Rattle.std.specs.Prelude.{◌≡◌, ◌≤◌, ◌<◌, ◌+◌, ◌^◌, IfOk};
+ghost use Rattle.claim_round.specs.Shared.{IsOf};
+ghost use Rattle.round_workers.specs.Work.{IsWorked};
+
+use crate::fault::WorkFault;
+use crate::gate::Gate;
+use crate::sharing::Sharing;
+use claim_round::RoundSeat;
+use std::snapshot::Snapshot;
+use std::sync::Wait;
+use std::thread;
+use std::thread::{Promise, Threads};
+
+/// A worker gives back the seat that it was given, worked to the end.
+#[derive(Drop)]
+struct Worked(Snapshot<RoundSeat>);
+
+impl Promise<Result<RoundSeat, WorkFault>> for Worked {
+    ghost use Rattle.std.specs.Prelude.{IfOk};
+    ghost use Rattle.round_workers.specs.Work.{IsWorked};
+
+    ghost kept_by = { λ p r. IfOk r (λ s. IsWorked p.0.value s) };
+}
+
+/// What one worker does in a round: it passes the gate, works its seat to the end, and leaves.
+fn worker<W: Sharing, G: Gate>(
+    round: &W,
+    gate: &G,
+    worker: u32,
+    number: u32,
+    mut seat: RoundSeat,
+) -> RoundSeat
+    requires mine { IsOf (W.id round.now) seat }
+    requires width { seat.view.has.width ≡ 1 }
+    ensures { IsWorked seat result }
+{
+    gate.pass(worker, number, &seat);
+    round.work(&mut seat);
+    gate.leave(worker, number, &seat);
+    seat
+}
+
+/// Workers do what a seat has to do, one for each part of its width. The first of them has this number.
+#[cycle(tree)]
+pub fn share<W: Sharing + Sync, G: Gate, R: Threads + Wait + Sync>(
+    rt: &R,
+    round: &W,
+    gate: &G,
+    first: u32,
+    number: u32,
+    seat: RoundSeat,
+) -> Result<RoundSeat, WorkFault>
+    requires mine { IsOf (W.id round.now) seat }
+    requires workers { first + seat.view.has.width < 2 ^ 32 }
+    ensures { IfOk result (λ r. IsWorked seat r) }
+{
+    if seat.width() == 1 {
+        return Ok(worker(round, gate, first, number, seat));
+    }
+    let (left, right) = round.split(seat)?;
+    let (left, right) = apart(rt, round, gate, first, number, left, right)?;
+    round.join(left, right)
+}
+
+/// Workers do what two seats have to do: those of the right one from a thread of its own on, those of the left one from here on.
+#[cycle(tree)]
+fn apart<W: Sharing + Sync, G: Gate, R: Threads + Wait + Sync>(
+    rt: &R,
+    round: &W,
+    gate: &G,
+    first: u32,
+    number: u32,
+    left: RoundSeat,
+    right: RoundSeat,
+) -> Result<(RoundSeat, RoundSeat), WorkFault>
+    requires left { IsOf (W.id round.now) left }
+    requires right { IsOf (W.id round.now) right }
+    requires workers { first + left.view.has.width + right.view.has.width < 2 ^ 32 }
+    ensures { IfOk result (λ r. IsWorked left r.0 × IsWorked right r.1) }
+{
+    thread::scope(
+        thread::scope_env(),
+        rt,
+        move |scope| -> Result<(RoundSeat, RoundSeat), WorkFault>
+            requires sync { IsSync R.row }
+            requires left { IsOf (W.id round.now) left }
+            requires right { IsOf (W.id round.now) right }
+            requires workers { first + left.view.has.width + right.view.has.width < 2 ^ 32 }
+            ensures { IfOk result (λ r. IsWorked left r.0 × IsWorked right r.1) }
+        {
+            let other = first + left.width();
+            let promise = Worked(Snapshot::of(&right));
+            let started = scope.spawn_with(
+                promise,
+                move || -> Result<RoundSeat, WorkFault>
+                    requires sync { IsSync R.row }
+                    requires mine { IsOf (W.id round.now) right }
+                    requires workers { other + right.view.has.width < 2 ^ 32 }
+                    ensures { IfOk result (λ r. IsWorked right r) }
+                { share(rt, round, gate, other, number, right) },
+            );
+            let Ok(child) = started else {
+                return Err(WorkFault::Worker);
+            };
+            let mine = share(rt, round, gate, first, number, left);
+            let theirs = child.join(rt);
+            Ok((mine?, theirs?))
+        },
+    )
+}

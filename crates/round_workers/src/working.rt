@@ -1,0 +1,24 @@
+//! What one worker does with its seat.
+
+ghost use Rattle.std.specs.Prelude.{◌≡◌};
+ghost use Rattle.claim_round.specs.Shared.{IsOf};
+ghost use Rattle.round_workers.specs.Work.{IsWorked};
+
+use claim_round::{RoundSeat, SharedRound};
+use index_lists::ListStore;
+
+/// Strikes and claims until nothing is left.
+pub fn work<S: ListStore>(round: &SharedRound<'_, S>, seat: &mut RoundSeat)
+    requires { IsOf round.now seat.old }
+    ensures { IsWorked seat.old seat.new }
+{
+    while seat.owed() > 0 {
+        round.claim(seat);
+    }
+    while seat.todo() > 0 {
+        round.strike(seat);
+        while seat.owed() > 0 {
+            round.claim(seat);
+        }
+    }
+}
