@@ -1,5 +1,5 @@
 -- What a run that solves a board reads, answers and writes.
-use Rattle.std.specs.Prelude.{◌≡◌, ℕ, List, Option}
+use Rattle.std.specs.Prelude.{◌≡◌, ℕ, ◌<◌, List, Option}
 use Rattle.std.specs.Io.KnownBytes.{Appends}
 use Rattle.board_text.specs.PlainBoard.{PlainBoard}
 use Rattle.board_text.specs.Ends.{AppendsFront}
@@ -10,7 +10,7 @@ use Rattle.proof_text.specs.ProofText.{proof_text}
 use Rattle.strategies.specs.Document.{IsDocumentOf}
 use Rattle.pebbles.specs.CheckRun.{GaveBoard, GaveNoBoard}
 use Rattle.pebbles.specs.declared.running.RunFault.{RunFault}
-use Rattle.pebbles.specs.declared.running.RunFault.TheVariants.{Write}
+use Rattle.pebbles.specs.declared.running.RunFault.TheVariants.{Memory, Worker, Write}
 
 -- the value of the board's start, and the text of the board's document
 pub record IsSolved (board : PlainBoard) (value : Value) (text : List ℕ) : Type 0 where
@@ -24,8 +24,20 @@ abbrev pub RanSolve : Option (List ℕ) → Option (List ℕ) → Option (List �
 RanSolve left_old left_new taken_old taken_new value =
     (board : PlainBoard) × (text : List ℕ) × GaveBoard left_old left_new board × IsSolved board value text × Appends taken_old taken_new text
 
--- why a run ended without solving: the document of the board wasn't written whole, or there was no small board, or memory was wanting
-abbrev pub SolveFails : Option (List ℕ) → Option (List ℕ) → ℕ → Option (List ℕ) → Option (List ℕ) → RunFault → Type 0
-SolveFails left_old left_new limit taken_old taken_new Write =
+-- memory was wanting, or a thread wasn't started, which there is with several workers alone
+abbrev pub IsRefused : ℕ → RunFault → Type 0
+IsRefused workers Memory = Unit {0}
+IsRefused workers Worker = 1 < workers
+IsRefused workers fault = ⊥
+
+-- a small board was read, and a worker couldn't be started
+abbrev pub LacksWorker : ℕ → Option (List ℕ) → Option (List ℕ) → Type 0
+LacksWorker workers left_old left_new = (board : PlainBoard) × GaveBoard left_old left_new board × (1 < workers)
+
+-- why a run ended without solving: the document of the board wasn't written whole, or a worker couldn't be started, or there was no small board,
+-- or memory was wanting
+abbrev pub SolveFails : ℕ → Option (List ℕ) → Option (List ℕ) → ℕ → Option (List ℕ) → Option (List ℕ) → RunFault → Type 0
+SolveFails workers left_old left_new limit taken_old taken_new Write =
     (board : PlainBoard) × (value : Value) × (text : List ℕ) × GaveBoard left_old left_new board × IsSolved board value text × AppendsFront taken_old taken_new text
-SolveFails left_old left_new limit taken_old taken_new fault = GaveNoBoard left_old left_new limit fault
+SolveFails workers left_old left_new limit taken_old taken_new Worker = LacksWorker workers left_old left_new
+SolveFails workers left_old left_new limit taken_old taken_new fault = GaveNoBoard left_old left_new limit fault

@@ -3,46 +3,48 @@
 ghost use Rattle.std.specs.Prelude.{◌≡◌, ◌≢◌, ◌↔◌, ◌≤◌, ℕ, List, ◌++◌, true, false, Err, IfOk, IfErr, OnOk, string_bytes};
 ghost use Rattle.board_text.specs.Ranges.{InRange};
 ghost use Rattle.positions.specs.Ranks.{configurations};
-ghost use Rattle.pebbles.specs.Run.{IsMemory, most_configurations};
+ghost use Rattle.pebbles.specs.Run.{most_configurations};
 ghost use Rattle.pebbles.specs.Report.{AreCounts, IsCountOfValues, IsReportOf, count_line, count_lines, end_lines, head_lines, size_line, size_lines, start_line};
 ghost use Rattle.pebbles.specs.ReportRun.{RanReport, ReportFails};
+ghost use Rattle.pebbles.specs.SolveRun.{IsRefused};
 ghost use Rattle.pebbles.specs.declared.running.RunFault.TheVariants.{Read, Write};
 
 use crate::reading::{MAX_BOARD_BYTES, read_board};
 use crate::running::RunFault;
-use crate::solving::values_of;
+use crate::solving::values_by;
 use board_text::{Board, Failed, Sink, Source, write_all};
 use positions::{Space, Value};
 use proof_text::write_claim;
 use retro_core::Values;
 use std::alloc::{AllocError, Global};
 use std::fmt::Write;
+use std::sync::Wait;
 use std::thread::Threads;
 use strategies::claim;
 
 /// Reads a board and writes how many of its configurations have each value.
 ///
-/// The number of workers is 1 to 16; so far all rounds are run on this thread, whatever it is.
+/// The number of workers is 1 to 16, and they find the values as in `run_solve`. It may wait for them.
 /// The reader and the writer must not have failed before. Nothing is written before the whole text is built: after a fault nothing was written,
 /// but for `Write`, after which a front of the text was.
 pub fn run_report<R: Source, W: Sink>(
-    _rt: &(impl Threads + Sync),
+    rt: &(impl Threads + Wait + Sync),
     alloc: Global,
-    _workers: u8,
+    workers: u8,
     reader: &mut R,
     writer: &mut W,
 ) -> Result<(), RunFault>
-    requires workers { InRange 1 16 _workers }
+    requires workers { InRange 1 16 workers }
     requires reader_ready { R.has_failed reader.old ≡ false }
     requires writer_ready { W.has_failed writer.old ≡ false }
     ensures ok { OnOk result (RanReport (R.left reader.old) (R.left reader.new) (W.taken writer.old) (W.taken writer.new)) }
-    ensures fault { IfErr result (ReportFails (R.left reader.old) (R.left reader.new) MAX_BOARD_BYTES (W.taken writer.old) (W.taken writer.new)) }
+    ensures fault { IfErr result (ReportFails workers (R.left reader.old) (R.left reader.new) MAX_BOARD_BYTES (W.taken writer.old) (W.taken writer.new)) }
     ensures read { (R.has_failed reader.new ≡ true) ↔ (result ≡ Err Read) }
     ensures write { (W.has_failed writer.new ≡ true) ↔ (result ≡ Err Write) }
     ensures unwritten { IfErr result (λ fault. fault ≢ Write → writer.new ≡ writer.old) }
 {
     let (board, _) = read_board(alloc, reader)?;
-    let text = report_on(alloc, &board)?;
+    let text = report_on(rt, alloc, &board, workers)?;
     match write_all(writer, text.as_bytes()) {
         Ok(()) => Ok(()),
         Err(Failed) => Err(RunFault::Write),
@@ -50,12 +52,18 @@ pub fn run_report<R: Source, W: Sink>(
 }
 
 /// The report of a small board.
-fn report_on(alloc: Global, board: &Board) -> Result<String, RunFault>
-    requires { configurations board.now ≤ most_configurations }
+fn report_on(
+    rt: &(impl Threads + Wait + Sync),
+    alloc: Global,
+    board: &Board,
+    workers: u8,
+) -> Result<String, RunFault>
+    requires few { configurations board.now ≤ most_configurations }
+    requires workers { InRange 1 16 workers }
     ensures text { IfOk result (λ text. IsReportOf board.now (string_bytes text)) }
-    ensures memory { IfErr result IsMemory }
+    ensures refused { IfErr result (IsRefused workers) }
 {
-    let values = values_of(alloc, board)?;
+    let values = values_by(rt, alloc, board, workers)?;
     match report_of(alloc, board, &values) {
         Ok(text) => Ok(text),
         Err(AllocError) => Err(RunFault::Memory),

@@ -4,7 +4,7 @@ ghost use Rattle.std.specs.Prelude.{◌≡◌, ◌≢◌, ◌↔◌, ◌≤◌, 
 ghost use Rattle.board_text.specs.Ranges.{InRange};
 ghost use Rattle.positions.specs.Ranks.{configurations};
 ghost use Rattle.pebbles.specs.Run.{IsMemory, most_configurations};
-ghost use Rattle.pebbles.specs.SolveRun.{IsSolved, RanSolve, SolveFails};
+ghost use Rattle.pebbles.specs.SolveRun.{IsRefused, IsSolved, RanSolve, SolveFails};
 ghost use Rattle.pebbles.specs.declared.running.RunFault.TheVariants.{Read, Write};
 
 use crate::reading::{MAX_BOARD_BYTES, read_board};
@@ -14,33 +14,36 @@ use index_lists::LinkLists;
 use positions::Value;
 use proof_text::print;
 use retro_core::{SolveFault, Solver, Values};
+use round_workers::{NoGate, solve_values};
 use std::alloc::Global;
+use std::sync::Wait;
 use std::thread::Threads;
 use strategies::document;
 
 /// Reads a board, finds the value of its start and writes the document that shows it.
 ///
-/// The number of workers is 1 to 16; so far all rounds are run on this thread, whatever it is.
+/// The number of workers is 1 to 16. One finds the values on this thread, and several share each round, each on a thread
+/// of its own but the first; what is answered and written is the same for every number of them. It may wait for workers.
 /// The reader and the writer must not have failed before. Nothing is written before the whole text is built: after a fault nothing was written,
 /// but for `Write`, after which a front of the text was.
 pub fn run_solve<R: Source, W: Sink>(
-    _rt: &(impl Threads + Sync),
+    rt: &(impl Threads + Wait + Sync),
     alloc: Global,
-    _workers: u8,
+    workers: u8,
     reader: &mut R,
     writer: &mut W,
 ) -> Result<Value, RunFault>
-    requires workers { InRange 1 16 _workers }
+    requires workers { InRange 1 16 workers }
     requires reader_ready { R.has_failed reader.old ≡ false }
     requires writer_ready { W.has_failed writer.old ≡ false }
     ensures ok { IfOk result (RanSolve (R.left reader.old) (R.left reader.new) (W.taken writer.old) (W.taken writer.new)) }
-    ensures fault { IfErr result (SolveFails (R.left reader.old) (R.left reader.new) MAX_BOARD_BYTES (W.taken writer.old) (W.taken writer.new)) }
+    ensures fault { IfErr result (SolveFails workers (R.left reader.old) (R.left reader.new) MAX_BOARD_BYTES (W.taken writer.old) (W.taken writer.new)) }
     ensures read { (R.has_failed reader.new ≡ true) ↔ (result ≡ Err Read) }
     ensures write { (W.has_failed writer.new ≡ true) ↔ (result ≡ Err Write) }
     ensures unwritten { IfErr result (λ fault. fault ≢ Write → writer.new ≡ writer.old) }
 {
     let (board, _) = read_board(alloc, reader)?;
-    let solved = solve(alloc, &board)?;
+    let solved = solve(rt, alloc, &board, workers)?;
     match write_all(writer, solved.text.as_bytes()) {
         Ok(()) => Ok(solved.value),
         Err(Failed) => Err(RunFault::Write),
@@ -55,12 +58,18 @@ struct Solved {
 }
 
 /// The value of the start of a small board, and the text of the board's document.
-fn solve(alloc: Global, board: &Board) -> Result<Solved, RunFault>
-    requires { configurations board.now ≤ most_configurations }
+fn solve(
+    rt: &(impl Threads + Wait + Sync),
+    alloc: Global,
+    board: &Board,
+    workers: u8,
+) -> Result<Solved, RunFault>
+    requires few { configurations board.now ≤ most_configurations }
+    requires workers { InRange 1 16 workers }
     ensures solved { IfOk result (λ solved. IsSolved board.now solved.value (string_bytes solved.text)) }
-    ensures memory { IfErr result IsMemory }
+    ensures refused { IfErr result (IsRefused workers) }
 {
-    let values = values_of(alloc, board)?;
+    let values = values_by(rt, alloc, board, workers)?;
     let space = values.space();
     let value = values.of(space.rank(board.start()));
     let Ok(document) = document(alloc, board, &values) else {
@@ -69,6 +78,29 @@ fn solve(alloc: Global, board: &Board) -> Result<Solved, RunFault>
     match print(alloc, space, &document) {
         Ok(text) => Ok(Solved { value, text }),
         Err(Memory) => Err(RunFault::Memory),
+    }
+}
+
+/// The values of a small board, by so many workers. One is this thread, and shares nothing.
+pub(crate) fn values_by(
+    rt: &(impl Threads + Wait + Sync),
+    alloc: Global,
+    board: &Board,
+    workers: u8,
+) -> Result<Values, RunFault>
+    requires few { configurations board.now ≤ most_configurations }
+    requires workers { InRange 1 16 workers }
+    ensures values { IfOk result (λ values. values ≡ board.now) }
+    ensures refused { IfErr result (IsRefused workers) }
+{
+    if workers == 1 {
+        return values_of(alloc, board);
+    }
+    match solve_values(rt, alloc, board, workers as u32, &NoGate) {
+        Ok(values) => Ok(values),
+        Err(SolveFault::TooLarge) => Err(RunFault::TooLarge),
+        Err(SolveFault::Memory) => Err(RunFault::Memory),
+        Err(SolveFault::Worker) => Err(RunFault::Worker),
     }
 }
 

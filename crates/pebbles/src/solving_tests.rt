@@ -7,6 +7,7 @@ use board_text::{BoardFault, BoardKind, Sink, Source};
 use fakes::{Drip, Failing, Trickle};
 use positions::Value;
 use std::alloc::Global;
+use std::sync::Wait;
 use std::thread::Threads;
 
 const PLENTY: usize = 100_000;
@@ -52,7 +53,7 @@ const READY: Ends = Ends {
 /// Whether a run answers and writes what it should, or was refused memory and wrote nothing; and whether the ends failed where it says so.
 /// A report answers no value.
 fn serves(
-    rt: &(impl Threads + Sync),
+    rt: &(impl Threads + Wait + Sync),
     alloc: Global,
     command: Command,
     ends: Ends,

@@ -2,7 +2,7 @@ use Rattle.strategies.proofs.Spread.{start_value}
 use Rattle.pebbles.proofs.solving.solve.Goals as goal
 
 pub returns-in-Ok-print-clause-solved : goal.returns-in-Ok-print-clause-solved
-returns-in-Ok-print-clause-solved c =
+returns-in-Ok-print-clause-solved g c =
     let b = c.args.board.now in
     let values = c.in_ok-values.ensures.values in
     record {
