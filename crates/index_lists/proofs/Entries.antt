@@ -1,5 +1,5 @@
 -- Lists of nodes as parts of one list of entries.
-use Rattle.std.proofs.Common.{◌≡◌, ◌≢◌, ℕ, ◌<◌, ◌≤◌, ◌==◌, inl, inr, not, Bool, true, false, cond, suc, List, [], ◌∷◌, ◌++◌, length, map, refl, sym, ap, subst, ◌∙◌, arith, Option, Some, None, MatchOption, length-append, Result, Ok, Err, is_ok, IsOk}
+use Rattle.std.proofs.Common.{◌≡◌, ◌≢◌, ℕ, ◌<◌, ◌≤◌, ◌==◌, inl, inr, not, Bool, true, false, cond, suc, List, [], ◌∷◌, ◌++◌, length, map, refl, sym, ap, subst, ◌∙◌, arith, Option, Some, None, MatchOption, length-append}
 use Rattle.std.proofs.lemmas.Bool.{cases_eq, cases_lt}
 use Rattle.std.specs.List.{filter, count_by}
 use Rattle.std.proofs.lemmas.List.{length-map}
@@ -225,12 +225,3 @@ module _ (nodes lists capacity : ℕ) (entries : List (ℕ × ℕ)) (s : IsPlain
 -- the same of what a caller sees
 pub plain-kept : (nodes lists capacity : ℕ) (entries : List (ℕ × ℕ)) (v : Pairs) → ◌≡◌ {A = Pairs} (record { nodes = nodes; lists = lists; entries = entries }) v → IsPlain nodes lists capacity entries → AreLists v.nodes v.lists (nodes_of v.entries)
 plain-kept nodes lists capacity entries v view s = subst (λ w. AreLists w.nodes w.lists (nodes_of w.entries)) view (plain-are nodes lists capacity entries s)
-
--- what a push that was seen to succeed did
-pub ok-of : {A B : Type 0} (r : Result A B) (b : Bool) → b ≡ is_ok r → b ≡ false → IsOk r → ⊥
-ok-of (Ok a) b e f ok = let d : true ≡ false = sym e ∙ f in cc
-ok-of (Err x) b e f ok = grind arith
-
-pub pushed-items : {A B : Type 0} (r : Result A B) (old new : List (ℕ × ℕ)) (e : ℕ × ℕ) → new ≡ cond (is_ok r) (old ++ e ∷ []) old → (b : Bool) → b ≡ is_ok r → b ≡ true → new ≡ old ++ e ∷ []
-pushed-items (Ok a) old new e items b f g = items
-pushed-items (Err x) old new e items b f g = absurd (let d : false ≡ true = sym f ∙ g in cc)

@@ -46,8 +46,7 @@ impl ListStore for PlainLists {
     }
 
     fn push_back(&mut self, to: u32, node: u32) {
-        let pushed = self.entries.push((to, node)).is_ok();
-        prove!(pushed);
+        self.entries.push_reserved((to, node));
     }
 
     fn unlink(&mut self, node: u32) {

@@ -10,7 +10,7 @@ ghost use Rattle.pebbles.specs.declared.running.RunFault.TheVariants.{Read, Writ
 use crate::reading::{MAX_BOARD_BYTES, read_board};
 use crate::running::RunFault;
 use board_text::{Board, Failed, Memory, Sink, Source, write_all};
-use index_lists::LinkLists;
+use index_lists::PlainLists;
 use positions::Value;
 use proof_text::print;
 use retro_core::{SolveFault, Solver, Values};
@@ -110,7 +110,7 @@ pub(crate) fn values_of(alloc: Global, board: &Board) -> Result<Values, RunFault
     ensures values { IfOk result (λ values. values ≡ board.now) }
     ensures memory { IfErr result IsMemory }
 {
-    let mut solver: Solver<LinkLists> = match Solver::open(alloc, board) {
+    let mut solver: Solver<PlainLists> = match Solver::open(alloc, board) {
         Ok(solver) => solver,
         Err(SolveFault::TooLarge) => return Err(RunFault::TooLarge),
         Err(SolveFault::Memory) => return Err(RunFault::Memory),
