@@ -25,21 +25,6 @@ AreWords-same a is above above' values same t = record {
 without-less : (a : Arena) (above : ℕ → Bool) (c : ℕ) → (y : ℕ) → y < a.configurations → without above c y ≡ true → above y ≡ true
 without-less a above c y i e = (both_true _ _ e).0
 
--- a strike at a configuration in which nothing dominates
-pub counted-alone : (a : Arena) → IsArena a → (above : ℕ → Bool) (c : ℕ) (counts : List ℕ) → ((p : ℕ) → Dominant a c p → ⊥) → IsCounted a above counts → IsCounted a (without above c) counts
-counted-alone a is above c counts alone t = record {
-  counts_length = t.counts_length;
-  counted = λ g i. t.counted g i ∙ sym (strike-none a is above c g alone i);
-}
-
-pub words-alone : (a : Arena) → IsArena a → (above : ℕ → Bool) (c : ℕ) (values : List ℕ) → ((p : ℕ) → Dominant a c p → ⊥) → AreWords a above values → AreWords a (without above c) values
-words-alone a is above c values alone t = record {
-  values_length = t.values_length;
-  opened = λ x i. t.opened x i ∙ sym (open-same a is above (without above c) x i (λ g j some. let same = strike-none a is above c g alone j in omega arith) (without-less a above c));
-  lasting = t.lasting;
-  stopping = t.stopping;
-}
-
 -- a count after a strike at a configuration with a dominator
 counted-cases : (a : Arena) → IsArena a → (above : ℕ → Bool) (c p n : ℕ) (counts : List ℕ) → c < a.configurations → Dominant a c p → above c ≡ true → slice_index counts (a.gap c p) ≡ n + 1 → IsCounted a above counts → (g : ℕ) → g < a.gaps → ((g == a.gap c p ≡ true) ⊎ (g == a.gap c p ≡ false)) → slice_index (slice_set counts (a.gap c p) n) g ≡ live a (without above c) g
 counted-cases a is above c p n counts i dominates is_above e t g j (inl same) =

@@ -15,7 +15,7 @@ use Rattle.retro_core.proofs.Listed.{open_word, times_one, times_none}
 
 -- ---- the lists of a store as a list of lists
 
-past : (xs : List (List ℕ)) (i : ℕ) → length xs ≤ i → get_or xs i [] ≡ []
+pub past : (xs : List (List ℕ)) (i : ℕ) → length xs ≤ i → get_or xs i [] ≡ []
 past [] zero h = refl
 past [] (suc i) h = refl
 past (x ∷ xs) zero h = absurd (omega arith)

@@ -25,6 +25,7 @@ use Rattle.retro_core.proofs.Strikes.{lasts-forever}
 use Rattle.retro_core.proofs.BoardArenas.{at_member, arena_is, tree_of_lasts, lasts_of_tree, value_of_lasts, lasts_of_value}
 use Rattle.retro_core.proofs.Dominated.{tells-dominated, same-filter, counted-alike, words-alike, filtered-times}
 use Rattle.retro_core.proofs.Entered.{live-size}
+use Rattle.retro_core.proofs.Filing.{past}
 use Rattle.retro_core.proofs.Homes.{times-filter-true, times-filter-le}
 use Rattle.retro_core.proofs.Listed.{shut_word, times_true}
 use Rattle.retro_core.proofs.Sources.{waits-times, members-are}
@@ -54,12 +55,6 @@ filed-word s v x f i j h = elim (same_or_not (slice_index s.values x) v) [
   | inl e ↦ e
   | inr d ↦ absurd (let once = f.once v x i j in let none = cond_other {A = ℕ} (slice_index s.values x) v 1 0 d in omega arith)
 ]
-
-past : (xs : List (List ℕ)) (i : ℕ) → length xs ≤ i → get_or xs i [] ≡ []
-past [] zero h = refl
-past [] (suc i) h = refl
-past (x ∷ xs) zero h = absurd (omega arith)
-past (x ∷ xs) (suc i) h = past xs i (omega arith)
 
 -- what stands in a list stands in that of a value
 pub value-in-range : (s : PlainStage) (v x : ℕ) → IsFiled s → 0 < times x (filed_at s v) → v ≤ configurations s.board

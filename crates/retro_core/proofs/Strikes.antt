@@ -82,7 +82,3 @@ open-member a is less x g in_gaps member closed =
 pub lasts-forever : (a : Arena) → IsArena a → (r : ℕ) → ((x : ℕ) → x < a.configurations → lasts a r x ≡ true → lasts a (suc r) x ≡ true) → (k x : ℕ) → x < a.configurations → lasts a r x ≡ true → lasts a k x ≡ true
 lasts-forever a is r none zero x i e = refl
 lasts-forever a is r none (suc k) x i e = next-le a is (lasts a r) (lasts a k) x i (λ y j. lasts-forever a is r none k y j) (none x i e)
-
--- a round that files something leaves fewer that last
-pub fewer-last : (a : Arena) → IsArena a → (r x : ℕ) → x < a.configurations → lasts a r x ≡ true → lasts a (suc r) x ≡ false → count_below a.configurations (lasts a (suc r)) < count_below a.configurations (lasts a r)
-fewer-last a is r x i e f = count_below-less a.configurations x (lasts a (suc r)) (lasts a r) i f e (λ y j. lasts-less a is r y j)

@@ -26,40 +26,19 @@ filed_at s value = slice_index_or s.buckets value []
 
 -- the stage in which a configuration stands behind the others of the value
 abbrev pub listed : PlainStage → ℕ → PlainStage
-listed s rank = record {
-  board = s.board;
-  value = s.value;
-  values = s.values;
-  counts = s.counts;
-  buckets = slice_set s.buckets s.value (filed_at s s.value ++ rank ∷ []);
-  strikes = s.strikes;
-}
+listed s rank = record s { buckets = slice_set s.buckets s.value (filed_at s s.value ++ rank ∷ []) }
 
 -- the stage in which a configuration has the value too
 abbrev pub filed : PlainStage → ℕ → PlainStage
-filed s rank = record {
-  board = s.board;
-  value = s.value;
-  values = slice_set s.values rank s.value;
-  counts = s.counts;
-  buckets = slice_set s.buckets s.value (filed_at s s.value ++ rank ∷ []);
-  strikes = s.strikes;
-}
+filed s rank = listed (record s { values = slice_set s.values rank s.value }) rank
 
 -- the stage with these counts
 abbrev pub counting : PlainStage → List ℕ → PlainStage
-counting s counts = record { board = s.board; value = s.value; values = s.values; counts = counts; buckets = s.buckets; strikes = s.strikes }
+counting s counts = record s { counts = counts }
 
 -- the stage at the next value: what was filed at the one before and has a dominator is to be struck
 abbrev pub turned : PlainStage → PlainStage
-turned s = record {
-  board = s.board;
-  value = s.value + 1;
-  values = s.values;
-  counts = s.counts;
-  buckets = s.buckets;
-  strikes = filter (dominated (arena_of s.board)) (filed_at s s.value);
-}
+turned s = record s { value = s.value + 1; strikes = filter (dominated (arena_of s.board)) (filed_at s s.value) }
 
 -- the list of each value has the configurations of that word, each once
 pub record IsFiled (s : PlainStage) : Type 0 where

@@ -66,12 +66,6 @@ pub record IsClosing (a : Arena) (g value : ℕ) (values values' : List ℕ) : T
   pub waiting : (x : ℕ) → x < a.configurations → is_open values' x ≡ true → is_open values x ≡ true
   pub kept : (x : ℕ) → x < a.configurations → is_open values x ≡ false → slice_index values' x ≡ slice_index values x
 
--- the configuration is to be struck in round r
-pub record IsToStrike (a : Arena) (r : ℕ) (above : ℕ → Bool) (rank : ℕ) : Type 0 where
-  pub between : IsBetween a r above
-  pub is_above : above rank ≡ true
-  pub stops : lasts a (suc r) rank ≡ false
-
 -- how many rounds have struck their value
 abbrev pub struck_rounds : Bool → ℕ → ℕ
 struck_rounds is_done round = cond is_done (suc round) round
