@@ -5,7 +5,7 @@ use Rattle.std.proofs.lemmas.Bool.Decides.{nat_tests}
 use Rattle.retro_core.specs.Arena.{Arena, IsArena, live, next, lasts, without, Dominant}
 use Rattle.retro_core.specs.Tables.{is_open, IsCounted, AreWords, IsClosed, IsBetween}
 use Rattle.retro_core.proofs.Lasting.{both_true, and_true, true_or_false, true_not_false, same_or_not, live-le, live-same, next-closed, next-le, next-same}
-use Rattle.retro_core.proofs.Strikes.{strike-home, strike-other, strike-none, open-same, open-outside, open-member}
+use Rattle.retro_core.proofs.Strikes.{strike-home, strike-other, open-same, open-outside, open-member}
 
 -- the tables speak of the test only below the number of configurations
 pub IsCounted-same : (a : Arena) → IsArena a → (above above' : ℕ → Bool) (counts : List ℕ) → ((x : ℕ) → x < a.configurations → above x ≡ above' x) → IsCounted a above counts → IsCounted a above' counts

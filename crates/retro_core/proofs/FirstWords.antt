@@ -1,40 +1,96 @@
 -- The words before the first round: 0 where some gap has no answer.
-use Rattle.std.proofs.Common.{◌≡◌, ◌≢◌, ℕ, ◌+◌, ◌<◌, ◌⊎◌, inl, inr, cond, refl, arith, sym, ap, ◌∙◌, List, length, replicate, slice_index, slice_set, get_or-set_other, get_or-set_same}
+use Rattle.std.proofs.Common.{◌≡◌, ◌≢◌, ℕ, ◌+◌, ◌-◌, ◌<◌, ◌==◌, ◌⊎◌, inl, inr, cond, refl, arith, sym, ap, ◌∙◌, subst, List, length, replicate, slice_index, slice_set, get_or-set_other, get_or-set_same}
 use Rattle.std.proofs.Math.ListN.{length-set}
 use Rattle.std.proofs.lemmas.Bool.{cases_lt}
 use Rattle.std.proofs.lemmas.List.{length-replicate, get_or-replicate}
 use Rattle.retro_core.specs.Arena.{Arena, IsArena, next, lasts}
+use Rattle.retro_core.specs.Opening.{IsRun, IsStopped, AreStopping, IsWritten}
 use Rattle.retro_core.specs.Tables.{IsCounted, AreFirstWords}
+use Rattle.index_lists.proofs.Times.{cond_same, cond_other}
 use Rattle.retro_core.proofs.Lasting.{true_or_false, same_or_not, next-gives, next-fails}
 
--- ---- the members of a gap
+-- ---- the members of a run of gaps
 
--- the first members of a gap have the word 0, and no other word is changed
-pub record AreStopping (a : Arena) (g place : ℕ) (old new : List ℕ) : Type 0 where
-  pub same_length : length new ≡ length old
-  pub stopped : (x : ℕ) → x < a.configurations → a.gap x (a.pebble g) ≡ g → a.place x (a.pebble g) < place → slice_index new x ≡ 0
-  pub others : (x : ℕ) → x < a.configurations → a.gap x (a.pebble g) ≢ g → slice_index new x ≡ slice_index old x
+pub stopping-start : (a : Arena) (gap : ℕ) (counts words : List ℕ) → AreStopping a gap counts 0 words words
+stopping-start a gap counts words = record { same_length = refl; stopped = λ x i is low. absurd (omega arith); others = λ x i. inl refl }
 
-pub stopping-start : (a : Arena) (g : ℕ) (words : List ℕ) → AreStopping a g 0 words words
-stopping-start a g words = record { same_length = refl; stopped = λ x i member low. absurd (omega arith); others = λ x i d. refl }
+-- where no count is 0 there is nothing to stop
+pub stopping-none : (a : Arena) (gap place : ℕ) (counts words : List ℕ) → ((k : ℕ) → k < length counts → slice_index counts k ≢ 0) → AreStopping a gap counts place words words
+stopping-none a gap place counts words some = record { same_length = refl; stopped = λ x i is low. absurd (some is.more is.low is.none); others = λ x i. inl refl }
 
-pub stopping-more : (a : Arena) → IsArena a → (g place rank : ℕ) (old new : List ℕ) → g < a.gaps → place < a.places → length old ≡ a.configurations → rank ≡ a.member g place
-    → AreStopping a g place old new → AreStopping a g (place + 1) old (slice_set new rank 0)
-stopping-more a is g place rank old new i low size rank_is so_far =
-    let within : rank < length new = (let same = so_far.same_length in let inside = is.member_in g place i low in omega arith) in record {
-      same_length = length-set new rank 0 ∙ so_far.same_length;
-      stopped = λ x j member most. elim (same_or_not x rank) [
-        | inl here ↦ ap (slice_index (slice_set new rank 0)) here ∙ get_or-set_same new rank 0 0 within
-        | inr other ↦ get_or-set_other new rank x 0 0 other ∙ elim (cases_lt (a.place x (a.pebble g)) place) [
-          | inl before ↦ so_far.stopped x j member before
-          | inr last ↦
-              let same : a.place x (a.pebble g) ≡ place = omega arith in
-              absurd (other (sym (is.member_of_gap x (a.pebble g) j (is.pebble_in g i)) ∙ ap (λ h. a.member h (a.place x (a.pebble g))) member ∙ ap (a.member g) same ∙ sym rank_is))
-        ]
+pub written-start : (first : ℕ) (counts words : List ℕ) → IsWritten first counts 0 words words
+written-start first counts words = record { same_length = refl; inside = λ k low. absurd (omega arith); before = λ x low. refl; behind = λ x high. refl }
+
+pub written-more : (first : ℕ) (counts : List ℕ) (count : ℕ) (words new : List ℕ) (word : ℕ) → first + count < length words → IsWritten first counts count words new
+    → word ≡ cond (slice_index counts count == 0) 0 (slice_index new (first + count)) → IsWritten first counts (count + 1) words (slice_set new (first + count) word)
+written-more first counts count words new word low so_far word_is =
+    let within : first + count < length new = (let same = so_far.same_length in omega arith) in record {
+      same_length = length-set new (first + count) word ∙ so_far.same_length;
+      inside = λ k below. elim (cases_lt k count) [
+        | inl early ↦ get_or-set_other new (first + count) (first + k) word 0 (λ e. omega arith) ∙ so_far.inside k early
+        | inr last ↦
+            let here : k ≡ count = omega arith in
+            subst (λ j. slice_index (slice_set new (first + count) word) (first + j) ≡ cond (slice_index counts j == 0) 0 (slice_index words (first + j))) (sym here)
+            (get_or-set_same new (first + count) word 0 within ∙ word_is ∙ ap (λ w. cond (slice_index counts count == 0) 0 w) (so_far.behind (first + count) (omega arith)))
       ];
-      others = λ x j outside.
-          get_or-set_other new rank x 0 0 (λ here. outside (ap (λ y. a.gap y (a.pebble g)) (here ∙ rank_is) ∙ is.gap_of_member g place i low)) ∙ so_far.others x j outside;
+      before = λ x less. get_or-set_other new (first + count) x word 0 (λ e. omega arith) ∙ so_far.before x less;
+      behind = λ x high. get_or-set_other new (first + count) x word 0 (λ e. omega arith) ∙ so_far.behind x (omega arith);
     }
+
+-- a word after that is 0 or as before
+written_or : (first : ℕ) (counts words new : List ℕ) → IsWritten first counts (length counts) words new → (x : ℕ)
+    → (slice_index new x ≡ slice_index words x) ⊎ ((slice_index new x ≡ 0) × ((k : ℕ) × (k < length counts) × (slice_index counts k ≡ 0) × (first + k ≡ x)))
+written_or first counts words new w x = elim (cases_lt x first) [
+  | inl early ↦ inl (w.before x early)
+  | inr from ↦ elim (cases_lt x (first + length counts)) [
+    | inr late ↦ inl (w.behind x late)
+    | inl here ↦
+        let k : ℕ = x - first in
+        let is : first + k ≡ x = omega arith in
+        let at = w.inside k (omega arith) in
+        elim (same_or_not (slice_index counts k) 0) [
+          | inl none ↦ inr (ap (slice_index new) (sym is) ∙ at ∙ cond_same (slice_index counts k) 0 0 (slice_index words (first + k)) none, (k, omega arith, none, is))
+          | inr some ↦ inl (ap (slice_index new) (sym is) ∙ at ∙ cond_other (slice_index counts k) 0 0 (slice_index words (first + k)) some ∙ ap (slice_index words) is)
+        ]
+  ]
+]
+
+pub stopping-more : (a : Arena) → IsArena a → (gap place first : ℕ) (counts old words new : List ℕ) → IsRun a gap (length counts) → place < a.places → first ≡ a.member gap place
+    → IsWritten first counts (length counts) words new → AreStopping a gap counts place old words → AreStopping a gap counts (place + 1) old new
+stopping-more a is gap place first counts old words new run low first_is written so_far = record {
+  same_length = written.same_length ∙ so_far.same_length;
+  stopped = λ x i stop most. elim (written_or first counts words new written x) [
+    | inr zero_is ↦ zero_is.0
+    | inl same ↦ same ∙ elim (cases_lt (a.place x (a.pebble (gap + stop.more))) place) [
+      | inl before ↦ so_far.stopped x i stop before
+      | inr last ↦
+          let below = stop.low in
+          let within = run.inside in
+          let at : a.place x (a.pebble (gap + stop.more)) ≡ place = omega arith in
+          let rank_is : first + stop.more ≡ x =
+          ap (λ n. n + stop.more) first_is ∙ sym (run.ranks stop.more place below low) ∙ ap (a.member (gap + stop.more)) (sym at)
+          ∙ ap (λ h. a.member h (a.place x (a.pebble (gap + stop.more)))) (sym stop.member) ∙ is.member_of_gap x (a.pebble (gap + stop.more)) i (is.pebble_in (gap + stop.more) (omega arith)) in
+          sym same ∙ ap (slice_index new) (sym rank_is) ∙ written.inside stop.more below ∙ cond_same (slice_index counts stop.more) 0 0 (slice_index words (first + stop.more)) stop.none
+    ]
+  ];
+  others = λ x i. elim (written_or first counts words new written x) [
+    | inl same ↦ elim (so_far.others x i) [ inl kept ↦ inl (same ∙ kept) | inr stop ↦ inr (same ∙ stop.0, stop.1) ]
+    | inr zero_is ↦
+        let k : ℕ = zero_is.1.0 in
+        let below : k < length counts = zero_is.1.1 in
+        let within = run.inside in
+        let rank_is : a.member (gap + k) place ≡ x = run.ranks k place below low ∙ ap (λ n. n + k) (sym first_is) ∙ zero_is.1.3 in
+        inr (
+          zero_is.0,
+          record {
+            more = k;
+            low = below;
+            none = zero_is.1.2;
+            member = ap (λ y. a.gap y (a.pebble (gap + k))) (sym rank_is) ∙ is.gap_of_member (gap + k) place (omega arith) low;
+          },
+        )
+  ];
+}
 
 -- ---- gap by gap
 
@@ -56,40 +112,42 @@ stopped-start a counts n size = record {
     still : (x : ℕ) → x < a.configurations → slice_index (replicate n 4294967295) x ≡ 4294967295
     still x i = get_or-replicate n x 4294967295 0 (omega arith)
 
-pub stopped-skip : (a : Arena) (counts : List ℕ) (gap : ℕ) (words : List ℕ) → slice_index counts gap ≢ 0 → AreStopped a counts gap words → AreStopped a counts (gap + 1) words
-stopped-skip a counts gap words some so_far = record {
-  words_length = so_far.words_length;
-  either = so_far.either;
-  sound = so_far.sound;
-  found = λ x p i j low none. elim (cases_lt (a.gap x p) gap) [
-    | inl before ↦ so_far.found x p i j before none
-    | inr last ↦ absurd (let same : a.gap x p ≡ gap = omega arith in some (ap (slice_index counts) (sym same) ∙ none))
-  ];
-}
-
-pub stopped-more : (a : Arena) → IsArena a → (counts : List ℕ) (gap : ℕ) (words new : List ℕ) → gap < a.gaps → slice_index counts gap ≡ 0 → AreStopping a gap a.places words new
-    → AreStopped a counts gap words → AreStopped a counts (gap + 1) new
-stopped-more a is counts gap words new i none stopping so_far = record {
+-- a run of gaps more
+pub stopped-more : (a : Arena) → IsArena a → (counts part : List ℕ) (gap : ℕ) (words new : List ℕ) → IsRun a gap (length part) → ((k : ℕ) → k < length part → slice_index part k ≡ slice_index counts (gap + k))
+    → AreStopping a gap part a.places words new → AreStopped a counts gap words → AreStopped a counts (gap + length part) new
+stopped-more a is counts part gap words new run part_is stopping so_far = record {
   words_length = stopping.same_length ∙ so_far.words_length;
-  either = λ x j. elim (same_or_not (a.gap x (a.pebble gap)) gap) [
-    | inl member ↦ inr (zero-there x j member)
-    | inr outside ↦ elim (so_far.either x j) [ inl still ↦ inl (stopping.others x j outside ∙ still) | inr stop ↦ inr (stopping.others x j outside ∙ stop) ]
+  either = λ x i. elim (stopping.others x i) [
+    | inr stop ↦ inr stop.0
+    | inl same ↦ elim (so_far.either x i) [ inl still ↦ inl (same ∙ still) | inr stop ↦ inr (same ∙ stop) ]
   ];
-  sound = λ x j stop. elim (same_or_not (a.gap x (a.pebble gap)) gap) [
-    | inl member ↦ (a.pebble gap, is.pebble_in gap i, ap (slice_index counts) member ∙ none)
-    | inr outside ↦ so_far.sound x j (sym (stopping.others x j outside) ∙ stop)
+  sound = λ x i none. elim (stopping.others x i) [
+    | inl same ↦ so_far.sound x i (sym same ∙ none)
+    | inr stop ↦
+        let there = stop.1 in
+        let low = there.low in
+        let within = run.inside in
+        (a.pebble (gap + there.more), is.pebble_in (gap + there.more) (omega arith), ap (slice_index counts) there.member ∙ sym (part_is there.more low) ∙ there.none)
   ];
-  found = λ x p j k low empty. elim (same_or_not (a.gap x (a.pebble gap)) gap) [
-    | inl member ↦ zero-there x j member
-    | inr outside ↦ stopping.others x j outside ∙ so_far.found x p j k (elim (cases_lt (a.gap x p) gap) [
-      | inl before ↦ before
-      | inr last ↦ absurd (let same : a.gap x p ≡ gap = omega arith in outside (ap (a.gap x) (sym (ap a.pebble same) ∙ is.pebble_of_gap x p j k) ∙ same))
-    ]) empty
+  found = λ x p i j low none. elim (cases_lt (a.gap x p) gap) [
+    | inl before ↦ elim (stopping.others x i) [
+      | inl same ↦ same ∙ so_far.found x p i j before none
+      | inr stop ↦ stop.0
+    ]
+    | inr from ↦
+        let k : ℕ = a.gap x p - gap in
+        let at : gap + k ≡ a.gap x p = omega arith in
+        let below : k < length part = omega arith in
+        let pebble_is : a.pebble (gap + k) ≡ p = ap a.pebble at ∙ is.pebble_of_gap x p i j in
+        let stop : IsStopped a gap part x = record {
+          more = k;
+          low = below;
+          none = part_is k below ∙ ap (slice_index counts) at ∙ none;
+          member = ap (a.gap x) pebble_is ∙ sym at;
+        } in
+        stopping.stopped x i stop (is.place_in x (a.pebble (gap + k)) i (subst (λ q. q < a.pebbles) (sym pebble_is) j))
   ];
 }
-  where
-    zero-there : (x : ℕ) → x < a.configurations → a.gap x (a.pebble gap) ≡ gap → slice_index new x ≡ 0
-    zero-there x j member = stopping.stopped x j member (is.place_in x (a.pebble gap) j (is.pebble_in gap i))
 
 pub first-words : (a : Arena) → IsArena a → (counts words : List ℕ) → IsCounted a (lasts a 0) counts → AreStopped a counts a.gaps words → AreFirstWords a words
 first-words a is counts words counted stopped = record {

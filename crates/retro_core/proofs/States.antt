@@ -1,5 +1,5 @@
 -- What a solver knows between its calls.
-use Rattle.std.proofs.Common.{◌≡◌, ◌≢◌, ℕ, ◌+◌, ◌&&◌, ◌<◌, ◌≤◌, ◌↔◌, ◌==◌, not, inl, inr, Bool, true, false, cond, zero, suc, refl, arith, sym, ap, ◌∙◌, subst, List, [], ◌∷◌, length, get_or, slice_index, Option, Some, None}
+use Rattle.std.proofs.Common.{◌≡◌, ◌≢◌, ℕ, ◌+◌, ◌&&◌, ◌<◌, ◌≤◌, ◌↔◌, ◌==◌, not, inl, inr, Bool, true, false, cond, suc, refl, arith, sym, ap, ◌∙◌, subst, List, [], ◌∷◌, length, get_or, slice_index, Option, Some, None}
 use Rattle.std.specs.List.{filter, AllPairs}
 use Rattle.std.proofs.lemmas.Bool.{cases_lt}
 use Rattle.std.proofs.lemmas.List.FromFn.{get_or-map-range_with_len}

@@ -1,10 +1,12 @@
 //! A stage before the first round.
 
-ghost use Rattle.std.specs.Prelude.{◌≡◌, ◌≢◌, ℕ, ◌<◌, ◌==◌, cond, length, slice_index, IfOk};
+ghost use Rattle.std.specs.Prelude.{◌≡◌, ◌+◌, ◌<◌, ◌≤◌, length, IfOk};
+ghost use Rattle.board_text.specs.PlainBoard.{places};
 ghost use Rattle.positions.specs.Ranks.{configurations};
 ghost use Rattle.positions.specs.Gaps.{gaps};
 ghost use Rattle.retro_core.specs.Arena.{lasts, next};
 ghost use Rattle.retro_core.specs.BoardArena.{arena_of};
+ghost use Rattle.retro_core.specs.Opening.{IsRun, AreStopping, IsWritten};
 ghost use Rattle.retro_core.specs.Tables.{IsCounted, AreFirstWords};
 ghost use Rattle.retro_core.specs.Stage.{IsUnlisted, IsOpened};
 
@@ -65,23 +67,44 @@ fn first_words(alloc: Global, space: &Space, counts: &[u32]) -> Result<Vec<u32>,
     ensures { IfOk result (λ words. AreFirstWords (arena_of space.now) words.items) }
 {
     let mut words = vec![in alloc; OPEN; space.configurations() as usize]?;
-    for gap in 0..space.gaps() {
-        if counts[gap as usize] == 0 {
-            stop_members(&mut words, space, gap);
-        }
+    let gaps = space.gaps();
+    let mut gap = 0;
+    while gap < gaps {
+        let run = space.run(gap);
+        stop_run(
+            &mut words,
+            space,
+            gap,
+            &counts[gap as usize..(gap + run) as usize],
+        );
+        gap += run;
     }
     Ok(words)
 }
 
-/// Writes 0 as the word of each member of a gap.
-fn stop_members(words: &mut [u32], space: &Space, gap: u32)
+/// Writes 0 as the word of each member of those gaps of a run that have no answer.
+fn stop_run(words: &mut [u32], space: &Space, gap: u32, counts: &[u32])
     requires gap { gap < gaps space.now }
+    requires run { IsRun (arena_of space.now) gap (length counts.now) }
     requires words { length words.old ≡ configurations space.now }
-    ensures members { (x : ℕ) → x < configurations space.now → (arena_of space.now).gap x ((arena_of space.now).pebble gap) ≡ gap → slice_index words.new x ≡ 0 }
-    ensures others { (x : ℕ) → x < configurations space.now → (arena_of space.now).gap x ((arena_of space.now).pebble gap) ≢ gap → slice_index words.new x ≡ slice_index words.old x }
+    ensures { AreStopping (arena_of space.now) gap counts.now (places space.now) words.old words.new }
 {
+    if !counts.contains(&0) {
+        return;
+    }
     let members = space.members(gap);
     for place in 0..space.places() {
-        words[members.rank(place) as usize] = 0;
+        stop(words, members.rank(place) as usize, counts);
+    }
+}
+
+/// Writes 0, from a place on, where a count is 0.
+fn stop(words: &mut [u32], first: usize, counts: &[u32])
+    requires { first + length counts.now ≤ length words.old }
+    ensures { IsWritten first counts.now (length counts.now) words.old words.new }
+{
+    for place in 0..counts.len() {
+        let word = words[first + place];
+        words[first + place] = if counts[place] == 0 { 0 } else { word };
     }
 }

@@ -1,7 +1,6 @@
-use Rattle.std.proofs.Common.{◌≡◌, ◌+◌, ◌*◌, ◌++◌, ◌∷◌, [], length, ap, ◌∙◌, sym, subst, arith, List, suc}
+use Rattle.std.proofs.Common.{◌*◌, [], length, ap, ◌∙◌, sym, subst, arith, suc}
 use Rattle.std.proofs.lemmas.List.{length_push}
 use Rattle.positions.specs.Tuples.{AreSets}
-use Rattle.positions.specs.declared.label_set.LabelSet.{LabelSet}
 use Rattle.positions.proofs.TupleSets.{one_more_set, all_places}
 use Rattle.positions.proofs.tuple_answers.with_one_more.Goals as goal
 

@@ -1,41 +1,47 @@
-use Rattle.std.proofs.Common.{◌≡◌, ◌+◌, ◌<◌, ◌∙◌, ℕ, List, length, slice_index, sym, ap, subst, arith}
+use Rattle.std.proofs.Common.{◌≡◌, ◌+◌, ◌-◌, ◌∙◌, ℕ, List, length, drop, take, sym, subst, arith}
+use Rattle.std.proofs.lemmas.List.{length-drop, length-take-le, get_or-take, get_or-drop}
 use Rattle.positions.specs.Gaps.{gaps}
 use Rattle.retro_core.specs.BoardArena.{arena_of}
+use Rattle.retro_core.specs.Opening.{IsRun, AreStopping}
 use Rattle.retro_core.proofs.BoardArenas.{arena_is}
-use Rattle.retro_core.proofs.FirstWords.{AreStopped, stopped-start, stopped-skip, stopped-more, first-words}
+use Rattle.retro_core.proofs.FirstWords.{AreStopped, stopped-start, stopped-more, first-words}
 use Rattle.retro_core.proofs.Noting.{written}
 use Rattle.retro_core.proofs.opening.first_words.Goals as goal
-use Rattle.retro_core.proofs.opening.first_words.Goals.{then-counts-gap-eq0, else-counts-gap-eq0}
 
 pub loop-gap-init : goal.loop-gap-init
 loop-gap-init c =
     let a = arena_of c.args.space.now in
-    rw (c.in_ok-words.ensures.items_if_clones_equal (λ y e. e)) (stopped-start a c.args.counts.now c.configurations.result c.configurations.ensures.value)
-
-pub stop_members-requires-clause-words : goal.stop_members-requires-clause-words
-stop_members-requires-clause-words c = ap length c.deref_mut.ensures.value ∙ c.loop-gap.invariant.words_length
+    record {
+      stopped = rw (c.in_ok-words.ensures.items_if_clones_equal (λ y e. e)) (stopped-start a c.args.counts.now c.configurations.result c.configurations.ensures.value);
+      inside = omega arith;
+    }
 
 pub loop-gap-preserved : goal.loop-gap-preserved
 loop-gap-preserved c =
     let b = c.args.space.now in
     let a = arena_of b in
-    let i : c.loop-gap.gap < gaps b = omega (arith, c.gaps-gap-end.ensures.value, c.loop-gap-test.true) in
-    elim c.if-counts-gap-eq0.branch [
-      | then-counts-gap-eq0 w ↦ rw w.words-is (subst (λ (xs : List ℕ). AreStopped a c.args.counts.now (c.loop-gap.gap + 1) xs)
-          (sym (written _ w.stop_members.new.words _ (w.stop_members.auto.words ∙ w.deref_mut.ensures.len)))
-          (stopped-more a (arena_is b c.configurations.ensures.is_board) c.args.counts.now c.loop-gap.gap c.loop-gap.words.items w.stop_members.new.words i w.if-counts-gap-eq0.true
-          (record {
-            same_length = w.stop_members.auto.words ∙ ap length w.deref_mut.ensures.value;
-            stopped = λ x j member low. w.stop_members.ensures.members x j member;
-            others = λ x j outside. w.stop_members.ensures.others x j outside ∙ ap (λ (xs : List ℕ). slice_index xs x) w.deref_mut.ensures.value;
-          })
-          c.loop-gap.invariant))
-      | else-counts-gap-eq0 w ↦ rw w.words-is (stopped-skip a c.args.counts.now c.loop-gap.gap c.loop-gap.words.items w.if-counts-gap-eq0.false c.loop-gap.invariant)
-    ]
+    let is = arena_is b c.configurations.ensures.is_board in
+    let counts = c.args.counts.now in
+    let gap : ℕ = c.loop-gap.gap in
+    let run : ℕ = c.run-run.result in
+    let e = c.run-run.ensures in
+    let part : List ℕ = take (gap + run - gap) (drop gap counts) in
+    let long : length (drop gap counts) ≡ length counts - gap = length-drop gap counts in
+    let count : gap + run - gap ≡ run = omega arith in
+    let size : length part ≡ run = length-take-le (gap + run - gap) (drop gap counts) (omega (arith, e.inside, c.requires.counts_length)) ∙ count in
+    let ranks : IsRun a gap (length part) = subst (IsRun a gap) (sym size) (record { inside = e.inside; ranks = e.ranks }) in
+    let stopping : AreStopping a gap part a.places c.loop-gap.words.items c.stop_run.new.words = subst (λ (ws : List ℕ). AreStopping a gap part a.places ws c.stop_run.new.words) c.deref_mut.ensures.value c.stop_run.ensures in
+    let after = stopped-more a is counts part gap c.loop-gap.words.items c.stop_run.new.words ranks
+    (λ k low. get_or-take (gap + run - gap) (drop gap counts) k 0 (omega arith) ∙ get_or-drop gap counts k 0) stopping c.loop-gap.invariant.stopped in
+    record {
+      stopped = subst (λ (ws : List ℕ). AreStopped a counts (gap + run) ws) (sym (written c.loop-gap.words.items c.stop_run.new.words _ (c.stop_run.auto.words ∙ c.deref_mut.ensures.len)))
+          (subst (λ n. AreStopped a counts (gap + n) c.stop_run.new.words) size after);
+      inside = e.inside;
+    }
 
 pub returns : goal.returns
 returns c =
     let b = c.args.space.now in
     let a = arena_of b in
-    let end : c.loop-gap.gap ≡ gaps b = (let most = c.loop-gap.auto.gap-end in omega (arith, c.gaps-gap-end.ensures.value, c.loop-gap-test.false)) in
-    first-words a (arena_is b c.configurations.ensures.is_board) c.args.counts.now c.loop-gap.words.items c.requires (subst (λ g. AreStopped a c.args.counts.now g c.loop-gap.words.items) end c.loop-gap.invariant)
+    let end : c.loop-gap.gap ≡ gaps b = (let most = c.loop-gap.invariant.inside in omega (arith, c.gaps-gaps.ensures.value, c.loop-gap-test.false)) in
+    first-words a (arena_is b c.configurations.ensures.is_board) c.args.counts.now c.loop-gap.words.items c.requires (subst (λ g. AreStopped a c.args.counts.now g c.loop-gap.words.items) end c.loop-gap.invariant.stopped)
