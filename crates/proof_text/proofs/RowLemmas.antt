@@ -12,15 +12,18 @@ use Rattle.positions.specs.declared.claim.Claim.{Claim}
 use Rattle.positions.specs.declared.turns.Turns.{Turns}
 use Rattle.positions.specs.Table.{AnswerRow, RequestRow}
 use Rattle.positions.specs.Ranks.{rank_of, configuration_at, configurations}
-use Rattle.positions.proofs.Ranks.{configuration_at-rank_of}
+use Rattle.positions.proofs.Ranks.{configuration_at-rank_of, rank_of-configuration_at}
 use Rattle.proof_text.specs.declared.fault.ProofKind.TheVariants as kinds
+use Rattle.proof_text.specs.declared.proof.LabellerRow.{LabellerRow}
+use Rattle.proof_text.specs.declared.proof.AdversaryRow.{AdversaryRow}
 use Rattle.proof_text.specs.declared.row_words.AnswerValues.{AnswerValues}
 use Rattle.proof_text.specs.declared.row_words.RequestValues.{RequestValues}
 use Rattle.proof_text.specs.Proof.{IsAnswerRow, IsRequestRow, answer_row, request_row, greatest_number, most_rows}
 use Rattle.proof_text.specs.ProofText.{turns_text, answer_line, request_line}
 use Rattle.proof_text.specs.RowWords.{AnswerWords, RequestWords, answer_words_line, request_words_line}
 use Rattle.proof_text.specs.ProofFaults.{AnswerRowFault, RequestRowFault}
-use Rattle.proof_text.specs.Reading.{TurnsOf, NumberOf, TakesAnswerWords, TakesRequestWords, IsFrom, NextAnswerRow, NextRequestRow}
+use Rattle.proof_text.specs.Reading.{TurnsOf, NumberOf, TakesAnswerWords, TakesRequestWords}
+use Rattle.proof_text.specs.RowForm.{IsFrom, LineFault, NextRow, labeller_form, adversary_form}
 
 -- places below the bound are spelled so
 pub spelled_below : (labels bound : ℕ) (texts : List (List ℕ)) (places : List ℕ) → SpellPlaces labels bound texts true places → All (SpellsPlace labels bound) texts
@@ -87,26 +90,32 @@ answer_read board claim values at answers old new turns (words, are, e, s) place
       spelled = e ∙ ap (λ (line : List ℕ). line ++ new) (answer_words_of board at answers turns words p.1 n.1 t.1);
     }
 
-pub answer_order : (board : PlainBoard) (claim : Claim) (row : AnswerRow) (old new : List ℕ) (rank least : ℕ) → AnswerRead board claim row old new → rank ≡ rank_of board row.at → rank < least
-    → AnswerRowFault board claim (IsFrom board least) old kinds.Order
-answer_order board claim row old new rank least read e lt = (row, read.is, new, read.spelled, λ from. omega (arith, e, lt, from))
+-- the row that was read, with its configuration's rank
+module _ (board : PlainBoard) (claim : Claim) (at answers zeros old new : List ℕ) (turns : Turns) (rank least : ℕ) (read : AnswerRead board claim (answer at turns answers) old new)
+    (e : rank ≡ rank_of board at) (below : rank < configurations board) (zero : (pebble : ℕ) → get_or zeros pebble 0 ≡ 0) where
+  abbrev read_answers : LabellerRow
+  read_answers = record { at = rank; turns = turns; take = answers ++ zeros }
 
--- a row whose rank and answers are those that were read
-pub answer_next : (board : PlainBoard) (claim : Claim) (at answers zeros old new : List ℕ) (turns : Turns) (rank least : ℕ) → AnswerRead board claim (answer at turns answers) old new
-    → rank ≡ rank_of board at → rank < configurations board → configurations board ≤ most_rows → least ≤ rank → ((pebble : ℕ) → get_or zeros pebble 0 ≡ 0)
-    → NextAnswerRow board claim least (Ok (record { at = rank; turns = turns; take = answers ++ zeros })) old new
-answer_next board claim at answers zeros old new turns rank least read e below few above zero =
-    let len : length answers ≡ board.pebbles = read.is.answers.0 in
-    let place : configuration_at board rank ≡ at = ap (configuration_at board) e ∙ configuration_at-rank_of board at read.is.at in
-    let taken : take board.pebbles (answers ++ zeros) ≡ answers = take_at answers zeros board.pebbles len in
-    let same : answer_row board (record { at = rank; turns = turns; take = answers ++ zeros }) ≡ answer at turns answers = rw (place, taken) refl in (
-      subst (λ (row : AnswerRow). IsAnswerRow board claim row) (sym same) read.is,
-      λ pebble le. get_or-append_right answers zeros board.pebbles pebble 0 len le ∙ zero (pebble - board.pebbles),
-      above,
-      below,
-      few,
-      subst (λ (row : AnswerRow). old ≡ answer_line board row ++ new) (sym same) read.spelled,
-    )
+  same_answers : answer_row board read_answers ≡ answer at turns answers
+  same_answers =
+      let place : configuration_at board rank ≡ at = ap (configuration_at board) e ∙ configuration_at-rank_of board at read.is.at in
+      let taken : take board.pebbles (answers ++ zeros) ≡ answers = take_at answers zeros board.pebbles read.is.answers.0 in
+      rw (place, taken) refl
+
+  answers_are : (labeller_form board claim).IsRow read_answers
+  answers_are = (
+    subst (λ (row : AnswerRow). IsAnswerRow board claim row) (sym same_answers) read.is,
+    λ pebble le. get_or-append_right answers zeros board.pebbles pebble 0 read.is.answers.0 le ∙ zero (pebble - board.pebbles),
+  )
+
+  answers_spelled : old ≡ answer_line board (answer_row board read_answers) ++ new
+  answers_spelled = subst (λ (row : AnswerRow). old ≡ answer_line board row ++ new) (sym same_answers) read.spelled
+
+  pub answer_order : rank < least → LineFault board (labeller_form board claim) (IsFrom board least) old kinds.Order
+  answer_order lt = (read_answers, answers_are, new, answers_spelled, λ from. omega (arith, rank_of-configuration_at board rank below, lt, from))
+
+  pub answer_next : configurations board ≤ most_rows → least ≤ rank → NextRow board (labeller_form board claim) least (Ok read_answers) old new
+  answer_next few above = (answers_are, above, below, few, answers_spelled)
 
 -- ---- an adversary's row
 
@@ -163,22 +172,28 @@ request_read board values at old new left ask (words, are, e, s) placed some_lef
       spelled = e ∙ ap (λ (line : List ℕ). line ++ new) (request_words_of board at left ask words p.1 n.1 k.1);
     }
 
-pub request_order : (board : PlainBoard) (row : RequestRow) (old new : List ℕ) (rank least : ℕ) → RequestRead board row old new → rank ≡ rank_of board row.at → rank < least
-    → RequestRowFault board (IsFrom board least) old kinds.Order
-request_order board row old new rank least read e lt = (row, read.is, new, read.spelled, λ from. omega (arith, e, lt, from))
+-- the row that was read, with its configuration's rank
+module _ (board : PlainBoard) (claim : Claim) (at old new : List ℕ) (left ask rank least : ℕ) (read : RequestRead board (request at left ask) old new)
+    (e : rank ≡ rank_of board at) (below : rank < configurations board) where
+  abbrev read_request : AdversaryRow
+  read_request = record { at = rank; left = left; ask = ask }
 
-pub request_next : (board : PlainBoard) (at old new : List ℕ) (left ask rank least : ℕ) → RequestRead board (request at left ask) old new
-    → rank ≡ rank_of board at → rank < configurations board → configurations board ≤ most_rows → least ≤ rank
-    → NextRequestRow board least (Ok (record { at = rank; left = left; ask = ask })) old new
-request_next board at old new left ask rank least read e below few above =
-    let place : configuration_at board rank ≡ at = ap (configuration_at board) e ∙ configuration_at-rank_of board at read.is.at in
-    let same : request_row board (record { at = rank; left = left; ask = ask }) ≡ request at left ask = rw place refl in (
-      subst (λ (row : RequestRow). IsRequestRow board row) (sym same) read.is,
-      above,
-      below,
-      few,
-      subst (λ (row : RequestRow). old ≡ request_line board row ++ new) (sym same) read.spelled,
-    )
+  same_request : request_row board read_request ≡ request at left ask
+  same_request =
+      let place : configuration_at board rank ≡ at = ap (configuration_at board) e ∙ configuration_at-rank_of board at read.is.at in
+      rw place refl
+
+  request_is : IsRequestRow board (request_row board read_request)
+  request_is = subst (λ (row : RequestRow). IsRequestRow board row) (sym same_request) read.is
+
+  request_spelled : old ≡ request_line board (request_row board read_request) ++ new
+  request_spelled = subst (λ (row : RequestRow). old ≡ request_line board row ++ new) (sym same_request) read.spelled
+
+  pub request_order : rank < least → LineFault board (adversary_form board claim) (IsFrom board least) old kinds.Order
+  request_order lt = (read_request, request_is, new, request_spelled, λ from. omega (arith, rank_of-configuration_at board rank below, lt, from))
+
+  pub request_next : configurations board ≤ most_rows → least ≤ rank → NextRow board (adversary_form board claim) least (Ok read_request) old new
+  request_next few above = (request_is, above, below, few, request_spelled)
 
 -- ---- places on the stack
 

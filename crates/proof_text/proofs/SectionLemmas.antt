@@ -1,24 +1,21 @@
 -- The rows of a section, one after the other.
-use Rattle.std.proofs.Common.{◌≡◌, ℕ, ◌+◌, ◌-◌, ◌<◌, ◌≤◌, List, [], ◌∷◌, ◌++◌, length, get_or, take, AllPairs, refl, sym, ap, subst, ◌∙◌, arith, inl, inr, append_assoc}
+use Rattle.std.proofs.Common.{◌≡◌, ℕ, ◌+◌, ◌-◌, ◌<◌, ◌≤◌, List, [], ◌∷◌, ◌++◌, length, map, get_or, take, AllPairs, refl, sym, ap, subst, ◌∙◌, arith, inl, inr, append_assoc}
 use Rattle.std.specs.List.{flat_map}
+use Rattle.std.specs.Prelude.{Ok}
 use Rattle.std.proofs.lemmas.Bool.{cases_lt}
-use Rattle.std.proofs.lemmas.List.{take_all, take_more, flat_map_more, length_push, get_or_at, map-append, length-map}
-use Rattle.std.proofs.lemmas.List.Elements.{All-push, All-nil}
+use Rattle.std.proofs.lemmas.List.{take_all, take_more, flat_map_more, length_push, get_or_at, get_or-map, map-append, length-map}
+use Rattle.std.proofs.lemmas.List.Elements.{All-push, All-nil, All-map}
+use Rattle.std.proofs.lemmas.List.Folds.{flat_map-map}
 use Rattle.std.proofs.lemmas.List.Quantifiers.{all_pairs_push}
+use Rattle.board_text.specs.LineForms.{number_line}
 use Rattle.board_text.specs.PlainBoard.{PlainBoard}
 use Rattle.positions.specs.Ranks.{rank_of}
-use Rattle.std.specs.Prelude.{Ok}
-use Rattle.positions.specs.declared.claim.Claim.{Claim}
-use Rattle.positions.specs.Table.{AnswerRow, RequestRow}
+use Rattle.positions.proofs.Ranks.{rank_of-configuration_at}
 use Rattle.proof_text.specs.declared.fault.ProofKind.{ProofKind}
 use Rattle.proof_text.specs.declared.fault.ProofKind.TheVariants as kinds
-use Rattle.proof_text.specs.declared.proof.LabellerRow.{LabellerRow}
-use Rattle.proof_text.specs.declared.proof.AdversaryRow.{AdversaryRow}
-use Rattle.proof_text.specs.Proof.{AreRows, IsBefore, most_rows, IsAnswerRow, IsRequestRow, answer_row, answer_rows, request_row, request_rows}
-use Rattle.proof_text.specs.ProofText.{labeller_line, answer_line, adversary_line, request_line}
-use Rattle.proof_text.specs.ProofFaults.{MayFollow, RowsCome, AnswerRowFault, RequestRowFault, InLabeller, InAdversary}
-use Rattle.proof_text.specs.Reading.{IsFrom, NextAnswerRow, NextRequestRow}
-use Rattle.positions.proofs.Ranks.{rank_of-configuration_at}
+use Rattle.proof_text.specs.Proof.{AreRows, IsBefore, most_rows}
+use Rattle.proof_text.specs.ProofFaults.{MayFollow, RowsCome, RowFault, InSection}
+use Rattle.proof_text.specs.RowForm.{RowForm, IsFrom, LineFault, NextRow, SectionFault, at_of}
 
 -- what comes after the last row comes after all
 follows_all : {X : Type 0} (board : PlainBoard) (at : X → List ℕ) (rows : List X) (configuration : List ℕ)
@@ -90,64 +87,90 @@ pub come_none : {X : Type 0} (board : PlainBoard) (IsRow : X → Type 0) (at : X
     → count ≤ most_rows → text ≡ section_line count ++ rest → RowsCome board IsRow at section_line row_line text count [] rest
 come_none board IsRow at section_line row_line text count rest few e = record { few = few; come = omega arith; are_rows = rows_none board IsRow at; spelled = e }
 
--- the fault of a row is one of its section
-pub answer_fault_in : (board : PlainBoard) (claim : Claim) (text : List ℕ) (number line count least : ℕ) (rows : List AnswerRow) (rest : List ℕ) (kind : ProofKind)
-    → RowsCome board (IsAnswerRow board claim) (λ row. row.at) labeller_line (answer_line board) text count rows rest → length rows < count → line ≡ number + 1 + length rows → FollowsFrom board (λ row. row.at) rows least
-    → AnswerRowFault board claim (IsFrom board least) rest kind → InLabeller board claim text number line kind
-answer_fault_in board claim text number line count least rows rest kinds.Version come short e from h = absurd h
-answer_fault_in board claim text number line count least rows rest kinds.Claim come short e from h = absurd h
-answer_fault_in board claim text number line count least rows rest kinds.Section come short e from h = absurd h
-answer_fault_in board claim text number line count least rows rest kinds.Row come short e from h = (count, rows, rest, come, short, e, h)
-answer_fault_in board claim text number line count least rows rest kinds.Label come short e from h = (count, rows, rest, come, short, e, h)
-answer_fault_in board claim text number line count least rows rest kinds.Pebble come short e from h = absurd h
-answer_fault_in board claim text number line count least rows rest kinds.Number come short e from h = (count, rows, rest, come, short, e, h)
-answer_fault_in board claim text number line count least rows rest kinds.Order come short e from h = (count, rows, rest, come, short, e, (h.0, h.1, h.2, h.3, λ follows. h.4 ((from h.0.at).0 follows)))
-answer_fault_in board claim text number line count least rows rest kinds.End come short e from h = absurd h
-answer_fault_in board claim text number line count least rows rest kinds.Trailing come short e from h = absurd h
-answer_fault_in board claim text number line count least rows rest kinds.Memory come short e from h = absurd h
+-- ---- rows that name their configurations by ranks
 
--- the fault of a row is one of its section
-pub request_fault_in : (board : PlainBoard) (text : List ℕ) (number line count least : ℕ) (rows : List RequestRow) (rest : List ℕ) (kind : ProofKind)
-    → RowsCome board (IsRequestRow board) (λ row. row.at) adversary_line (request_line board) text count rows rest → length rows < count → line ≡ number + 1 + length rows → FollowsFrom board (λ row. row.at) rows least
-    → RequestRowFault board (IsFrom board least) rest kind → InAdversary board text number line kind
-request_fault_in board text number line count least rows rest kinds.Version come short e from h = absurd h
-request_fault_in board text number line count least rows rest kinds.Claim come short e from h = absurd h
-request_fault_in board text number line count least rows rest kinds.Section come short e from h = absurd h
-request_fault_in board text number line count least rows rest kinds.Row come short e from h = (count, rows, rest, come, short, e, h)
-request_fault_in board text number line count least rows rest kinds.Label come short e from h = (count, rows, rest, come, short, e, h)
-request_fault_in board text number line count least rows rest kinds.Pebble come short e from h = (count, rows, rest, come, short, e, h)
-request_fault_in board text number line count least rows rest kinds.Number come short e from h = (count, rows, rest, come, short, e, h)
-request_fault_in board text number line count least rows rest kinds.Order come short e from h = (count, rows, rest, come, short, e, (h.0, h.1, h.2, h.3, λ follows. h.4 ((from h.0.at).0 follows)))
-request_fault_in board text number line count least rows rest kinds.End come short e from h = absurd h
-request_fault_in board text number line count least rows rest kinds.Trailing come short e from h = absurd h
-request_fault_in board text number line count least rows rest kinds.Memory come short e from h = absurd h
+module _ {R : Type 0} (board : PlainBoard) (form : RowForm R) where
+  abbrev pub Come : List ℕ → ℕ → List R → List ℕ → Type 0
+  Come text count rows rest = RowsCome board form.IsRow (at_of board form) (number_line form.word) form.line text count rows rest
 
--- one more row of a labeller's section
-pub answers_push : (board : PlainBoard) (claim : Claim) (text : List ℕ) (count least : ℕ) (rows new_rows : List LabellerRow) (row : LabellerRow) (rest new : List ℕ) → new_rows ≡ rows ++ row ∷ []
-    → RowsCome board (IsAnswerRow board claim) (λ row. row.at) labeller_line (answer_line board) text count (answer_rows board rows) rest → length rows < count → FollowsFrom board (λ row. row.at) (answer_rows board rows) least
-    → NextAnswerRow board claim least (Ok row) rest new
-    → RowsCome board (IsAnswerRow board claim) (λ row. row.at) labeller_line (answer_line board) text count (answer_rows board new_rows) new × FollowsFrom board (λ row. row.at) (answer_rows board new_rows) (row.at + 1)
-answers_push board claim text count least rows new_rows row rest new e come short from next =
-    let more : answer_rows board new_rows ≡ answer_rows board rows ++ answer_row board row ∷ [] = ap (answer_rows board) e ∙ map-append (answer_row board) rows (row ∷ []) in
-    let rank : rank_of board (answer_row board row).at ≡ row.at = rank_of-configuration_at board row.at next.3 in
-    let above : least ≤ rank_of board (answer_row board row).at = omega (arith, rank, next.2) in
-    let few : length (answer_rows board rows) < count = omega (arith, length-map rows (answer_row board), short) in
-    rw more (
-      come_push board (IsAnswerRow board claim) (λ row. row.at) labeller_line (answer_line board) text count least (answer_rows board rows) (answer_row board row) rest new come few from next.0 above next.5,
-      from_push board (λ row. row.at) (answer_rows board rows) (answer_row board row) row.at rank,
-    )
+  -- one more row
+  pub row_push : (text : List ℕ) (count least : ℕ) (rows new_rows : List R) (row : R) (rest new : List ℕ) → new_rows ≡ rows ++ row ∷ []
+      → Come text count rows rest → length rows < count → FollowsFrom board (at_of board form) rows least → NextRow board form least (Ok row) rest new
+      → Come text count new_rows new × FollowsFrom board (at_of board form) new_rows (form.rank row + 1)
+  row_push text count least rows new_rows row rest new e come short from next =
+      let rank : rank_of board (at_of board form row) ≡ form.rank row = rank_of-configuration_at board (form.rank row) next.2 in
+      let above : least ≤ rank_of board (at_of board form row) = omega (arith, rank, next.1) in
+      rw e (
+        come_push board form.IsRow (at_of board form) (number_line form.word) form.line text count least rows row rest new come short from next.0 above next.4,
+        from_push board (at_of board form) rows row (form.rank row) rank,
+      )
 
--- one more row of an adversary's section
-pub requests_push : (board : PlainBoard) (text : List ℕ) (count least : ℕ) (rows new_rows : List AdversaryRow) (row : AdversaryRow) (rest new : List ℕ) → new_rows ≡ rows ++ row ∷ []
-    → RowsCome board (IsRequestRow board) (λ row. row.at) adversary_line (request_line board) text count (request_rows board rows) rest → length rows < count → FollowsFrom board (λ row. row.at) (request_rows board rows) least
-    → NextRequestRow board least (Ok row) rest new
-    → RowsCome board (IsRequestRow board) (λ row. row.at) adversary_line (request_line board) text count (request_rows board new_rows) new × FollowsFrom board (λ row. row.at) (request_rows board new_rows) (row.at + 1)
-requests_push board text count least rows new_rows row rest new e come short from next =
-    let more : request_rows board new_rows ≡ request_rows board rows ++ request_row board row ∷ [] = ap (request_rows board) e ∙ map-append (request_row board) rows (row ∷ []) in
-    let rank : rank_of board (request_row board row).at ≡ row.at = rank_of-configuration_at board row.at next.2 in
-    let above : least ≤ rank_of board (request_row board row).at = omega (arith, rank, next.1) in
-    let few : length (request_rows board rows) < count = omega (arith, length-map rows (request_row board), short) in
-    rw more (
-      come_push board (IsRequestRow board) (λ row. row.at) adversary_line (request_line board) text count least (request_rows board rows) (request_row board row) rest new come few from next.0 above next.4,
-      from_push board (λ row. row.at) (request_rows board rows) (request_row board row) row.at rank,
-    )
+  -- the fault of a row's line is one of its section
+  pub line_fault_in : (text : List ℕ) (number line count least : ℕ) (rows : List R) (rest : List ℕ) (kind : ProofKind)
+      → Come text count rows rest → length rows < count → line ≡ number + 1 + length rows → FollowsFrom board (at_of board form) rows least
+      → LineFault board form (IsFrom board least) rest kind → SectionFault board form text number line kind
+  line_fault_in text number line count least rows rest kinds.Section come short e from h = absurd (form.no_section rest h)
+  line_fault_in text number line count least rows rest kinds.Memory come short e from h = absurd (form.no_memory rest h)
+  line_fault_in text number line count least rows rest kinds.Order come short e from (row, is, more, spelled, early) =
+      (count, rows, rest, come, short, e, (row, is, more, spelled, λ follows. early ((from (at_of board form row)).0 follows)))
+  line_fault_in text number line count least rows rest kinds.Row come short e from h = (count, rows, rest, come, short, e, h)
+  line_fault_in text number line count least rows rest kinds.Label come short e from h = (count, rows, rest, come, short, e, h)
+  line_fault_in text number line count least rows rest kinds.Pebble come short e from h = (count, rows, rest, come, short, e, h)
+  line_fault_in text number line count least rows rest kinds.Number come short e from h = (count, rows, rest, come, short, e, h)
+  line_fault_in text number line count least rows rest kinds.Version come short e from h = (count, rows, rest, come, short, e, h)
+  line_fault_in text number line count least rows rest kinds.Claim come short e from h = (count, rows, rest, come, short, e, h)
+  line_fault_in text number line count least rows rest kinds.End come short e from h = (count, rows, rest, come, short, e, h)
+  line_fault_in text number line count least rows rest kinds.Trailing come short e from h = (count, rows, rest, come, short, e, h)
+
+-- ---- what rows stand for
+
+some_of : {R : Type 0} (rows : List R) → 0 < length rows → R
+some_of [] some = absurd (omega arith)
+some_of (row ∷ rows) some = row
+
+module _ {R X : Type 0} (board : PlainBoard) (f : R → X) (IsRow : R → Type 0) (IsSeen : X → Type 0) (at row_line : X → List ℕ) (seen : (row : R) → IsRow row → IsSeen (f row)) where
+  pub rows_seen : (rows : List R) → AreRows board IsRow (λ row. at (f row)) rows → AreRows board IsSeen at (map f rows)
+  rows_seen rows are = record {
+    few = omega (arith, are.few, length-map rows f);
+    each = All-map IsSeen f rows (λ k d lt. seen (get_or rows k d) (are.each k d lt));
+    ascending = λ i j d less below.
+        let inside : j < length rows = omega (arith, below, length-map rows f) in
+        let e = some_of rows (omega (arith, inside)) in
+        rw (get_or-map f rows i e d (omega (arith, less, inside)), get_or-map f rows j e d inside) (are.ascending i j e less inside);
+  }
+
+  pub come_seen : (section_line : ℕ → List ℕ) (text : List ℕ) (count : ℕ) (rows : List R) (rest : List ℕ)
+      → RowsCome board IsRow (λ row. at (f row)) section_line (λ row. row_line (f row)) text count rows rest → RowsCome board IsSeen at section_line row_line text count (map f rows) rest
+  come_seen section_line text count rows rest come = record {
+    few = come.few;
+    come = omega (arith, come.come, length-map rows f);
+    are_rows = rows_seen rows come.are_rows;
+    spelled = come.spelled ∙ ap (λ (lines : List ℕ). section_line count ++ (lines ++ rest)) (sym (flat_map-map row_line f rows));
+  }
+
+  follows_seen : (rows : List R) (configuration : List ℕ) → MayFollow board at (map f rows) configuration → MayFollow board (λ row. at (f row)) rows configuration
+  follows_seen rows configuration follows before last e = follows (map f before) (f last) (ap (map f) e ∙ map-append f before (last ∷ []))
+
+  -- the fault of a section of rows is that of what they stand for
+  pub fault_seen : (section_line : ℕ → List ℕ) (Misread : List ℕ → ProofKind → Type 0) (text : List ℕ) (number line : ℕ) (kind : ProofKind)
+      → InSection board IsRow (λ row. at (f row)) section_line (λ row. row_line (f row)) (RowFault IsRow (λ row. at (f row)) (λ row. row_line (f row)) Misread) text number line kind
+      → InSection board IsSeen at section_line row_line (RowFault IsSeen at row_line Misread) text number line kind
+  fault_seen section_line Misread text number line kinds.Section h = h
+  fault_seen section_line Misread text number line kinds.Memory (e, (count, rows, rest, come)) = (e, (count, map f rows, rest, come_seen section_line text count rows rest come))
+  fault_seen section_line Misread text number line kinds.Order (count, rows, rest, come, short, e, (row, is, more, spelled, early)) = (
+    count,
+    map f rows,
+    rest,
+    come_seen section_line text count rows rest come,
+    omega (arith, short, length-map rows f),
+    omega (arith, e, length-map rows f),
+    (f row, seen row is, more, spelled, λ follows. early (follows_seen rows (at (f row)) follows)),
+  )
+  fault_seen section_line Misread text number line kinds.Row h = (h.0, map f h.1, h.2, come_seen section_line text h.0 h.1 h.2 h.3, omega (arith, h.4, length-map h.1 f), omega (arith, h.5, length-map h.1 f), h.6)
+  fault_seen section_line Misread text number line kinds.Label h = (h.0, map f h.1, h.2, come_seen section_line text h.0 h.1 h.2 h.3, omega (arith, h.4, length-map h.1 f), omega (arith, h.5, length-map h.1 f), h.6)
+  fault_seen section_line Misread text number line kinds.Pebble h = (h.0, map f h.1, h.2, come_seen section_line text h.0 h.1 h.2 h.3, omega (arith, h.4, length-map h.1 f), omega (arith, h.5, length-map h.1 f), h.6)
+  fault_seen section_line Misread text number line kinds.Number h = (h.0, map f h.1, h.2, come_seen section_line text h.0 h.1 h.2 h.3, omega (arith, h.4, length-map h.1 f), omega (arith, h.5, length-map h.1 f), h.6)
+  fault_seen section_line Misread text number line kinds.Version h = (h.0, map f h.1, h.2, come_seen section_line text h.0 h.1 h.2 h.3, omega (arith, h.4, length-map h.1 f), omega (arith, h.5, length-map h.1 f), h.6)
+  fault_seen section_line Misread text number line kinds.Claim h = (h.0, map f h.1, h.2, come_seen section_line text h.0 h.1 h.2 h.3, omega (arith, h.4, length-map h.1 f), omega (arith, h.5, length-map h.1 f), h.6)
+  fault_seen section_line Misread text number line kinds.End h = (h.0, map f h.1, h.2, come_seen section_line text h.0 h.1 h.2 h.3, omega (arith, h.4, length-map h.1 f), omega (arith, h.5, length-map h.1 f), h.6)
+  fault_seen section_line Misread text number line kinds.Trailing h = (h.0, map f h.1, h.2, come_seen section_line text h.0 h.1 h.2 h.3, omega (arith, h.4, length-map h.1 f), omega (arith, h.5, length-map h.1 f), h.6)

@@ -4,3 +4,4 @@ pub mod RowWords
 pub mod ProofFaults
 pub mod Reading
 pub mod Rules
+pub mod RowForm

@@ -6,7 +6,7 @@ use Rattle.board_text.specs.Ranges.{InRange}
 use Rattle.board_text.specs.PlainBoard.{PlainBoard, places}
 use Rattle.positions.specs.declared.claim.Claim.{Claim}
 use Rattle.positions.specs.declared.turns.Turns.{Turns}
-use Rattle.positions.specs.Table.{AnswerRow, RequestRow}
+use Rattle.positions.specs.Table.{AnswerRow}
 use Rattle.proof_text.specs.declared.fault.ProofKind.{ProofKind}
 use Rattle.proof_text.specs.declared.fault.ProofKind.TheVariants as kinds
 use Rattle.proof_text.specs.Proof.{PlainProof, IsProof, IsClaim, asks_labeller, asks_adversary, AreTurns, IsAnswerRow, IsRequestRow, AreAnswerRows, AreRows, IsBefore, greatest_number, most_rows}
@@ -39,30 +39,40 @@ SpellsTurns claim text = (turns : Turns) × AreTurns claim turns × (text ≡ tu
 abbrev pub MayFollow : {X : Type 0} → PlainBoard → (X → List ℕ) → List X → List ℕ → Type 0
 MayFollow {X} board at rows configuration = (before : List X) (last : X) → rows ≡ before ++ last ∷ [] → IsBefore board (at last) configuration
 
--- The fault of what stands where a labeller's row should, where no fault before it in the order is there. `MayStand` says which configurations may come.
-abbrev pub AnswerRowFault : PlainBoard → Claim → (List ℕ → Type 0) → List ℕ → ProofKind → Type 0
-AnswerRowFault board claim MayStand rest kinds.Row = Lacks (AreAnswerWords board.pebbles board.labels (places board)) answer_words_line rest
-AnswerRowFault board claim MayStand rest kinds.Label =
-    (words : AnswerWords) × HasAnswerWords board rest words × ¬ (SpellConfiguration board words.at × SpellLabels board words.take)
-AnswerRowFault board claim MayStand rest kinds.Number =
-    (words : AnswerWords) × HasAnswerWords board rest words × SpellConfiguration board words.at × SpellLabels board words.take × ¬ SpellsTurns claim words.turns
-AnswerRowFault board claim MayStand rest kinds.Order =
-    (row : AnswerRow) × IsAnswerRow board claim row × (more : List ℕ) × (rest ≡ answer_line board row ++ more) × ¬ MayStand row.at
-AnswerRowFault board claim MayStand rest kind = ⊥
+-- The fault of what stands where a row should, where no fault before it in the order is there: its words are misread, or its configuration may not stand there.
+abbrev pub RowFault : {X : Type 0} → (X → Type 0) → (X → List ℕ) → (X → List ℕ) → (List ℕ → ProofKind → Type 0) → (List ℕ → Type 0) → List ℕ → ProofKind → Type 0
+RowFault {X} IsRow at row_line Misread MayStand rest kinds.Order =
+    (row : X) × IsRow row × (more : List ℕ) × (rest ≡ row_line row ++ more) × ¬ MayStand (at row)
+RowFault {X} IsRow at row_line Misread MayStand rest kind = Misread rest kind
 
--- The same where an adversary's row should stand.
-abbrev pub RequestRowFault : PlainBoard → (List ℕ → Type 0) → List ℕ → ProofKind → Type 0
-RequestRowFault board MayStand rest kinds.Row = Lacks (AreRequestWords board.pebbles board.labels (places board)) request_words_line rest
-RequestRowFault board MayStand rest kinds.Label =
+-- what is wrong with the words where a labeller's row should stand
+abbrev pub AnswerMisread : PlainBoard → Claim → List ℕ → ProofKind → Type 0
+AnswerMisread board claim rest kinds.Row = Lacks (AreAnswerWords board.pebbles board.labels (places board)) answer_words_line rest
+AnswerMisread board claim rest kinds.Label =
+    (words : AnswerWords) × HasAnswerWords board rest words × ¬ (SpellConfiguration board words.at × SpellLabels board words.take)
+AnswerMisread board claim rest kinds.Number =
+    (words : AnswerWords) × HasAnswerWords board rest words × SpellConfiguration board words.at × SpellLabels board words.take × ¬ SpellsTurns claim words.turns
+AnswerMisread board claim rest kind = ⊥
+
+-- what is wrong with the words where an adversary's row should stand
+abbrev pub RequestMisread : PlainBoard → List ℕ → ProofKind → Type 0
+RequestMisread board rest kinds.Row = Lacks (AreRequestWords board.pebbles board.labels (places board)) request_words_line rest
+RequestMisread board rest kinds.Label =
     (words : RequestWords) × HasRequestWords board rest words × ¬ SpellConfiguration board words.at
-RequestRowFault board MayStand rest kinds.Pebble =
+RequestMisread board rest kinds.Pebble =
     (words : RequestWords) × HasRequestWords board rest words × SpellConfiguration board words.at × ¬ SpellsBelow board.pebbles words.ask
-RequestRowFault board MayStand rest kinds.Number =
+RequestMisread board rest kinds.Number =
     (words : RequestWords) × HasRequestWords board rest words × SpellConfiguration board words.at × SpellsBelow board.pebbles words.ask
     × ¬ SpellsBelow (greatest_number + 1) words.left
-RequestRowFault board MayStand rest kinds.Order =
-    (row : RequestRow) × IsRequestRow board row × (more : List ℕ) × (rest ≡ request_line board row ++ more) × ¬ MayStand row.at
-RequestRowFault board MayStand rest kind = ⊥
+RequestMisread board rest kind = ⊥
+
+-- the fault of what stands where a labeller's row should
+abbrev pub AnswerRowFault : PlainBoard → Claim → (List ℕ → Type 0) → List ℕ → ProofKind → Type 0
+AnswerRowFault board claim MayStand rest kind = RowFault (IsAnswerRow board claim) (λ row. row.at) (answer_line board) (AnswerMisread board claim) MayStand rest kind
+
+-- the fault of what stands where an adversary's row should
+abbrev pub RequestRowFault : PlainBoard → (List ℕ → Type 0) → List ℕ → ProofKind → Type 0
+RequestRowFault board MayStand rest kind = RowFault (IsRequestRow board) (λ row. row.at) (request_line board) (RequestMisread board) MayStand rest kind
 
 -- The head of a section of so many rows stands here, and these rows have come.
 pub record RowsCome {X : Type 0} (board : PlainBoard) (IsRow : X → Type 0) (at : X → List ℕ) (section_line : ℕ → List ℕ) (row_line : X → List ℕ)

@@ -1,21 +1,15 @@
 -- What each step of reading a document takes from the text.
-use Rattle.std.specs.Prelude.{◌≡◌, ◌≢◌, ℕ, ◌+◌, ◌<◌, ◌≤◌, ◌⊎◌, Bool, false, List, [], ◌++◌, length, All, Option, Some, None, Result, Ok, Err, codes}
-use Rattle.std.specs.List.{flat_map}
+use Rattle.std.specs.Prelude.{◌≡◌, ◌≢◌, ℕ, ◌+◌, ◌<◌, ◌⊎◌, Bool, List, ◌++◌, Option, Some, None, codes}
 use Rattle.std.specs.Fmt.{decimal}
 use Rattle.board_text.specs.LineForms.{Lacks, NoDigit}
 use Rattle.board_text.specs.Numerals.{spaced_texts, SpellsBelow}
 use Rattle.board_text.specs.PlaceForms.{ArePlaceTexts, SpellPlaces}
-use Rattle.board_text.specs.PlainBoard.{PlainBoard}
 use Rattle.positions.specs.declared.claim.Claim.{Claim}
 use Rattle.positions.specs.declared.turns.Turns.{Turns}
-use Rattle.positions.specs.Ranks.{rank_of, configurations}
-use Rattle.proof_text.specs.declared.fault.ProofKind.{ProofKind}
-use Rattle.proof_text.specs.declared.proof.LabellerRow.{LabellerRow}
-use Rattle.proof_text.specs.declared.proof.AdversaryRow.{AdversaryRow}
-use Rattle.proof_text.specs.Proof.{AreTurns, AreRows, AreAnswerRows, AreRequestRows, asks_labeller, asks_adversary, IsAnswerRow, IsRequestRow, IsPadded, answer_row, request_row, answer_rows, request_rows, greatest_number, most_rows}
-use Rattle.proof_text.specs.ProofText.{turns_text, answer_line, request_line, labeller_line, adversary_line, labeller_section, adversary_section}
+use Rattle.proof_text.specs.Proof.{AreTurns, greatest_number}
+use Rattle.proof_text.specs.ProofText.{turns_text}
 use Rattle.proof_text.specs.RowWords.{AnswerWords, RequestWords, IsTurnsText, AreAnswerWords, AreRequestWords, answer_words_line, request_words_line}
-use Rattle.proof_text.specs.ProofFaults.{SpellsTurns, AnswerRowFault, RequestRowFault}
+use Rattle.proof_text.specs.ProofFaults.{SpellsTurns}
 use Rattle.proof_text.specs.declared.row_words.AnswerValues.{AnswerValues}
 use Rattle.proof_text.specs.declared.row_words.RequestValues.{RequestValues}
 
@@ -67,47 +61,3 @@ abbrev pub TakesRequestWords : ℕ → ℕ → ℕ → Option RequestValues → 
 TakesRequestWords pebbles labels bound None at old new = Lacks (AreRequestWords pebbles labels bound) request_words_line old
 TakesRequestWords pebbles labels bound (Some values) at old new =
     (words : RequestWords) × AreRequestWords pebbles labels bound words × (old ≡ request_words_line words ++ new) × RequestSpelled labels bound pebbles words values at
-
--- the rank of the configuration is not below this one
-abbrev pub IsFrom : PlainBoard → ℕ → List ℕ → Type 0
-IsFrom board least at = least ≤ rank_of board at
-
--- What the next line of a labeller's section says, where ranks may stand from the least on.
-abbrev pub NextAnswerRow : PlainBoard → Claim → ℕ → Result LabellerRow ProofKind → List ℕ → List ℕ → Type 0
-NextAnswerRow board claim least (Ok row) old new =
-    IsAnswerRow board claim (answer_row board row) × IsPadded board row × (least ≤ row.at) × (row.at < configurations board) × (configurations board ≤ most_rows) × (old ≡ answer_line board (answer_row board row) ++ new)
-NextAnswerRow board claim least (Err kind) old new = AnswerRowFault board claim (IsFrom board least) old kind
-
--- What the next line of an adversary's section says.
-abbrev pub NextRequestRow : PlainBoard → ℕ → Result AdversaryRow ProofKind → List ℕ → List ℕ → Type 0
-NextRequestRow board least (Ok row) old new =
-    IsRequestRow board (request_row board row) × (least ≤ row.at) × (row.at < configurations board) × (configurations board ≤ most_rows) × (old ≡ request_line board (request_row board row) ++ new)
-NextRequestRow board least (Err kind) old new = RequestRowFault board (IsFrom board least) old kind
-
--- A section was taken, from its head to its last row.
-pub record SectionRead {X : Type 0} (board : PlainBoard) (IsRow : X → Type 0) (at : X → List ℕ) (section_line : ℕ → List ℕ) (row_line : X → List ℕ) (rows : List X) (old new : List ℕ) : Type 0 where
-  pub are_rows : AreRows board IsRow at rows
-  pub spelled : old ≡ section_line (length rows) ++ (flat_map row_line rows ++ new)
-
--- A labeller's section was taken.
-abbrev pub LabellerRead : PlainBoard → Claim → List LabellerRow → List ℕ → List ℕ → Type 0
-LabellerRead board claim rows old new =
-    SectionRead board (IsAnswerRow board claim) (λ row. row.at) labeller_line (answer_line board) (answer_rows board rows) old new × All (IsPadded board) rows
-
--- An adversary's section was taken.
-abbrev pub AdversaryRead : PlainBoard → List AdversaryRow → List ℕ → List ℕ → Type 0
-AdversaryRead board rows old new =
-    SectionRead board (IsRequestRow board) (λ row. row.at) adversary_line (request_line board) (request_rows board rows) old new
-
--- A labeller's section was taken, or none where the claim doesn't ask for one.
-pub record LabellerPartRead (board : PlainBoard) (claim : Claim) (rows : List LabellerRow) (old new : List ℕ) : Type 0 where
-  pub are_rows : AreAnswerRows board claim (answer_rows board rows)
-  pub padded : All (IsPadded board) rows
-  pub none : asks_labeller claim ≡ false → answer_rows board rows ≡ []
-  pub spelled : old ≡ labeller_section board claim (answer_rows board rows) ++ new
-
--- An adversary's section was taken, or none where the claim doesn't ask for one.
-pub record AdversaryPartRead (board : PlainBoard) (claim : Claim) (rows : List AdversaryRow) (old new : List ℕ) : Type 0 where
-  pub are_rows : AreRequestRows board (request_rows board rows)
-  pub none : asks_adversary claim ≡ false → request_rows board rows ≡ []
-  pub spelled : old ≡ adversary_section board claim (request_rows board rows) ++ new

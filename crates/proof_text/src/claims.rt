@@ -2,7 +2,7 @@
 
 ghost use Rattle.board_text.specs.LineForms.{Takes};
 ghost use Rattle.std.specs.Prelude.{◌≡◌, ◌++◌, OnOk, string_bytes};
-ghost use Rattle.proof_text.specs.Proof.{IsClaim, asks_labeller as wants_labeller, asks_adversary as wants_adversary};
+ghost use Rattle.proof_text.specs.Proof.{IsClaim};
 ghost use Rattle.proof_text.specs.ProofText.{claim_line, claim_words};
 
 use crate::proof::MOST_TURNS;
@@ -26,20 +26,6 @@ pub(crate) fn claim(text: &mut LineReader<'_>) -> Option<Claim>
     }
     text.take(b"forever\n")?;
     Some(Claim::Forever)
-}
-
-/// Whether a document with the claim has a labeller's section.
-pub(crate) fn asks_labeller(claim: Claim) -> bool
-    ensures { result ≡ wants_labeller claim }
-{
-    !matches!(claim, Claim::AtMost(_))
-}
-
-/// Whether a document with the claim has an adversary's section.
-pub(crate) fn asks_adversary(claim: Claim) -> bool
-    ensures { result ≡ wants_adversary claim }
-{
-    matches!(claim, Claim::Exactly(_) | Claim::AtMost(_))
 }
 
 /// Writes a claim as a document has it: its word and, where it has one, its number.

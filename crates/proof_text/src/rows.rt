@@ -1,87 +1,190 @@
-//! The rows of a document, taken from the front of a text.
+//! The rows of a document, of either side: how they are read and written.
 
-ghost use Rattle.proof_text.specs.Reading.{NextAnswerRow, NextRequestRow};
+ghost use Rattle.std.specs.Prelude.{◌≡◌, ◌<◌, ◌++◌, List, ℕ, OnOk, string_bytes};
+ghost use Rattle.board_text.specs.PlainBoard.{PlainBoard};
+ghost use Rattle.positions.specs.Ranks.{configurations};
+ghost use Rattle.positions.specs.declared.claim.Claim.{Claim as Claimed};
+ghost use Rattle.proof_text.specs.ProofText.{turns_text};
+ghost use Rattle.proof_text.specs.RowForm.{RowForm, NextRow, labeller_form, adversary_form};
 
 use crate::fault::ProofKind;
 use crate::proof::{AdversaryRow, LabellerRow};
 use crate::row_words::{answer_words, request_words};
 use board_text::line_reader::LineReader;
-use positions::{Claim, Space};
+use positions::{Claim, PlaceTexts, Space, Turns};
+use std::alloc::AllocError;
+use std::fmt::Write;
 
-/// The row of the next line of a labeller's section, where ranks may stand from the least on.
-pub(crate) fn labeller_row(
-    text: &mut LineReader<'_>,
-    space: &Space,
-    claim: Claim,
-    least: u32,
-) -> Result<LabellerRow, ProofKind>
-    ensures { NextAnswerRow space.now claim least result text.old text.new }
-{
-    let pebbles = space.pebbles() as usize;
-    let mut at = [0; 6];
-    let mut take = [0; 6];
-    let Some(values) = answer_words(
-        text,
-        space.labels(),
-        space.places(),
-        claim,
-        &mut at[..pebbles],
-        &mut take[..pebbles],
-    ) else {
-        return Err(ProofKind::Row);
-    };
-    if !values.are_places || !values.are_answers {
-        return Err(ProofKind::Label);
-    }
-    let Some(turns) = values.turns else {
-        return Err(ProofKind::Number);
-    };
-    let rank = space.rank(&at[..pebbles]);
-    if rank < least {
-        return Err(ProofKind::Order);
-    }
-    Ok(LabellerRow {
-        at: rank,
-        turns,
-        take,
-    })
+/// A row of one side's section.
+pub(crate) trait Row: Copy {
+    ghost form: { PlainBoard → Claimed → RowForm Self };
+
+    /// The rank of the row's configuration.
+    fn rank(&self) -> u32
+        ensures { (board : PlainBoard) → (claim : Claimed) → result ≡ (form board claim).rank self.now };
+
+    /// The word at the head of the section.
+    fn word() -> &'static str
+        ensures { (board : PlainBoard) → (claim : Claimed) → result.now ≡ (form board claim).word };
+
+    /// Whether a document with the claim has the section.
+    fn is_asked(claim: Claim) -> bool
+        ensures { (board : PlainBoard) → result ≡ (form board claim).asked };
+
+    /// The row of the next line, where ranks may stand from the least on.
+    fn read(
+        text: &mut LineReader<'_>,
+        space: &Space,
+        claim: Claim,
+        least: u32,
+    ) -> Result<Self, ProofKind>
+        ensures { NextRow space.now (form space.now claim) least result text.old text.new };
+
+    /// Writes the row's line.
+    fn write(&self, text: &mut String, space: &Space, places: &PlaceTexts) -> Result<(), AllocError>
+        requires places { places.now ≡ space.now.labels }
+        requires rank { (claim : Claimed) → (form space.now claim).rank self.now < configurations space.now }
+        ensures { OnOk result ((claim : Claimed) → string_bytes text.new ≡ string_bytes text.old ++ (form space.now claim).line self.now) };
 }
 
-/// The row of the next line of an adversary's section, where ranks may stand from the least on.
-pub(crate) fn adversary_row(
-    text: &mut LineReader<'_>,
-    space: &Space,
-    least: u32,
-) -> Result<AdversaryRow, ProofKind>
-    ensures { NextRequestRow space.now least result text.old text.new }
+impl Row for LabellerRow {
+    ghost form = { labeller_form };
+
+    fn rank(&self) -> u32 {
+        self.at
+    }
+
+    fn word() -> &'static str {
+        "labeller"
+    }
+
+    fn is_asked(claim: Claim) -> bool {
+        !matches!(claim, Claim::AtMost(_))
+    }
+
+    fn read(
+        text: &mut LineReader<'_>,
+        space: &Space,
+        claim: Claim,
+        least: u32,
+    ) -> Result<LabellerRow, ProofKind> {
+        let pebbles = space.pebbles() as usize;
+        let mut at = [0; 6];
+        let mut take = [0; 6];
+        let Some(values) = answer_words(
+            text,
+            space.labels(),
+            space.places(),
+            claim,
+            &mut at[..pebbles],
+            &mut take[..pebbles],
+        ) else {
+            return Err(ProofKind::Row);
+        };
+        if !values.are_places || !values.are_answers {
+            return Err(ProofKind::Label);
+        }
+        let Some(turns) = values.turns else {
+            return Err(ProofKind::Number);
+        };
+        let rank = space.rank(&at[..pebbles]);
+        if rank < least {
+            return Err(ProofKind::Order);
+        }
+        Ok(LabellerRow {
+            at: rank,
+            turns,
+            take,
+        })
+    }
+
+    fn write(
+        &self,
+        text: &mut String,
+        space: &Space,
+        places: &PlaceTexts,
+    ) -> Result<(), AllocError> {
+        let pebbles = space.pebbles() as usize;
+        text.push_str("at")?;
+        places.write_labels(text, space, self.at)?;
+        text.push_str(" for ")?;
+        write_turns(text, self.turns)?;
+        text.push_str(" take")?;
+        places.write_places(text, &self.take[..pebbles])?;
+        text.push_str("\n")
+    }
+}
+
+impl Row for AdversaryRow {
+    ghost form = { adversary_form };
+
+    fn rank(&self) -> u32 {
+        self.at
+    }
+
+    fn word() -> &'static str {
+        "adversary"
+    }
+
+    fn is_asked(claim: Claim) -> bool {
+        matches!(claim, Claim::Exactly(_) | Claim::AtMost(_))
+    }
+
+    fn read(
+        text: &mut LineReader<'_>,
+        space: &Space,
+        _claim: Claim,
+        least: u32,
+    ) -> Result<AdversaryRow, ProofKind> {
+        let pebbles = space.pebbles();
+        let mut at = [0; 6];
+        let Some(values) = request_words(
+            text,
+            space.labels(),
+            space.places(),
+            pebbles,
+            &mut at[..pebbles as usize],
+        ) else {
+            return Err(ProofKind::Row);
+        };
+        if !values.are_places {
+            return Err(ProofKind::Label);
+        }
+        let Some(ask) = values.ask else {
+            return Err(ProofKind::Pebble);
+        };
+        let Some(left) = values.left else {
+            return Err(ProofKind::Number);
+        };
+        let rank = space.rank(&at[..pebbles as usize]);
+        if rank < least {
+            return Err(ProofKind::Order);
+        }
+        Ok(AdversaryRow {
+            at: rank,
+            left,
+            ask,
+        })
+    }
+
+    fn write(
+        &self,
+        text: &mut String,
+        space: &Space,
+        places: &PlaceTexts,
+    ) -> Result<(), AllocError> {
+        text.push_str("at")?;
+        places.write_labels(text, space, self.at)?;
+        write!(text, " for {} ask {}\n", self.left, self.ask)
+    }
+}
+
+/// Writes a number of turns, or a star where they have no end.
+fn write_turns(text: &mut String, turns: Turns) -> Result<(), AllocError>
+    ensures { OnOk result (string_bytes text.new ≡ string_bytes text.old ++ turns_text turns) }
 {
-    let pebbles = space.pebbles();
-    let mut at = [0; 6];
-    let Some(values) = request_words(
-        text,
-        space.labels(),
-        space.places(),
-        pebbles,
-        &mut at[..pebbles as usize],
-    ) else {
-        return Err(ProofKind::Row);
-    };
-    if !values.are_places {
-        return Err(ProofKind::Label);
+    match turns {
+        Turns::Count(number) => write!(text, "{number}"),
+        Turns::Always => text.push_str("*"),
     }
-    let Some(ask) = values.ask else {
-        return Err(ProofKind::Pebble);
-    };
-    let Some(left) = values.left else {
-        return Err(ProofKind::Number);
-    };
-    let rank = space.rank(&at[..pebbles as usize]);
-    if rank < least {
-        return Err(ProofKind::Order);
-    }
-    Ok(AdversaryRow {
-        at: rank,
-        left,
-        ask,
-    })
 }

@@ -1,64 +1,34 @@
-//! The sections of a document, taken from the front of a text.
+//! The sections of a document: read from the front of a text, and written.
 
-ghost use Rattle.std.specs.Prelude.{◌≡◌, ◌≤◌, ◌+◌, true, if◌then◌else◌, IfOk, IfErr};
-ghost use Rattle.proof_text.specs.ProofFaults.{InLabeller, InAdversary};
-ghost use Rattle.proof_text.specs.Proof.{asks_labeller as wants_labeller, asks_adversary as wants_adversary};
-ghost use Rattle.proof_text.specs.Reading.{LabellerRead, AdversaryRead, LabellerPartRead, AdversaryPartRead};
+ghost use Rattle.std.specs.Prelude.{◌≡◌, ◌<◌, ◌≤◌, ◌+◌, ◌++◌, true, if◌then◌else◌, All, IfOk, IfErr, OnOk, string_bytes};
+ghost use Rattle.positions.specs.Ranks.{configurations};
+ghost use Rattle.positions.specs.declared.claim.Claim.{Claim as Claimed};
+ghost use Rattle.proof_text.specs.RowForm.{SectionRead, PartRead, SectionFault, section_text};
 
-use crate::claims::{asks_adversary, asks_labeller};
 use crate::fault::{ProofFault, ProofKind};
-use crate::proof::{AdversaryRow, LabellerRow, MOST_ROWS};
-use crate::rows::{adversary_row, labeller_row};
+use crate::proof::MOST_ROWS;
+use crate::rows::Row;
 use board_text::line_reader::LineReader;
-use positions::{Claim, Space};
-use std::alloc::Global;
+use positions::{Claim, PlaceTexts, Space};
+use std::alloc::{AllocError, Global};
+use std::fmt::Write;
 
 /// The least number of bytes of a row.
 const SHORTEST_ROW: usize = 17;
 
-/// Takes a labeller's section, whose head stands at line 3.
-pub(crate) fn labeller_section(
+/// Takes a section, whose head stands at this line.
+fn read_section<R: Row>(
     alloc: Global,
     text: &mut LineReader<'_>,
     space: &Space,
     claim: Claim,
-) -> Result<Vec<LabellerRow>, ProofFault>
-    ensures read { IfOk result (λ rows. LabellerRead space.now claim rows.items text.old text.new) }
-    ensures fault { IfErr result (λ fault. InLabeller space.now claim text.old 3 fault.line fault.kind) }
-{
-    let Some(count) = text.number_line(b"labeller", 0, MOST_ROWS) else {
-        return Err(ProofFault::at(3, ProofKind::Section));
-    };
-    let Ok(mut rows) = Vec::with_capacity(alloc, room(count, text.len())) else {
-        return Err(ProofFault::at(0, ProofKind::Memory));
-    };
-    let mut least = 0;
-    for come in 0..count {
-        match labeller_row(text, space, claim, least) {
-            Ok(row) => {
-                least = row.at + 1;
-                if rows.push(row).is_err() {
-                    return Err(ProofFault::at(0, ProofKind::Memory));
-                }
-            }
-            Err(kind) => return Err(ProofFault::at(4 + come, kind)),
-        }
-    }
-    Ok(rows)
-}
-
-/// Takes an adversary's section, whose head stands at this line.
-pub(crate) fn adversary_section(
-    alloc: Global,
-    text: &mut LineReader<'_>,
-    space: &Space,
     line: u32,
-) -> Result<Vec<AdversaryRow>, ProofFault>
+) -> Result<Vec<R>, ProofFault>
     requires { line ≤ MOST_ROWS + 4 }
-    ensures read { IfOk result (λ rows. AdversaryRead space.now rows.items text.old text.new) }
-    ensures fault { IfErr result (λ fault. InAdversary space.now text.old line fault.line fault.kind) }
+    ensures read { IfOk result (λ rows. SectionRead space.now (R.form space.now claim) rows.items text.old text.new) }
+    ensures fault { IfErr result (λ fault. SectionFault space.now (R.form space.now claim) text.old line fault.line fault.kind) }
 {
-    let Some(count) = text.number_line(b"adversary", 0, MOST_ROWS) else {
+    let Some(count) = text.number_line(R::word().as_bytes(), 0, MOST_ROWS) else {
         return Err(ProofFault::at(line, ProofKind::Section));
     };
     let Ok(mut rows) = Vec::with_capacity(alloc, room(count, text.len())) else {
@@ -66,9 +36,9 @@ pub(crate) fn adversary_section(
     };
     let mut least = 0;
     for come in 0..count {
-        match adversary_row(text, space, least) {
+        match R::read(text, space, claim, least) {
             Ok(row) => {
-                least = row.at + 1;
+                least = row.rank() + 1;
                 if rows.push(row).is_err() {
                     return Err(ProofFault::at(0, ProofKind::Memory));
                 }
@@ -79,40 +49,46 @@ pub(crate) fn adversary_section(
     Ok(rows)
 }
 
-/// Takes a labeller's section, if the claim asks for one.
-pub(crate) fn labeller_part(
-    alloc: Global,
-    text: &mut LineReader<'_>,
-    space: &Space,
-    claim: Claim,
-) -> Result<Vec<LabellerRow>, ProofFault>
-    ensures read { IfOk result (λ rows. LabellerPartRead space.now claim rows.items text.old text.new) }
-    ensures fault { IfErr result (λ fault. (wants_labeller claim ≡ true) × InLabeller space.now claim text.old 3 fault.line fault.kind) }
-{
-    if asks_labeller(claim) {
-        labeller_section(alloc, text, space, claim)
-    } else {
-        Ok(Vec::new(alloc))
-    }
-}
-
-/// Takes an adversary's section, if the claim asks for one.
-pub(crate) fn adversary_part(
+/// Takes a section, whose head stands at this line, if the claim asks for it.
+pub(crate) fn read_part<R: Row>(
     alloc: Global,
     text: &mut LineReader<'_>,
     space: &Space,
     claim: Claim,
     line: u32,
-) -> Result<Vec<AdversaryRow>, ProofFault>
+) -> Result<Vec<R>, ProofFault>
     requires { line ≤ MOST_ROWS + 4 }
-    ensures read { IfOk result (λ rows. AdversaryPartRead space.now claim rows.items text.old text.new) }
-    ensures fault { IfErr result (λ fault. (wants_adversary claim ≡ true) × InAdversary space.now text.old line fault.line fault.kind) }
+    ensures read { IfOk result (λ rows. PartRead space.now (R.form space.now claim) rows.items text.old text.new) }
+    ensures fault { IfErr result (λ fault. ((R.form space.now claim).asked ≡ true) × SectionFault space.now (R.form space.now claim) text.old line fault.line fault.kind) }
 {
-    if asks_adversary(claim) {
-        adversary_section(alloc, text, space, line)
+    if R::is_asked(claim) {
+        read_section(alloc, text, space, claim, line)
     } else {
         Ok(Vec::new(alloc))
     }
+}
+
+/// Writes a section, if the claim asks for it.
+pub(crate) fn write_part<R: Row>(
+    text: &mut String,
+    space: &Space,
+    places: &PlaceTexts,
+    claim: Claim,
+    rows: &[R],
+) -> Result<(), AllocError>
+    requires places { places.now ≡ space.now.labels }
+    requires rows { (other : Claimed) → All (λ row. (R.form space.now other).rank row < configurations space.now) rows.now }
+    ensures { OnOk result (string_bytes text.new ≡ string_bytes text.old ++ section_text (R.form space.now claim) rows.now) }
+{
+    if !R::is_asked(claim) {
+        return Ok(());
+    }
+    let count = rows.len();
+    write!(text, "{} {count}\n", R::word())?;
+    for row in rows {
+        row.write(text, space, places)?;
+    }
+    Ok(())
 }
 
 /// How many lines a section of so many rows has, if it is asked for.

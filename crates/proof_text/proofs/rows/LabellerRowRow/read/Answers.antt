@@ -2,10 +2,10 @@ use Rattle.std.proofs.Common.{◌≤◌, drop, ap, sym, ◌∙◌, inl, inr, ari
 use Rattle.board_text.specs.PlainBoard.{places}
 use Rattle.board_text.proofs.Places.{labels_and_places}
 use Rattle.positions.specs.Ranks.{rank_of}
-use Rattle.proof_text.specs.Reading.{IsFrom}
+use Rattle.proof_text.specs.RowForm.{IsFrom}
 use Rattle.proof_text.proofs.RowLemmas.{answer_sizes, answer_label, answer_number, answer_read, answer_order, answer_next, six_zeros, zero_behind, places_taken, not_false, not_true, front_written}
-use Rattle.proof_text.proofs.rows.labeller_row.Goals as goal
-use Rattle.proof_text.proofs.rows.labeller_row.Goals.{then-not-values-via-then-not-values, then-not-values-via-else-not-values+then-not-values-2}
+use Rattle.proof_text.proofs.rows.LabellerRowRow.read.Goals as goal
+use Rattle.proof_text.proofs.rows.LabellerRowRow.read.Goals.{then-not-values-via-then-not-values, then-not-values-via-else-not-values+then-not-values-2}
 
 pub returns-then-not-values : goal.returns-then-not-values
 returns-then-not-values c =
@@ -37,7 +37,8 @@ returns-then-rank-least c =
     let read = answer_read board c.args.claim c.in-Some.values c.answer_words.new.at c.answer_words.new.take c.args.text.now c.answer_words.new.text c.in-Some-turns.turns t
     (not_false c.in-Some.values.are_places c.if-not-values.false) (not_false c.in-Some.values.are_answers c.if-not-values-2.false) c.in-Some-turns.is in
     let front = front_written c.pebbles-pebbles.result c.answer_words.new.at (drop c.pebbles-pebbles.result six_zeros) (read.is.at.each_pebble ∙ sym c.pebbles-pebbles.ensures.value) in
-    answer_order board c.args.claim _ c.args.text.now c.answer_words.new.text c.rank-rank.result c.args.least read (c.rank-rank.ensures.rank ∙ ap (rank_of board) front) c.if-rank-least.true
+    answer_order board c.args.claim c.answer_words.new.at c.answer_words.new.take (drop c.pebbles-pebbles.result six_zeros) c.args.text.now c.answer_words.new.text c.in-Some-turns.turns
+    c.rank-rank.result c.args.least read (c.rank-rank.ensures.rank ∙ ap (rank_of board) front) c.rank-rank.ensures.below (zero_behind c.pebbles-pebbles.result) c.if-rank-least.true
 
 pub returns : goal.returns
 returns c =
@@ -49,7 +50,7 @@ returns c =
     (not_false c.in-Some.values.are_places c.if-not-values.false) (not_false c.in-Some.values.are_answers c.if-not-values-2.false) c.in-Some-turns.is in
     let front = front_written c.pebbles-pebbles.result c.answer_words.new.at (drop c.pebbles-pebbles.result six_zeros) (read.is.at.each_pebble ∙ sym c.pebbles-pebbles.ensures.value) in
     answer_next board c.args.claim c.answer_words.new.at c.answer_words.new.take (drop c.pebbles-pebbles.result six_zeros) c.args.text.now c.answer_words.new.text c.in-Some-turns.turns
-    c.rank-rank.result c.args.least read (c.rank-rank.ensures.rank ∙ ap (rank_of board) front) c.rank-rank.ensures.below c.pebbles-pebbles.ensures.few c.if-rank-least.false (zero_behind c.pebbles-pebbles.result)
+    c.rank-rank.result c.args.least read (c.rank-rank.ensures.rank ∙ ap (rank_of board) front) c.rank-rank.ensures.below (zero_behind c.pebbles-pebbles.result) c.pebbles-pebbles.ensures.few c.if-rank-least.false
 
 pub answer_words-requires-clause-places : goal.answer_words-requires-clause-places
 answer_words-requires-clause-places c =

@@ -2,9 +2,9 @@ use Rattle.std.proofs.Common.{arith, drop, ap, sym, ◌∙◌}
 use Rattle.board_text.specs.PlainBoard.{places}
 use Rattle.board_text.proofs.Places.{labels_and_places}
 use Rattle.positions.specs.Ranks.{rank_of}
-use Rattle.proof_text.specs.Reading.{IsFrom}
+use Rattle.proof_text.specs.RowForm.{IsFrom}
 use Rattle.proof_text.proofs.RowLemmas.{request_sizes, request_label, request_pebble, request_number, request_read, request_order, request_next, six_zeros, not_false, not_true, front_written}
-use Rattle.proof_text.proofs.rows.adversary_row.Goals as goal
+use Rattle.proof_text.proofs.rows.AdversaryRowRow.read.Goals as goal
 
 pub returns-then-not-values : goal.returns-then-not-values
 returns-then-not-values c =
@@ -30,7 +30,8 @@ returns-then-rank-least c =
     let t = request_sizes _ board.pebbles _ board.labels _ (places board) c.in-Some.values c.request_words.new.at c.args.text.now c.request_words.new.text c.pebbles-pebbles.ensures.value c.labels.ensures.value c.places.ensures.value c.in-Some.ensures in
     let read = request_read board c.in-Some.values c.request_words.new.at c.args.text.now c.request_words.new.text c.in-Some-left.left c.in-Some-ask.ask t (not_false c.in-Some.values.are_places c.if-not-values.false) c.in-Some-left.is c.in-Some-ask.is in
     let front = front_written c.pebbles-pebbles.result c.request_words.new.at (drop c.pebbles-pebbles.result six_zeros) (read.is.at.each_pebble ∙ sym c.pebbles-pebbles.ensures.value) in
-    request_order board _ c.args.text.now c.request_words.new.text c.rank-rank.result c.args.least read (c.rank-rank.ensures.rank ∙ ap (rank_of board) front) c.if-rank-least.true
+    request_order board c.args._claim c.request_words.new.at c.args.text.now c.request_words.new.text c.in-Some-left.left c.in-Some-ask.ask c.rank-rank.result c.args.least read
+    (c.rank-rank.ensures.rank ∙ ap (rank_of board) front) c.rank-rank.ensures.below c.if-rank-least.true
 
 pub returns : goal.returns
 returns c =
@@ -38,7 +39,7 @@ returns c =
     let t = request_sizes _ board.pebbles _ board.labels _ (places board) c.in-Some.values c.request_words.new.at c.args.text.now c.request_words.new.text c.pebbles-pebbles.ensures.value c.labels.ensures.value c.places.ensures.value c.in-Some.ensures in
     let read = request_read board c.in-Some.values c.request_words.new.at c.args.text.now c.request_words.new.text c.in-Some-left.left c.in-Some-ask.ask t (not_false c.in-Some.values.are_places c.if-not-values.false) c.in-Some-left.is c.in-Some-ask.is in
     let front = front_written c.pebbles-pebbles.result c.request_words.new.at (drop c.pebbles-pebbles.result six_zeros) (read.is.at.each_pebble ∙ sym c.pebbles-pebbles.ensures.value) in
-    request_next board c.request_words.new.at c.args.text.now c.request_words.new.text c.in-Some-left.left c.in-Some-ask.ask c.rank-rank.result c.args.least read
+    request_next board c.args._claim c.request_words.new.at c.args.text.now c.request_words.new.text c.in-Some-left.left c.in-Some-ask.ask c.rank-rank.result c.args.least read
     (c.rank-rank.ensures.rank ∙ ap (rank_of board) front) c.rank-rank.ensures.below c.pebbles-pebbles.ensures.few c.if-rank-least.false
 
 pub request_words-requires-clause-places : goal.request_words-requires-clause-places
