@@ -121,69 +121,73 @@ size_of_bits words bound count all is =
 
 -- ---- the first bit from a bound on
 
--- no bit from the bound on is set before a word, and of that word the bits from the bound on are kept
-pub record IsSearched (words : List ℕ) (bound place kept : ℕ) : Type 0 where
-  pub none : (x : ℕ) → bound ≤ x → x < 64 * place → has_bit words x ≡ true → ⊥
-  pub keeps : (j : ℕ) → j < 64 → (bit_at kept j ≡ 1) ↔ (bound ≤ 64 * place + j)
+-- no bit from the bound on is set before a word
+abbrev pub NoneBefore : List ℕ → ℕ → ℕ → Type 0
+NoneBefore words bound place = (x : ℕ) → bound ≤ x → x < 64 * place → has_bit words x ≡ true → ⊥
 
-pub search_first : (words : List ℕ) (bound : ℕ) → IsSearched words bound (bound / 64) ((2 ^ 64 - 1) * 2 ^ (bound % 64) % 2 ^ 64)
-search_first words bound =
+-- of a word the bits from the bound on are kept
+abbrev pub Keeps : ℕ → ℕ → ℕ → Type 0
+Keeps bound place kept = (j : ℕ) → j < 64 → (bit_at kept j ≡ 1) ↔ (bound ≤ 64 * place + j)
+
+pub keeps_all : (bound place : ℕ) → bound ≤ 64 * place → Keeps bound place (2 ^ 64 - 1)
+keeps_all bound place low j small = (λ one. omega arith, λ above. bit_at_ones 64 j small)
+
+pub keeps_from : (bound place : ℕ) → 64 * place < bound → bound < 64 * place + 64 → Keeps bound place ((2 ^ 64 - 1) * 2 ^ (bound % 64) % 2 ^ 64)
+keeps_from bound place above below =
     let shift : ℕ = bound % 64 in
+    let whole : 64 * place + shift ≡ bound = omega arith in
     let mask : (2 ^ 64 - 1) * 2 ^ shift % 2 ^ 64 ≡ 2 ^ 64 - 2 ^ shift = ones_shl 64 shift (omega arith) in
-    subst (λ k. IsSearched words bound (bound / 64) k) (sym mask) (record {
-      none = λ x from low set. absurd (omega arith);
-      keeps = λ j small. elim (cases_lt j shift) [
-        | inl below ↦ (
-          λ one. let zero : bit_at (2 ^ 64 - 2 ^ shift) j ≡ 0 = bit_at_mask_below shift 64 j below in absurd (omega arith),
-          λ from. absurd (omega arith),
-        )
-        | inr above ↦ (λ one. omega arith, λ from. bit_at_mask_inside shift 64 j above small)
-      ];
-    })
+    subst (λ k. Keeps bound place k) (sym mask) (λ j small. elim (cases_lt j shift) [
+      | inl under ↦ (
+        λ one. let zero : bit_at (2 ^ 64 - 2 ^ shift) j ≡ 0 = bit_at_mask_below shift 64 j under in absurd (omega arith),
+        λ from. absurd (omega arith),
+      )
+      | inr over ↦ (λ one. omega arith, λ from. bit_at_mask_inside shift 64 j over small)
+    ])
 
-pub search_next : (words : List ℕ) (bound place kept : ℕ) → bound / 64 ≤ place → place < 4 → bit_and (get_or words place 0) kept ≡ 0
-    → IsSearched words bound place kept → IsSearched words bound (place + 1) (2 ^ 64 - 1)
-search_next words bound place kept from inside empty searched = record {
-  none = λ x above low set. elim (cases_lt x (64 * place)) [
-    | inl before ↦ searched.none x above before set
-    | inr here ↦
-        let same : x / 64 ≡ place = omega arith in
-        let whole : 64 * place + x % 64 ≡ x = omega arith in
-        let bit : nat_eq (bit_at (get_or words place 0) (x % 64)) 1 ≡ true = ap (λ p. nat_eq (bit_at (get_or words p 0) (x % 64)) 1) (sym same) ∙ set in
-        let kept_bit : bit_at kept (x % 64) ≡ 1 = (searched.keeps (x % 64) (omega arith)).1 (omega arith) in
-        let both = (bit_of_both (get_or words place 0) kept (x % 64)).1 (bit, eq-eqb (bit_at kept (x % 64)) 1 kept_bit) in
-        let one : bit_at (bit_and (get_or words place 0) kept) (x % 64) ≡ 1 = eqb-true (bit_at (bit_and (get_or words place 0) kept) (x % 64)) 1 both in
-        let zero : bit_at (bit_and (get_or words place 0) kept) (x % 64) ≡ 0 = ap (λ w. bit_at w (x % 64)) empty ∙ bit_at-zero (x % 64) in
-        omega arith
-  ];
-  keeps = λ j small. (λ one. omega arith, λ above. bit_at_ones 64 j small);
-}
+pub none_more : (words : List ℕ) (bound place kept : ℕ) → Keeps bound place kept → bit_and (get_or words place 0) kept ≡ 0 → NoneBefore words bound place → NoneBefore words bound (place + 1)
+none_more words bound place kept keeps empty none x above low set = elim (cases_lt x (64 * place)) [
+  | inl before ↦ none x above before set
+  | inr here ↦
+      let same : x / 64 ≡ place = omega arith in
+      let whole : 64 * place + x % 64 ≡ x = omega arith in
+      let bit : nat_eq (bit_at (get_or words place 0) (x % 64)) 1 ≡ true = ap (λ p. nat_eq (bit_at (get_or words p 0) (x % 64)) 1) (sym same) ∙ set in
+      let kept_bit : bit_at kept (x % 64) ≡ 1 = (keeps (x % 64) (omega arith)).1 (omega arith) in
+      let both = (bit_of_both (get_or words place 0) kept (x % 64)).1 (bit, eq-eqb (bit_at kept (x % 64)) 1 kept_bit) in
+      let one : bit_at (bit_and (get_or words place 0) kept) (x % 64) ≡ 1 = eqb-true (bit_at (bit_and (get_or words place 0) kept) (x % 64)) 1 both in
+      let zero : bit_at (bit_and (get_or words place 0) kept) (x % 64) ≡ 0 = ap (λ w. bit_at w (x % 64)) empty ∙ bit_at-zero (x % 64) in
+      omega arith
+]
+
+-- a word that ends at the bound, or before it
+pub none_passed : (words : List ℕ) (bound place : ℕ) → 64 * place + 64 ≤ bound → NoneBefore words bound (place + 1)
+none_passed words bound place passed x above low set = omega arith
 
 abbrev pub HasBitFrom : List ℕ → ℕ → ℕ → Type 0
 HasBitFrom words bound x = (bound ≤ x) × (x < 256) × (has_bit words x ≡ true)
 
 pub search_some : (words : List ℕ) (bound place kept first : ℕ) → place < 4 → 0 < bit_and (get_or words place 0) kept → bit_and (get_or words place 0) kept < 2 ^ 64
-    → IsSearched words bound place kept → first ≡ 64 * place + trailing_zeros w64 (bit_and (get_or words place 0) kept)
+    → Keeps bound place kept → NoneBefore words bound place → first ≡ 64 * place + trailing_zeros w64 (bit_and (get_or words place 0) kept)
     → IsSmallest (HasBitFrom words bound) (Some first)
-search_some words bound place kept first inside some fits searched is =
+search_some words bound place kept first inside some fits keeps none is =
     let word : ℕ = bit_and (get_or words place 0) kept in
     let lowest : ℕ = trailing_zeros w64 word in
     let at = bit_at-trailing_zeros w64 word some fits in
     let low : lowest < 64 = at.0 in
     let both = (bit_of_both (get_or words place 0) kept lowest).0 (eq-eqb (bit_at word lowest) 1 at.1) in
-    let above : bound ≤ 64 * place + lowest = (searched.keeps lowest low).0 (eqb-true (bit_at kept lowest) 1 both.1) in
+    let above : bound ≤ 64 * place + lowest = (keeps lowest low).0 (eqb-true (bit_at kept lowest) 1 both.1) in
     let set : has_bit words (64 * place + lowest) ≡ true = bit_of_word words place lowest low ∙ both.0 in (
       (omega arith, omega arith, subst (λ x. has_bit words x ≡ true) (sym is) set),
       λ other has. elim (cases_lt other first) [
         | inr behind ↦ behind
         | inl before ↦ elim (cases_lt other (64 * place)) [
-          | inl earlier ↦ absurd (searched.none other has.0 earlier has.2)
+          | inl earlier ↦ absurd (none other has.0 earlier has.2)
           | inr here ↦
               let from : bound ≤ other = has.0 in
               let bit : other % 64 < lowest = omega arith in
               let same : other / 64 ≡ place = omega arith in
               let held : nat_eq (bit_at (get_or words place 0) (other % 64)) 1 ≡ true = ap (λ p. nat_eq (bit_at (get_or words p 0) (other % 64)) 1) (sym same) ∙ has.2 in
-              let kept_bit : bit_at kept (other % 64) ≡ 1 = (searched.keeps (other % 64) (omega arith)).1 (omega arith) in
+              let kept_bit : bit_at kept (other % 64) ≡ 1 = (keeps (other % 64) (omega arith)).1 (omega arith) in
               let one : bit_at word (other % 64) ≡ 1 =
               eqb-true (bit_at word (other % 64)) 1 ((bit_of_both (get_or words place 0) kept (other % 64)).1 (held, eq-eqb (bit_at kept (other % 64)) 1 kept_bit)) in
               let zero : bit_at word (other % 64) ≡ 0 = at.2 (other % 64) bit in

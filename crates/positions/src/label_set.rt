@@ -1,6 +1,7 @@
 //! Sets of labels, as bits.
 
-ghost use Rattle.std.specs.Prelude.{◌≡◌, ℕ, ◌<◌, ◌≤◌, ◌↔◌, true, length};
+ghost use Rattle.std.specs.Prelude.{◌≡◌, ℕ, ◌+◌, ◌*◌, ◌<◌, ◌≤◌, ◌↔◌, true, length};
+ghost use Rattle.std.specs.Int.{bit_at};
 ghost use Rattle.board_text.specs.Domination.{has_bit};
 ghost use Rattle.positions.specs.Counts.{HasSize, IsSmallest};
 
@@ -55,14 +56,29 @@ impl LabelSet {
     pub(crate) fn first_from(&self, bound: u16) -> Option<u16>
         ensures { IsSmallest (λ x. (bound ≤ x) × (x < 256) × (has_bit self.now.words x ≡ true)) result }
     {
-        let mut kept = u64::MAX << (bound % 64);
-        for place in bound as usize / 64..ROW_WORDS {
-            let word = self.words[place] & kept;
-            if word != 0 {
-                return Some((64 * place) as u16 + word.trailing_zeros() as u16);
+        let bound = bound as usize;
+        // Each word has its own step, so that the words can be kept in registers.
+        for place in 0..ROW_WORDS {
+            if bound < 64 * place + 64 {
+                let word = self.words[place] & bits_from(bound, place);
+                if word != 0 {
+                    return Some((64 * place) as u16 + word.trailing_zeros() as u16);
+                }
             }
-            kept = u64::MAX;
         }
         None
+    }
+}
+
+/// The bits of a word that stand for labels from a bound on, which the word doesn't end before.
+fn bits_from(bound: usize, place: usize) -> u64
+    requires word { place < ROW_WORDS }
+    requires bound { bound < 64 * place + 64 }
+    ensures { (bit : ℕ) → bit < 64 → (bit_at result bit ≡ 1) ↔ (bound ≤ 64 * place + bit) }
+{
+    if bound <= 64 * place {
+        u64::MAX
+    } else {
+        u64::MAX << (bound % 64)
     }
 }

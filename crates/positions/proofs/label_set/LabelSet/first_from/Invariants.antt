@@ -1,5 +1,5 @@
-use Rattle.positions.proofs.LabelBits.{IsSearched}
+use Rattle.positions.proofs.LabelBits.{NoneBefore}
 use Rattle.positions.proofs.label_set.LabelSet.first_from.Given as goal
 
 abbrev pub invariant-loop-place : goal.invariant-loop-place
-invariant-loop-place l = IsSearched l.self.words l.bound l.place l.kept
+invariant-loop-place l = NoneBefore l.self.words l.bound l.place
