@@ -3,6 +3,7 @@ use Rattle.std.proofs.Common.{◌≡◌, ◌≢◌, ℕ, ◌+◌, ◌-◌, ◌*�
 use Rattle.board_text.specs.PlainBoard.{PlainBoard, Beats, BeatsPlace, IsBoard, places}
 use Rattle.board_text.specs.Domination.{has_bit}
 use Rattle.positions.specs.Game.{Legal, moved}
+use Rattle.positions.specs.Gaps.{IsDominator}
 use Rattle.positions.specs.Position.{Position, position_at, HasPlaces}
 use Rattle.positions.specs.Ranks.{configurations, rank_of, configuration_at}
 use Rattle.positions.specs.Weights.{weight_of}
@@ -48,6 +49,15 @@ module _ (position : Position) (board space : PlainBoard) (rank : ℕ) (held : L
     λ beats. record { is_label = beats.0; dominates = λ other inside differs. subst (BeatsPlace board label) (has.each other inside) (beats.1 other inside differs) },
     λ legal. (legal.is_label, λ other inside differs. subst (BeatsPlace board label) (sym (has.each other inside)) (legal.dominates other inside differs)),
   )
+
+  -- a pebble dominates whose label is legal where it is
+  pub dominator_is : (pebble : ℕ) → pebble < position.board.pebbles → Legal position.board position.configuration pebble (get_or held pebble 0) ↔ IsDominator position.board position.configuration pebble
+  dominator_is pebble inside =
+      let there : pebble < board.pebbles = subst (λ p. pebble < p.board.pebbles) (sym is) inside in
+      let same : get_or held pebble 0 ≡ get_or position.configuration pebble 0 = subst (λ p. get_or held pebble 0 ≡ get_or p.configuration pebble 0) is (has.each pebble there) in (
+        λ legal. let moved_to = subst (Legal position.board position.configuration pebble) same legal in record { is_pebble = inside; has_label = moved_to.is_label; dominates = moved_to.dominates },
+        λ dominator. subst (Legal position.board position.configuration pebble) (sym same) (record { is_label = dominator.has_label; dominates = dominator.dominates }),
+      )
 
   pub few_pebbles : IsBoard space → (pebble : ℕ) → pebble < position.board.pebbles → pebble < 6
   few_pebbles is_board pebble inside =

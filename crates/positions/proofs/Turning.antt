@@ -3,11 +3,11 @@ use Rattle.std.proofs.Common.{◌≡◌, ℕ, ◌+◌, ◌-◌, ◌*◌, ◌/◌
 use Rattle.std.proofs.Math.Nat.{one-le-pow, pow-le-pow_right}
 use Rattle.std.proofs.lemmas.List.{take_more, length-take-le, take_all}
 use Rattle.std.proofs.lemmas.List.Elements.{All-take}
-use Rattle.board_text.specs.PlainBoard.{PlainBoard, IsConfiguration, places}
+use Rattle.board_text.specs.PlainBoard.{PlainBoard, IsBoard, IsConfiguration, places}
 use Rattle.board_text.proofs.Places.{some_places}
 use Rattle.positions.specs.Game.{moved}
 use Rattle.positions.specs.Ranks.{number_of, configurations, rank_of, configuration_at}
-use Rattle.positions.specs.Weights.{AreNumbersOf}
+use Rattle.positions.specs.Weights.{AreNumbersOf, weight_of}
 use Rattle.positions.proofs.Configurations.{moved_is_configuration}
 use Rattle.positions.proofs.Digits.{length-digits_of, number_of-push, number_below}
 use Rattle.positions.proofs.Parts.{Parts, parts_at, quotient, remainder}
@@ -73,12 +73,10 @@ with_label board base weights rank pebble label are below inside low =
 abbrev pub IsRankRest : PlainBoard → ℕ → ℕ → ℕ → Type 0
 IsRankRest board rank place rest = IsRest (places board) board.pebbles (configuration_at board rank) place rest
 
-pub rank_rest_next : {labels pebbles size : ℕ} {words : List ℕ} (board : PlainBoard) (base : ℕ) (weights : List ℕ) (rank place rest : ℕ)
-    → AreNumbersOf board labels pebbles base size weights words → place < board.pebbles → IsRankRest board rank place rest
-    → IsNextRest (places board) board.pebbles (configuration_at board rank) place (rest / get_or weights place 0) (rest % get_or weights place 0)
-rank_rest_next board base weights rank place rest are inside is =
-    rest_next (places board) board.pebbles (configuration_at board rank) place rest (get_or weights place 0) (some_places board are.is_board)
-    (length-digits_of (places board) board.pebbles rank) inside (are.weighs place inside) is
+pub rank_rest_next : (board : PlainBoard) (rank place rest weight : ℕ) → IsBoard board → weight ≡ weight_of board place → place < board.pebbles → IsRankRest board rank place rest
+    → IsNextRest (places board) board.pebbles (configuration_at board rank) place (rest / weight) (rest % weight)
+rank_rest_next board rank place rest weight is_board weighs inside is =
+    rest_next (places board) board.pebbles (configuration_at board rank) place rest weight (some_places board is_board) (length-digits_of (places board) board.pebbles rank) inside weighs is
 
 -- ---- the rank of a list, label by label
 

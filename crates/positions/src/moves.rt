@@ -3,6 +3,7 @@
 ghost use Rattle.std.specs.Prelude.{◌≡◌, ℕ, ◌+◌, ◌*◌, ◌<◌, ◌≤◌, ◌↔◌, true, IsTrue};
 ghost use Rattle.board_text.specs.Domination.{has_bit};
 ghost use Rattle.positions.specs.Game.{Legal, moved};
+ghost use Rattle.positions.specs.Gaps.{IsDominator};
 ghost use Rattle.positions.specs.Position.{position_at};
 ghost use Rattle.positions.specs.Ranks.{configurations, rank_of};
 
@@ -73,6 +74,15 @@ impl<'a> Moves<'a> {
             }
         }
         true
+    }
+
+    /// Whether the pebble holds a label that dominates all others.
+    pub fn dominates(&self, pebble: u8) -> bool
+        requires { pebble < self.now.board.pebbles }
+        ensures { IsTrue result ↔ IsDominator self.now.board self.now.configuration pebble }
+    {
+        let _ = self.space.pebbles();
+        self.is_legal(pebble, self.places[pebble as usize])
     }
 
     /// The labels that a request of the pebble may be answered with.

@@ -1,11 +1,9 @@
 use Rattle.std.proofs.Common.{ℕ, ◌/◌, get_or, set, sym, ap, ◌∙◌, inl, inr, arith}
 use Rattle.std.proofs.lemmas.Bool.{cases_eq}
 use Rattle.std.proofs.lemmas.List.{length-set, get_or-set_same, get_or-set_other}
-use Rattle.board_text.specs.PlainBoard.{places}
-use Rattle.board_text.proofs.Places.{some_places, few_places}
+use Rattle.board_text.proofs.Places.{few_places}
 use Rattle.positions.specs.Ranks.{configuration_at}
-use Rattle.positions.proofs.Digits.{length-digits_of}
-use Rattle.positions.proofs.Rests.{rest_next}
+use Rattle.positions.proofs.Turning.{rank_rest_next}
 use Rattle.positions.proofs.space.Space.moves.Goals as goal
 
 pub overflow_cast-places : goal.overflow_cast-places
@@ -13,8 +11,7 @@ overflow_cast-places c =
     let b = c.args.self.now in
     let l = c.loop-pebble in
     let is = c.weight-weight.ensures.is_board in
-    let next = rest_next (places b) b.pebbles (configuration_at b c.args.rank) l.pebble l.rest c.weight-weight.result (some_places b is) (length-digits_of (places b) b.pebbles c.args.rank)
-    (omega (arith, c.loop-pebble-test.true, c.pebbles-pebble-end.ensures.value)) c.weight-weight.ensures.value l.invariant.rest in
+    let next = rank_rest_next b c.args.rank l.pebble l.rest c.weight-weight.result is c.weight-weight.ensures.value (omega (arith, c.loop-pebble-test.true, c.pebbles-pebble-end.ensures.value)) l.invariant.rest in
     let low = next.low in
     omega (arith, low, few_places b is)
 
@@ -23,8 +20,7 @@ loop-pebble-preserved c =
     let b = c.args.self.now in
     let l = c.loop-pebble in
     let is = c.weight-weight.ensures.is_board in
-    let next = rest_next (places b) b.pebbles (configuration_at b c.args.rank) l.pebble l.rest c.weight-weight.result (some_places b is) (length-digits_of (places b) b.pebbles c.args.rank)
-    (omega (arith, c.loop-pebble-test.true, c.pebbles-pebble-end.ensures.value)) c.weight-weight.ensures.value l.invariant.rest in
+    let next = rank_rest_next b c.args.rank l.pebble l.rest c.weight-weight.result is c.weight-weight.ensures.value (omega (arith, c.loop-pebble-test.true, c.pebbles-pebble-end.ensures.value)) l.invariant.rest in
     let held : ℕ = l.rest / c.weight-weight.result in
     record {
       sized = length-set l.places l.pebble held ∙ l.invariant.sized;
