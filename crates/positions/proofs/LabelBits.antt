@@ -92,7 +92,7 @@ has_bit-both first second x small =
 
 -- ---- how many bits are set
 
-bit_of_word : (words : List ℕ) (k j : ℕ) → j < 64 → has_bit words (64 * k + j) ≡ nat_eq (bit_at (get_or words k 0) j) 1
+pub bit_of_word : (words : List ℕ) (k j : ℕ) → j < 64 → has_bit words (64 * k + j) ≡ nat_eq (bit_at (get_or words k 0) j) 1
 bit_of_word words k j small =
     let place : (64 * k + j) / 64 ≡ k = omega arith in
     let bit : (64 * k + j) % 64 ≡ j = omega arith in

@@ -5,6 +5,7 @@ ghost use Rattle.board_text.specs.Domination.{has_bit};
 ghost use Rattle.positions.specs.Counts.{HasSize, IsSmallest};
 
 use crate::label_set::LabelSet;
+use crate::label_walk::LabelWalk;
 use std::marker::Model;
 
 /// The answers of a gap, which are found once and then read one after the other.
@@ -43,5 +44,12 @@ impl AnswerSet {
         ensures { IsSmallest (λ x. (bound ≤ x) × (x < 256) × (has_bit self.now x ≡ true)) result }
     {
         self.labels.first_from(bound)
+    }
+
+    /// A walk over the answers.
+    pub fn walk(&self) -> LabelWalk
+        ensures { result ≡ record { left = self.now; from = 0 } }
+    {
+        self.labels.walk()
     }
 }

@@ -5,6 +5,7 @@ ghost use Rattle.std.specs.Int.{bit_at};
 ghost use Rattle.board_text.specs.Domination.{has_bit};
 ghost use Rattle.positions.specs.Counts.{HasSize, IsSmallest};
 
+use crate::label_walk::LabelWalk;
 use board_text::ROW_WORDS;
 
 /// A set of labels: the label x is bit `x % 64` of word `x / 64`.
@@ -50,6 +51,13 @@ impl LabelSet {
             count += word.count_ones();
         }
         count
+    }
+
+    /// A walk over the labels.
+    pub(crate) fn walk(&self) -> LabelWalk
+        ensures { result ≡ record { left = self.now.words; from = 0 } }
+    {
+        LabelWalk::new(self.words)
     }
 
     /// The smallest label of the set that is at least a bound.

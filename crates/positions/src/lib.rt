@@ -4,6 +4,7 @@
 mod answer_set;
 mod claim;
 mod label_set;
+mod label_walk;
 mod laws;
 mod laws_of_gaps;
 mod laws_of_ranks;
@@ -20,6 +21,7 @@ mod writing;
 
 pub use answer_set::AnswerSet;
 pub use claim::Claim;
+pub use label_walk::LabelWalk;
 pub use laws::{
     lasts_less, one_dominator, one_has_a_tree, one_value_at_most, shown_claims_hold,
     tables_give_trees, values_by_requests, values_occur,

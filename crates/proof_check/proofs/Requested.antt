@@ -1,15 +1,15 @@
 -- What a look at an adversary's row finds.
-use Rattle.std.proofs.Common.{◌≡◌, ℕ, ◌+◌, ◌<◌, ◌≤◌, ◌↔◌, true, List, Option, Some, None, inl, inr, ap, subst, arith}
+use Rattle.std.proofs.Common.{◌≡◌, ℕ, ◌+◌, ◌<◌, ◌≤◌, ◌↔◌, true, List, Some, None, inl, inr, ap, subst, arith}
 use Rattle.std.proofs.lemmas.Bool.{cases_lt}
 use Rattle.board_text.specs.Domination.{has_bit}
 use Rattle.board_text.specs.PlainBoard.{PlainBoard}
 use Rattle.positions.specs.Counts.{IsSmallest}
 use Rattle.positions.specs.Game.{Legal, moved}
+use Rattle.positions.specs.LabelWalk.{Walk}
 use Rattle.positions.specs.Position.{Position, position_at}
 use Rattle.positions.specs.Ranks.{configuration_at}
 use Rattle.positions.specs.Table.{RequestRow}
-use Rattle.positions.proofs.AnswerBits.{smallest_bit}
-use Rattle.positions.proofs.LabelBits.{HasBitFrom}
+use Rattle.positions.proofs.Walking.{AreFrom, walk_begins}
 use Rattle.proof_text.specs.Rules.{IsListedBelow, MeetsAnswer, MeetsAnswers}
 use Rattle.proof_check.specs.Checker.{IsRowFor}
 use Rattle.proof_check.specs.CheckFaults.{HasRequest, FirstLabel}
@@ -27,13 +27,15 @@ module _ (rows : List RequestRow) (configuration : List ℕ) (row : RequestRow) 
       let left : listed.row.left ≡ row.left = ap (λ (r : RequestRow). r.left) (is.only listed.row listed.among listed.at) in
       omega (arith, low, left, large)
 
--- the smallest bit of the answers from a bound on is the smallest legal label from there on
-pub next_label : (board : PlainBoard) (position : Position) (rank pebble from : ℕ) (words : List ℕ) (found : Option ℕ) → position ≡ position_at board rank
-    → ((label : ℕ) → label < 256 → (has_bit words label ≡ true) ↔ Legal position.board position.configuration pebble label) → position.board.labels ≤ 256
-    → IsSmallest (HasBitFrom words from) found → IsSmallest (λ label. (from ≤ label) × Legal board (configuration_at board rank) pebble label) found
-next_label board position rank pebble from words found is bits few smallest =
-    subst (λ (p : Position). IsSmallest (λ label. (from ≤ label) × Legal p.board p.configuration pebble label) found) is
-    (smallest_bit (Legal position.board position.configuration pebble) from words found bits (λ label legal. omega (arith, legal.is_label, few)) smallest)
+-- the labels that are left are legal ones
+pub legal_begin : (board : PlainBoard) (position : Position) (rank pebble : ℕ) (words : List ℕ) (walk : Walk) → position ≡ position_at board rank → walk ≡ record { left = words; from = 0 }
+    → ((label : ℕ) → label < 256 → (has_bit words label ≡ true) ↔ Legal position.board position.configuration pebble label) → AreFrom (Legal board (configuration_at board rank) pebble) walk
+legal_begin board position rank pebble words walk is begins bits =
+    walk_begins (Legal board (configuration_at board rank) pebble) words walk begins
+    (subst (λ (p : Position). (label : ℕ) → label < 256 → (has_bit words label ≡ true) ↔ Legal p.board p.configuration pebble label) is bits)
+
+pub legal_few : (board : PlainBoard) (position : Position) (rank pebble : ℕ) → position ≡ position_at board rank → position.board.labels ≤ 256 → (label : ℕ) → Legal board (configuration_at board rank) pebble label → label < 256
+legal_few board position rank pebble is few label legal = let most : board.labels ≤ 256 = subst (λ (p : Position). p.board.labels ≤ 256) is few in omega (arith, legal.is_label, most)
 
 -- each label below a bound is met
 module _ (board : PlainBoard) (rows : List RequestRow) (row : RequestRow) (from : ℕ) (before : (earlier : ℕ) → earlier < from → MeetsAnswer board rows row earlier) where

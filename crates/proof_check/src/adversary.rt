@@ -33,10 +33,9 @@ impl CheckedRow for AdversaryRow {
     /// The fault of the row's first faulty label, if it has one.
     fn fault(&self, checker: &Checker<'_>) -> Option<CheckFault> {
         let moves = checker.moves(self.at);
-        let answers = moves.answers(self.ask);
+        let mut answers = moves.answers(self.ask).walk();
         let results = moves.results(self.ask);
-        let mut from = 0;
-        while let Some(label) = answers.first_from(from) {
+        while let Some(label) = answers.take_next() {
             if self.left == 0 {
                 return Some(CheckFault::NotStuck { at: self.at, label });
             }
@@ -50,7 +49,6 @@ impl CheckedRow for AdversaryRow {
             if self.left <= next.left {
                 return Some(CheckFault::TooLarge { at: self.at, label });
             }
-            from = label + 1;
         }
         None
     }

@@ -19,6 +19,10 @@ use Rattle.strategies.specs.GapBest.{IsBestFor}
 use Rattle.strategies.proofs.Comparing.{cases_value, not_above}
 use Rattle.strategies.proofs.Answers.{IsBestBelow, NoneBelow, first_next, better_next, as_good_next, best_of_all}
 
+-- answers are few
+pub answer_few : (board : PlainBoard) (gap : ℕ) → board.labels ≤ 256 → (label : ℕ) → IsAnswer board gap label → label < 256
+answer_few board gap few label is = omega (arith, is.is_label, few)
+
 -- the best of the answers below a bound, if there is one
 abbrev pub IsFoundBelow : PlainBoard → List ℕ → ℕ → ℕ → Option Best → Type 0
 IsFoundBelow board configuration pebble bound (Some best) = IsBestBelow board configuration pebble bound best.label best.value

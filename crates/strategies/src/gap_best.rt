@@ -43,11 +43,10 @@ pub(crate) fn best_of_gap(board: &Board, values: &Values, gap: u32) -> Option<Be
     ensures { IsGapBest board.now gap result }
 {
     let space = values.space();
-    let answers = space.answer_set(board, gap);
+    let mut answers = space.answer_set(board, gap).walk();
     let members = space.members(gap);
     let mut best = None;
-    let mut from = 0;
-    while let Some(label) = answers.first_from(from) {
+    while let Some(label) = answers.take_next() {
         let value = values.of(members.rank(label));
         let found = better(best, Best { label, value });
         // None leads to more, and all others that last forever stand behind.
@@ -55,7 +54,6 @@ pub(crate) fn best_of_gap(board: &Board, values: &Values, gap: u32) -> Option<Be
             return Some(found);
         }
         best = Some(found);
-        from = label + 1;
     }
     best
 }

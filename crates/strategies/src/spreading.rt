@@ -112,12 +112,10 @@ impl BestMoves<'_> {
         ensures added { IfOk result (λ _. IsWithAll reached.old.ranks (IsAnswerOf self.now gap) reached.new.ranks) }
     {
         let space = self.space();
-        let answers = space.answer_set(self.board(), gap);
+        let mut answers = space.answer_set(self.board(), gap).walk();
         let members = space.members(gap);
-        let mut from = 0;
-        while let Some(label) = answers.first_from(from) {
+        while let Some(label) = answers.take_next() {
             reached.add(members.rank(label))?;
-            from = label + 1;
         }
         Ok(())
     }

@@ -1,8 +1,9 @@
-use Rattle.std.proofs.Common.{◌+◌, ◌<◌, Some, None, ◌∙◌, arith}
+use Rattle.std.proofs.Common.{◌+◌, ◌<◌, ◌∙◌, arith}
 use Rattle.board_text.proofs.Places.{label_is_place}
 use Rattle.positions.specs.Ranks.{configurations}
-use Rattle.positions.proofs.AnswerBits.{smallest_answer}
-use Rattle.strategies.proofs.GapAnswers.{IsMemberOf, found_forever, found_next, found_all}
+use Rattle.positions.specs.Gaps.{IsAnswer}
+use Rattle.positions.proofs.Walking.{walk_begins, from_zero, next_of, after_step, none_left}
+use Rattle.strategies.proofs.GapAnswers.{IsMemberOf, answer_few, found_forever, found_next, found_all}
 use Rattle.strategies.proofs.gap_best.best_of_gap.Goals as goal
 
 pub rank-requires : goal.rank-requires
@@ -10,8 +11,7 @@ rank-requires c =
     let b = c.args.board.now in
     let label = c.in-Some.label in
     let same = c.space-space.ensures ∙ c.requires.same_board in
-    let next = smallest_answer b c.args.gap c.loop-label.from c.answer_set-answers.result (Some label)
-    (rw same at c.answer_set-answers.ensures.bits) (rw same at c.answer_set-answers.ensures.few) c.in-Some.ensures in
+    let next = next_of (IsAnswer c.args.board.now c.args.gap) (answer_few c.args.board.now c.args.gap (rw same at c.answer_set.ensures.few)) c.loop-label.answers c.loop-label.invariant.left c.take_next.new.self label c.in-Some.ensures in
     let below = rw same at c.members-members.ensures.below label (label_is_place b label next.0.1.is_label) in
     let few = rw same at c.members-members.ensures.few in
     omega (arith, below, few)
@@ -21,8 +21,7 @@ of-value-requires c =
     let b = c.args.board.now in
     let label = c.in-Some.label in
     let same = c.space-space.ensures ∙ c.requires.same_board in
-    let next = smallest_answer b c.args.gap c.loop-label.from c.answer_set-answers.result (Some label)
-    (rw same at c.answer_set-answers.ensures.bits) (rw same at c.answer_set-answers.ensures.few) c.in-Some.ensures in
+    let next = next_of (IsAnswer c.args.board.now c.args.gap) (answer_few c.args.board.now c.args.gap (rw same at c.answer_set.ensures.few)) c.loop-label.answers c.loop-label.invariant.left c.take_next.new.self label c.in-Some.ensures in
     let below = rw same at c.members-members.ensures.below label (label_is_place b label next.0.1.is_label) in
     let low : c.rank.result < configurations b = omega (arith, c.rank.ensures, below) in
     rw c.requires.same_board low
@@ -32,17 +31,18 @@ loop-label-preserved c =
     let b = c.args.board.now in
     let label = c.in-Some.label in
     let same = c.space-space.ensures ∙ c.requires.same_board in
-    let few = rw same at c.answer_set-answers.ensures.few in
-    let next = smallest_answer b c.args.gap c.loop-label.from c.answer_set-answers.result (Some label)
-    (rw same at c.answer_set-answers.ensures.bits) few c.in-Some.ensures in
+    let few = rw same at c.answer_set.ensures.few in
+    let step = c.in-Some.ensures in
+    let next = next_of (IsAnswer c.args.board.now c.args.gap) (answer_few c.args.board.now c.args.gap (rw same at c.answer_set.ensures.few)) c.loop-label.answers c.loop-label.invariant.left c.take_next.new.self label c.in-Some.ensures in
     record {
-      most = omega (arith, next.0.1.is_label, few);
+      most = omega (arith, next.0.1.is_label, few, step.from);
+      left = after_step (IsAnswer c.args.board.now c.args.gap) (answer_few c.args.board.now c.args.gap few) c.loop-label.answers c.loop-label.invariant.left c.take_next.new.self label step;
       found = λ configuration pebble is.
-          found_next b configuration pebble c.args.gap is c.loop-label.from c.rank.result c.loop-label.best _ c.better-found.result
+          rw step.from (found_next b configuration pebble c.args.gap is c.loop-label.answers.from c.rank.result c.loop-label.best _ c.better-found.result
           (c.loop-label.invariant.found configuration pebble is) next
           (c.rank.ensures ∙ rw same at c.members-members.ensures.ranks label (label_is_place b label next.0.1.is_label))
           (rw c.requires.same_board at c.of-value.ensures)
-          c.better-found.ensures.only c.better-found.ensures.greater c.better-found.ensures.kept;
+          c.better-found.ensures.only c.better-found.ensures.greater c.better-found.ensures.kept);
     }
 
 pub returns-in-Forever : goal.returns-in-Forever
@@ -50,11 +50,10 @@ returns-in-Forever c = λ configuration pebble is is_pebble its_gap.
     let b = c.args.board.now in
     let label = c.in-Some.label in
     let same = c.space-space.ensures ∙ c.requires.same_board in
-    let next = smallest_answer b c.args.gap c.loop-label.from c.answer_set-answers.result (Some label)
-    (rw same at c.answer_set-answers.ensures.bits) (rw same at c.answer_set-answers.ensures.few) c.in-Some.ensures in
+    let next = next_of (IsAnswer c.args.board.now c.args.gap) (answer_few c.args.board.now c.args.gap (rw same at c.answer_set.ensures.few)) c.loop-label.answers c.loop-label.invariant.left c.take_next.new.self label c.in-Some.ensures in
     let here : IsMemberOf b configuration pebble c.args.gap = record { is_configuration = is; is_pebble = is_pebble; its_gap = its_gap } in
     found_forever b configuration pebble c.args.gap here (label + 1) c.better-found.result
-    (found_next b configuration pebble c.args.gap here c.loop-label.from c.rank.result c.loop-label.best _ c.better-found.result
+    (found_next b configuration pebble c.args.gap here c.loop-label.answers.from c.rank.result c.loop-label.best _ c.better-found.result
     (c.loop-label.invariant.found configuration pebble here) next
     (c.rank.ensures ∙ rw same at c.members-members.ensures.ranks label (label_is_place b label next.0.1.is_label))
     (rw c.requires.same_board at c.of-value.ensures)
@@ -65,7 +64,16 @@ pub returns : goal.returns
 returns c = λ configuration pebble is is_pebble its_gap.
     let same = c.space-space.ensures ∙ c.requires.same_board in
     let here : IsMemberOf c.args.board.now configuration pebble c.args.gap = record { is_configuration = is; is_pebble = is_pebble; its_gap = its_gap } in
-    found_all c.args.board.now configuration pebble c.args.gap here c.loop-label.from c.loop-label.best
+    found_all c.args.board.now configuration pebble c.args.gap here c.loop-label.answers.from c.loop-label.best
     (c.loop-label.invariant.found configuration pebble here)
-    (smallest_answer c.args.board.now c.args.gap c.loop-label.from c.answer_set-answers.result None
-    (rw same at c.answer_set-answers.ensures.bits) (rw same at c.answer_set-answers.ensures.few) c.in_default.ensures)
+    (none_left (IsAnswer c.args.board.now c.args.gap) (answer_few c.args.board.now c.args.gap (rw same at c.answer_set.ensures.few)) c.loop-label.answers c.loop-label.invariant.left c.in_default.ensures)
+
+pub loop-label-init : goal.loop-label-init
+loop-label-init c =
+    let same = c.space-space.ensures ∙ c.requires.same_board in
+    let begins = from_zero c.answer_set.result c.walk-answers.result c.walk-answers.ensures in
+    record {
+      most = omega (arith, begins);
+      left = walk_begins (IsAnswer c.args.board.now c.args.gap) c.answer_set.result c.walk-answers.result c.walk-answers.ensures (rw same at c.answer_set.ensures.bits);
+      found = λ configuration pebble is other below. absurd (omega (arith, begins, below));
+    }

@@ -1,6 +1,10 @@
-use Rattle.std.proofs.Common.{Some, None, ◌∙◌, arith}
+use Rattle.std.proofs.Common.{refl, ◌∙◌, arith}
 use Rattle.board_text.proofs.Places.{label_is_place}
-use Rattle.positions.proofs.AnswerBits.{smallest_answer}
+use Rattle.positions.specs.Gaps.{IsAnswer}
+use Rattle.positions.proofs.Walking.{walk_begins, from_zero, next_of, after_step, none_left}
+use Rattle.strategies.specs.Spreading.{IsAnswerAt}
+use Rattle.strategies.proofs.Added.{added_start}
+use Rattle.strategies.proofs.GapAnswers.{answer_few}
 use Rattle.strategies.proofs.Steps.{member_added, members_added}
 use Rattle.strategies.proofs.best_moves.BestMoves.add_members.Goals as goal
 
@@ -9,8 +13,7 @@ rank-requires c =
     let b = c.args.self.now in
     let label = c.in-Some.label in
     let same = c.space-space.ensures in
-    let next = smallest_answer b c.args.gap c.loop-label.from c.answer_set-answers.result (Some label)
-    (rw same at c.answer_set-answers.ensures.bits) (rw same at c.answer_set-answers.ensures.few) c.in-Some.ensures in
+    let next = next_of (IsAnswer c.args.self.now c.args.gap) (answer_few c.args.self.now c.args.gap (rw same at c.answer_set.ensures.few)) c.loop-label.answers c.loop-label.invariant.left c.take_next.new.self label c.in-Some.ensures in
     let below = rw same at c.members-members.ensures.below label (label_is_place b label next.0.1.is_label) in
     let few = rw same at c.members-members.ensures.few in
     omega (arith, below, few)
@@ -20,8 +23,7 @@ add-requires c =
     let b = c.args.self.now in
     let label = c.in-Some.label in
     let same = c.space-space.ensures in
-    let next = smallest_answer b c.args.gap c.loop-label.from c.answer_set-answers.result (Some label)
-    (rw same at c.answer_set-answers.ensures.bits) (rw same at c.answer_set-answers.ensures.few) c.in-Some.ensures in
+    let next = next_of (IsAnswer c.args.self.now c.args.gap) (answer_few c.args.self.now c.args.gap (rw same at c.answer_set.ensures.few)) c.loop-label.answers c.loop-label.invariant.left c.take_next.new.self label c.in-Some.ensures in
     let below = rw same at c.members-members.ensures.below label (label_is_place b label next.0.1.is_label) in
     omega (arith, below, c.rank.ensures, c.loop-label.invariant.size, c.requires.size)
 
@@ -30,21 +32,32 @@ loop-label-preserved c =
     let b = c.args.self.now in
     let label = c.in-Some.label in
     let same = c.space-space.ensures in
-    let few = rw same at c.answer_set-answers.ensures.few in
-    let next = smallest_answer b c.args.gap c.loop-label.from c.answer_set-answers.result (Some label)
-    (rw same at c.answer_set-answers.ensures.bits) few c.in-Some.ensures in
+    let few = rw same at c.answer_set.ensures.few in
+    let step = c.in-Some.ensures in
+    let next = next_of (IsAnswer c.args.self.now c.args.gap) (answer_few c.args.self.now c.args.gap (rw same at c.answer_set.ensures.few)) c.loop-label.answers c.loop-label.invariant.left c.take_next.new.self label c.in-Some.ensures in
     record {
-      most = omega (arith, next.0.1.is_label, few);
+      most = omega (arith, next.0.1.is_label, few, step.from);
+      left = after_step (IsAnswer c.args.self.now c.args.gap) (answer_few c.args.self.now c.args.gap few) c.loop-label.answers c.loop-label.invariant.left c.take_next.new.self label step;
       size = c.in_ok-add.ensures.size ∙ c.loop-label.invariant.size;
-      added = member_added b c.args.gap c.loop-label.from label c.rank.result _ _ _ next
+      added = rw step.from (member_added b c.args.gap c.loop-label.answers.from label c.rank.result _ _ _ next
           (c.rank.ensures ∙ rw same at c.members-members.ensures.ranks label (label_is_place b label next.0.1.is_label))
-          c.loop-label.invariant.added c.in_ok-add.ensures.added;
+          c.loop-label.invariant.added c.in_ok-add.ensures.added);
     }
 
 pub returns-clause-added : goal.returns-clause-added
 returns-clause-added c =
     let same = c.space-space.ensures in
-    members_added c.args.self.now c.args.gap c.loop-label.from _ _
-    (smallest_answer c.args.self.now c.args.gap c.loop-label.from c.answer_set-answers.result None
-    (rw same at c.answer_set-answers.ensures.bits) (rw same at c.answer_set-answers.ensures.few) c.in_default.ensures)
+    members_added c.args.self.now c.args.gap c.loop-label.answers.from _ _
+    (none_left (IsAnswer c.args.self.now c.args.gap) (answer_few c.args.self.now c.args.gap (rw same at c.answer_set.ensures.few)) c.loop-label.answers c.loop-label.invariant.left c.in_default.ensures)
     c.loop-label.invariant.added
+
+pub loop-label-init : goal.loop-label-init
+loop-label-init c =
+    let same = c.space-space.ensures in
+    let begins = from_zero c.answer_set.result c.walk-answers.result c.walk-answers.ensures in
+    record {
+      most = omega (arith, begins);
+      left = walk_begins (IsAnswer c.args.self.now c.args.gap) c.answer_set.result c.walk-answers.result c.walk-answers.ensures (rw same at c.answer_set.ensures.bits);
+      size = refl;
+      added = rw begins (added_start c.args.reached.now.ranks (IsAnswerAt c.args.self.now c.args.gap));
+    }
