@@ -105,7 +105,7 @@ impl<'a> BestMoves<'a> {
     {
         match self.listed.get(gap as usize) {
             Some(best) => *best,
-            None => best_of_gap(self.board, self.values, gap),
+            None => best_of_gap(self.values, gap, self.space().answer_set(self.board, gap)),
         }
     }
 

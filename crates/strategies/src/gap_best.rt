@@ -1,14 +1,15 @@
 //! The best answer of a gap, which is that of each of its members.
 
-ghost use Rattle.std.specs.Prelude.{◌≡◌, ◌<◌, ◌↔◌, None, Some, IfOk, IsTrue, length};
-ghost use Rattle.positions.specs.Gaps.{gaps};
+ghost use Rattle.std.specs.Prelude.{◌≡◌, ℕ, ◌<◌, ◌↔◌, true, None, Some, IfOk, IsTrue, length};
+ghost use Rattle.board_text.specs.Domination.{has_bit};
+ghost use Rattle.positions.specs.Gaps.{gaps, IsAnswer};
 ghost use Rattle.positions.specs.declared.value.Value.TheVariants.{Finite};
 ghost use Rattle.strategies.specs.declared.gap_best.Best.{Best as BestOfGap};
 ghost use Rattle.strategies.specs.Best.{IsLess};
 ghost use Rattle.strategies.specs.GapBest.{IsGapBest, AreGapsBest};
 
 use board_text::{Board, Memory};
-use positions::Value;
+use positions::{AnswerSet, TupleAnswers, Value};
 use retro_core::Values;
 use std::alloc::Global;
 
@@ -28,25 +29,29 @@ pub(crate) fn best_of_gaps(
     requires same_board { values.now ≡ board.now }
     ensures { IfOk result (λ answers. AreGapsBest board.now answers.items) }
 {
-    let gaps = values.space().gaps();
-    let mut answers = vec![in alloc; None; gaps as usize]?;
+    let space = values.space();
+    let gaps = space.gaps();
+    let tuples = TupleAnswers::of(alloc, space, board)?;
+    let mut best = vec![in alloc; None; gaps as usize]?;
     for gap in 0..gaps {
-        answers[gap as usize] = best_of_gap(board, values, gap);
+        let answers = tuples.answers(space.gap_tuple(gap));
+        best[gap as usize] = best_of_gap(values, gap, answers);
     }
-    Ok(answers)
+    Ok(best)
 }
 
-/// The best answer of a gap, if it has an answer.
-pub(crate) fn best_of_gap(board: &Board, values: &Values, gap: u32) -> Option<Best>
-    requires same_board { values.now ≡ board.now }
-    requires gap { gap < gaps board.now }
-    ensures { IsGapBest board.now gap result }
+/// The best answer of a gap, if it has an answer. The answers are those of the gap.
+pub(crate) fn best_of_gap(values: &Values, gap: u32, answers: AnswerSet) -> Option<Best>
+    requires gap { gap < gaps values.now }
+    requires answers { (label : ℕ) → label < 256 → (has_bit answers label ≡ true) ↔ IsAnswer values.now gap label }
+    ensures { IsGapBest values.now gap result }
 {
     let space = values.space();
-    let mut answers = space.answer_set(board, gap).walk();
+    let _ = space.labels();
     let members = space.members(gap);
+    let mut labels = answers.walk();
     let mut best = None;
-    while let Some(label) = answers.take_next() {
+    while let Some(label) = labels.take_next() {
         let value = values.of(members.rank(label));
         let found = better(best, Best { label, value });
         // None leads to more, and all others that last forever stand behind.
