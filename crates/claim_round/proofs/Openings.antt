@@ -59,9 +59,6 @@ count_more s words words' word n has e here = record {
   ];
 }
 
-pub words_start : (s : Solving) (words : List ℕ) → HasCounts s words (gaps s.board) → AreFirstWords s words 0
-words_start s words has = record { size = has.size ∙ (omega arith); counted = has.counted; valued = λ rank value low. absurd (omega arith) }
-
 pub words_more : (s : Solving) (words words' : List ℕ) (word n : ℕ) → AreFirstWords s words n → words' ≡ words ++ word ∷ []
     → ((value : ℕ) → (value_of_word word ≡ Some value) ↔ ((value ≤ s.rounds) × HasValue s.board (configuration_at s.board n) (Finite value))) → AreFirstWords s words' (n + 1)
 words_more s words words' word n are e here =

@@ -1,5 +1,5 @@
 -- A seat's fields agree with its view after a step.
-use Rattle.std.proofs.Common.{◌≡◌, ℕ, ◌+◌, ◌-◌, ◌*◌, ◌/◌, ◌<◌, ◌≤◌, ◌⊎◌, ◌==◌, cond, inl, inr, ⊎_elim, List, [], ◌∷◌, ◌++◌, length, take, drop, refl, sym, ap, ◌∙◌, subst, arith, length-append, length-drop, length-take, mul-le-mul_left, mul-le-mul_right}
+use Rattle.std.proofs.Common.{◌≡◌, ℕ, ◌+◌, ◌-◌, ◌*◌, ◌/◌, ◌<◌, ◌≤◌, ◌⊎◌, ◌==◌, cond, inl, inr, ⊎_elim, List, [], ◌∷◌, ◌++◌, length, take, drop, refl, sym, ap, ◌∙◌, subst, arith, length-append, length-drop, length-take, mul-le-mul_left}
 use Rattle.std.specs.Prelude.{vec_capacity}
 use Rattle.std.specs.VecDeque.{deque_capacity}
 use mathlib.Core.Logic.{dite}
@@ -214,40 +214,9 @@ joined_seat s q t seated other same view slots todo owed room_owed won room_won 
           });
     }
 
--- the same seat with more room
-pub roomier_seat : (s t : Inside) → IsSeated s → t.seat.me.0 ≡ s.seat.me.0 → t.seat.me.1 ≡ s.seat.me.1
-    → t.todo.items ≡ s.todo.items → t.owed.items ≡ s.owed.items → deque_capacity s.owed ≤ deque_capacity t.owed
-    → t.won.items ≡ s.won.items → vec_capacity t.won ≡ vec_capacity s.won → t.width ≡ s.width → IsSeated t
-roomier_seat s t seated view slots todo owed room_owed won room_won width =
-    let v : View = s.seat.me.0 in
-    record {
-      free = slots ∙ seated.free;
-      todo = todo ∙ seated.todo ∙ sym (ap (λ (u : View). u.has.todo) view);
-      owed = owed ∙ seated.owed ∙ sym (ap (λ (u : View). u.has.owed) view);
-      won = won ∙ seated.won ∙ sym (ap (λ (u : View). u.has.won) view);
-      width = width ∙ seated.width ∙ sym (ap (λ (u : View). u.has.width) view);
-      due = subst (λ (u : View). (c : ℕ) → 0 < times c u.has.todo → IsDueIn u.key c) (sym view) seated.due;
-      inside = subst (λ (u : View). (c : ℕ) → 0 < times c u.has.owed → c < size u.key) (sym view) seated.inside;
-      room_owed = subst (λ (u : View). most u.key ≤ deque_capacity t.owed) (sym view) (let r = seated.room_owed in omega arith);
-      room = room_told t v.key (vec_capacity s.won) (ap (λ (u : View). u.key) view) room_won
-          (subst (λ (n : ℕ × ℕ × ℕ). HasRoom v.key n.0 n.1 n.2 (vec_capacity s.won)) (λ j. (sym (ap length won) j, sym (ap length owed) j, sym (ap length todo) j)) seated.room);
-    }
-
 pub no_length : (xs : List ℕ) → length xs ≡ 0 → xs ≡ []
 no_length [] e = refl
 no_length (x ∷ xs) e = absurd (omega arith)
-
--- what a seat has to strike or owes is a small number
-pub todo_small : (s : Inside) → IsSeated s → length s.todo.items < 4294967296
-todo_small s seated =
-    let k : Key = s.seat.me.0.key in
-    let f = seated.room.few in
-    let n = seated.room.narrow in
-    let m : 1 * length s.todo.items ≤ most k * length s.todo.items = mul-le-mul_right (length s.todo.items) seated.room.some_most in
-    omega arith
-
-pub owed_small : (s : Inside) → IsSeated s → length s.owed.items < 4294967296
-owed_small s seated = let f = seated.room.few in let n = seated.room.narrow in omega arith
 
 -- the first seat of a round
 pub first_seat : (t : Inside) (k : Key) → IsSolving k.solving → t.seat.me.0 ≡ opening k → t.seat.me.1 ≡ [] → AreToStrike k.solving t.todo.items → t.owed.items ≡ [] → most k ≤ deque_capacity t.owed

@@ -16,7 +16,7 @@ use crate::closed::Closed;
 use crate::room::{append, make_places, make_room, owe_members, places_for};
 use crate::seat::RoundSeat;
 use crate::table::{Halves, Hand, Look, Plan, Rule, Strike, Try};
-use crate::words::{OPEN, first_words, to_strike};
+use crate::words::{OPEN, first_words};
 use atomic_table::Table;
 use board_text::Memory;
 use index_lists::ListStore;
@@ -100,11 +100,11 @@ impl<'a, S: ListStore> SharedRound<'a, S> {
     {
         let _ = solver.round_number();
         let words = first_words(alloc, solver)?;
-        let ranks = to_strike(alloc, solver)?;
+        let ranks = solver.to_strike();
         let most = solver.space().places() as usize;
         let mut todo = VecDeque::new(alloc);
         todo.reserve(ranks.len())?;
-        append(&mut todo, ranks.as_slice());
+        append(&mut todo, ranks);
         let mut owed = VecDeque::new(alloc);
         owed.reserve(most)?;
         let won = Vec::with_capacity(alloc, places_for(solver, most * ranks.len()))?;

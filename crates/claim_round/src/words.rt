@@ -3,7 +3,6 @@
 ghost use Rattle.std.specs.Prelude.{◌≡◌, ◌+◌, ◌<◌, false, length, IfOk};
 ghost use Rattle.positions.specs.Ranks.{configurations};
 ghost use Rattle.positions.specs.Gaps.{gaps};
-ghost use Rattle.retro_core.specs.Round.{AreToStrike};
 ghost use Rattle.claim_round.specs.Openings.{AreFirstWords, HasCounts};
 
 use board_text::Memory;
@@ -48,20 +47,4 @@ pub(crate) fn first_words<S: ListStore>(
         }
     }
     Ok(words)
-}
-
-/// What is to be struck at the opening.
-pub(crate) fn to_strike<S: ListStore>(alloc: Global, solver: &Solver<S>) -> Result<Vec<u32>, Memory>
-    ensures { IfOk result (λ ranks. AreToStrike solver.now ranks.items) }
-{
-    let round = solver.round_number();
-    let mut ranks = Vec::new(alloc);
-    let mut at = solver.first_filed(round);
-    while let Some(rank) = at {
-        if solver.dominator(rank).is_some() && ranks.push(rank).is_err() {
-            return Err(Memory);
-        }
-        at = solver.next_filed(rank);
-    }
-    Ok(ranks)
 }

@@ -1,11 +1,8 @@
 -- Of how many numbers a fact holds.
 use Rattle.std.proofs.Common.{◌≡◌, ◌≢◌, ℕ, zero, suc, ◌+◌, ◌-◌, ◌<◌, ◌≤◌, ◌↔◌, List, [], ◌∷◌, length, get_or, Contains, refl, sym, ap, ◌∙◌, subst, inl, inr, arith}
-use Rattle.std.specs.List.{AllPairs, remove}
+use Rattle.std.specs.List.{AllPairs}
 use Rattle.std.proofs.lemmas.Bool.{cases_eq, cases_lt}
-use Rattle.std.proofs.lemmas.List.{get_or_default}
 use Rattle.std.proofs.lemmas.List.Elements.{Contains-get_or}
-use Rattle.std.proofs.lemmas.List.Edits.{length-remove, get_or-remove_below, get_or-remove_above}
-use Rattle.std.proofs.lemmas.List.Quantifiers.{all_pairs_remove}
 use Rattle.positions.specs.Counts.{HasSize}
 
 -- ---- ascending lists
@@ -109,49 +106,3 @@ size_zero P = (
     so_many = refl;
   },
 )
-
--- without one number of which it holds
-pub size_without : (P : ℕ → Type 0) (size without : ℕ) → HasSize P (suc size) → P without → HasSize (λ number. P number × (number ≢ without)) size
-size_without P size without has holds =
-    let members : List ℕ = has.members in
-    let found = (has.each without).1 holds in
-    let place : ℕ = found.0 in
-    let inside : place < length members = found.1 in
-    let long : length members ≡ suc size = has.so_many in
-    let shorter : length (remove members place) + 1 ≡ length members = length-remove members place inside in
-    let at : get_or members place 0 ≡ without = get_or_default members place 0 without inside ∙ found.2 in
-    record {
-      members = remove members place;
-      ascending = all_pairs_remove (λ first second. first < second) members place inside has.ascending;
-      each = λ number. (
-        λ among.
-            let k : ℕ = among.0 in
-            let within : k < length (remove members place) = among.1 in
-            elim (cases_lt k place) [
-              | inl before ↦
-                  let read : get_or members k number ≡ number = sym (get_or-remove_below members place number k before inside) ∙ among.2 in
-                  let less : get_or members k 0 < get_or members place 0 = has.ascending k place 0 before inside in
-                  let value : get_or members k 0 ≡ number = get_or_default members k 0 number (omega arith) ∙ read in
-                  ((has.each number).0 (k, omega arith, read), λ equal. omega arith)
-              | inr behind ↦
-                  let read : get_or members (k + 1) number ≡ number = sym (get_or-remove_above members place number k behind inside) ∙ among.2 in
-                  let less : get_or members place 0 < get_or members (k + 1) 0 = has.ascending place (k + 1) 0 (omega arith) (omega arith) in
-                  let value : get_or members (k + 1) 0 ≡ number = get_or_default members (k + 1) 0 number (omega arith) ∙ read in
-                  ((has.each number).0 (k + 1, omega arith, read), λ equal. omega arith)
-            ],
-        λ is.
-            let among = (has.each number).1 is.0 in
-            let k : ℕ = among.0 in
-            let within : k < length members = among.1 in
-            elim (cases_lt k place) [
-              | inl before ↦ (k, omega arith, get_or-remove_below members place number k before inside ∙ among.2)
-              | inr from ↦ elim (cases_eq k place) [
-                | inl same ↦ absurd (is.1 (sym among.2 ∙ ap (λ n. get_or members n number) same ∙ get_or_default members place number 0 inside ∙ at))
-                | inr differs ↦
-                    let one_more : k - 1 + 1 ≡ k = omega arith in
-                    (k - 1, omega arith, get_or-remove_above members place number (k - 1) (omega arith) inside ∙ ap (λ n. get_or members n number) one_more ∙ among.2)
-              ]
-            ],
-      );
-      so_many = omega arith;
-    }

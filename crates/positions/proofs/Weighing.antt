@@ -46,6 +46,3 @@ too_large board weights pebble next is inside large weighed =
     let power : next * places board ≡ places board ^ (board.pebbles - pebble) = next_power board pebble next inside weighed.power in
     let most : places board ^ (board.pebbles - pebble) ≤ configurations board = pow-le-pow_right (some_places board is) (omega arith) in
     omega arith
-
-pub all_weighed : (board : PlainBoard) (weights : List ℕ) (pebble next : ℕ) → pebble ≡ 0 → IsWeighed board weights pebble next → next ≡ configurations board
-all_weighed board weights pebble next none weighed = let all : board.pebbles - pebble ≡ board.pebbles = omega arith in weighed.power ∙ ap (λ n. places board ^ n) all

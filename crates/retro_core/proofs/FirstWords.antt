@@ -14,10 +14,6 @@ use Rattle.retro_core.proofs.Lasting.{true_or_false, same_or_not, next-gives, ne
 pub stopping-start : (a : Arena) (gap : ℕ) (counts words : List ℕ) → AreStopping a gap counts 0 words words
 stopping-start a gap counts words = record { same_length = refl; stopped = λ x i is low. absurd (omega arith); others = λ x i. inl refl }
 
--- where no count is 0 there is nothing to stop
-pub stopping-none : (a : Arena) (gap place : ℕ) (counts words : List ℕ) → ((k : ℕ) → k < length counts → slice_index counts k ≢ 0) → AreStopping a gap counts place words words
-stopping-none a gap place counts words some = record { same_length = refl; stopped = λ x i is low. absurd (some is.more is.low is.none); others = λ x i. inl refl }
-
 pub written-start : (first : ℕ) (counts words : List ℕ) → IsWritten first counts 0 words words
 written-start first counts words = record { same_length = refl; inside = λ k low. absurd (omega arith); before = λ x low. refl; behind = λ x high. refl }
 

@@ -1,8 +1,8 @@
 -- Noting the dominators gap by gap.
-use Rattle.std.proofs.Common.{◌≡◌, ◌≢◌, ℕ, ◌+◌, ◌*◌, ◌<◌, ◌≤◌, inl, inr, true, sym, ap, ◌∙◌, subst, arith, List, [], ◌∷◌, ◌++◌, length, take, drop, replicate, Some, None, slice_index, slice_set, get_or-set_other, get_or-set_same}
+use Rattle.std.proofs.Common.{◌≡◌, ◌≢◌, ℕ, ◌+◌, ◌*◌, ◌<◌, ◌≤◌, inl, inr, true, sym, ap, ◌∙◌, subst, arith, List, [], ◌∷◌, ◌++◌, length, take, drop, Some, None, slice_index, slice_set, get_or-set_other, get_or-set_same}
 use Rattle.std.proofs.Math.ListN.{length-set}
 use Rattle.std.proofs.lemmas.Bool.{cases_lt}
-use Rattle.std.proofs.lemmas.List.{length-replicate, get_or-replicate, take_at, get_or_append_left, get_or_push}
+use Rattle.std.proofs.lemmas.List.{take_at, get_or_append_left, get_or_push}
 use Rattle.index_lists.proofs.Times.{cond_same, cond_other}
 use Rattle.board_text.specs.PlainBoard.{PlainBoard, IsBoard, places}
 use Rattle.board_text.proofs.Places.{label_is_place}
@@ -47,13 +47,6 @@ counted_push b counts gap count size before here g low = elim (cases_lt g gap) [
 -- a vector that was lent as a slice
 pub written : (items new : List ℕ) (n : ℕ) → length new ≡ n → take n (new ++ drop (length new) items) ≡ new
 written items new n size = take_at new (drop (length new) items) n size
-
-pub noted-start : (b : PlainBoard) (n : ℕ) → n ≡ configurations b → AreNoted b 0 (replicate n 255)
-noted-start b n size = record {
-  noted_length = length-replicate n 255 ∙ size;
-  sound = λ c i d. absurd (d (get_or-replicate n c 255 0 (omega arith)));
-  found = λ c p i d h. absurd (omega arith);
-}
 
 pub noted-all : (b : PlainBoard) → IsBoard b → (dominators : List ℕ) → AreNoted b (256 * gaps b) dominators → AreDominators b dominators
 noted-all b is dominators noted = record {

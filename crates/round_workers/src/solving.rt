@@ -9,7 +9,7 @@ use crate::gate::Gate;
 use crate::tree::share;
 use board_text::Board;
 use claim_round::{Closed, SharedRound};
-use index_lists::{LinkLists, ListStore};
+use index_lists::{ListStore, PlainLists};
 use retro_core::{SolveFault, Solver, Values};
 use std::alloc::Global;
 use std::sync::Wait;
@@ -52,7 +52,7 @@ pub fn solve_values<G: Gate, R: Threads + Wait + Sync>(
     ensures values { IfOk result (λ values. values ≡ board.now) }
     ensures too_large { (result ≡ Err SolveFault.TooLarge) ↔ (1048576 < configurations board.now) }
 {
-    let mut solver = Solver::<LinkLists>::open(alloc, board)?;
+    let mut solver = Solver::<PlainLists>::open(alloc, board)?;
     loop {
         match solver.finish() {
             Ok(values) => return Ok(values),
