@@ -50,4 +50,8 @@ mod streams;
 #[cfg(test)]
 mod texts;
 #[cfg(test)]
+mod two_callers;
+#[cfg(test)]
 mod values;
+#[cfg(test)]
+mod workers;

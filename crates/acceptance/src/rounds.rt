@@ -213,6 +213,16 @@ impl Tally {
         }
     }
 
+    /// What was done here and there.
+    pub(crate) fn and(self, other: Tally) -> Tally {
+        Tally {
+            strikes: self.strikes.saturating_add(other.strikes),
+            closed: self.closed.saturating_add(other.closed),
+            tries: self.tries.saturating_add(other.tries),
+            won: self.won.saturating_add(other.won),
+        }
+    }
+
     /// Notes what a step did.
     pub(crate) fn note(&mut self, seen: Seen) {
         match seen {

@@ -9,13 +9,13 @@ use crate::assertions::assert_same;
 use crate::rounds::{NINE, Tally, has_each, opened};
 use crate::texts::{CHAIN_OF_THREE, THREE_PEBBLES, board_of};
 use claim_round::{NotClosed, RoundSeat, SharedRound, Why};
-use index_lists::LinkLists;
+use index_lists::{LinkLists, ListStore};
 use retro_core::{Seen, Solver};
 use std::alloc::Global;
 use std::process::Abort;
 
 /// The opening of a shared round.
-fn open_round<'a>(
+pub(crate) fn open_round<'a>(
     rt: &impl Abort,
     alloc: Global,
     solver: &'a Solver<LinkLists>,
@@ -35,7 +35,7 @@ fn open_round<'a>(
 }
 
 /// The two seats of a split.
-fn split(
+pub(crate) fn split(
     rt: &impl Abort,
     round: &SharedRound<'_, LinkLists>,
     seat: RoundSeat,
@@ -52,7 +52,7 @@ fn split(
 }
 
 /// The seat of a join.
-fn join(
+pub(crate) fn join(
     rt: &impl Abort,
     round: &SharedRound<'_, LinkLists>,
     into: RoundSeat,
@@ -124,7 +124,12 @@ fn assert_open<'a>(
 }
 
 /// Asserts that a round is closed with a seat, and what was won.
-fn assert_won(rt: &impl Abort, round: SharedRound<'_, LinkLists>, seat: RoundSeat, wanted: &[u32])
+pub(crate) fn assert_won(
+    rt: &impl Abort,
+    round: SharedRound<'_, LinkLists>,
+    seat: RoundSeat,
+    wanted: &[u32],
+)
     requires { IsOf round seat }
 {
     match round.close(seat) {
@@ -134,7 +139,11 @@ fn assert_won(rt: &impl Abort, round: SharedRound<'_, LinkLists>, seat: RoundSea
 }
 
 /// Strikes and claims until the seat has nothing left to do, and notes it.
-fn work(round: &SharedRound<'_, LinkLists>, seat: &mut RoundSeat, tally: &mut Tally)
+pub(crate) fn work<S: ListStore>(
+    round: &SharedRound<'_, S>,
+    seat: &mut RoundSeat,
+    tally: &mut Tally,
+)
     requires { IsOf round.now seat.old }
     ensures { IsOf round.now seat.new }
 {

@@ -62,6 +62,11 @@ fn board(rt: &impl Abort, alloc: Global, shape: Shape, labels: u16, pebbles: u8)
         .expect(rt, "a board")
 }
 
+/// The chain of so many labels with two pebbles: each label dominates all smaller ones.
+pub(crate) fn chain(rt: &impl Abort, alloc: Global, labels: u16) -> Board {
+    board(rt, alloc, Shape::Order, labels, 2)
+}
+
 /// The value of the start.
 fn start_value(rt: &impl Abort, alloc: Global, board: &Board) -> Option<Value> {
     let values = solve::<LinkLists>(rt, alloc, board);
@@ -116,7 +121,7 @@ fn boards_with_a_cycle(rt: HostRuntime) {
 
 #[test]
 fn the_chain_of_all_labels(rt: HostRuntime) {
-    let board = board(&rt, rt.alloc(), Shape::Order, 256, 2);
+    let board = chain(&rt, rt.alloc(), 256);
     assert_eq!(&rt;
         start_value(&rt, rt.alloc(), &board),
         Some(Value::Finite(255))
