@@ -3,6 +3,7 @@
 
 mod answer_set;
 mod claim;
+mod column;
 mod label_set;
 mod label_walk;
 mod laws;
