@@ -1,14 +1,13 @@
 -- The answers of a gap as bits: of each other pebble's label those that beat it, if there is one.
-use Rattle.std.proofs.Common.{◌≡◌, ℕ, ◌+◌, ◌-◌, ◌/◌, ◌%◌, ◌^◌, ◌<◌, ◌≤◌, ◌↔◌, true, List, Option, length, get_or, take, drop, sym, ap, ◌∙◌, subst, arith}
-use Rattle.std.specs.List.{All, slice_range}
-use Rattle.std.proofs.Math.Nat.{one-le-pow}
-use Rattle.std.proofs.lemmas.List.{take_all, take-take, length-take-le, get_or-take, get_or-drop}
+use Rattle.std.proofs.Common.{◌≡◌, ℕ, ◌+◌, ◌-◌, ◌/◌, ◌%◌, ◌^◌, ◌<◌, ◌≤◌, ◌↔◌, true, List, Option, length, get_or, take, sym, ap, ◌∙◌, subst, arith}
+use Rattle.std.specs.List.{All}
+use Rattle.std.proofs.lemmas.List.{take_all, take-take, length-take-le, get_or-take}
 use Rattle.std.proofs.lemmas.List.Elements.{All-more, All-take, All-get_or}
-use Rattle.board_text.specs.PlainBoard.{PlainBoard, Beats, BeatsPlace, places}
+use Rattle.board_text.specs.PlainBoard.{PlainBoard, IsBoard, Beats, BeatsPlace, places}
 use Rattle.board_text.proofs.Places.{some_places}
 use Rattle.board_text.specs.Domination.{has_bit}
 use Rattle.positions.specs.Gaps.{gaps, others_of, IsAnswer}
-use Rattle.positions.specs.Weights.{AreNumbersOf}
+use Rattle.positions.specs.Weights.{weight_of}
 use Rattle.positions.specs.Counts.{IsSmallest}
 use Rattle.positions.proofs.Counting.{smallest_of}
 use Rattle.positions.proofs.LabelBits.{HasBitFrom}
@@ -21,21 +20,13 @@ pub record IsNarrowed (board : PlainBoard) (gap place rest : ℕ) (words : List 
   pub bits : (x : ℕ) → x < 256 → (has_bit words x ≡ true) ↔ ((x < board.labels) × All (BeatsPlace board x) (take place (others_of board gap)))
 
 -- the label of the next other pebble, by its weight
-pub next_other : {labels pebbles size : ℕ} {words : List ℕ} (board : PlainBoard) (base : ℕ) (weights : List ℕ) (gap place rest : ℕ)
-    → AreNumbersOf board labels pebbles base size weights words → gap < gaps board → place < board.pebbles - 1
+pub next_other : (board : PlainBoard) (gap place rest weight : ℕ) → IsBoard board → gap < gaps board → place < board.pebbles - 1 → weight ≡ weight_of board (place + 1)
     → IsRest (places board) (board.pebbles - 1) (others_of board gap) place rest
-    → let weight = get_or (slice_range weights 1 pebbles) place 0 in
-    (0 < weight) × IsNextRest (places board) (board.pebbles - 1) (others_of board gap) place (rest / weight) (rest % weight)
-next_other {pebbles = pebbles} board base weights gap place rest are below inside is =
-    let next : 1 + place < board.pebbles = omega arith in
-    let left : board.pebbles - 1 - (1 + place) ≡ board.pebbles - 1 - 1 - place = omega arith in
-    let within : place < pebbles - 1 = omega (arith, are.pebbles_is) in
-    let weight : ℕ = get_or (slice_range weights 1 pebbles) place 0 in
-    let read : weight ≡ places board ^ (board.pebbles - 1 - 1 - place) =
-    get_or-take (pebbles - 1) (drop 1 weights) place 0 within ∙ get_or-drop 1 weights place 0 ∙ are.weighs (1 + place) next ∙ ap (λ n. places board ^ n) left in (
-      subst (λ n. 0 < n) (sym read) (one-le-pow (board.pebbles - 1 - 1 - place) (places board) (some_places board are.is_board)),
-      rest_next (places board) (board.pebbles - 1) (others_of board gap) place rest weight (some_places board are.is_board) (others_of_gap board gap below).size inside read is,
-    )
+    → IsNextRest (places board) (board.pebbles - 1) (others_of board gap) place (rest / weight) (rest % weight)
+next_other board gap place rest weight is below inside weighs read =
+    let left : board.pebbles - 1 - (place + 1) ≡ board.pebbles - 1 - 1 - place = omega arith in
+    rest_next (places board) (board.pebbles - 1) (others_of board gap) place rest weight (some_places board is) (others_of_gap board gap below).size inside
+    (weighs ∙ ap (λ n. places board ^ n) left) read
 
 pub narrowed_more : (board : PlainBoard) (gap place rest label next : ℕ) (words row new : List ℕ) → gap < gaps board → place < board.pebbles - 1 → label < board.labels
     → IsNarrowed board gap place rest words → IsNextRest (places board) (board.pebbles - 1) (others_of board gap) place label next

@@ -1,7 +1,7 @@
 -- How gaps are turned with the weights of a space.
 use Rattle.std.proofs.Common.{◌≡◌, ℕ, ◌+◌, ◌-◌, ◌*◌, ◌/◌, ◌%◌, ◌^◌, ◌<◌, ◌≤◌, List, get_or, refl, sym, ap, ◌∙◌, subst, arith, mod-lt, mul-le-mul_right}
 use Rattle.std.proofs.Math.Nat.{pow-le-pow_right}
-use Rattle.board_text.specs.PlainBoard.{PlainBoard, places}
+use Rattle.board_text.specs.PlainBoard.{PlainBoard, IsBoard, places}
 use Rattle.board_text.proofs.Places.{some_places}
 use Rattle.positions.specs.Ranks.{configurations, rank_of, configuration_at}
 use Rattle.positions.specs.Gaps.{gaps_each, gaps, gap_of, pebble_of, others_of, member_of}
@@ -27,6 +27,18 @@ gaps_few board base weights are =
     let few : configurations board ≤ 1048576 = are.few in
     let product : board.pebbles * gaps_each board ≤ 6 * gaps_each board = mul-le-mul_right (gaps_each board) are.is_board.pebbles.1 in
     omega arith
+
+pub tuples_few : (board : PlainBoard) → IsBoard board → configurations board ≤ 1048576 → gaps_each board ≤ 1048576
+tuples_few board is few =
+    let most : gaps_each board ≤ configurations board = pow-le-pow_right (some_places board is) (omega arith) in
+    omega arith
+
+-- a gap is small enough to be divided by the number of tuples
+pub gap_divides : (board : PlainBoard) (gap : ℕ) → IsBoard board → configurations board ≤ 1048576 → gap < gaps board → (gap ≤ 6291456) × (gap ≤ 1048576 * gaps_each board)
+gap_divides board gap is few below =
+    let each : gaps_each board ≤ 1048576 = tuples_few board is few in
+    let product : board.pebbles * gaps_each board ≤ 6 * gaps_each board = mul-le-mul_right (gaps_each board) is.pebbles.1 in
+    (omega arith, omega arith)
 
 -- a rank without a pebble's label, behind the pebble
 pub gap_is : {labels pebbles size : ℕ} {words : List ℕ} (board : PlainBoard) (base : ℕ) (weights : List ℕ) (rank pebble : ℕ)

@@ -3,6 +3,7 @@ use Rattle.std.proofs.Common.{◌≡◌, ℕ, ◌+◌, ◌-◌, ◌*◌, ◌/◌
 use Rattle.std.proofs.Math.Nat.{one-le-pow, pow-le-pow_right}
 use Rattle.std.proofs.lemmas.List.{take_more, length-take-le, take_all}
 use Rattle.std.proofs.lemmas.List.Elements.{All-take}
+use Rattle.std.proofs.lemmas.List.{get_or_default}
 use Rattle.board_text.specs.PlainBoard.{PlainBoard, IsBoard, IsConfiguration, places}
 use Rattle.board_text.proofs.Places.{some_places}
 use Rattle.positions.specs.Game.{moved}
@@ -20,6 +21,11 @@ weight_positive board base weights pebble are inside =
     subst (λ w. 0 < w) (sym (are.weighs pebble inside)) (one-le-pow (board.pebbles - 1 - pebble) (places board) (some_places board are.is_board))
 
 -- the parts of a rank by a pebble, with its weight
+-- the weight of a pebble, whatever is read where there is none
+pub read_weight : {labels pebbles size : ℕ} {words : List ℕ} (board : PlainBoard) (base : ℕ) (weights : List ℕ) (pebble none : ℕ)
+    → AreNumbersOf board labels pebbles base size weights words → length weights ≡ 6 → pebble < board.pebbles → get_or weights pebble none ≡ get_or weights pebble 0
+read_weight board base weights pebble none are six inside = get_or_default weights pebble none 0 (omega (arith, six, are.is_board.pebbles.1))
+
 pub rank_parts : {labels pebbles size : ℕ} {words : List ℕ} (board : PlainBoard) (base : ℕ) (weights : List ℕ) (rank pebble : ℕ)
     → AreNumbersOf board labels pebbles base size weights words → rank < configurations board → pebble < board.pebbles
     → Parts (places board) (configuration_at board rank) pebble (get_or weights pebble 0)

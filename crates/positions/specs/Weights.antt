@@ -1,5 +1,5 @@
 -- What is kept of a board to turn ranks and gaps.
-use Rattle.std.specs.Prelude.{◌≡◌, ℕ, ◌-◌, ◌^◌, ◌<◌, ◌≤◌, ◌↔◌, List, true, slice_index}
+use Rattle.std.specs.Prelude.{◌≡◌, ℕ, ◌+◌, ◌-◌, ◌/◌, ◌^◌, ◌<◌, ◌≤◌, ◌↔◌, List, true, slice_index}
 use Rattle.board_text.specs.PlainBoard.{PlainBoard, IsBoard, places}
 use Rattle.board_text.specs.Domination.{has_bit}
 use Rattle.positions.specs.Ranks.{configurations}
@@ -19,3 +19,9 @@ pub record AreNumbersOf (board : PlainBoard) (labels pebbles base size : ℕ) (w
   pub size_is : size ≡ configurations board
   pub weighs : (pebble : ℕ) → pebble < board.pebbles → slice_index weights pebble ≡ weight_of board pebble
   pub each_label : (label : ℕ) → label < 256 → (has_bit words label ≡ true) ↔ (label < board.labels)
+
+-- a divisor with the factor whose product with a number, divided by 2^43, is the quotient
+pub record IsDivisor (by factor : ℕ) : Type 0 where
+  pub some : 0 < by
+  pub few : by ≤ 1048576
+  pub factor_is : factor ≡ 2 ^ 43 / by + 1

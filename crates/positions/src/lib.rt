@@ -4,6 +4,7 @@
 mod answer_set;
 mod claim;
 mod column;
+mod divisor;
 mod label_set;
 mod label_walk;
 mod laws;

@@ -47,7 +47,7 @@ impl Space {
         let mut places = [0; 6];
         let mut rest = rank;
         for pebble in 0..self.pebbles() {
-            let weight = self.weight(pebble);
+            let weight = self.weight(pebble).value();
             places[pebble as usize] = (rest / weight) as u16;
             rest %= weight;
         }
@@ -107,7 +107,7 @@ impl<'a> Moves<'a> {
         ensures below { (label : ℕ) → label < self.now.board.labels → result.first + label * result.step < configurations self.now.board }
         ensures few { configurations self.now.board ≤ MAX_CONFIGURATIONS }
     {
-        let step = self.space.weight(pebble);
+        let step = self.space.weight(pebble).value();
         let first = self.rank - self.places[pebble as usize] as u32 * step;
         Members { first, step }
     }

@@ -3,13 +3,13 @@ use Rattle.board_text.proofs.Places.{labels_and_places}
 use Rattle.positions.proofs.SpaceNumbers.{numbers}
 use Rattle.positions.proofs.space.Space.blank.Goals as goal
 
-pub returns-then-self : goal.returns-then-self
-returns-then-self c =
+pub returns-then-value-self : goal.returns-then-value-self
+returns-then-value-self c =
     let are = numbers c.args.self.now c.self.inside c.self.view_is c.self.invariant in
-    omega (arith, are.base_is, are.labels_is, c.if-self.true)
+    omega (arith, are.base_is, c.value.ensures.value, are.labels_is, c.if-value-self.true)
 
 pub returns : goal.returns
 returns c =
     let are = numbers c.args.self.now c.self.inside c.self.view_is c.self.invariant in
     let both = labels_and_places c.args.self.now in
-    (are.labels_is, omega (arith, are.base_is, are.labels_is, c.if-self.false, both.0, both.1))
+    (are.labels_is, omega (arith, are.base_is, c.value.ensures.value, are.labels_is, c.if-value-self.false, both.0, both.1))

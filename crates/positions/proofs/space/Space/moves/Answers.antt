@@ -10,8 +10,8 @@ pub overflow_cast-places : goal.overflow_cast-places
 overflow_cast-places c =
     let b = c.args.self.now in
     let l = c.loop-pebble in
-    let is = c.weight-weight.ensures.is_board in
-    let next = rank_rest_next b c.args.rank l.pebble l.rest c.weight-weight.result is c.weight-weight.ensures.value (omega (arith, c.loop-pebble-test.true, c.pebbles-pebble-end.ensures.value)) l.invariant.rest in
+    let is = c.weight.ensures.is_board in
+    let next = rank_rest_next b c.args.rank l.pebble l.rest c.value-weight.result is (c.value-weight.ensures.value ∙ c.weight.ensures.value) (omega (arith, c.loop-pebble-test.true, c.pebbles-pebble-end.ensures.value)) l.invariant.rest in
     let low = next.low in
     omega (arith, low, few_places b is)
 
@@ -19,9 +19,9 @@ pub loop-pebble-preserved : goal.loop-pebble-preserved
 loop-pebble-preserved c =
     let b = c.args.self.now in
     let l = c.loop-pebble in
-    let is = c.weight-weight.ensures.is_board in
-    let next = rank_rest_next b c.args.rank l.pebble l.rest c.weight-weight.result is c.weight-weight.ensures.value (omega (arith, c.loop-pebble-test.true, c.pebbles-pebble-end.ensures.value)) l.invariant.rest in
-    let held : ℕ = l.rest / c.weight-weight.result in
+    let is = c.weight.ensures.is_board in
+    let next = rank_rest_next b c.args.rank l.pebble l.rest c.value-weight.result is (c.value-weight.ensures.value ∙ c.weight.ensures.value) (omega (arith, c.loop-pebble-test.true, c.pebbles-pebble-end.ensures.value)) l.invariant.rest in
+    let held : ℕ = l.rest / c.value-weight.result in
     record {
       sized = length-set l.places l.pebble held ∙ l.invariant.sized;
       rest = next.rest_is;

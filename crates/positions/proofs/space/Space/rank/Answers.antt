@@ -9,7 +9,7 @@ pub loop-place-preserved : goal.loop-place-preserved
 loop-place-preserved c =
     let s = c.self.inside in
     let are = numbers c.args.self.now s c.self.view_is c.self.invariant in
-    (front_more c.args.self.now s.places s.weights c.args.configuration.now c.loop-place.place-index c.loop-place.rank are c.requires (omega arith) c.loop-place.invariant).front
+    rw c.value.ensures.value (front_more c.args.self.now s.places s.weights c.args.configuration.now c.loop-place.place-index c.loop-place.rank are c.requires (omega arith) c.loop-place.invariant).front
 
 pub returns-clause-below : goal.returns-clause-below
 returns-clause-below c =

@@ -1,25 +1,23 @@
-use Rattle.std.proofs.Common.{arith}
+use Rattle.std.proofs.Common.{◌*◌, ◌≤◌, sym, subst, arith}
 use Rattle.positions.proofs.Neighbours.{run_by}
 use Rattle.positions.proofs.SpaceNumbers.{numbers}
+use Rattle.positions.proofs.Turning.{weight_positive, read_weight}
+use Rattle.positions.proofs.GapTurning.{tuples_few}
 use Rattle.positions.proofs.space.Space.run.Goals as goal
 
-pub nonzero_rem-result : goal.nonzero_rem-result
-nonzero_rem-result c =
+pub rest-requires-clause-not_many : goal.rest-requires-clause-not_many
+rest-requires-clause-not_many c =
     let s = c.self.inside in
     let are = numbers c.args.self.now s c.self.view_is c.self.invariant in
-    let some = (run_by c.args.self.now s.places s.weights c.args.gap c.gap_pebble.result c.gap_tuple.result are c.requires c.gap_pebble.ensures.pebble c.gap_tuple.ensures.tuple).some in
-    omega (arith, some)
-
-pub overflow_sub-result : goal.overflow_sub-result
-overflow_sub-result c =
-    let s = c.self.inside in
-    let are = numbers c.args.self.now s c.self.view_is c.self.invariant in
-    let some = (run_by c.args.self.now s.places s.weights c.args.gap c.gap_pebble.result c.gap_tuple.result are c.requires c.gap_pebble.ensures.pebble c.gap_tuple.ensures.tuple).some in
-    omega (arith, some)
+    let some = weight_positive c.args.self.now s.places s.weights c.gap_pebble.result are c.gap_pebble.ensures.below in
+    let few = tuples_few c.args.self.now are.is_board are.few in
+    let weight = read_weight c.args.self.now s.places s.weights c.gap_pebble.result c.index-self-gap_pebble.result are c.self.told c.gap_pebble.ensures.below in
+    subst (λ n. c.gap_tuple.result ≤ 1048576 * n) (sym weight) (omega (arith, few, some, c.gap_tuple.ensures.below))
 
 pub returns : goal.returns
 returns c =
     let s = c.self.inside in
     let are = numbers c.args.self.now s c.self.view_is c.self.invariant in
+    let weight = read_weight c.args.self.now s.places s.weights c.gap_pebble.result c.index-self-gap_pebble.result are c.self.told c.gap_pebble.ensures.below in
     let run = run_by c.args.self.now s.places s.weights c.args.gap c.gap_pebble.result c.gap_tuple.result are c.requires c.gap_pebble.ensures.pebble c.gap_tuple.ensures.tuple in
-    record { some = run.some; inside = run.inside; ranks = run.ranks }
+    rw c.value.ensures.value (rw c.rest.ensures (rw weight (record { some = run.some; inside = run.inside; ranks = run.ranks })))
