@@ -18,9 +18,16 @@ use Rattle.retro_core.specs.Stored.{AreDominators}
 use Rattle.retro_core.proofs.BoardArenas.{answers_is, arena_is, dominant_is, dominant_label}
 use Rattle.retro_core.proofs.Lasting.{same_or_not}
 
+-- the labels of a set
+abbrev pub HasLabel : List ℕ → ℕ → Type 0
+HasLabel words label = (label < 256) × (has_bit words label ≡ true)
+
+pub has_few : (words : List ℕ) (label : ℕ) → HasLabel words label → label < 256
+has_few words label has = has.0
+
 -- the bits of a gap's answers that are at least a bound
 abbrev pub IsBitFrom : List ℕ → ℕ → ℕ → Type 0
-IsBitFrom words from x = (from ≤ x) × (x < 256) × (has_bit words x ≡ true)
+IsBitFrom words from x = (from ≤ x) × HasLabel words x
 
 -- ---- how many answers
 
@@ -92,7 +99,7 @@ module _ (b : PlainBoard) (is : IsBoard b) (gap from : ℕ) (words : List ℕ) (
       let small : label < 256 = omega (arith, are.is_board.labels.1) in
       let same : a.gap c p ≡ gap = omega arith in
       let answer = (answers_is b gap label in_gaps).0 (subst (λ g. a.is_answer g label ≡ true) same d.1) in
-      (same, (omega arith, small, (are.bits label small).1 answer))
+      (same, (omega arith, (small, (are.bits label small).1 answer)))
 
   pub noted-end : IsSmallest (IsBitFrom words from) None → AreNoted b (256 * (gap + 1)) dominators
   noted-end none = record {
@@ -106,13 +113,13 @@ module _ (b : PlainBoard) (is : IsBoard b) (gap from : ℕ) (words : List ℕ) (
 
   module _ (label : ℕ) (next : IsSmallest (IsBitFrom words from) (Some label)) where
     pub low_label : label < b.labels
-    low_label = ((are.bits label next.0.1).0 next.0.2).is_label
+    low_label = ((are.bits label next.0.1.0).0 next.0.1.1).is_label
 
     pub low_place : label < places b
     low_place = label_is_place b label low_label
 
     leads : (arena_of b).is_answer gap label ≡ true
-    leads = (answers_is b gap label in_gaps).1 ((are.bits label next.0.1).0 next.0.2)
+    leads = (answers_is b gap label in_gaps).1 ((are.bits label next.0.1.0).0 next.0.1.1)
 
     dominant-there : Dominant (arena_of b) ((arena_of b).member gap label) (pebble_of b gap)
     dominant-there =
@@ -129,7 +136,7 @@ module _ (b : PlainBoard) (is : IsBoard b) (gap from : ℕ) (words : List ℕ) (
       | inl early ↦ early
       | inr after ↦ absurd (
           let a = arena_of b in
-          let small : label < 256 = next.0.1 in
+          let small : label < 256 = next.0.1.0 in
           let there = late c p i d after (omega arith) in
           let least : label ≤ a.place c p = next.1 (a.place c p) there.1 in
           let gap_is : a.gap c p ≡ gap = there.0 in

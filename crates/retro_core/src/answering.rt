@@ -48,9 +48,8 @@ fn note_dominator(dominators: &mut [u8], space: &Space, gap: u32, answers: &Answ
 {
     let pebble = space.gap_pebble(gap);
     let members = space.members(gap);
-    let mut from = 0;
-    while let Some(label) = answers.first_from(from) {
+    let mut labels = answers.walk();
+    while let Some(label) = labels.take_next() {
         dominators[members.rank(label) as usize] = pebble;
-        from = label + 1;
     }
 }
