@@ -11,6 +11,7 @@ ghost use Rattle.strategies.specs.Best.{LowersValue};
 ghost use Rattle.strategies.specs.GapBest.{IsBestFor, IsGapBest, AreGapsBest, LeadsBelow};
 
 use crate::gap_best::{Best, best_of_gap, is_less};
+use crate::listed::Listed;
 use board_text::Board;
 use positions::{MAX_CONFIGURATIONS, Space, Value};
 use retro_core::Values;
@@ -23,7 +24,7 @@ use std::marker::Model;
 pub(crate) struct BestMoves<'a> {
     board: &'a Board,
     values: &'a Values,
-    listed: &'a [Option<Best>],
+    listed: &'a [Listed],
 }
 
 impl<'a> Model for BestMoves<'a> {
@@ -40,11 +41,7 @@ impl<'a> Model for BestMoves<'a> {
 
 impl<'a> BestMoves<'a> {
     /// The best moves on a board, by its values and the best answers of its first gaps.
-    pub(crate) fn new(
-        board: &'a Board,
-        values: &'a Values,
-        listed: &'a [Option<Best>],
-    ) -> BestMoves<'a>
+    pub(crate) fn new(board: &'a Board, values: &'a Values, listed: &'a [Listed]) -> BestMoves<'a>
         requires same_board { values.now ≡ board.now }
         requires listed { AreGapsBest board.now listed.now }
         ensures { result ≡ board.now }
@@ -104,7 +101,7 @@ impl<'a> BestMoves<'a> {
         ensures { IsGapBest self.now gap result }
     {
         match self.listed.get(gap as usize) {
-            Some(best) => *best,
+            Some(listed) => listed.best(),
             None => best_of_gap(self.values, gap, self.space().answer_set(self.board, gap)),
         }
     }

@@ -8,6 +8,7 @@ ghost use Rattle.strategies.specs.declared.gap_best.Best.{Best as BestOfGap};
 ghost use Rattle.strategies.specs.Best.{IsLess};
 ghost use Rattle.strategies.specs.GapBest.{IsGapBest, AreGapsBest};
 
+use crate::listed::Listed;
 use board_text::{Board, Memory};
 use positions::{AnswerSet, TupleAnswers, Value};
 use retro_core::Values;
@@ -25,17 +26,17 @@ pub(crate) fn best_of_gaps(
     alloc: Global,
     board: &Board,
     values: &Values,
-) -> Result<Vec<Option<Best>>, Memory>
+) -> Result<Vec<Listed>, Memory>
     requires same_board { values.now ≡ board.now }
     ensures { IfOk result (λ answers. AreGapsBest board.now answers.items) }
 {
     let space = values.space();
     let gaps = space.gaps();
     let tuples = TupleAnswers::of(alloc, space, board)?;
-    let mut best = vec![in alloc; None; gaps as usize]?;
+    let mut best = Vec::with_capacity(alloc, gaps as usize)?;
     for gap in 0..gaps {
         let answers = tuples.answers(space.gap_tuple(gap));
-        best[gap as usize] = best_of_gap(values, gap, answers);
+        best.push_reserved(Listed::of(best_of_gap(values, gap, answers)));
     }
     Ok(best)
 }

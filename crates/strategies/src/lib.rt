@@ -7,6 +7,7 @@ mod documents;
 mod gap_best;
 mod laws;
 mod laws_of_documents;
+mod listed;
 mod marks;
 mod reached;
 mod sections;

@@ -1,10 +1,11 @@
-use Rattle.std.proofs.Common.{◌≡◌, ℕ, ◌<◌, length, None, slice_index_or}
+use Rattle.std.proofs.Common.{◌≡◌, ℕ, ◌<◌, ◌≤◌, length, None, slice_index_or, vec_capacity}
 use Rattle.positions.specs.Gaps.{gaps}
-use Rattle.strategies.specs.GapBest.{IsGapBest}
+use Rattle.strategies.specs.GapBest.{AreGapsBest}
 use Rattle.strategies.proofs.gap_best.best_of_gaps.Given as goal
 
 abbrev pub invariant-loop-gap : goal.invariant-loop-gap
 invariant-loop-gap l = record {
-  one_each : length l.best.items ≡ gaps l.board;
-  best : (gap : ℕ) → gap < l.gap → IsGapBest l.board gap (slice_index_or l.best.items gap None);
+  so_many : length l.best.items ≡ l.gap;
+  room : gaps l.board ≤ vec_capacity l.best;
+  best : AreGapsBest l.board l.best.items;
 }
