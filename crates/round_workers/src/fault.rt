@@ -12,6 +12,11 @@ pub enum WorkFault {
 }
 
 impl From<Memory> for WorkFault {
+    ghost use Rattle.std.specs.Prelude.{◌≡◌};
+    ghost use Rattle.round_workers.specs.declared.fault.WorkFault.TheVariants as fault;
+
+    ghost from_gives = { λ _ f. f ≡ fault.Memory };
+
     fn from(_memory: Memory) -> WorkFault {
         WorkFault::Memory
     }

@@ -26,6 +26,7 @@ fn work_round<S: ListStore + Sync, G: Gate, R: Threads + Wait + Sync>(
     requires going { solver.now.is_done ≡ false }
     requires workers { (1 ≤ workers) × (workers ≤ 16) }
     ensures end { IfOk result (λ c. IsRoundEnd solver.now c.won c.counts) }
+    ensures worker { result ≡ Err WorkFault.Worker → 1 < workers }
 {
     let (round, seat) = SharedRound::open(alloc, solver, workers)?;
     let seat = share(rt, &round, gate, 0, solver.round_number(), seat)?;
@@ -40,7 +41,7 @@ fn work_round<S: ListStore + Sync, G: Gate, R: Threads + Wait + Sync>(
 /// Each round is shared by all workers: a seat of its own for each, the first on this thread, the others each on a thread
 /// that is started for the round and joined before it ends. One worker starts no thread. It may wait for its workers.
 /// The values are those of the board, whatever the number of workers, the gate and the schedule are.
-/// `Worker` is answered only where a thread's start was refused.
+/// `Worker` is answered only where a thread's start was refused, so never with one worker.
 pub fn solve_values<G: Gate, R: Threads + Wait + Sync>(
     rt: &R,
     alloc: Global,
@@ -51,6 +52,7 @@ pub fn solve_values<G: Gate, R: Threads + Wait + Sync>(
     requires workers { (1 ≤ workers) × (workers ≤ 16) }
     ensures values { IfOk result (λ values. values ≡ board.now) }
     ensures too_large { (result ≡ Err SolveFault.TooLarge) ↔ (1048576 < configurations board.now) }
+    ensures worker { result ≡ Err SolveFault.Worker → 1 < workers }
 {
     let mut solver = Solver::<PlainLists>::open(alloc, board)?;
     loop {

@@ -1,7 +1,7 @@
 //! The fork tree of a round: a seat is split down to width 1, left to right, and each worker has one part.
 
 ghost use Rattle.std.specs.Thread.{IsSync};
-ghost use Rattle.std.specs.Prelude.{◌≡◌, ◌≤◌, ◌<◌, ◌+◌, ◌^◌, IfOk};
+ghost use Rattle.std.specs.Prelude.{◌≡◌, ◌≤◌, ◌<◌, ◌+◌, ◌^◌, Err, IfOk};
 ghost use Rattle.claim_round.specs.Shared.{IsOf};
 ghost use Rattle.round_workers.specs.Work.{IsWorked};
 
@@ -43,7 +43,8 @@ fn worker<W: Sharing, G: Gate>(
     seat
 }
 
-/// Workers do what a seat has to do, one for each part of its width. The first of them has this number.
+/// Workers do what a seat has to do, one for each part of its width. The first of them has this number. A seat of width 1
+/// is worked on this thread.
 #[cycle(tree)]
 pub fn share<W: Sharing + Sync, G: Gate, R: Threads + Wait + Sync>(
     rt: &R,
@@ -55,7 +56,8 @@ pub fn share<W: Sharing + Sync, G: Gate, R: Threads + Wait + Sync>(
 ) -> Result<RoundSeat, WorkFault>
     requires mine { IsOf (W.id round.now) seat }
     requires workers { first + seat.view.has.width < 2 ^ 32 }
-    ensures { IfOk result (λ r. IsWorked seat r) }
+    ensures worked { IfOk result (λ r. IsWorked seat r) }
+    ensures worker { result ≡ Err WorkFault.Worker → 1 < seat.view.has.width }
 {
     if seat.width() == 1 {
         return Ok(worker(round, gate, first, number, seat));
