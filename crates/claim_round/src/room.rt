@@ -18,17 +18,6 @@ pub(crate) fn places_for<S: ListStore>(solver: &Solver<S>, entries: usize) -> us
     if entries < most { entries } else { most }
 }
 
-/// Appends the members, for which there is room.
-pub(crate) fn append(list: &mut VecDeque<u32>, members: &[u32])
-    requires { length list.old.items + length members.now ≤ deque_capacity list.old }
-    ensures items { list.new.items ≡ list.old.items ++ members.now }
-    ensures room { deque_capacity list.new ≡ deque_capacity list.old }
-{
-    for member in members {
-        list.push_back_reserved(*member);
-    }
-}
-
 /// Makes room for so many more, if there is memory.
 pub(crate) fn make_room(list: &mut VecDeque<u32>, more: usize) -> bool
     ensures items { list.new.items ≡ list.old.items }

@@ -13,7 +13,7 @@ ghost use Rattle.claim_round.specs.Telling.{Opens, HasStruck, HasClaimed};
 ghost use Rattle.claim_round.specs.Reasons.{IsReason};
 
 use crate::closed::Closed;
-use crate::room::{append, make_places, make_room, owe_members, places_for};
+use crate::room::{make_places, make_room, owe_members, places_for};
 use crate::seat::RoundSeat;
 use crate::table::{Halves, Hand, Look, Plan, Rule, Strike, Try};
 use crate::words::{OPEN, first_words};
@@ -102,11 +102,8 @@ impl<'a, S: ListStore> SharedRound<'a, S> {
         let words = first_words(alloc, solver)?;
         let ranks = solver.to_strike();
         let most = solver.space().places() as usize;
-        let mut todo = VecDeque::new(alloc);
-        todo.reserve(ranks.len())?;
-        append(&mut todo, ranks);
-        let mut owed = VecDeque::new(alloc);
-        owed.reserve(most)?;
+        let todo = VecDeque::from_vec(Vec::from_slice(alloc, ranks)?);
+        let owed = VecDeque::with_capacity(alloc, most)?;
         let won = Vec::with_capacity(alloc, places_for(solver, most * ranks.len()))?;
         let plan = Plan { solver, width };
         let (table, seat) = Table::of_words(alloc, words.as_slice(), &plan)?;
@@ -192,10 +189,9 @@ impl<'a, S: ListStore> SharedRound<'a, S> {
         let moved = seat.todo.len() / 2;
         let kept = seat.todo.len() - moved;
         let most = self.solver.space().places() as usize;
-        let mut owed = VecDeque::new(self.alloc);
-        if owed.reserve(most).is_err() {
+        let Ok(owed) = VecDeque::with_capacity(self.alloc, most) else {
             return Err((seat, Memory));
-        }
+        };
         let entries = most * moved;
         let Ok(won) = Vec::with_capacity(self.alloc, places_for(self.solver, entries)) else {
             return Err((seat, Memory));

@@ -1,6 +1,6 @@
 //! What a round reads from a solver before its first step.
 
-ghost use Rattle.std.specs.Prelude.{◌≡◌, ◌+◌, ◌<◌, false, length, IfOk};
+ghost use Rattle.std.specs.Prelude.{◌≡◌, ◌+◌, ◌<◌, ◌≤◌, false, length, vec_capacity, IfOk};
 ghost use Rattle.positions.specs.Ranks.{configurations};
 ghost use Rattle.positions.specs.Gaps.{gaps};
 ghost use Rattle.claim_round.specs.Openings.{AreFirstWords, HasCounts};
@@ -13,16 +13,17 @@ use std::alloc::Global;
 /// The word of a configuration without a value.
 pub const OPEN: u64 = u64::MAX;
 
-/// The count of each gap at the opening.
+/// The count of each gap at the opening, with room for the value of each configuration.
 fn first_counts<S: ListStore>(alloc: Global, solver: &Solver<S>) -> Result<Vec<u64>, Memory>
     requires { solver.now.is_done ≡ false }
-    ensures { IfOk result (λ words. HasCounts solver.now words.items (gaps solver.now.board)) }
+    ensures counts { IfOk result (λ words. HasCounts solver.now words.items (gaps solver.now.board)) }
+    ensures room { IfOk result (λ words. gaps solver.now.board + configurations solver.now.board ≤ vec_capacity words) }
 {
-    let mut words = Vec::new(alloc);
-    for gap in 0..solver.space().gaps() {
-        if words.push(u64::from(solver.count_of(gap))).is_err() {
-            return Err(Memory);
-        }
+    let gaps = solver.space().gaps();
+    let room = gaps as usize + solver.space().configurations() as usize;
+    let mut words = Vec::with_capacity(alloc, room)?;
+    for gap in 0..gaps {
+        words.push_reserved(u64::from(solver.count_of(gap)));
     }
     Ok(words)
 }
@@ -42,9 +43,7 @@ pub(crate) fn first_words<S: ListStore>(
             Some(value) => u64::from(value),
             None => OPEN,
         };
-        if words.push(word).is_err() {
-            return Err(Memory);
-        }
+        words.push_reserved(word);
     }
     Ok(words)
 }

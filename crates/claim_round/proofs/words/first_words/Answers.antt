@@ -1,4 +1,4 @@
-use Rattle.std.proofs.Common.{◌≡◌, ◌++◌, ◌∷◌, ◌↔◌, ◌≤◌, ℕ, [], ap, sym, subst, ◌∙◌, arith, Some}
+use Rattle.std.proofs.Common.{◌≡◌, ◌↔◌, ◌≤◌, ℕ, ap, sym, subst, ◌∙◌, arith, Some}
 use Rattle.positions.specs.declared.value.Value.TheVariants.{Finite}
 use Rattle.positions.specs.Value.{HasValue}
 use Rattle.positions.specs.Ranks.{configurations, configuration_at}
@@ -11,15 +11,17 @@ use Rattle.claim_round.proofs.words.first_words.Goals as goal
 pub loop-rank-preserved : goal.loop-rank-preserved
 loop-rank-preserved g c =
     let s = c.args.solver.now in
-    let i = c.loop-rank.invariant in
+    let i = c.loop-rank.invariant.words in
     let word : ℕ = c.match-value_at.word in
-    let pushed : c.push.new.self.items ≡ c.loop-rank.words.items ++ word ∷ [] = rw c.if-is_err.ensures.negation at c.push.ensures.items in
     let means : (value : ℕ) → (value_of_word word ≡ Some value) ↔ ((value ≤ s.rounds) × HasValue s.board (configuration_at s.board c.loop-rank.rank) (Finite value)) = elim c.match-value_at.branch [
       | in-Some w ↦ word_some s c.loop-rank.rank word c.value_at.result (w.in-Some.is ∙ ap Some (sym (w.word-is ∙ w.from-word.ensures))) (let few = c.round_number.ensures.kept.few in let low = c.round_number.ensures.below in omega arith) c.value_at.ensures
       | in-None w ↦ subst (λ m. (value : ℕ) → (value_of_word m ≡ Some value) ↔ ((value ≤ s.rounds) × HasValue s.board (configuration_at s.board c.loop-rank.rank) (Finite value))) (sym w.word-is)
           (word_none s c.loop-rank.rank c.value_at.result w.in-None.is c.value_at.ensures)
     ] in
-    words_more s c.loop-rank.words.items c.push.new.self.items word c.loop-rank.rank i pushed means
+    record {
+      words = words_more s c.loop-rank.words.items c.push_reserved.new.self.items word c.loop-rank.rank i c.push_reserved.ensures.items means;
+      room = rw c.push_reserved.ensures.capacity c.loop-rank.invariant.room;
+    }
 
 pub returns : goal.returns
 returns g c =
@@ -27,4 +29,4 @@ returns g c =
     let same = ap configurations c.space.ensures in
     let past = c.loop-rank-test.false in
     let fits = c.loop-rank.auto.rank-end in
-    subst (AreFirstWords c.args.solver.now c.loop-rank.words.items) (let e : c.loop-rank.rank ≡ configurations c.args.solver.now.board = omega arith in e) c.loop-rank.invariant
+    subst (AreFirstWords c.args.solver.now c.loop-rank.words.items) (let e : c.loop-rank.rank ≡ configurations c.args.solver.now.board = omega arith in e) c.loop-rank.invariant.words

@@ -1,4 +1,4 @@
-use Rattle.std.proofs.Common.{◌≡◌, ℕ, ◌*◌, ◌≤◌, inl, inr, ⊎_elim, List, ◌++◌, length, ap, sym, subst, refl, ◌∙◌, arith, rules, mul-le-mul_left}
+use Rattle.std.proofs.Common.{◌≡◌, ℕ, ◌*◌, ◌≤◌, inl, inr, ⊎_elim, List, length, ap, sym, subst, refl, ◌∙◌, arith, rules, mul-le-mul_left}
 use Rattle.std.specs.Prelude.{vec_capacity}
 use Rattle.std.specs.VecDeque.{deque_capacity}
 use Rattle.board_text.specs.PlainBoard.{places}
@@ -35,14 +35,13 @@ invariant_of-seat g c =
     let k : Key = record { solving = s; width = c.args.width } in
     let sol = c.round_number.ensures.kept in
     let e = c.in_ok-table.ensures in
-    let todo_is : c.append.new.list.items ≡ c.to_strike-ranks.result.now =
-    c.append.ensures.items ∙ ap (λ (l : List ℕ). l ++ c.to_strike-ranks.result.now) (c.reserve.ensures.items ∙ c.new-todo.ensures.items) in
+    let todo_is : c.from_vec-todo.result.items ≡ c.to_strike-ranks.result.now = c.from_vec-todo.ensures.items ∙ c.in_ok-from_slice.ensures.items in
     let most_is : c.places-most.result ≡ most k = c.places-most.ensures.value ∙ ap places c.space.ensures in
-    let len : length c.to_strike-ranks.result.now ≡ length c.append.new.list.items = sym (ap length todo_is) in
-    let product : c.places-most.result * length c.to_strike-ranks.result.now ≡ most k * length c.append.new.list.items = ap (λ (p : ℕ × ℕ). p.0 * p.1) (λ j. (most_is j, len j)) in
-    let room : c.places-most.result ≤ deque_capacity c.reserve-2.new.self = search rules in
+    let len : length c.to_strike-ranks.result.now ≡ length c.from_vec-todo.result.items = sym (ap length todo_is) in
+    let product : c.places-most.result * length c.to_strike-ranks.result.now ≡ most k * length c.from_vec-todo.result.items = ap (λ (p : ℕ × ℕ). p.0 * p.1) (λ j. (most_is j, len j)) in
+    let room : c.places-most.result ≤ deque_capacity c.in_ok-owed.owed = c.in_ok-owed.ensures.capacity in
     let full : c.places_for.result ≤ vec_capacity c.in_ok-won.won = search rules in
-    first_seat _ k sol (ap (λ m. m.0) e.4) (ap (λ m. m.1) e.4) (subst (AreToStrike s) (sym todo_is) c.to_strike-ranks.ensures) (c.reserve-2.ensures.items ∙ c.new-owed.ensures.items) (omega arith)
+    first_seat _ k sol (ap (λ m. m.0) e.4) (ap (λ m. m.1) e.4) (subst (AreToStrike s) (sym todo_is) c.to_strike-ranks.ensures) c.in_ok-owed.ensures.items (omega arith)
     c.in_ok-won.ensures.items (⊎_elim (λ a. inl (omega arith)) (λ b. inr (omega arith)) c.places_for.ensures) refl
 
 pub returns : goal.returns
