@@ -17,5 +17,5 @@ pub record HasCounts (s : Solving) (words : List ℕ) (count : ℕ) : Type 0 whe
 pub record AreFirstWords (s : Solving) (words : List ℕ) (count : ℕ) : Type 0 where
   pub size : length words ≡ gaps s.board + count
   pub counted : (gap : ℕ) → gap < gaps s.board → HasSize (AnswerLasts s.board gap s.rounds) (slice_index words gap)
-  pub valued : (rank value : ℕ) → rank < count
-      → (value_of_word (slice_index words (gaps s.board + rank)) ≡ Some value) ↔ ((value ≤ s.rounds) × HasValue s.board (configuration_at s.board rank) (Finite value))
+  pub valued : (rank value : ℕ) → rank < count → (value_of_word (slice_index words (gaps s.board + rank)) ≡ Some value)
+      ↔ ((value ≤ s.rounds) × HasValue s.board (configuration_at s.board rank) (Finite value))

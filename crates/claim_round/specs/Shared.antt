@@ -76,7 +76,8 @@ pub record IsTraced (k : Key) (words : List ℕ) (views : List View) : Type 0 wh
   -- a gap is closed at most once, never while it has a count, and always where it had one
   pub shut_once : (gap : ℕ) → gap < gaps k.solving.board → total (λ v. times gap v.shut) views ≤ 1
   pub shut_none : (gap : ℕ) → gap < gaps k.solving.board → 0 < slice_index words gap → total (λ v. times gap v.shut) views ≡ 0
-  pub shut_all : (gap label : ℕ) → gap < gaps k.solving.board → slice_index words gap ≡ 0 → AnswerLasts k.solving.board gap k.solving.rounds label → total (λ v. times gap v.shut) views ≡ 1
+  pub shut_all : (gap label : ℕ) → gap < gaps k.solving.board → slice_index words gap ≡ 0
+      → AnswerLasts k.solving.board gap k.solving.rounds label → total (λ v. times gap v.shut) views ≡ 1
   -- no more is owed, or may be, than for each configuration that could be struck
   pub few : total (load (most k)) views ≤ most k * size k
 
@@ -86,7 +87,12 @@ Kept k s = IsSolving k.solving × IsLawful (round_of_words k.solving k.width s.w
 
 -- the first seat's view
 abbrev pub opening : Key → View
-opening k = record { key = k; has = record { width = k.width; todo = filter (has_home k.solving.board) (bucket k.solving k.solving.rounds); owed = []; won = [] }; lost = []; shut = [] }
+opening k = record {
+  key = k;
+  has = record { width = k.width; todo = filter (has_home k.solving.board) (bucket k.solving k.solving.rounds); owed = []; won = [] };
+  lost = [];
+  shut = [];
+}
 
 -- ---- what the steps do to a view
 
@@ -121,7 +127,13 @@ joined v u = record { key = v.key; has = seat_joined v.has u.has; lost = v.lost 
 
 abbrev pub no_key : Key
 no_key = record {
-  solving = record { board = record { labels = 0; pebbles = 0; start = []; pairs = [] }; rounds = 0; is_done = Bool.false; buckets = []; sources = [] };
+  solving = record {
+    board = record { labels = 0; pebbles = 0; start = []; pairs = [] };
+    rounds = 0;
+    is_done = Bool.false;
+    buckets = [];
+    sources = [];
+  };
   width = 0;
 }
 
@@ -157,15 +169,27 @@ IsOf r p = (p.table ≡ r.table) × (p.view.key ≡ r.key) × (0 < p.view.has.wi
 abbrev pub Stays : Place → Place → Type 0
 Stays p q = (q.table ≡ p.table) × (q.view.key ≡ p.view.key)
 
+-- a seat was cut in two: what it keeps, and a new seat of the same table
+abbrev pub IsSplit : Place → Place → Place → Type 0
+IsSplit seat kept new = (kept.table ≡ seat.table) × (kept.view ≡ kept_part seat.view) × (new.table ≡ seat.table) × (new.view ≡ new_part seat.view)
+
+-- a seat took over all that another one had
+abbrev pub IsJoined : Place → Place → Place → Type 0
+IsJoined into from both = (both.table ≡ into.table) × (both.view ≡ joined into.view from.view)
+
 -- what a clause sees of a closed round: the count of each gap, the value of each configuration that has one, and what was won
 pub record Ended : Type 0 where
   pub counts : List ℕ
   pub values : List (Option ℕ)
   pub won : List ℕ
 
+-- the seat has the round's whole width and nothing left to do, and what was won is what it has won
+abbrev pub IsClosedBy : RoundId → Place → Ended → Type 0
+IsClosedBy r p e = (p.view.has.width ≡ r.key.width) × (p.view.has.todo ≡ []) × (p.view.has.owed ≡ []) × (e.won ≡ p.view.has.won)
+
 -- the round of this solver is finished
 pub record Finishes (s : Solving) (e : Ended) : Type 0 where
   pub end : IsRoundEnd s e.won e.counts
   pub wide : length e.values ≡ configurations s.board
-  pub values : (rank value : ℕ) → rank < configurations s.board
-      → (slice_index_or e.values rank None ≡ Some value) ↔ ((value ≤ suc s.rounds) × HasValue s.board (configuration_at s.board rank) (Finite value))
+  pub values : (rank value : ℕ) → rank < configurations s.board → (slice_index_or e.values rank None ≡ Some value)
+      ↔ ((value ≤ suc s.rounds) × HasValue s.board (configuration_at s.board rank) (Finite value))

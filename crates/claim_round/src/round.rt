@@ -1,14 +1,8 @@
 //! A round that threads share, over a table of words.
 
-ghost use Rattle.std.specs.VecDeque.{deque_capacity};
-ghost use Rattle.std.specs.Prelude.{◌≡◌, ℕ, ◌<◌, ◌≤◌, ◌++◌, ◌+◌, ◌==◌, ◌∷◌, ◌⊎◌, [], length, cond, false, Some, None, vec_capacity, MatchBool, IfOk, IfErr, IsTrue};
-ghost use Rattle.board_text.specs.PlainBoard.{places};
+ghost use Rattle.std.specs.Prelude.{◌≡◌, ℕ, ◌<◌, ◌≤◌, [], length, false, IfOk, IfErr};
 ghost use Rattle.index_lists.specs.Lists.{times};
-ghost use Rattle.positions.specs.Ranks.{configurations};
-ghost use Rattle.positions.specs.Gaps.{gaps};
-ghost use Rattle.retro_core.specs.Solving.{source};
-ghost use Rattle.retro_core.specs.Round.{seat_kept, seat_new, seat_joined};
-ghost use Rattle.claim_round.specs.Shared.{IsOf, Stays, Finishes, kept_part, new_part, joined};
+ghost use Rattle.claim_round.specs.Shared.{IsOf, Stays, IsSplit, IsJoined, IsClosedBy, Finishes};
 ghost use Rattle.claim_round.specs.Telling.{Opens, HasStruck, HasClaimed};
 ghost use Rattle.claim_round.specs.Reasons.{IsReason};
 
@@ -183,7 +177,7 @@ impl<'a, S: ListStore> SharedRound<'a, S> {
     pub fn split(&self, mut seat: RoundSeat) -> Result<(RoundSeat, RoundSeat), (RoundSeat, Memory)>
         requires mine { IsOf self.now seat }
         requires width { 2 ≤ seat.view.has.width }
-        ensures ok { IfOk result (λ r. (r.0.table ≡ seat.table) × (r.0.view ≡ kept_part seat.view) × (r.1.table ≡ seat.table) × (r.1.view ≡ new_part seat.view)) }
+        ensures ok { IfOk result (λ r. IsSplit seat r.0 r.1) }
         ensures err { IfErr result (λ r. r.0 ≡ seat) }
     {
         let moved = seat.todo.len() / 2;
@@ -221,7 +215,7 @@ impl<'a, S: ListStore> SharedRound<'a, S> {
     ) -> Result<RoundSeat, (RoundSeat, RoundSeat, Memory)>
         requires into { IsOf self.now into }
         requires from { IsOf self.now from }
-        ensures ok { IfOk result (λ r. (r.table ≡ into.table) × (r.view ≡ joined into.view from.view)) }
+        ensures ok { IfOk result (λ r. IsJoined into from r) }
         ensures apart { IfOk result (λ r. (x : ℕ) → times x r.view.has.won ≤ 1) }
         ensures err { IfErr result (λ r. (r.0 ≡ into) × (r.1 ≡ from)) }
     {
@@ -263,7 +257,7 @@ impl<'a, S: ListStore> SharedRound<'a, S> {
     /// Closes the round, with a seat of its whole width that has nothing left to do.
     pub fn close(self, seat: RoundSeat) -> Result<Closed, NotClosed<'a, S>>
         requires mine { IsOf self seat }
-        ensures ok { IfOk result (λ c. (seat.view.has.width ≡ self.entry.key.width) × (seat.view.has.todo ≡ []) × (seat.view.has.owed ≡ []) × (c.won ≡ seat.view.has.won)) }
+        ensures ok { IfOk result (λ c. IsClosedBy self.entry seat c) }
         ensures finished { IfOk result (λ c. Finishes self.entry.key.solving c) }
         ensures lost { IfOk result (λ c. (x : ℕ) → 0 < times x seat.view.lost → 0 < times x c.won) }
         ensures err { IfErr result (λ n. (n.round ≡ self.entry) × (n.seat ≡ seat) × IsReason n.why self.entry seat) }

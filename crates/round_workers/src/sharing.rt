@@ -2,7 +2,7 @@
 //! closure that captures it by a bound keeps its clauses.
 
 ghost use Rattle.std.specs.Prelude.{◌≡◌, ◌≤◌, [], IfOk};
-ghost use Rattle.claim_round.specs.Shared.{IsOf, RoundId, kept_part, new_part, joined};
+ghost use Rattle.claim_round.specs.Shared.{IsOf, RoundId, IsSplit, IsJoined};
 ghost use Rattle.round_workers.specs.Work.{IsWorked};
 
 use crate::fault::WorkFault;
@@ -22,12 +22,12 @@ pub trait Sharing {
     fn split(&self, seat: RoundSeat) -> Result<(RoundSeat, RoundSeat), WorkFault>
         requires mine { IsOf (id self.now) seat }
         requires width { 2 ≤ seat.view.has.width }
-        ensures { IfOk result (λ r. (r.0.table ≡ seat.table) × (r.0.view ≡ kept_part seat.view) × (r.1.table ≡ seat.table) × (r.1.view ≡ new_part seat.view)) };
+        ensures { IfOk result (λ r. IsSplit seat r.0 r.1) };
 
     fn join(&self, into: RoundSeat, from: RoundSeat) -> Result<RoundSeat, WorkFault>
         requires into { IsOf (id self.now) into }
         requires from { IsOf (id self.now) from }
-        ensures { IfOk result (λ r. (r.table ≡ into.table) × (r.view ≡ joined into.view from.view)) };
+        ensures { IfOk result (λ r. IsJoined into from r) };
 }
 
 impl<'a, S: ListStore> Sharing for SharedRound<'a, S> {
