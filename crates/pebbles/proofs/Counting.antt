@@ -9,7 +9,7 @@ use Rattle.positions.specs.declared.value.Value.{Value}
 use Rattle.positions.specs.declared.value.Value.TheVariants.{Finite, Forever}
 use Rattle.positions.specs.Laws.{Occurs}
 use Rattle.positions.specs.Ranks.{configurations}
-use Rattle.pebbles.proofs.Rounds.{value_few}
+use Rattle.round_workers.proofs.Rounds.{value_few}
 use Rattle.retro_core.specs.Sizes.{HasCount, IsGreatest}
 use Rattle.pebbles.specs.Report.{AreCounts, IsCountOfValues, IsReportOf, head_lines, start_line, count_line, count_lines, end_lines}
 

@@ -3,7 +3,6 @@ pub mod Pushing
 pub mod Unanswered
 pub mod Meanings
 pub mod Unread
-pub mod Rounds
 pub mod Headlines
 pub mod Counting
 pub mod Sums
