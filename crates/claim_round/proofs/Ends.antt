@@ -5,6 +5,7 @@ use Rattle.std.proofs.lemmas.Bool.{cases_lt}
 use Rattle.std.proofs.lemmas.List.{get_or-map, length-map}
 use mathlib.Core.Option.{some}
 use lib.ListN.{get_elem?}
+use Rattle.atomic_table.specs.Seated.{TableId}
 use Rattle.atomic_table.specs.Table.{State, Final, Seen}
 use Rattle.index_lists.specs.Lists.{times}
 use Rattle.index_lists.proofs.Times.{cond_other}
@@ -23,8 +24,12 @@ use Rattle.retro_core.proofs.Lasting.{same_or_not}
 use Rattle.retro_core.proofs.Sums.{times-together}
 use Rattle.retro_core.proofs.RoundSteps.{worked-off}
 use Rattle.claim_round.specs.Shared.{Key, View, Unit0, Kept, Ended, Finishes, seats_of}
+use Rattle.claim_round.specs.Seats.{IsSeated}
+use Rattle.claim_round.specs.Rounds.{IsRound}
+use Rattle.claim_round.specs.declared.seat.RoundSeat.TheInside.{Inside}
 use Rattle.claim_round.proofs.Totals.{seat_read, total_at}
 use Rattle.claim_round.proofs.Moves.{words_length}
+use Rattle.claim_round.proofs.Seats.{no_length}
 
 -- ---- one seat has the whole width
 
@@ -153,6 +158,17 @@ closed_state k id v words slots last whole no_todo no_owed =
           let all = won_all k s.words s.views kept.0 kept.1 id v at whole no_todo no_owed x in
           omega arith;
     })
+
+-- the same, told of the fields of a round and of its seat
+pub closed_fields : (k : Key) (given : Solving) (width : ℕ) (table : TableId) (s : Inside) (words : List ℕ) (slots : List Unit0) → IsRound (record { solving = given; width = width }) k table → IsSeated s
+    → width ≤ s.width → length s.todo.items ≡ 0 → length s.owed.items ≡ 0 → Final (Seen (Kept k) s.seat.id s.seat.me.0) words slots
+    → IsClosed k words s.seat.me.0 × (s.seat.me.0.has.todo ≡ []) × (s.seat.me.0.has.owed ≡ [])
+closed_fields k given width table s words slots round seated whole todo owed last =
+    let no_todo : s.seat.me.0.has.todo ≡ [] = sym seated.todo ∙ no_length s.todo.items todo in
+    let no_owed : s.seat.me.0.has.owed ≡ [] = sym seated.owed ∙ no_length s.owed.items owed in
+    let kept : k.width ≡ width = ap (λ (q : Key). q.width) round.key_is in
+    let wide = seated.width in
+    (closed_state k _ s.seat.me.0 words slots last (omega arith) no_todo no_owed, no_todo, no_owed)
 
 -- ---- the words fit
 

@@ -2,8 +2,9 @@ pub mod Totals
 pub mod Loads
 pub mod Tracing
 pub mod Moves
-pub mod Ends
 pub mod Seats
+pub mod Firsts
+pub mod Ends
 pub mod Lookup
 pub mod Openings
 pub mod Sharing

@@ -24,7 +24,7 @@ pub(crate) fn make_room(list: &mut VecDeque<u32>, more: usize) -> bool
     ensures capacity { deque_capacity list.old ≤ deque_capacity list.new }
     ensures room { IsTrue result → length list.old.items + more ≤ deque_capacity list.new }
 {
-    list.reserve(more).is_ok()
+    list.reserve_exact(more).is_ok()
 }
 
 /// Makes so many places in all, if there is memory.

@@ -83,6 +83,9 @@ pub struct NotClosed<'a, S: ListStore> {
 
 impl<'a, S: ListStore> SharedRound<'a, S> {
     /// Opens a round at the value of a solver. Its first seat has all to strike and the whole width.
+    ///
+    /// Beside the words it takes room for what the seat has to strike, for the members of one gap, and for what the seat
+    /// may win: the members of as many gaps as it has to strike, and no more than there are configurations.
     pub fn open(
         alloc: Global,
         solver: &'a Solver<S>,
@@ -174,6 +177,8 @@ impl<'a, S: ListStore> SharedRound<'a, S> {
 
     /// Cuts what is to strike and the width in two, the larger half first. What is owed and won stays with the first seat.
     /// A refusal comes before the step, and gives the seat back as it was.
+    ///
+    /// It takes the room that `open` takes for a seat, for the half that moves. The first seat keeps what it had.
     pub fn split(&self, mut seat: RoundSeat) -> Result<(RoundSeat, RoundSeat), (RoundSeat, Memory)>
         requires mine { IsOf self.now seat }
         requires width { 2 ≤ seat.view.has.width }
@@ -208,6 +213,9 @@ impl<'a, S: ListStore> SharedRound<'a, S> {
 
     /// Appends the second seat's lists to the first's, and adds the widths. A refusal comes before the step, and gives
     /// both seats back as they were.
+    ///
+    /// The first seat's lists get room for what both have, and for what both may win, which is no more than there are
+    /// configurations.
     pub fn join(
         &self,
         mut into: RoundSeat,

@@ -3,9 +3,8 @@ use Rattle.index_lists.proofs.Times.{cond_same, cond_other}
 use Rattle.positions.specs.Gaps.{gaps}
 use Rattle.retro_core.specs.Solving.{Solving}
 use Rattle.retro_core.specs.Round.{first_of, rest_of}
-use Rattle.claim_round.specs.Shared.{Key, View, IsOf, RoundId, Place, size}
-use Rattle.claim_round.specs.Seats.{place_of}
-use Rattle.claim_round.specs.Rounds.{round_id}
+use Rattle.claim_round.specs.Shared.{Key, View, Place, size}
+use Rattle.claim_round.proofs.Firsts.{of_round}
 use Rattle.claim_round.proofs.Moves.{claim_allowed}
 use Rattle.claim_round.proofs.Seats.{claimed_seat, times_first}
 use Rattle.claim_round.proofs.round.SharedRound.claim.Goals as goal
@@ -15,7 +14,7 @@ compare_exchange-found-requires g c =
     let v : View = c.seat.inside.seat.me.0 in
     let k : Key = c.self.inside.table.shared.key in
     let r = c.self.invariant in
-    let mine : IsOf (round_id c.self.inside.table.shared.table_id c.self.inside.table.shared.key) (place_of c.seat.inside) = subst (λ (p : RoundId × Place). IsOf p.0 p.1) (λ j. (sym c.self.view_is j, sym c.seat.view_is j)) c.requires.mine in
+    let mine = of_round _ k _ c.seat.inside _ c.self.view_is c.seat.view_is c.requires.mine in
     let some_owed : 0 < length v.has.owed = subst (λ (p : Place). 0 < length p.view.has.owed) (sym c.seat.view_is) c.requires.owed in
     let first : first_of v.has.owed ≡ c.in-Some.config = ap first_of (sym c.seat.invariant.owed ∙ c.in-Some.ensures.items) in
     let given : k.solving ≡ c.self.inside.solver.now = ap (λ (q : Key). q.solving) r.key_is in

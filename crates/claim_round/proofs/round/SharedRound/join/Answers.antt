@@ -4,9 +4,8 @@ use Rattle.atomic_table.specs.Table.{Me}
 use Rattle.board_text.specs.PlainBoard.{places}
 use Rattle.positions.specs.Ranks.{configurations}
 use Rattle.retro_core.specs.Solving.{Solving}
-use Rattle.claim_round.specs.Shared.{Key, View, IsOf, IsBounded, RoundId, Place, Unit0, most, size}
-use Rattle.claim_round.specs.Seats.{place_of}
-use Rattle.claim_round.specs.Rounds.{round_id}
+use Rattle.claim_round.specs.Shared.{Key, View, IsBounded, Unit0, most, size}
+use Rattle.claim_round.proofs.Firsts.{of_round}
 use Rattle.claim_round.proofs.Loads.{some_gaps}
 use Rattle.claim_round.proofs.Moves.{join_allowed, look_allowed}
 use Rattle.claim_round.proofs.Seats.{joined_seat}
@@ -16,8 +15,8 @@ pub join_seat-requires : goal.join_seat-requires
 join_seat-requires g c =
     let k : Key = c.self.inside.table.shared.key in
     let r = c.self.invariant in
-    let mine : IsOf (round_id c.self.inside.table.shared.table_id c.self.inside.table.shared.key) (place_of c.into.inside) = subst (λ (p : RoundId × Place). IsOf p.0 p.1) (λ j. (sym c.self.view_is j, sym c.into.view_is j)) c.requires.into in
-    let theirs : IsOf (round_id c.self.inside.table.shared.table_id c.self.inside.table.shared.key) (place_of c.from.inside) = subst (λ (p : RoundId × Place). IsOf p.0 p.1) (λ j. (sym c.self.view_is j, sym c.from.view_is j)) c.requires.from in
+    let mine = of_round _ k _ c.into.inside _ c.self.view_is c.into.view_is c.requires.into in
+    let theirs = of_round _ k _ c.from.inside _ c.self.view_is c.from.view_is c.requires.from in
     let some = some_gaps k r.below in
     let words = r.words in
     (mine.0, theirs.0, c.from.invariant.free, omega arith, join_allowed k _ _ _ _ mine.2 theirs.2)
@@ -26,7 +25,7 @@ pub load-requires : goal.load-requires
 load-requires g c =
     let k : Key = c.self.inside.table.shared.key in
     let r = c.self.invariant in
-    let mine : IsOf (round_id c.self.inside.table.shared.table_id c.self.inside.table.shared.key) (place_of c.into.inside) = subst (λ (p : RoundId × Place). IsOf p.0 p.1) (λ j. (sym c.self.view_is j, sym c.into.view_is j)) c.requires.into in
+    let mine = of_round _ k _ c.into.inside _ c.self.view_is c.into.view_is c.requires.into in
     let some = some_gaps k r.below in
     let words = r.words in
     let j = c.join_seat.ensures in
@@ -37,8 +36,8 @@ pub invariant_of-into-2 : goal.invariant_of-into-2
 invariant_of-into-2 g c =
     let k : Key = c.self.inside.table.shared.key in
     let r = c.self.invariant in
-    let mine : IsOf (round_id c.self.inside.table.shared.table_id c.self.inside.table.shared.key) (place_of c.into.inside) = subst (λ (p : RoundId × Place). IsOf p.0 p.1) (λ j. (sym c.self.view_is j, sym c.into.view_is j)) c.requires.into in
-    let theirs : IsOf (round_id c.self.inside.table.shared.table_id c.self.inside.table.shared.key) (place_of c.from.inside) = subst (λ (p : RoundId × Place). IsOf p.0 p.1) (λ j. (sym c.self.view_is j, sym c.from.view_is j)) c.requires.from in
+    let mine = of_round _ k _ c.into.inside _ c.self.view_is c.into.view_is c.requires.into in
+    let theirs = of_round _ k _ c.from.inside _ c.self.view_is c.from.view_is c.requires.from in
     let j = c.join_seat.ensures in
     let l = c.load.ensures in
     let m : ℕ = c.places-most.result in

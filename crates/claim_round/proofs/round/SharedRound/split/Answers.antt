@@ -4,9 +4,8 @@ use Rattle.std.specs.VecDeque.{deque_capacity}
 use Rattle.board_text.specs.PlainBoard.{places}
 use Rattle.positions.specs.Ranks.{configurations}
 use Rattle.retro_core.specs.Solving.{Solving}
-use Rattle.claim_round.specs.Shared.{Key, View, IsOf, RoundId, Place, most, size}
-use Rattle.claim_round.specs.Seats.{place_of}
-use Rattle.claim_round.specs.Rounds.{round_id}
+use Rattle.claim_round.specs.Shared.{Key, View, Place, most, size}
+use Rattle.claim_round.proofs.Firsts.{of_round}
 use Rattle.claim_round.proofs.Loads.{some_gaps}
 use Rattle.claim_round.proofs.Moves.{split_allowed}
 use Rattle.claim_round.proofs.Seats.{kept_seat, new_seat}
@@ -17,7 +16,7 @@ split_seat-other-requires g c =
     let v : View = c.seat.inside.seat.me.0 in
     let k : Key = c.self.inside.table.shared.key in
     let r = c.self.invariant in
-    let mine : IsOf (round_id c.self.inside.table.shared.table_id c.self.inside.table.shared.key) (place_of c.seat.inside) = subst (λ (p : RoundId × Place). IsOf p.0 p.1) (λ j. (sym c.self.view_is j, sym c.seat.view_is j)) c.requires.mine in
+    let mine = of_round _ k _ c.seat.inside _ c.self.view_is c.seat.view_is c.requires.mine in
     let wide : 2 ≤ v.has.width = subst (λ (p : Place). 2 ≤ p.view.has.width) (sym c.seat.view_is) c.requires.width in
     let some = some_gaps k r.below in
     let words = r.words in
@@ -38,7 +37,7 @@ invariant_of-new g c =
     let v : View = c.seat.inside.seat.me.0 in
     let k : Key = c.self.inside.table.shared.key in
     let r = c.self.invariant in
-    let mine : IsOf (round_id c.self.inside.table.shared.table_id c.self.inside.table.shared.key) (place_of c.seat.inside) = subst (λ (p : RoundId × Place). IsOf p.0 p.1) (λ j. (sym c.self.view_is j, sym c.seat.view_is j)) c.requires.mine in
+    let mine = of_round _ k _ c.seat.inside _ c.self.view_is c.seat.view_is c.requires.mine in
     let given : v.key.solving ≡ c.self.inside.solver.now = ap (λ (q : Key). q.solving) (mine.1 ∙ r.key_is) in
     let board = c.space.ensures in
     let most_is : c.places-most.result ≡ most v.key = c.places-most.ensures.value ∙ ap places board ∙ ap (λ (s : Solving). places s.board) (sym given) in
