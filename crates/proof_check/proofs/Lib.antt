@@ -1,4 +1,5 @@
 pub mod Indexing
+pub mod Searching
 pub mod Found
 pub mod Answered
 pub mod Requested

@@ -1,7 +1,7 @@
 //! The rows of a document by the ranks of their configurations.
 
 ghost use Rattle.std.specs.Prelude.{◌≡◌, ℕ, List, length, IfOk, MatchOption};
-ghost use Rattle.proof_check.specs.RowIndex.{AreRanked, IsIndex, HasNone, IsRowOf};
+ghost use Rattle.proof_check.specs.RowIndex.{AreAscending, AreRanked, IsIndex, HasNone, IsRowOf};
 
 use proof_text::{AdversaryRow, LabellerRow};
 use std::alloc::{AllocError, Global};
@@ -32,23 +32,26 @@ impl Ranked for AdversaryRow {
     }
 }
 
+/// Rows that are searched have fewer than one in so many configurations.
+const SEARCHED: usize = 64;
+
 /// Rows that are found by their ranks. Contracts see the rows.
 #[derive(Drop)]
 pub(crate) struct RowIndex<'a, R: Ranked> {
     rows: &'a [R],
-    /// At each row's rank its place; elsewhere a number that is no place.
+    /// At each row's rank its place; elsewhere a number that is no place. Empty where the rows are searched.
     places: Vec<u32>,
 }
 
 impl<'a, R: Ranked> Model for RowIndex<'a, R> {
     ghost use Rattle.std.specs.Prelude.{List};
-    ghost use Rattle.proof_check.specs.RowIndex.{IsIndex};
+    ghost use Rattle.proof_check.specs.RowIndex.{AreFound};
 
     ghost Value = { List R };
 
     ghost view = { λ index. index.rows.now };
 
-    ghost invariant = { λ index. IsIndex R.rank index.rows.now index.places.items };
+    ghost invariant = { λ index. AreFound R.rank index.rows.now index.places.items };
 }
 
 impl<'a, R: Ranked> RowIndex<'a, R> {
@@ -61,12 +64,12 @@ impl<'a, R: Ranked> RowIndex<'a, R> {
         requires { AreRanked R.rank size rows.now }
         ensures { IfOk result (λ index. index ≡ rows.now) }
     {
-        // Where there are no rows, no rank has a place.
-        let size = if rows.is_empty() { 0 } else { size };
-        Ok(RowIndex {
-            rows,
-            places: places_of(alloc, size, rows)?,
-        })
+        let places = if rows.len() < size as usize / SEARCHED {
+            Vec::new(alloc)
+        } else {
+            places_of(alloc, size, rows)?
+        };
+        Ok(RowIndex { rows, places })
     }
 
     /// All rows.
@@ -80,8 +83,21 @@ impl<'a, R: Ranked> RowIndex<'a, R> {
     pub(crate) fn find(&self, rank: u32) -> Option<&'a R>
         ensures { MatchOption result (HasNone R.rank self.now rank) (λ row. IsRowOf R.rank self.now rank row.now) }
     {
-        let place = *self.places.get(rank as usize)?;
-        self.rows.get(place as usize)
+        match self.places.get(rank as usize) {
+            Some(place) => self.rows.get(*place as usize),
+            None => search(self.rows, rank),
+        }
+    }
+}
+
+/// The row of this rank, among rows whose ranks ascend.
+fn search<R: Ranked>(rows: &[R], rank: u32) -> Option<&R>
+    requires { AreAscending R.rank rows.now }
+    ensures { MatchOption result (HasNone R.rank rows.now rank) (λ row. IsRowOf R.rank rows.now rank row.now) }
+{
+    match rows.binary_search_by_key(&rank, |row| row.rank()) {
+        Ok(place) => Some(&rows[place]),
+        Err(_) => None,
     }
 }
 
