@@ -1,5 +1,5 @@
 -- Lists of exactly the rows of a document, built rank by rank.
-use Rattle.std.proofs.Common.{◌≡◌, ◌≢◌, ℕ, ◌+◌, ◌<◌, ◌↔◌, List, [], ◌∷◌, ◌++◌, length, get_or, refl, sym, ◌∙◌, subst, inl, inr, arith}
+use Rattle.std.proofs.Common.{◌≡◌, ℕ, ◌+◌, ◌<◌, ◌≤◌, ◌↔◌, List, [], ◌∷◌, ◌++◌, length, get_or, refl, sym, ◌∙◌, subst, inl, inr, arith}
 use Rattle.std.specs.List.{AllPairs, Contains}
 use Rattle.std.proofs.lemmas.Bool.{cases_lt}
 use Rattle.std.proofs.lemmas.List.{length-append, get_or_append_left, get_or_at}
@@ -22,18 +22,15 @@ module _ {X : Type 0} (board : PlainBoard) (IsRow : X → Type 0) (at : X → Li
     ascending = λ i j d less inside. absurd (omega arith);
   }
 
-  -- a rank without a row
-  pub pass_rank : (bound : ℕ) (rows : List X) → AreExactlyBelow board IsRow at bound rows → ((row : X) → IsRow row → rank_of board (at row) ≢ bound)
-      → AreExactlyBelow board IsRow at (bound + 1) rows
-  pass_rank bound rows exactly none = record {
+  -- ranks without a row
+  pub pass_ranks : (bound next : ℕ) (rows : List X) → bound ≤ next → AreExactlyBelow board IsRow at bound rows
+      → ((row : X) → IsRow row → bound ≤ rank_of board (at row) → rank_of board (at row) < next → ⊥) → AreExactlyBelow board IsRow at next rows
+  pass_ranks bound next rows more exactly none = record {
     each = λ row. (
       λ among. let is = (exactly.each row).0 among in (is.0, let below : rank_of board (at row) < bound = is.1 in omega arith),
       λ is. (exactly.each row).1 (
         is.0,
-        elim (cases_lt (rank_of board (at row)) bound) [
-          | inl below ↦ below
-          | inr above ↦ let next : rank_of board (at row) < bound + 1 = is.1 in absurd (none row is.0 (omega arith))
-        ],
+        elim (cases_lt (rank_of board (at row)) bound) [ inl below ↦ below | inr above ↦ absurd (none row is.0 above is.1) ],
       ),
     );
     ascending = exactly.ascending;

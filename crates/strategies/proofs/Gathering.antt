@@ -1,103 +1,92 @@
--- The rows of a document, gathered rank by rank.
-use Rattle.std.proofs.Common.{◌≡◌, ℕ, ◌+◌, ◌<◌, ◌≤◌, List, [], ◌∷◌, ◌++◌, sym, ap, ◌∙◌, subst, arith}
+-- The rows of a document, gathered in ascending rank.
+use Rattle.std.proofs.Common.{◌≡◌, ℕ, ◌+◌, ◌≤◌, List, [], ◌∷◌, ◌++◌, map, Option, Some, None, refl, sym, ap, ◌∙◌, subst, inl, inr, arith}
 use Rattle.std.specs.List.{Contains}
+use Rattle.std.proofs.lemmas.Bool.{cases_lt}
 use Rattle.std.proofs.lemmas.List.{map-append}
 use Rattle.board_text.specs.PlainBoard.{PlainBoard, IsConfiguration}
+use Rattle.positions.specs.Counts.{IsSmallest}
 use Rattle.positions.specs.declared.value.Value.{Value}
 use Rattle.positions.specs.declared.value.Value.TheVariants.{Finite, Forever}
 use Rattle.positions.specs.Value.{HasValue}
-use Rattle.positions.specs.Ranks.{configurations, rank_of, configuration_at}
-use Rattle.positions.specs.Table.{AnswerRow, RequestRow}
+use Rattle.positions.specs.Ranks.{rank_of, configuration_at}
+use Rattle.positions.specs.Table.{RequestRow}
 use Rattle.positions.proofs.Ranks.{rank_below, rank_of-configuration_at, configuration_at-rank_of}
 use Rattle.positions.proofs.Values.{same_value}
-use Rattle.proof_text.specs.Proof.{answer_row, answer_rows, request_row, request_rows}
-use Rattle.proof_text.specs.declared.proof.LabellerRow.{LabellerRow}
-use Rattle.proof_text.specs.declared.proof.AdversaryRow.{AdversaryRow}
 use Rattle.strategies.specs.Document.{IsAnswerable, LeadsByAnswers, LeadsByRequests, AreExactly, IsLabellerRow, IsAdversaryRow}
 use Rattle.strategies.specs.Spreading.{AreRanksOf, IsReachedByAnswers, IsReachedByRequests}
-use Rattle.strategies.proofs.Building.{AreExactlyBelow, no_rows, pass_rank, push_row, all_rows}
+use Rattle.strategies.proofs.Building.{AreExactlyBelow, pass_ranks, push_row, all_rows}
 use Rattle.strategies.proofs.OneList.{one_answer_row, one_request_row}
 use Rattle.strategies.proofs.Reaching.{answers_lead_to, requests_lead_to}
 
--- a configuration by its rank
-at_rank : (board : PlainBoard) (configuration : List ℕ) (rank : ℕ) → IsConfiguration board configuration → rank_of board configuration ≡ rank
-    → configuration ≡ configuration_at board rank
-at_rank board configuration rank is same = sym (configuration_at-rank_of board configuration is) ∙ ap (configuration_at board) same
+-- rows stand at configurations that were reached, one at each
+pub record AreOfReached {X : Type 0} (board : PlainBoard) (IsRow : X → Type 0) (at : X → List ℕ) (IsReached : ℕ → Type 0) : Type 0 where
+  pub is_configuration : (row : X) → IsRow row → IsConfiguration board (at row)
+  pub reached : (row : X) (rank : ℕ) → IsRow row → at row ≡ configuration_at board rank → IsReached rank
+  pub one : (first second : X) → IsRow first → IsRow second → at first ≡ at second → first ≡ second
 
-module _ (board : PlainBoard) (is : IsConfiguration board board.start) (start : Value) where
-  abbrev pub AreAnswerRowsBelow : ℕ → List LabellerRow → Type 0
-  AreAnswerRowsBelow bound rows = AreExactlyBelow board (IsLabellerRow board start) (λ row. row.at) bound (answer_rows board rows)
+pub labellers : (board : PlainBoard) (start : Value) → IsConfiguration board board.start
+    → AreOfReached board (IsLabellerRow board start) (λ row. row.at) (IsReachedByAnswers board)
+labellers board start is = record {
+  is_configuration = λ row is_row. answers_lead_to board board.start is_row.requests row.at is is_row.reached;
+  reached = λ row rank is_row at. record {
+    requests = is_row.requests;
+    reached = subst (LeadsByAnswers board board.start is_row.requests) at is_row.reached;
+    some = subst (IsAnswerable board) at (record { value = is_row.value; has_value = is_row.has_value; some = is_row.some });
+  };
+  one = one_answer_row board start;
+}
 
-  row_is : (row : AnswerRow) → IsLabellerRow board start row → IsConfiguration board row.at
-  row_is row is_row = answers_lead_to board board.start is_row.requests row.at is is_row.reached
+pub adversarys : (board : PlainBoard) → IsConfiguration board board.start
+    → AreOfReached board (IsAdversaryRow board) (λ row. row.at) (IsReachedByRequests board)
+adversarys board is = record {
+  is_configuration = λ row is_row. requests_lead_to board board.start is_row.labels row.at is is_row.reached;
+  reached = λ row rank is_row at. record { labels = is_row.labels; reached = subst (LeadsByRequests board board.start is_row.labels) at is_row.reached };
+  one = one_request_row board;
+}
 
-  pub answer_pass : (rank : ℕ) (ranks : List ℕ) (rows : List LabellerRow) → rank < configurations board → AreRanksOf board (IsReachedByAnswers board) ranks
-      → ¬ Contains ranks rank → AreAnswerRowsBelow rank rows → AreAnswerRowsBelow (rank + 1) rows
-  answer_pass rank ranks rows is_rank are not exactly =
-      pass_rank board (IsLabellerRow board start) (λ row. row.at) rank (answer_rows board rows) exactly (λ row is_row same.
-      let at : row.at ≡ configuration_at board rank = at_rank board row.at rank (row_is row is_row) same in
-      not ((are rank).1 (
-        is_rank,
-        record {
-          requests = is_row.requests;
-          reached = subst (LeadsByAnswers board board.start is_row.requests) at is_row.reached;
-          some = subst (IsAnswerable board) at (record { value = is_row.value; has_value = is_row.has_value; some = is_row.some });
-        },
-      )))
+-- a configuration that lasts forever has no row
+pub no_request : (board : PlainBoard) (rank : ℕ) → HasValue board (configuration_at board rank) Forever
+    → (row : RequestRow) → IsAdversaryRow board row → row.at ≡ configuration_at board rank → ⊥
+no_request board rank forever row is_row at =
+    let value : Forever ≡ Finite row.left =
+    same_value board (configuration_at board rank) Forever (Finite row.left) forever (subst (λ (c : List ℕ). HasValue board c (Finite row.left)) at is_row.has_value) in
+    absurd cc
 
-  pub answer_push : (rank : ℕ) (rows : List LabellerRow) (row : LabellerRow) → rank < configurations board → IsLabellerRow board start (answer_row board row)
-      → row.at ≡ rank → AreAnswerRowsBelow rank rows → AreAnswerRowsBelow (rank + 1) (rows ++ row ∷ [])
-  answer_push rank rows row is_rank is_row at exactly =
-      subst (AreExactlyBelow board (IsLabellerRow board start) (λ r. r.at) (rank + 1)) (sym (map-append (answer_row board) rows (row ∷ [])))
-      (push_row board (IsLabellerRow board start) (λ r. r.at) rank (answer_rows board rows) (answer_row board row) exactly is_row
-      (ap (λ (r : ℕ). rank_of board (configuration_at board r)) at ∙ rank_of-configuration_at board rank is_rank)
-      (λ other is_other same. one_answer_row board start (answer_row board row) other is_row is_other
-      (ap (configuration_at board) at ∙ sym (at_rank board other.at rank (row_is other is_other) same))))
+module _ {R X : Type 0} (board : PlainBoard) (shown : R → X) {IsRow : X → Type 0} {at : X → List ℕ} {IsReached : ℕ → Type 0} (side : AreOfReached board IsRow at IsReached)
+    (ranks : List ℕ) (are : AreRanksOf board IsReached ranks) (from : ℕ) (rows : List R) (exactly : AreExactlyBelow board IsRow at from (map shown rows)) where
+  abbrev IsNext : Option ℕ → Type 0
+  IsNext = IsSmallest (λ rank. (from ≤ rank) × Contains ranks rank)
 
-  pub answer_end : (bound : ℕ) (rows : List LabellerRow) → configurations board ≤ bound → AreAnswerRowsBelow bound rows
-      → AreExactly board (IsLabellerRow board start) (λ row. row.at) (answer_rows board rows)
-  answer_end bound rows enough exactly =
-      all_rows board (IsLabellerRow board start) (λ row. row.at) bound (answer_rows board rows) exactly
-      (λ row is_row. let below = rank_below board row.at (row_is row is_row) in omega (arith, below, enough))
+  at_rank : (row : X) (rank : ℕ) → IsRow row → rank_of board (at row) ≡ rank → at row ≡ configuration_at board rank
+  at_rank row rank is_row same = sym (configuration_at-rank_of board (at row) (side.is_configuration row is_row)) ∙ ap (configuration_at board) same
 
-  pub answer_start : AreAnswerRowsBelow 0 []
-  answer_start = no_rows board (IsLabellerRow board start) (λ row. row.at)
+  among : (row : X) (rank : ℕ) → IsRow row → rank_of board (at row) ≡ rank → Contains ranks rank
+  among row rank is_row same =
+      let below = rank_below board (at row) (side.is_configuration row is_row) in
+      (are rank).1 (omega (arith, below, same), side.reached row rank is_row (at_rank row rank is_row same))
 
-module _ (board : PlainBoard) (is : IsConfiguration board board.start) where
-  abbrev pub AreRequestRowsBelow : ℕ → List AdversaryRow → Type 0
-  AreRequestRowsBelow bound rows = AreExactlyBelow board (IsAdversaryRow board) (λ row. row.at) bound (request_rows board rows)
+  up_to : (rank : ℕ) → IsNext (Some rank) → AreExactlyBelow board IsRow at rank (map shown rows)
+  up_to rank next = pass_ranks board IsRow at from rank (map shown rows) next.0.0 exactly (λ row is_row above below.
+      let least = next.1 (rank_of board (at row)) (above, among row (rank_of board (at row)) is_row refl) in omega arith)
 
-  request_row_is : (row : RequestRow) → IsAdversaryRow board row → IsConfiguration board row.at
-  request_row_is row is_row = requests_lead_to board board.start is_row.labels row.at is is_row.reached
+  -- the next rank has this row
+  pub one_more : (rank : ℕ) (row : R) → IsNext (Some rank) → IsRow (shown row) → at (shown row) ≡ configuration_at board rank
+      → AreExactlyBelow board IsRow at (rank + 1) (map shown (rows ++ row ∷ []))
+  one_more rank row next is_row here =
+      subst (AreExactlyBelow board IsRow at (rank + 1)) (sym (map-append shown rows (row ∷ [])))
+      (push_row board IsRow at rank (map shown rows) (shown row) (up_to rank next) is_row
+      (ap (rank_of board) here ∙ rank_of-configuration_at board rank ((are rank).0 next.0.1).0)
+      (λ other is_other same. side.one (shown row) other is_row is_other (here ∙ sym (at_rank other rank is_other same))))
 
-  pub request_pass : (rank : ℕ) (ranks : List ℕ) (rows : List AdversaryRow) → rank < configurations board → AreRanksOf board (IsReachedByRequests board) ranks
-      → ¬ Contains ranks rank → AreRequestRowsBelow rank rows → AreRequestRowsBelow (rank + 1) rows
-  request_pass rank ranks rows is_rank are not exactly =
-      pass_rank board (IsAdversaryRow board) (λ row. row.at) rank (request_rows board rows) exactly (λ row is_row same.
-      let at : row.at ≡ configuration_at board rank = at_rank board row.at rank (request_row_is row is_row) same in
-      not ((are rank).1 (is_rank, record { labels = is_row.labels; reached = subst (LeadsByRequests board board.start is_row.labels) at is_row.reached })))
+  -- the next rank has no row
+  pub none_there : (rank : ℕ) → IsNext (Some rank) → ((row : X) → IsRow row → at row ≡ configuration_at board rank → ⊥)
+      → AreExactlyBelow board IsRow at (rank + 1) (map shown rows)
+  none_there rank next none = pass_ranks board IsRow at rank (rank + 1) (map shown rows) (omega arith) (up_to rank next)
+      (λ row is_row above below. none row is_row (at_rank row rank is_row (omega arith)))
 
-  -- a configuration that lasts forever has no row
-  pub forever_pass : (rank : ℕ) (rows : List AdversaryRow) → HasValue board (configuration_at board rank) Forever
-      → AreRequestRowsBelow rank rows → AreRequestRowsBelow (rank + 1) rows
-  forever_pass rank rows forever exactly =
-      pass_rank board (IsAdversaryRow board) (λ row. row.at) rank (request_rows board rows) exactly (λ row is_row same.
-      let at : row.at ≡ configuration_at board rank = at_rank board row.at rank (request_row_is row is_row) same in
-      let value : Forever ≡ Finite row.left =
-      same_value board (configuration_at board rank) Forever (Finite row.left) forever (subst (λ (c : List ℕ). HasValue board c (Finite row.left)) at is_row.has_value) in
-      absurd cc)
-
-  pub request_push : (rank : ℕ) (rows : List AdversaryRow) (row : AdversaryRow) → rank < configurations board → IsAdversaryRow board (request_row board row)
-      → row.at ≡ rank → AreRequestRowsBelow rank rows → AreRequestRowsBelow (rank + 1) (rows ++ row ∷ [])
-  request_push rank rows row is_rank is_row at exactly =
-      subst (AreExactlyBelow board (IsAdversaryRow board) (λ r. r.at) (rank + 1)) (sym (map-append (request_row board) rows (row ∷ [])))
-      (push_row board (IsAdversaryRow board) (λ r. r.at) rank (request_rows board rows) (request_row board row) exactly is_row
-      (ap (λ (r : ℕ). rank_of board (configuration_at board r)) at ∙ rank_of-configuration_at board rank is_rank)
-      (λ other is_other same. one_request_row board (request_row board row) other is_row is_other
-      (ap (configuration_at board) at ∙ sym (at_rank board other.at rank (request_row_is other is_other) same))))
-
-  pub request_end : (bound : ℕ) (rows : List AdversaryRow) → configurations board ≤ bound → AreRequestRowsBelow bound rows
-      → AreExactly board (IsAdversaryRow board) (λ row. row.at) (request_rows board rows)
-  request_end bound rows enough exactly =
-      all_rows board (IsAdversaryRow board) (λ row. row.at) bound (request_rows board rows) exactly
-      (λ row is_row. let below = rank_below board row.at (request_row_is row is_row) in omega (arith, below, enough))
+  -- no rank is left
+  pub all_gathered : IsNext None → AreExactly board IsRow at (map shown rows)
+  all_gathered none = all_rows board IsRow at from (map shown rows) exactly (λ row is_row. elim (cases_lt (rank_of board (at row)) from) [
+    | inl below ↦ below
+    | inr above ↦ absurd (none (rank_of board (at row)) (above, among row (rank_of board (at row)) is_row refl))
+  ])

@@ -9,6 +9,7 @@ pub mod Formed
 pub mod OneList
 pub mod Small
 pub mod Building
+pub mod BitSearch
 pub mod Finding
 pub mod Showing
 pub mod Lone

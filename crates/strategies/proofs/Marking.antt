@@ -1,5 +1,5 @@
 -- Marks of the ranks that were reached.
-use Rattle.std.proofs.Common.{◌≡◌, ◌≢◌, ℕ, zero, suc, ◌<◌, ◌≤◌, inl, inr, Bool, true, false, List, [], ◌∷◌, ◌++◌, length, slice_index_or, slice_set, refl, sym, ◌∙◌, subst, arith}
+use Rattle.std.proofs.Common.{◌≡◌, ◌≢◌, ℕ, zero, suc, ◌<◌, ◌≤◌, inl, inr, Bool, true, false, List, [], ◌∷◌, ◌++◌, length, slice_index_or, slice_set, Option, Some, None, refl, sym, ◌∙◌, subst, arith}
 use Rattle.std.specs.List.{Contains}
 use Rattle.std.proofs.Math.Dec.{eqb}
 use Rattle.std.proofs.Math.ListN.{replicate}
@@ -11,6 +11,7 @@ use Rattle.std.proofs.lemmas.List.Quantifiers.{all_pairs_push}
 use Rattle.std.proofs.lemmas.Map.Made.{IsDistinct-from_AllPairs}
 use Rattle.std.proofs.lemmas.Map.Steps.{length-le_from_distinct_below}
 use Rattle.std.proofs.lemmas.Map.Views.{Contains-from_any}
+use Rattle.positions.specs.Counts.{IsSmallest}
 use Rattle.strategies.specs.Spreading.{AreMarked, IsWith}
 
 pub false_not_true : (b : Bool) → b ≡ false → b ≡ true → ⊥
@@ -69,3 +70,10 @@ known_stays marks ranks rank are marked = record { known = λ _. refl; other = �
 
 pub new_added : (marks : List Bool) (ranks : List ℕ) (rank : ℕ) → AreMarked marks ranks → slice_index_or marks rank false ≡ false → ¬ Contains ranks rank
 new_added marks ranks rank are unmarked among = false_not_true (slice_index_or marks rank false) unmarked ((are.marked rank).1 among)
+
+-- the first mark from a bound on is the first rank that was reached
+pub first_reached : (marks : List Bool) (ranks : List ℕ) (bound : ℕ) → AreMarked marks ranks → (found : Option ℕ)
+    → IsSmallest (λ number. (bound ≤ number) × (slice_index_or marks number false ≡ true)) found → IsSmallest (λ rank. (bound ≤ rank) × Contains ranks rank) found
+first_reached marks ranks bound are None none = λ other is. none other (is.0, (are.marked other).1 is.1)
+first_reached marks ranks bound are (Some rank) first =
+    ((first.0.0, (are.marked rank).0 first.0.1), λ other is. first.1 other (is.0, (are.marked other).1 is.1))

@@ -1,6 +1,7 @@
 //! Marks, a bit each.
 
-ghost use Rattle.std.specs.Prelude.{◌≡◌, ◌<◌, true, false, length, IfOk, replicate, slice_index_or, slice_set};
+ghost use Rattle.std.specs.Prelude.{◌≡◌, ◌<◌, ◌≤◌, true, false, length, IfOk, replicate, slice_index_or, slice_set};
+ghost use Rattle.positions.specs.Counts.{IsSmallest};
 
 use board_text::Memory;
 use std::alloc::Global;
@@ -51,5 +52,27 @@ impl Marks {
         ensures { self.new ≡ slice_set self.old number true }
     {
         self.words[(number / WORD) as usize] |= 1 << (number % WORD);
+    }
+
+    /// The smallest marked number that is at least a bound, if there is one.
+    pub(crate) fn first_from(&self, bound: u32) -> Option<u32>
+        ensures { IsSmallest (λ number. (bound ≤ number) × (slice_index_or self.now number false ≡ true)) result }
+    {
+        let size = self.size as usize;
+        let word = WORD as usize;
+        let mut number = bound as usize;
+        while number < size {
+            let rest = self.words[number / word] >> (number % word);
+            if rest != 0 {
+                let first = number + rest.trailing_zeros() as usize;
+                return if first < size {
+                    Some(first as u32)
+                } else {
+                    None
+                };
+            }
+            number += word - number % word;
+        }
+        None
     }
 }

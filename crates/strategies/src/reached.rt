@@ -1,6 +1,7 @@
 //! Configurations that were reached.
 
-ghost use Rattle.std.specs.Prelude.{◌≡◌, ◌<◌, ◌≤◌, ◌↔◌, [], length, Contains, IfOk, IsTrue, slice_get};
+ghost use Rattle.std.specs.Prelude.{◌≡◌, ◌<◌, ◌≤◌, [], length, Contains, IfOk, slice_get};
+ghost use Rattle.positions.specs.Counts.{IsSmallest};
 ghost use Rattle.strategies.specs.Spreading.{IsWith};
 
 use crate::marks::Marks;
@@ -54,12 +55,11 @@ impl Reached {
         Ok(())
     }
 
-    /// Whether a rank was reached.
-    pub(crate) fn contains(&self, rank: u32) -> bool
-        requires { rank < self.now.size }
-        ensures { IsTrue result ↔ Contains self.now.ranks rank }
+    /// The smallest rank that was reached and is at least a bound, if there is one.
+    pub(crate) fn first_from(&self, bound: u32) -> Option<u32>
+        ensures { IsSmallest (λ rank. (bound ≤ rank) × Contains self.now.ranks rank) result }
     {
-        self.marks.get(rank)
+        self.marks.first_from(bound)
     }
 
     /// How many were reached.

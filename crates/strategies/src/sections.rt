@@ -28,14 +28,15 @@ impl BestMoves<'_> {
         ensures rows { IfOk result (λ rows. AreExactly self.now (IsLabellerRow self.now start) (λ row. row.at) (answer_rows self.now rows.items)) }
         ensures padded { IfOk result (λ rows. All (IsPadded self.now) rows.items) }
     {
+        let _ = self.space().configurations();
         let mut rows = Vec::with_capacity(alloc, reached.len())?;
-        for rank in 0..self.space().configurations() {
-            if reached.contains(rank) {
-                let row = self.labeller_row(start, rank);
-                if rows.push(row).is_err() {
-                    return Err(Memory);
-                }
+        let mut from = 0;
+        while let Some(rank) = reached.first_from(from) {
+            let row = self.labeller_row(start, rank);
+            if rows.push(row).is_err() {
+                return Err(Memory);
             }
+            from = rank + 1;
         }
         Ok(rows)
     }
@@ -71,15 +72,16 @@ impl BestMoves<'_> {
         requires reached { AreRanksOf self.now (IsReachedByRequests self.now) reached.now.ranks }
         ensures { IfOk result (λ rows. AreExactly self.now (IsAdversaryRow self.now) (λ row. row.at) (request_rows self.now rows.items)) }
     {
+        let _ = self.space().configurations();
         let mut rows = Vec::with_capacity(alloc, reached.len())?;
-        for rank in 0..self.space().configurations() {
-            if reached.contains(rank) {
-                if let Some(row) = self.adversary_row(rank) {
-                    if rows.push(row).is_err() {
-                        return Err(Memory);
-                    }
+        let mut from = 0;
+        while let Some(rank) = reached.first_from(from) {
+            if let Some(row) = self.adversary_row(rank) {
+                if rows.push(row).is_err() {
+                    return Err(Memory);
                 }
             }
+            from = rank + 1;
         }
         Ok(rows)
     }
