@@ -11,12 +11,8 @@ use Rattle.positions.proofs.Configurations.{moved_is_configuration}
 use Rattle.proof_text.specs.declared.proof.LabellerRow.{LabellerRow}
 use Rattle.proof_text.specs.Proof.{answer_row}
 use Rattle.proof_text.specs.Rules.{IsEnough, one_less, IsListedFor, Serves, MeetsRequest}
-use Rattle.proof_check.specs.declared.fault.Side.TheVariants.{Labeller, Adversary}
-use Rattle.proof_check.specs.declared.fault.CheckFault.{CheckFault}
-use Rattle.proof_check.specs.declared.fault.CheckFault.TheVariants as faults
 use Rattle.proof_check.specs.Checker.{IsRowFor}
-use Rattle.proof_check.specs.CheckFaults.{HasAnswers, IsWrongAnswer}
-use Rattle.proof_check.specs.Steps.{AnswerFaultAt}
+use Rattle.proof_check.specs.CheckFaults.{HasRow}
 
 pub told : {P : Type 0} (b : Bool) → IsTrue b ↔ P → b ≡ false → P → ⊥
 told b answers is p = true≢false (sym (answers.1 p) ∙ is)
@@ -27,10 +23,11 @@ get_front (suc n) [] k below inside = absurd (omega arith)
 get_front (suc n) (x ∷ xs) zero below inside = refl
 get_front (suc n) (x ∷ xs) (suc k) below inside = get_front n xs k (omega arith) (omega arith)
 
-module _ (rows : List AnswerRow) (configuration : List ℕ) (row : AnswerRow) (is : IsRowFor (λ r. r.at) rows configuration row) where
-  pub has_answers : HasAnswers rows configuration
-  has_answers = (row, is.among, is.at_is)
+-- a row that is found
+pub there_is : {X : Type 0} (at : X → List ℕ) (rows : List X) (configuration : List ℕ) (row : X) → IsRowFor at rows configuration row → HasRow at rows configuration
+there_is at rows configuration row is = (row, is.among, is.at_is)
 
+module _ (rows : List AnswerRow) (configuration : List ℕ) (row : AnswerRow) (is : IsRowFor (λ r. r.at) rows configuration row) where
   pub listed_for : (wanted : Turns) → IsEnough wanted row.turns → IsListedFor rows configuration wanted
   listed_for wanted enough = record { row = row; among = is.among; at = is.at_is; enough = enough }
 
@@ -61,16 +58,3 @@ module _ (board : PlainBoard) (rows : List AnswerRow) (row : LabellerRow) (pebbl
       → Serves rows (result_of board row.at pebble (slice_index row.take pebble)) (one_less row.turns)
       → MeetsRequest board rows (answer_row board row) pebble
   meets legal serves = record { label = slice_index row.take pebble; answer = the_answer; legal = legal; serves = serves }
-
--- the fault of an answer is that of its row, where it is the first
-pub wrong_answer : (board : PlainBoard) (rows : List AnswerRow) (row : AnswerRow) (pebble : ℕ) (fault : CheckFault) → pebble < board.pebbles → ((earlier : ℕ) → earlier < pebble → MeetsRequest board rows row earlier)
-    → AnswerFaultAt board rows row pebble fault → IsWrongAnswer board rows row fault
-wrong_answer board rows row pebble (faults.IllegalAnswer at turn) below before (r, e, (label, answer, rest)) = rw e (r, (label, record { is_pebble = below; before = before; answer = answer }, rest))
-wrong_answer board rows row pebble (faults.Unlisted Labeller at turn) below before (r, e, (label, answer, legal, wanted, none)) = rw e (r, (label, record { is_pebble = below; before = before; answer = answer }, legal, wanted, none))
-wrong_answer board rows row pebble (faults.TooSmall at turn) below before (r, e, (label, answer, legal, wanted, has, short)) = rw e (r, (label, record { is_pebble = below; before = before; answer = answer }, legal, wanted, has, short))
-wrong_answer board rows row pebble (faults.Unlisted Adversary at turn) below before h = absurd h
-wrong_answer board rows row pebble (faults.StartMissing side) below before h = absurd h
-wrong_answer board rows row pebble (faults.StartNumber side) below before h = absurd h
-wrong_answer board rows row pebble (faults.NotStuck at label) below before h = absurd h
-wrong_answer board rows row pebble (faults.TooLarge at label) below before h = absurd h
-wrong_answer board rows row pebble faults.Memory below before h = absurd h

@@ -7,6 +7,7 @@ pub mod FirstRows
 pub mod Answering
 pub mod Stopping
 pub mod Showing
+pub mod Turns
 pub mod Refusing
 pub mod FirstRow
 pub mod OneFault

@@ -1,10 +1,10 @@
 -- What a look at an adversary's row finds.
-use Rattle.std.proofs.Common.{◌≡◌, ℕ, ◌+◌, ◌<◌, ◌≤◌, ◌↔◌, true, List, Some, None, inl, inr, ap, subst, arith}
+use Rattle.std.proofs.Common.{◌≡◌, ℕ, ◌<◌, ◌≤◌, ◌↔◌, true, List, Some, None, inl, inr, ap, subst, arith}
 use Rattle.std.proofs.lemmas.Bool.{cases_lt}
 use Rattle.board_text.specs.Domination.{has_bit}
 use Rattle.board_text.specs.PlainBoard.{PlainBoard}
 use Rattle.positions.specs.Counts.{IsSmallest}
-use Rattle.positions.specs.Game.{Legal, moved}
+use Rattle.positions.specs.Game.{Legal}
 use Rattle.positions.specs.LabelWalk.{Walk}
 use Rattle.positions.specs.Position.{Position, position_at}
 use Rattle.positions.specs.Ranks.{configuration_at}
@@ -12,12 +12,8 @@ use Rattle.positions.specs.Table.{RequestRow}
 use Rattle.positions.proofs.Walking.{AreFrom, walk_begins}
 use Rattle.proof_text.specs.Rules.{IsListedBelow, MeetsAnswer, MeetsAnswers}
 use Rattle.proof_check.specs.Checker.{IsRowFor}
-use Rattle.proof_check.specs.CheckFaults.{HasRequest, FirstLabel}
 
 module _ (rows : List RequestRow) (configuration : List ℕ) (row : RequestRow) (is : IsRowFor (λ r. r.at) rows configuration row) where
-  pub has_request : HasRequest rows configuration
-  has_request = (row, is.among, is.at_is)
-
   pub listed_below : (bound : ℕ) → row.left < bound → IsListedBelow rows configuration bound
   listed_below bound below = record { row = row; among = is.among; at = is.at_is; below = below }
 
@@ -39,24 +35,11 @@ legal_few board position rank pebble is few label legal = let most : board.label
 
 -- each label below a bound is met
 module _ (board : PlainBoard) (rows : List RequestRow) (row : RequestRow) (from : ℕ) (before : (earlier : ℕ) → earlier < from → MeetsAnswer board rows row earlier) where
-  -- the next legal label is the next to be met
-  pub first_label : (label : ℕ) → IsSmallest (λ l. (from ≤ l) × Legal board row.at row.request l) (Some label) → FirstLabel board rows row label
-  first_label label next = record {
-    before = λ earlier low legal. elim (cases_lt earlier from) [
-      | inl met ↦ before earlier met legal
-      | inr late ↦ let least : label ≤ earlier = next.1 earlier (late, legal) in absurd (omega arith)
-    ];
-    legal = next.0.1;
-  }
-
-  pub label_met : (label : ℕ) → IsSmallest (λ l. (from ≤ l) × Legal board row.at row.request l) (Some label)
-      → IsListedBelow rows (moved row.at row.request label) row.left
-      → (earlier : ℕ) → earlier < label + 1 → MeetsAnswer board rows row earlier
-  label_met label next listed earlier low legal = elim (cases_lt earlier label) [
-    | inl less ↦ (first_label label next).before earlier less legal
-    | inr late ↦
-        let same : label ≡ earlier = omega arith in
-        subst (λ (l : ℕ). IsListedBelow rows (moved row.at row.request l) row.left) same listed
+  -- before the next legal label all are met
+  pub met_before : (label : ℕ) → IsSmallest (λ l. (from ≤ l) × Legal board row.at row.request l) (Some label) → (earlier : ℕ) → earlier < label → MeetsAnswer board rows row earlier
+  met_before label next earlier low legal = elim (cases_lt earlier from) [
+    | inl met ↦ before earlier met legal
+    | inr late ↦ let least : label ≤ earlier = next.1 earlier (late, legal) in absurd (omega arith)
   ]
 
   -- no label is left

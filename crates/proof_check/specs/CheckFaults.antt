@@ -13,13 +13,15 @@ use Rattle.proof_check.specs.declared.fault.Side.TheVariants.{Labeller, Adversar
 use Rattle.proof_check.specs.declared.fault.CheckFault.{CheckFault}
 use Rattle.proof_check.specs.declared.fault.CheckFault.TheVariants as faults
 
--- a labeller's row is for the configuration
-abbrev pub HasAnswers : List AnswerRow → List ℕ → Type 0
-HasAnswers rows configuration = (row : AnswerRow) × Contains rows row × (row.at ≡ configuration)
+-- a row is for the configuration
+abbrev pub HasRow : {X : Type 0} → (X → List ℕ) → List X → List ℕ → Type 0
+HasRow {X} at rows configuration = (row : X) × Contains rows row × (at row ≡ configuration)
 
--- an adversary's row is for the configuration
-abbrev pub HasRequest : List RequestRow → List ℕ → Type 0
-HasRequest rows configuration = (row : RequestRow) × Contains rows row × (row.at ≡ configuration)
+-- where a row should serve: that there is none is the first of two faults, and that it doesn't serve the second
+abbrev pub IsUnserved : Type 0 → Type 0 → CheckFault → CheckFault → CheckFault → Type 0
+IsUnserved Listed Served missing short fault = (¬ Listed × (fault ≡ missing)) ⊎ (Listed × ¬ Served × (fault ≡ short))
+
+-- ---- rows
 
 -- the first row that isn't right stands here: those before are, and this one
 pub record FirstWrong {X : Type 0} (IsRight : X → Type 0) (rows : List X) (row : X) : Type 0 where
@@ -28,59 +30,61 @@ pub record FirstWrong {X : Type 0} (IsRight : X → Type 0) (rows : List X) (row
   pub parts : rows ≡ before ++ row ∷ after
   pub right : All IsRight before
 
--- the row gives the pebble this answer, and meets the requests of all pebbles before
-pub record FirstPebble (board : PlainBoard) (rows : List AnswerRow) (row : AnswerRow) (pebble label : ℕ) : Type 0 where
-  pub is_pebble : pebble < board.pebbles
-  pub before : (earlier : ℕ) → earlier < pebble → MeetsRequest board rows row earlier
-  pub answer : slice_get row.answers pebble ≡ Some label
-
--- what is wrong with a labeller's row, at its first faulty pebble
-abbrev pub IsWrongAnswer : PlainBoard → List AnswerRow → AnswerRow → CheckFault → Type 0
-IsWrongAnswer board rows row (faults.IllegalAnswer at pebble) = (rank_of board row.at ≡ at)
-    × ((label : ℕ) × FirstPebble board rows row pebble label × ¬ Legal board row.at pebble label)
-IsWrongAnswer board rows row (faults.Unlisted Labeller at pebble) = (rank_of board row.at ≡ at)
-    × ((label : ℕ) × FirstPebble board rows row pebble label × Legal board row.at pebble label × IsWanted (one_less row.turns)
-    × ¬ HasAnswers rows (moved row.at pebble label))
-IsWrongAnswer board rows row (faults.TooSmall at pebble) = (rank_of board row.at ≡ at)
-    × ((label : ℕ) × FirstPebble board rows row pebble label × Legal board row.at pebble label × IsWanted (one_less row.turns)
-    × HasAnswers rows (moved row.at pebble label) × ¬ IsListedFor rows (moved row.at pebble label) (one_less row.turns))
-IsWrongAnswer board rows row fault = ⊥
-
--- the label is a legal answer to the row's request, and the row meets all labels before
-pub record FirstLabel (board : PlainBoard) (rows : List RequestRow) (row : RequestRow) (label : ℕ) : Type 0 where
-  pub before : (earlier : ℕ) → earlier < label → MeetsAnswer board rows row earlier
-  pub legal : Legal board row.at row.request label
-
--- what is wrong with an adversary's row, at its first faulty label
-abbrev pub IsWrongRequest : PlainBoard → List RequestRow → RequestRow → CheckFault → Type 0
-IsWrongRequest board rows row (faults.NotStuck at label) = (rank_of board row.at ≡ at) × FirstLabel board rows row label × (row.left ≡ 0)
-IsWrongRequest board rows row (faults.Unlisted Adversary at label) = (rank_of board row.at ≡ at) × FirstLabel board rows row label × (0 < row.left)
-    × ¬ HasRequest rows (moved row.at row.request label)
-IsWrongRequest board rows row (faults.TooLarge at label) = (rank_of board row.at ≡ at) × FirstLabel board rows row label × (0 < row.left)
-    × HasRequest rows (moved row.at row.request label) × ¬ IsListedBelow rows (moved row.at row.request label) row.left
-IsWrongRequest board rows row fault = ⊥
-
 -- the first faulty row has the fault
 pub record FirstFault {X : Type 0} (IsRight : X → Type 0) (IsWrong : X → CheckFault → Type 0) (rows : List X) (fault : CheckFault) : Type 0 where
   pub row : X
   pub first : FirstWrong IsRight rows row
   pub wrong : IsWrong row fault
 
+-- the first turn of a row that isn't met has the fault
+pub record FirstTurn (IsTurn Meets : ℕ → Type 0) (IsWrong : ℕ → CheckFault → Type 0) (fault : CheckFault) : Type 0 where
+  pub turn : ℕ
+  pub is_turn : IsTurn turn
+  pub before : (earlier : ℕ) → earlier < turn → Meets earlier
+  pub wrong : IsWrong turn fault
+
+-- the rows don't serve the turns that a labeller's row leaves after the pebble's answer
+abbrev pub IsWrongResult : PlainBoard → List AnswerRow → AnswerRow → ℕ → List ℕ → CheckFault → Type 0
+IsWrongResult board rows row pebble result fault =
+    IsUnserved (HasRow (λ r. r.at) rows result) (IsListedFor rows result (one_less row.turns))
+    (faults.Unlisted Labeller (rank_of board row.at) pebble) (faults.TooSmall (rank_of board row.at) pebble) fault
+
+-- what is wrong with a labeller's row at a request of the pebble
+abbrev pub IsWrongAt : PlainBoard → List AnswerRow → AnswerRow → ℕ → CheckFault → Type 0
+IsWrongAt board rows row pebble fault = (label : ℕ) × (slice_get row.answers pebble ≡ Some label)
+    × ((¬ Legal board row.at pebble label × (fault ≡ faults.IllegalAnswer (rank_of board row.at) pebble))
+    ⊎ (Legal board row.at pebble label × IsWanted (one_less row.turns) × IsWrongResult board rows row pebble (moved row.at pebble label) fault))
+
+-- what is wrong with an adversary's row at the label, which is a legal answer
+abbrev pub IsWrongAfter : PlainBoard → List RequestRow → RequestRow → ℕ → CheckFault → Type 0
+IsWrongAfter board rows row label fault =
+    ((row.left ≡ 0) × (fault ≡ faults.NotStuck (rank_of board row.at) label))
+    ⊎ ((0 < row.left) × IsUnserved (HasRow (λ r. r.at) rows (moved row.at row.request label)) (IsListedBelow rows (moved row.at row.request label) row.left)
+    (faults.Unlisted Adversary (rank_of board row.at) label) (faults.TooLarge (rank_of board row.at) label) fault)
+
+-- what is wrong with a labeller's row, at its first faulty pebble
+abbrev pub IsWrongAnswer : PlainBoard → List AnswerRow → AnswerRow → CheckFault → Type 0
+IsWrongAnswer board rows row = FirstTurn (λ pebble. pebble < board.pebbles) (MeetsRequest board rows row) (IsWrongAt board rows row)
+
+-- what is wrong with an adversary's row, at its first faulty label
+abbrev pub IsWrongRequest : PlainBoard → List RequestRow → RequestRow → CheckFault → Type 0
+IsWrongRequest board rows row = FirstTurn (Legal board row.at row.request) (MeetsAnswer board rows row) (IsWrongAfter board rows row)
+
 -- the first faulty labeller's row has the fault
 abbrev pub LabellerFault : PlainBoard → List AnswerRow → CheckFault → Type 0
-LabellerFault board rows fault = FirstFault (MeetsRequests board rows) (IsWrongAnswer board rows) rows fault
+LabellerFault board rows = FirstFault (MeetsRequests board rows) (IsWrongAnswer board rows) rows
 
 -- the first faulty adversary's row has the fault
 abbrev pub AdversaryFault : PlainBoard → List RequestRow → CheckFault → Type 0
-AdversaryFault board rows fault = FirstFault (MeetsAnswers board rows) (IsWrongRequest board rows) rows fault
+AdversaryFault board rows = FirstFault (MeetsAnswers board rows) (IsWrongRequest board rows) rows
+
+-- ---- the start
 
 -- what is wrong with the start's number in the labeller's rows
 abbrev pub IsWrongStart : PlainBoard → PlainProof → CheckFault → Type 0
-IsWrongStart board proof (faults.StartMissing Labeller) =
-    IsWanted (wanted_of proof.claim) × ¬ HasAnswers proof.labeller board.start
-IsWrongStart board proof (faults.StartNumber Labeller) =
-    IsWanted (wanted_of proof.claim) × HasAnswers proof.labeller board.start × ¬ IsListedFor proof.labeller board.start (wanted_of proof.claim)
-IsWrongStart board proof fault = ⊥
+IsWrongStart board proof fault = IsWanted (wanted_of proof.claim)
+    × IsUnserved (HasRow (λ r. r.at) proof.labeller board.start) (IsListedFor proof.labeller board.start (wanted_of proof.claim))
+    (faults.StartMissing Labeller) (faults.StartNumber Labeller) fault
 
 -- the number that the claim says the value is at most, if it says so
 abbrev pub bound_of : Claim → Option ℕ
@@ -91,10 +95,11 @@ bound_of Forever = None
 
 -- what is wrong with the start's number in the adversary's rows
 abbrev pub IsWrongBound : PlainBoard → PlainProof → CheckFault → Type 0
-IsWrongBound board proof (faults.StartMissing Adversary) = (number : ℕ) × (bound_of proof.claim ≡ Some number) × ¬ HasRequest proof.adversary board.start
-IsWrongBound board proof (faults.StartNumber Adversary) =
-    (number : ℕ) × (bound_of proof.claim ≡ Some number) × HasRequest proof.adversary board.start × ¬ IsListedBelow proof.adversary board.start (suc number)
-IsWrongBound board proof fault = ⊥
+IsWrongBound board proof fault = (number : ℕ) × (bound_of proof.claim ≡ Some number)
+    × IsUnserved (HasRow (λ r. r.at) proof.adversary board.start) (IsListedBelow proof.adversary board.start (suc number))
+    (faults.StartMissing Adversary) (faults.StartNumber Adversary) fault
+
+-- ---- the document
 
 -- the start's numbers serve the claim
 pub record StartServes (board : PlainBoard) (proof : PlainProof) : Type 0 where
@@ -102,14 +107,16 @@ pub record StartServes (board : PlainBoard) (proof : PlainProof) : Type 0 where
   pub adversary : StartIsBelow proof.adversary board.start proof.claim
 
 -- The fault is the first in the order of checking: the start's numbers, for the labeller and then the adversary, then the labeller's rows, then the adversary's.
--- Memory may be wanting at any place.
-abbrev pub IsCheckFault : PlainBoard → PlainProof → CheckFault → Type 0
-IsCheckFault board proof faults.Memory = Unit {0}
-IsCheckFault board proof fault =
+abbrev pub IsFirstFault : PlainBoard → PlainProof → CheckFault → Type 0
+IsFirstFault board proof fault =
     IsWrongStart board proof fault
     ⊎ (Serves proof.labeller board.start (wanted_of proof.claim) × IsWrongBound board proof fault)
     ⊎ (StartServes board proof × LabellerFault board proof.labeller fault)
     ⊎ (StartServes board proof × LabellerObeys board proof.labeller × AdversaryFault board proof.adversary fault)
+
+-- The fault is the first one, or memory was wanting, at any place.
+abbrev pub IsCheckFault : PlainBoard → PlainProof → CheckFault → Type 0
+IsCheckFault board proof fault = (fault ≡ faults.Memory) ⊎ IsFirstFault board proof fault
 
 -- the rank of a row that the fault names is one of the board's
 abbrev pub NamesRanks : PlainBoard → CheckFault → Type 0

@@ -1,4 +1,3 @@
 pub mod CheckFaults
 pub mod Checker
 pub mod RowIndex
-pub mod Steps

@@ -1,10 +1,12 @@
 //! The adversary's rows of a document, checked.
 
 ghost use Rattle.std.specs.Prelude.{◌≡◌, MatchOption};
+ghost use Rattle.positions.specs.Game.{Legal, moved};
+ghost use Rattle.positions.specs.Ranks.{configuration_at, rank_of};
 ghost use Rattle.proof_text.specs.Proof.{request_row};
-ghost use Rattle.proof_text.specs.Rules.{MeetsAnswers, AdversaryObeys, StartIsBelow};
+ghost use Rattle.proof_text.specs.Rules.{MeetsAnswer, MeetsAnswers, AdversaryObeys, StartIsBelow};
 ghost use Rattle.proof_check.specs.CheckFaults as faults;
-ghost use Rattle.proof_check.specs.CheckFaults.{IsWrongRequest, IsWrongBound, AdversaryFault};
+ghost use Rattle.proof_check.specs.CheckFaults.{IsWrongAfter, IsWrongRequest, IsWrongBound, AdversaryFault};
 ghost use Rattle.proof_check.specs.Checker.{IsRequesting};
 
 use crate::checked_row::{CheckedRow, first_fault};
@@ -36,18 +38,8 @@ impl CheckedRow for AdversaryRow {
         let mut answers = moves.answers(self.ask).walk();
         let results = moves.results(self.ask);
         while let Some(label) = answers.take_next() {
-            if self.left == 0 {
-                return Some(CheckFault::NotStuck { at: self.at, label });
-            }
-            let Some(next) = checker.adversary_row(results.rank(label)) else {
-                return Some(CheckFault::Unlisted {
-                    side: Side::Adversary,
-                    at: self.at,
-                    turn: label,
-                });
-            };
-            if self.left <= next.left {
-                return Some(CheckFault::TooLarge { at: self.at, label });
+            if let Some(fault) = checker.label_fault(self, label, results.rank(label)) {
+                return Some(fault);
             }
         }
         None
@@ -55,6 +47,31 @@ impl CheckedRow for AdversaryRow {
 }
 
 impl Checker<'_> {
+    /// What is wrong with the row at a legal answer, if anything is. The rank is that of its result.
+    fn label_fault(&self, row: &AdversaryRow, label: u16, rank: u32) -> Option<CheckFault>
+        requires row { IsRequesting self.now.board row.now }
+        requires legal { Legal self.now.board (configuration_at self.now.board row.now.at) row.now.ask label }
+        requires rank { rank ≡ rank_of self.now.board (moved (configuration_at self.now.board row.now.at) row.now.ask label) }
+        ensures { MatchOption result
+            (MeetsAnswer self.now.board self.now.proof.adversary (request_row self.now.board row.now) label)
+            (IsWrongAfter self.now.board self.now.proof.adversary (request_row self.now.board row.now) label) }
+    {
+        if row.left == 0 {
+            return Some(CheckFault::NotStuck { at: row.at, label });
+        }
+        let Some(next) = self.adversary_row(rank) else {
+            return Some(CheckFault::Unlisted {
+                side: Side::Adversary,
+                at: row.at,
+                turn: label,
+            });
+        };
+        if row.left <= next.left {
+            return Some(CheckFault::TooLarge { at: row.at, label });
+        }
+        None
+    }
+
     /// The fault of the adversary's first faulty row, if there is one.
     pub(crate) fn adversary_fault(&self, rt: &(impl Threads + Sync)) -> Option<CheckFault>
         ensures { MatchOption result (AdversaryObeys self.now.board self.now.proof.adversary) (AdversaryFault self.now.board self.now.proof.adversary) }

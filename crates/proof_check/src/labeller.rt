@@ -5,9 +5,8 @@ ghost use Rattle.positions.specs.Position.{position_at};
 ghost use Rattle.proof_text.specs.Proof.{answer_row};
 ghost use Rattle.proof_text.specs.Rules as rules;
 ghost use Rattle.proof_text.specs.Rules.{IsEnough, IsWanted, one_less, Serves, MeetsRequest, MeetsRequests, LabellerObeys};
-ghost use Rattle.proof_check.specs.CheckFaults.{IsWrongAnswer, IsWrongStart, LabellerFault};
+ghost use Rattle.proof_check.specs.CheckFaults.{IsWrongAnswer, IsWrongAt, IsWrongStart, LabellerFault};
 ghost use Rattle.proof_check.specs.Checker.{IsAnswering};
-ghost use Rattle.proof_check.specs.Steps.{AnswerFaultAt};
 
 use crate::checked_row::{CheckedRow, first_fault};
 use crate::checker::Checker;
@@ -85,7 +84,7 @@ impl Checker<'_> {
         requires pebble { pebble < self.now.board.pebbles }
         ensures { MatchOption result
             (MeetsRequest self.now.board self.now.proof.labeller (answer_row self.now.board row.now) pebble)
-            (AnswerFaultAt self.now.board self.now.proof.labeller (answer_row self.now.board row.now) pebble) }
+            (IsWrongAt self.now.board self.now.proof.labeller (answer_row self.now.board row.now) pebble) }
     {
         let label = row.take[pebble as usize];
         if !moves.is_legal(pebble, label) {

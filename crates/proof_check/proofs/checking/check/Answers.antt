@@ -12,3 +12,6 @@ returns-in-Some-clause-named g c =
 
 pub returns-clause-shows : goal.returns-clause-shows
 returns-clause-shows g c = shows c.args.board.now (plain_proof c.args.board.now c.args.proof.now) c.requires.document.is_proof (rw (c.in-Ok.ensures.board, c.in-Ok.ensures.proof) at c.in-None.ensures)
+
+pub returns-in-Some-clause-fault : goal.returns-in-Some-clause-fault
+returns-in-Some-clause-fault g c = rw (c.in-Ok.ensures.board, c.in-Ok.ensures.proof) at c.in-Some.ensures

@@ -1,5 +1,9 @@
+use Rattle.std.proofs.Common.{inl, inr}
 use Rattle.proof_check.proofs.Refusing.{by_adversary}
 use Rattle.proof_check.proofs.checker.Checker.fault.Goals as goal
+
+pub returns-in-Some-labeller_fault : goal.returns-in-Some-labeller_fault
+returns-in-Some-labeller_fault g c = inr (inr (inr (inl (record { labeller = c.in_default.ensures; adversary = c.in_default-bound_fault.ensures }, c.in-Some-labeller_fault.ensures))))
 
 pub returns : goal.returns
 returns g c =
