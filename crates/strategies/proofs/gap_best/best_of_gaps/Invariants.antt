@@ -1,4 +1,5 @@
-use Rattle.std.proofs.Common.{◌≡◌, ℕ, ◌<◌, ◌≤◌, length, None, slice_index_or, vec_capacity}
+use Rattle.std.proofs.Common.{◌≡◌, ◌≤◌, length}
+use Rattle.std.specs.Vec.{vec_capacity}
 use Rattle.positions.specs.Gaps.{gaps}
 use Rattle.strategies.specs.GapBest.{AreGapsBest}
 use Rattle.strategies.proofs.gap_best.best_of_gaps.Given as goal
