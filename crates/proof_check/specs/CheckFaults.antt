@@ -8,7 +8,8 @@ use Rattle.positions.specs.Table.{AnswerRow, RequestRow}
 use Rattle.positions.specs.declared.claim.Claim.{Claim}
 use Rattle.positions.specs.declared.claim.Claim.TheVariants.{Exactly, AtLeast, AtMost, Forever}
 use Rattle.proof_text.specs.Proof.{PlainProof}
-use Rattle.proof_text.specs.Rules.{IsListedFor, Serves, IsWanted, one_less, MeetsRequest, MeetsRequests, LabellerObeys, IsListedBelow, MeetsAnswer, MeetsAnswers, wanted_of, StartIsBelow}
+use Rattle.proof_text.specs.Rules.{IsListedFor, Serves, IsWanted, one_less, MeetsRequest, MeetsRequests, LabellerObeys, IsListedBelow}
+use Rattle.proof_text.specs.Rules.{MeetsAnswer, MeetsAnswers, wanted_of, StartIsBelow}
 use Rattle.proof_check.specs.declared.fault.Side.TheVariants.{Labeller, Adversary}
 use Rattle.proof_check.specs.declared.fault.CheckFault.{CheckFault}
 use Rattle.proof_check.specs.declared.fault.CheckFault.TheVariants as faults
@@ -31,7 +32,8 @@ pub record FirstWrong {X : Type 0} (IsRight : X → Type 0) (rows : List X) (row
   pub right : All IsRight before
 
 -- the first faulty row has the fault
-pub record FirstFault {X : Type 0} (IsRight : X → Type 0) (IsWrong : X → CheckFault → Type 0) (rows : List X) (fault : CheckFault) : Type 0 where
+pub record FirstFault {X : Type 0} (IsRight : X → Type 0) (IsWrong : X → CheckFault → Type 0) (rows : List X)
+    (fault : CheckFault) : Type 0 where
   pub row : X
   pub first : FirstWrong IsRight rows row
   pub wrong : IsWrong row fault
@@ -53,14 +55,20 @@ IsWrongResult board rows row pebble result fault =
 abbrev pub IsWrongAt : PlainBoard → List AnswerRow → AnswerRow → ℕ → CheckFault → Type 0
 IsWrongAt board rows row pebble fault = (label : ℕ) × (slice_get row.answers pebble ≡ Some label)
     × ((¬ Legal board row.at pebble label × (fault ≡ faults.IllegalAnswer (rank_of board row.at) pebble))
-    ⊎ (Legal board row.at pebble label × IsWanted (one_less row.turns) × IsWrongResult board rows row pebble (moved row.at pebble label) fault))
+    ⊎ (Legal board row.at pebble label × IsWanted (one_less row.turns)
+    × IsWrongResult board rows row pebble (moved row.at pebble label) fault))
+
+-- the rows don't serve the number that an adversary's row has before the label is answered
+abbrev pub IsWrongNext : PlainBoard → List RequestRow → RequestRow → ℕ → List ℕ → CheckFault → Type 0
+IsWrongNext board rows row label result fault =
+    IsUnserved (HasRow (λ r. r.at) rows result) (IsListedBelow rows result row.left)
+    (faults.Unlisted Adversary (rank_of board row.at) label) (faults.TooLarge (rank_of board row.at) label) fault
 
 -- what is wrong with an adversary's row at the label, which is a legal answer
 abbrev pub IsWrongAfter : PlainBoard → List RequestRow → RequestRow → ℕ → CheckFault → Type 0
 IsWrongAfter board rows row label fault =
     ((row.left ≡ 0) × (fault ≡ faults.NotStuck (rank_of board row.at) label))
-    ⊎ ((0 < row.left) × IsUnserved (HasRow (λ r. r.at) rows (moved row.at row.request label)) (IsListedBelow rows (moved row.at row.request label) row.left)
-    (faults.Unlisted Adversary (rank_of board row.at) label) (faults.TooLarge (rank_of board row.at) label) fault)
+    ⊎ ((0 < row.left) × IsWrongNext board rows row label (moved row.at row.request label) fault)
 
 -- what is wrong with a labeller's row, at its first faulty pebble
 abbrev pub IsWrongAnswer : PlainBoard → List AnswerRow → AnswerRow → CheckFault → Type 0
@@ -106,7 +114,8 @@ pub record StartServes (board : PlainBoard) (proof : PlainProof) : Type 0 where
   pub labeller : Serves proof.labeller board.start (wanted_of proof.claim)
   pub adversary : StartIsBelow proof.adversary board.start proof.claim
 
--- The fault is the first in the order of checking: the start's numbers, for the labeller and then the adversary, then the labeller's rows, then the adversary's.
+-- The fault is the first in the order of checking: the start's numbers, for the labeller and then the adversary, then the labeller's rows,
+-- then the adversary's.
 abbrev pub IsFirstFault : PlainBoard → PlainProof → CheckFault → Type 0
 IsFirstFault board proof fault =
     IsWrongStart board proof fault

@@ -18,7 +18,8 @@ pub record Checked : Type 0 where
 -- the board, and the document with this claim and these rows
 abbrev pub checked : PlainBoard → Claim → List LabellerRow → List AdversaryRow → Checked
 checked board claim labeller adversary =
-    record { board = board; proof = record { claim = claim; labeller = answer_rows board labeller; adversary = request_rows board adversary } }
+    let proof : PlainProof = record { claim = claim; labeller = answer_rows board labeller; adversary = request_rows board adversary } in
+    record { board = board; proof = proof }
 
 -- each answer for a pebble of the board is a label
 abbrev pub GivesLabels : PlainBoard → LabellerRow → Type 0
@@ -65,4 +66,5 @@ pub record IsRowFor {X : Type 0} (at : X → List ℕ) (rows : List X) (configur
 abbrev pub FindsRow : {R X : Type 0} → PlainBoard → (R → X) → (X → List ℕ) → List X → ℕ → Option (Bor R) → Type 0
 FindsRow {R} {X} board shown at rows rank found =
     (configuration : List ℕ) → IsConfiguration board configuration → rank ≡ rank_of board configuration
-    → MatchOption found ((row : X) × Contains rows row × (at row ≡ configuration) → ⊥) (λ row. IsRowFor at rows configuration (shown row.now))
+    → MatchOption found ((row : X) × Contains rows row × (at row ≡ configuration) → ⊥)
+    (λ row. IsRowFor at rows configuration (shown row.now))

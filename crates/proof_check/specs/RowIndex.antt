@@ -14,8 +14,10 @@ pub record AreRanked {X : Type 0} (rank : X → ℕ) (size : ℕ) (rows : List X
 
 -- at each row's rank stands its place, and what stands elsewhere is no place
 pub record IsIndex {X : Type 0} (rank : X → ℕ) (rows : List X) (places : List ℕ) : Type 0 where
-  pub each : (place : ℕ) (d : X) → place < length rows → (rank (slice_index_or rows place d) < length places) × (slice_index places (rank (slice_index_or rows place d)) ≡ place)
-  pub only : (number : ℕ) (d : X) → number < length places → slice_index places number < length rows → rank (slice_index_or rows (slice_index places number) d) ≡ number
+  pub each : (place : ℕ) (d : X) → place < length rows → (rank (slice_index_or rows place d) < length places)
+      × (slice_index places (rank (slice_index_or rows place d)) ≡ place)
+  pub only : (number : ℕ) (d : X) → number < length places → slice_index places number < length rows
+      → rank (slice_index_or rows (slice_index places number) d) ≡ number
 
 -- rows of different ranks are found by these places, or searched where there are none
 pub record AreFound {X : Type 0} (rank : X → ℕ) (rows : List X) (places : List ℕ) : Type 0 where

@@ -74,7 +74,8 @@ impl Checker<'_> {
 
     /// The fault of the adversary's first faulty row, if there is one.
     pub(crate) fn adversary_fault(&self, rt: &(impl Threads + Sync)) -> Option<CheckFault>
-        ensures { MatchOption result (AdversaryObeys self.now.board self.now.proof.adversary) (AdversaryFault self.now.board self.now.proof.adversary) }
+        ensures { MatchOption result (AdversaryObeys self.now.board self.now.proof.adversary)
+            (AdversaryFault self.now.board self.now.proof.adversary) }
     {
         first_fault(rt, self, self.adversary_rows())
     }

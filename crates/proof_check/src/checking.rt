@@ -34,7 +34,8 @@ pub fn check(
     // What is shown is the document's claim.
     ensures claim { IfOk result (λ shown. shown.claim ≡ proof.now.claim) }
     // Its rows show it.
-    ensures shows { OnOk result (Shows board.now (answer_rows board.now proof.now.labeller.items) (request_rows board.now proof.now.adversary.items) proof.now.claim) }
+    ensures shows { OnOk result (Shows board.now (answer_rows board.now proof.now.labeller.items)
+        (request_rows board.now proof.now.adversary.items) proof.now.claim) }
     // Only a document that breaks no rule is accepted.
     ensures rules { OnOk result (BreaksNoRule board.now (plain_proof board.now proof.now)) }
     // Each that breaks none is accepted, unless memory runs out.

@@ -110,7 +110,8 @@ impl Checker<'_> {
 
     /// The fault of the labeller's first faulty row, if there is one.
     pub(crate) fn labeller_fault(&self, rt: &(impl Threads + Sync)) -> Option<CheckFault>
-        ensures { MatchOption result (LabellerObeys self.now.board self.now.proof.labeller) (LabellerFault self.now.board self.now.proof.labeller) }
+        ensures { MatchOption result (LabellerObeys self.now.board self.now.proof.labeller)
+            (LabellerFault self.now.board self.now.proof.labeller) }
     {
         first_fault(rt, self, self.labeller_rows())
     }

@@ -110,7 +110,11 @@ request_rows board rows = map (request_row board) rows
 
 -- a proof with the configurations in place of the ranks
 abbrev pub plain_proof : PlainBoard → Proof → PlainProof
-plain_proof board proof = record { claim = proof.claim; labeller = answer_rows board proof.labeller.items; adversary = request_rows board proof.adversary.items }
+plain_proof board proof = record {
+  claim = proof.claim;
+  labeller = answer_rows board proof.labeller.items;
+  adversary = request_rows board proof.adversary.items;
+}
 
 -- the places of pebbles that the board doesn't have are 0
 abbrev pub IsPadded : PlainBoard → LabellerRow → Type 0

@@ -9,19 +9,23 @@ use Rattle.positions.specs.declared.turns.Turns.{Turns}
 use Rattle.positions.specs.Table.{AnswerRow}
 use Rattle.proof_text.specs.declared.fault.ProofKind.{ProofKind}
 use Rattle.proof_text.specs.declared.fault.ProofKind.TheVariants as kinds
-use Rattle.proof_text.specs.Proof.{PlainProof, IsProof, IsClaim, asks_labeller, asks_adversary, AreTurns, IsAnswerRow, IsRequestRow, AreAnswerRows, AreRows, IsBefore, greatest_number, most_rows}
-use Rattle.proof_text.specs.ProofText.{version_line, claim_line, turns_text, answer_line, request_line, labeller_line, adversary_line, end_line, head, labeller_section, front, proof_text, labeller_lines, adversary_lines}
+use Rattle.proof_text.specs.Proof.{PlainProof, IsProof, IsClaim, asks_labeller, asks_adversary, AreTurns, IsAnswerRow, IsRequestRow}
+use Rattle.proof_text.specs.Proof.{AreAnswerRows, AreRows, IsBefore, greatest_number, most_rows}
+use Rattle.proof_text.specs.ProofText.{version_line, claim_line, turns_text, answer_line, request_line, labeller_line, adversary_line}
+use Rattle.proof_text.specs.ProofText.{end_line, head, labeller_section, front, proof_text, labeller_lines, adversary_lines}
 use Rattle.proof_text.specs.RowWords.{AnswerWords, RequestWords, AreAnswerWords, AreRequestWords, answer_words_line, request_words_line}
 use Rattle.board_text.specs.Numerals.{SpellsBelow}
 use Rattle.board_text.specs.PlaceForms.{SpellsPlace}
 
 -- a labeller's row with these words stands here
 abbrev pub HasAnswerWords : PlainBoard → List ℕ → AnswerWords → Type 0
-HasAnswerWords board rest words = AreAnswerWords board.pebbles board.labels (places board) words × (more : List ℕ) × (rest ≡ answer_words_line words ++ more)
+HasAnswerWords board rest words = AreAnswerWords board.pebbles board.labels (places board) words × (more : List ℕ)
+    × (rest ≡ answer_words_line words ++ more)
 
 -- an adversary's row with these words stands here
 abbrev pub HasRequestWords : PlainBoard → List ℕ → RequestWords → Type 0
-HasRequestWords board rest words = AreRequestWords board.pebbles board.labels (places board) words × (more : List ℕ) × (rest ≡ request_words_line words ++ more)
+HasRequestWords board rest words = AreRequestWords board.pebbles board.labels (places board) words × (more : List ℕ)
+    × (rest ≡ request_words_line words ++ more)
 
 -- each text spells a place of the board
 abbrev pub SpellConfiguration : PlainBoard → List (List ℕ) → Type 0
@@ -37,10 +41,13 @@ SpellsTurns claim text = (turns : Turns) × AreTurns claim turns × (text ≡ tu
 
 -- the configuration comes after that of the last row, if there is one
 abbrev pub MayFollow : {X : Type 0} → PlainBoard → (X → List ℕ) → List X → List ℕ → Type 0
-MayFollow {X} board at rows configuration = (before : List X) (last : X) → rows ≡ before ++ last ∷ [] → IsBefore board (at last) configuration
+MayFollow {X} board at rows configuration = (before : List X) (last : X) → rows ≡ before ++ last ∷ []
+    → IsBefore board (at last) configuration
 
--- The fault of what stands where a row should, where no fault before it in the order is there: its words are misread, or its configuration may not stand there.
-abbrev pub RowFault : {X : Type 0} → (X → Type 0) → (X → List ℕ) → (X → List ℕ) → (List ℕ → ProofKind → Type 0) → (List ℕ → Type 0) → List ℕ → ProofKind → Type 0
+-- The fault of what stands where a row should, where no fault before it in the order is there: its words are misread, or its configuration
+-- may not stand there.
+abbrev pub RowFault : {X : Type 0} → (X → Type 0) → (X → List ℕ) → (X → List ℕ) → (List ℕ → ProofKind → Type 0) → (List ℕ → Type 0)
+    → List ℕ → ProofKind → Type 0
 RowFault {X} IsRow at row_line Misread MayStand rest kinds.Order =
     (row : X) × IsRow row × (more : List ℕ) × (rest ≡ row_line row ++ more) × ¬ MayStand (at row)
 RowFault {X} IsRow at row_line Misread MayStand rest kind = Misread rest kind
@@ -51,7 +58,8 @@ AnswerMisread board claim rest kinds.Row = Lacks (AreAnswerWords board.pebbles b
 AnswerMisread board claim rest kinds.Label =
     (words : AnswerWords) × HasAnswerWords board rest words × ¬ (SpellConfiguration board words.at × SpellLabels board words.take)
 AnswerMisread board claim rest kinds.Number =
-    (words : AnswerWords) × HasAnswerWords board rest words × SpellConfiguration board words.at × SpellLabels board words.take × ¬ SpellsTurns claim words.turns
+    (words : AnswerWords) × HasAnswerWords board rest words × SpellConfiguration board words.at × SpellLabels board words.take
+    × ¬ SpellsTurns claim words.turns
 AnswerMisread board claim rest kind = ⊥
 
 -- what is wrong with the words where an adversary's row should stand
@@ -68,34 +76,42 @@ RequestMisread board rest kind = ⊥
 
 -- the fault of what stands where a labeller's row should
 abbrev pub AnswerRowFault : PlainBoard → Claim → (List ℕ → Type 0) → List ℕ → ProofKind → Type 0
-AnswerRowFault board claim MayStand rest kind = RowFault (IsAnswerRow board claim) (λ row. row.at) (answer_line board) (AnswerMisread board claim) MayStand rest kind
+AnswerRowFault board claim MayStand rest kind =
+    RowFault (IsAnswerRow board claim) (λ row. row.at) (answer_line board) (AnswerMisread board claim) MayStand rest kind
 
 -- the fault of what stands where an adversary's row should
 abbrev pub RequestRowFault : PlainBoard → (List ℕ → Type 0) → List ℕ → ProofKind → Type 0
-RequestRowFault board MayStand rest kind = RowFault (IsRequestRow board) (λ row. row.at) (request_line board) (RequestMisread board) MayStand rest kind
+RequestRowFault board MayStand rest kind =
+    RowFault (IsRequestRow board) (λ row. row.at) (request_line board) (RequestMisread board) MayStand rest kind
 
 -- The head of a section of so many rows stands here, and these rows have come.
-pub record RowsCome {X : Type 0} (board : PlainBoard) (IsRow : X → Type 0) (at : X → List ℕ) (section_line : ℕ → List ℕ) (row_line : X → List ℕ)
+pub record RowsCome {X : Type 0} (board : PlainBoard) (IsRow : X → Type 0) (at : X → List ℕ) (section_line : ℕ → List ℕ)
+    (row_line : X → List ℕ)
     (text : List ℕ) (count : ℕ) (rows : List X) (rest : List ℕ) : Type 0 where
   pub few : count ≤ most_rows
   pub come : length rows ≤ count
   pub are_rows : AreRows board IsRow at rows
   pub spelled : text ≡ section_line count ++ (flat_map row_line rows ++ rest)
 
--- The fault of a section whose head should stand here, at the line `number`. Memory may be wanting at any row: the lines before it are faultless.
-abbrev pub InSection : {X : Type 0} → PlainBoard → (X → Type 0) → (X → List ℕ) → (ℕ → List ℕ) → (X → List ℕ) → ((List ℕ → Type 0) → List ℕ → ProofKind → Type 0)
+-- The fault of a section whose head should stand here, at the line `number`. Memory may be wanting at any row: the lines before it are
+-- faultless.
+abbrev pub InSection : {X : Type 0} → PlainBoard → (X → Type 0) → (X → List ℕ) → (ℕ → List ℕ) → (X → List ℕ)
+    → ((List ℕ → Type 0) → List ℕ → ProofKind → Type 0)
     → List ℕ → ℕ → ℕ → ProofKind → Type 0
-InSection board IsRow at section_line row_line RowFault text number line kinds.Section = (line ≡ number) × Lacks (InRange 0 most_rows) section_line text
+InSection board IsRow at section_line row_line RowFault text number line kinds.Section = (line ≡ number)
+    × Lacks (InRange 0 most_rows) section_line text
 InSection {X} board IsRow at section_line row_line RowFault text number line kinds.Memory =
     (line ≡ 0) × ((count : ℕ) × (rows : List X) × (rest : List ℕ) × RowsCome board IsRow at section_line row_line text count rows rest)
 InSection {X} board IsRow at section_line row_line RowFault text number line kind =
-    (count : ℕ) × (rows : List X) × (rest : List ℕ) × RowsCome board IsRow at section_line row_line text count rows rest × (length rows < count)
+    (count : ℕ) × (rows : List X) × (rest : List ℕ) × RowsCome board IsRow at section_line row_line text count rows rest
+    × (length rows < count)
     × (line ≡ number + 1 + length rows) × RowFault (MayFollow board at rows) rest kind
 
 -- The fault of a labeller's section in a document with the claim.
 abbrev pub InLabeller : PlainBoard → Claim → List ℕ → ℕ → ℕ → ProofKind → Type 0
 InLabeller board claim text number line kind =
-    InSection board (IsAnswerRow board claim) (λ row. row.at) labeller_line (answer_line board) (AnswerRowFault board claim) text number line kind
+    InSection board (IsAnswerRow board claim) (λ row. row.at) labeller_line (answer_line board)
+    (AnswerRowFault board claim) text number line kind
 
 -- The fault of an adversary's section.
 abbrev pub InAdversary : PlainBoard → List ℕ → ℕ → ℕ → ProofKind → Type 0
@@ -135,5 +151,6 @@ HasFault board text line kinds.End =
     (proof : PlainProof) × (rest : List ℕ) × IsProof board proof × (text ≡ front board proof ++ rest) × (line ≡ end_number proof)
     × Lacks (λ (u : Unit {0}). Unit {0}) (λ u. end_line) rest
 HasFault board text line kinds.Trailing =
-    (proof : PlainProof) × (first : ℕ) × (more : List ℕ) × IsProof board proof × (text ≡ proof_text board proof ++ first ∷ more) × (line ≡ 1 + end_number proof)
+    (proof : PlainProof) × (first : ℕ) × (more : List ℕ) × IsProof board proof × (text ≡ proof_text board proof ++ first ∷ more)
+    × (line ≡ 1 + end_number proof)
 HasFault board text line kind = LabellerFault board text line kind ⊎ AdversaryFault board text line kind

@@ -33,11 +33,13 @@ turns_text Always = codes "*"
 -- `at l0 .. for m take v0 ..`
 abbrev pub answer_line : PlainBoard → AnswerRow → List ℕ
 answer_line board row =
-    closed (codes "at" ++ (spaced_places board.labels row.at ++ (codes " for " ++ (turns_text row.turns ++ (codes " take" ++ spaced_places board.labels row.answers)))))
+    closed (codes "at" ++ (spaced_places board.labels row.at
+    ++ (codes " for " ++ (turns_text row.turns ++ (codes " take" ++ spaced_places board.labels row.answers)))))
 
 -- `at l0 .. for m ask p`
 abbrev pub request_line : PlainBoard → RequestRow → List ℕ
-request_line board row = closed (codes "at" ++ (spaced_places board.labels row.at ++ (codes " for " ++ (decimal row.left ++ (codes " ask " ++ decimal row.request)))))
+request_line board row = closed
+    (codes "at" ++ (spaced_places board.labels row.at ++ (codes " for " ++ (decimal row.left ++ (codes " ask " ++ decimal row.request)))))
 
 abbrev pub labeller_line : ℕ → List ℕ
 labeller_line count = number_line (codes "labeller") count
@@ -62,7 +64,8 @@ adversary_section board claim rows = if asks_adversary claim then adversary_line
 
 -- the text up to its last row
 abbrev pub front : PlainBoard → PlainProof → List ℕ
-front board proof = head proof.claim ++ (labeller_section board proof.claim proof.labeller ++ adversary_section board proof.claim proof.adversary)
+front board proof = head proof.claim
+    ++ (labeller_section board proof.claim proof.labeller ++ adversary_section board proof.claim proof.adversary)
 
 -- the text of a document of the board
 abbrev pub proof_text : PlainBoard → PlainProof → List ℕ

@@ -9,7 +9,8 @@ use Rattle.proof_text.specs.declared.fault.ProofKind.{ProofKind}
 use Rattle.proof_text.specs.declared.fault.ProofKind.TheVariants as kinds
 use Rattle.proof_text.specs.declared.proof.LabellerRow.{LabellerRow}
 use Rattle.proof_text.specs.declared.proof.AdversaryRow.{AdversaryRow}
-use Rattle.proof_text.specs.Proof.{AreRows, IsAnswerRow, IsRequestRow, IsPadded, answer_row, request_row, asks_labeller, asks_adversary, most_rows}
+use Rattle.proof_text.specs.Proof.{AreRows, IsAnswerRow, IsRequestRow, IsPadded, answer_row, request_row, asks_labeller, asks_adversary}
+use Rattle.proof_text.specs.Proof.{most_rows}
 use Rattle.proof_text.specs.ProofText.{answer_line, request_line}
 use Rattle.proof_text.specs.ProofFaults.{AnswerMisread, RequestMisread, RowFault, InSection}
 
@@ -71,7 +72,8 @@ LineFault {R} board form MayStand rest kind = RowFault form.IsRow (at_of board f
 -- What the next line says, where ranks may stand from the least on.
 abbrev pub NextRow : {R : Type 0} → PlainBoard → RowForm R → ℕ → Result R ProofKind → List ℕ → List ℕ → Type 0
 NextRow board form least (Ok row) old new =
-    form.IsRow row × (least ≤ form.rank row) × (form.rank row < configurations board) × (configurations board ≤ most_rows) × (old ≡ form.line row ++ new)
+    form.IsRow row × (least ≤ form.rank row) × (form.rank row < configurations board) × (configurations board ≤ most_rows)
+    × (old ≡ form.line row ++ new)
 NextRow board form least (Err kind) old new = LineFault board form (IsFrom board least) old kind
 
 -- A section was taken, from its head to its last row.

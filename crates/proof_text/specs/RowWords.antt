@@ -33,7 +33,8 @@ pub record AreRequestWords (pebbles labels bound : ℕ) (words : RequestWords) :
   pub ask : IsNumeral 10 words.ask
 
 abbrev pub answer_words_line : AnswerWords → List ℕ
-answer_words_line words = closed (codes "at" ++ (spaced_texts words.at ++ (codes " for " ++ (words.turns ++ (codes " take" ++ spaced_texts words.take)))))
+answer_words_line words = closed
+    (codes "at" ++ (spaced_texts words.at ++ (codes " for " ++ (words.turns ++ (codes " take" ++ spaced_texts words.take)))))
 
 abbrev pub request_words_line : RequestWords → List ℕ
 request_words_line words = closed (codes "at" ++ (spaced_texts words.at ++ (codes " for " ++ (words.left ++ (codes " ask " ++ words.ask)))))

@@ -13,7 +13,8 @@ ghost use Rattle.proof_text.specs.declared.proof.AdversaryRow.{AdversaryRow as R
 
 /// For one board a text is that of one document at most. So the text that is printed for a document is read back as that document.
 pub fn one_document()
-    ensures { (board : PlainBoard) → (first : PlainProof) → (second : PlainProof) → IsBoard board → IsProof board first → IsProof board second
+    ensures { (board : PlainBoard) → (first : PlainProof) → (second : PlainProof) → IsBoard board → IsProof board first
+        → IsProof board second
         → proof_text board first ≡ proof_text board second → first ≡ second }
 {}
 
@@ -35,7 +36,8 @@ pub fn one_row_of_a_rank()
     ensures labeller { (board : PlainBoard) → (first : RankedAnswers) → (second : RankedAnswers)
         → first.at < configurations board → second.at < configurations board → IsPadded board first → IsPadded board second
         → answer_row board first ≡ answer_row board second
-        → (first.at ≡ second.at) × (first.turns ≡ second.turns) × ((pebble : ℕ) → slice_index first.take pebble ≡ slice_index second.take pebble) }
+        → (first.at ≡ second.at) × (first.turns ≡ second.turns)
+        × ((pebble : ℕ) → slice_index first.take pebble ≡ slice_index second.take pebble) }
     ensures adversary { (board : PlainBoard) → (first : RankedRequest) → (second : RankedRequest)
         → first.at < configurations board → second.at < configurations board
         → request_row board first ≡ request_row board second → first ≡ second }

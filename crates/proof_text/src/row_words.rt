@@ -117,7 +117,8 @@ fn always(claim: Claim) -> Option<Turns>
 
 /// So many turns, if the claim allows them.
 fn count(claim: Claim, numeral: Numeral) -> Option<Turns>
-    ensures { MatchOption result ((n : ℕ) → AreTurns claim (Count n) → numeral ≢ Number n) (λ turns. AreTurns claim turns × ((n : ℕ) × (turns ≡ Count n) × (numeral ≡ Number n))) }
+    ensures { MatchOption result ((n : ℕ) → AreTurns claim (Count n) → numeral ≢ Number n)
+        (λ turns. AreTurns claim turns × ((n : ℕ) × (turns ≡ Count n) × (numeral ≡ Number n))) }
 {
     match claim {
         Claim::Forever => None,

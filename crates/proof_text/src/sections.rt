@@ -59,7 +59,8 @@ pub(crate) fn read_part<R: Row>(
 ) -> Result<Vec<R>, ProofFault>
     requires { line ≤ MOST_ROWS + 4 }
     ensures read { IfOk result (λ rows. PartRead space.now (R.form space.now claim) rows.items text.old text.new) }
-    ensures fault { IfErr result (λ fault. ((R.form space.now claim).asked ≡ true) × SectionFault space.now (R.form space.now claim) text.old line fault.line fault.kind) }
+    ensures fault { IfErr result (λ fault. ((R.form space.now claim).asked ≡ true)
+        × SectionFault space.now (R.form space.now claim) text.old line fault.line fault.kind) }
 {
     if R::is_asked(claim) {
         read_section(alloc, text, space, claim, line)

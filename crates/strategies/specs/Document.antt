@@ -30,7 +30,8 @@ LeadsByAnswers board from (pebble ∷ requests) to =
 abbrev pub LeadsByRequests : PlainBoard → List ℕ → List ℕ → List ℕ → Type 0
 LeadsByRequests board from [] to = from ≡ to
 LeadsByRequests board from (label ∷ labels) to =
-    (pebble : ℕ) × IsBestRequest board from pebble × Legal board from pebble label × LeadsByRequests board (moved from pebble label) labels to
+    (pebble : ℕ) × IsBestRequest board from pebble × Legal board from pebble label
+    × LeadsByRequests board (moved from pebble label) labels to
 
 -- what the document says of the start, which has the value
 abbrev pub claim_of : Value → Claim

@@ -1,5 +1,6 @@
 -- Steps from one configuration to another, by ranks, and what they lead to from the start.
-use Rattle.std.specs.Prelude.{◌≡◌, ℕ, ◌<◌, ◌↔◌, ◌⊎◌, ◌++◌, ◌≢◌, Bool, true, false, List, [], ◌∷◌, Contains, AllPairs, Some, length, slice_get, slice_index_or}
+use Rattle.std.specs.Prelude.{◌≡◌, ℕ, ◌<◌, ◌↔◌, ◌⊎◌, ◌++◌, ◌≢◌, Bool, true, false, List, [], ◌∷◌, Contains, AllPairs, Some, length}
+use Rattle.std.specs.Prelude.{slice_get, slice_index_or}
 use Rattle.board_text.specs.PlainBoard.{PlainBoard}
 use Rattle.positions.specs.Game.{Legal, moved}
 use Rattle.positions.specs.Ranks.{configurations, rank_of, configuration_at}
@@ -76,4 +77,5 @@ IsAnswerOf board gap rank = (label : ℕ) × IsAnswerAt board gap label rank
 -- whether all that the answers of a gap lead to is among the ranks
 pub record AreExpanded (board : PlainBoard) (expanded : List Bool) (ranks : List ℕ) : Type 0 where
   pub one_each : length expanded ≡ gaps board
-  pub there : (gap : ℕ) → gap < gaps board → slice_index_or expanded gap false ≡ true → (rank : ℕ) → IsAnswerOf board gap rank → Contains ranks rank
+  pub there : (gap : ℕ) → gap < gaps board → slice_index_or expanded gap false ≡ true → (rank : ℕ) → IsAnswerOf board gap rank
+      → Contains ranks rank

@@ -22,7 +22,8 @@ pub fn document(alloc: Global, board: &Board, values: &Values) -> Result<Proof, 
     ensures document { IfOk result (λ proof. IsDocumentOf board.now (plain_proof board.now proof)) }
     ensures form { IfOk result (IsDocument board.now) }
     ensures rules { IfOk result (λ proof. BreaksNoRule board.now (plain_proof board.now proof)) }
-    ensures shows { IfOk result (λ proof. Shows board.now (answer_rows board.now proof.labeller.items) (request_rows board.now proof.adversary.items) proof.claim) }
+    ensures shows { IfOk result (λ proof. Shows board.now (answer_rows board.now proof.labeller.items)
+        (request_rows board.now proof.adversary.items) proof.claim) }
 {
     let listed = best_of_gaps(alloc, board, values)?;
     let moves = BestMoves::new(board, values, &listed);
@@ -47,7 +48,8 @@ pub fn claim(value: Value) -> Claim
 impl BestMoves<'_> {
     /// The labeller's rows, where the start has the value.
     fn labeller_section(&self, alloc: Global, value: Value) -> Result<Vec<LabellerRow>, Memory>
-        ensures rows { IfOk result (λ rows. AreExactly self.now (IsLabellerRow self.now value) (λ row. row.at) (answer_rows self.now rows.items)) }
+        ensures rows { IfOk result (λ rows. AreExactly self.now (IsLabellerRow self.now value) (λ row. row.at)
+            (answer_rows self.now rows.items)) }
         ensures padded { IfOk result (λ rows. All (IsPadded self.now) rows.items) }
     {
         let reached = self.reached_by_answers(alloc)?;
@@ -56,7 +58,8 @@ impl BestMoves<'_> {
 
     /// The adversary's rows, where the start has the value: none where that is Forever.
     fn adversary_section(&self, alloc: Global, value: Value) -> Result<Vec<AdversaryRow>, Memory>
-        ensures { IfOk result (λ rows. AreExactly self.now (λ row. AsksAdversary value × IsAdversaryRow self.now row) (λ row. row.at) (request_rows self.now rows.items)) }
+        ensures { IfOk result (λ rows. AreExactly self.now (λ row. AsksAdversary value × IsAdversaryRow self.now row) (λ row. row.at)
+            (request_rows self.now rows.items)) }
     {
         let Value::Finite(_) = value else {
             return Ok(Vec::new(alloc));

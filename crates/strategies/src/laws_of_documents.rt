@@ -24,7 +24,8 @@ pub fn documents_show_their_claim()
 
 /// The document of a board breaks no rule of checking.
 pub fn documents_break_no_rule()
-    ensures { (board : PlainBoard) → (proof : PlainProof) → IsConfiguration board board.start → IsDocumentOf board proof → BreaksNoRule board proof }
+    ensures { (board : PlainBoard) → (proof : PlainProof) → IsConfiguration board board.start → IsDocumentOf board proof
+        → BreaksNoRule board proof }
 {}
 
 /// The document of a board with few configurations is one as the format has it.

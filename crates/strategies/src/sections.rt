@@ -25,7 +25,8 @@ impl BestMoves<'_> {
     ) -> Result<Vec<LabellerRow>, Memory>
         requires size { reached.now.size ≡ configurations self.now }
         requires reached { AreRanksOf self.now (IsReachedByAnswers self.now) reached.now.ranks }
-        ensures rows { IfOk result (λ rows. AreExactly self.now (IsLabellerRow self.now start) (λ row. row.at) (answer_rows self.now rows.items)) }
+        ensures rows { IfOk result (λ rows. AreExactly self.now (IsLabellerRow self.now start) (λ row. row.at)
+            (answer_rows self.now rows.items)) }
         ensures padded { IfOk result (λ rows. All (IsPadded self.now) rows.items) }
     {
         let _ = self.space().configurations();

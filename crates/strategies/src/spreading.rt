@@ -3,7 +3,8 @@
 ghost use Rattle.std.specs.Prelude.{◌≡◌, ◌<◌, IfOk};
 ghost use Rattle.positions.specs.Ranks.{configurations};
 ghost use Rattle.positions.specs.Gaps.{gaps};
-ghost use Rattle.strategies.specs.Spreading.{IsAnswerStep, AnswerLeads, RequestLeads, IsReachedByAnswers, IsReachedByRequests, IsWithAll, AreRanksOf, AreExpanded, IsAnswerOf};
+ghost use Rattle.strategies.specs.Spreading.{IsAnswerStep, AnswerLeads, RequestLeads, IsReachedByAnswers, IsReachedByRequests, IsWithAll};
+ghost use Rattle.strategies.specs.Spreading.{AreRanksOf, AreExpanded, IsAnswerOf};
 
 use crate::best_moves::BestMoves;
 use crate::gap_best::is_some;
