@@ -8,6 +8,7 @@ ghost use Rattle.claim_round.specs.Shared.{IsOf, Stays};
 use crate::assertions::assert_same;
 use crate::rounds::{NINE, Tally, has_each, opened};
 use crate::texts::{CHAIN_OF_THREE, THREE_PEBBLES, board_of};
+use board_text::Memory;
 use claim_round::{NotClosed, RoundSeat, SharedRound, Why};
 use index_lists::{LinkLists, ListStore};
 use retro_core::{Seen, Solver};
@@ -34,6 +35,11 @@ pub(crate) fn open_round<'a>(
     }
 }
 
+/// What a seat has: its width, and how much it has to strike, owes and has won.
+fn share(seat: &RoundSeat) -> (u32, u32, u32, usize) {
+    (seat.width(), seat.todo(), seat.owed(), seat.won().len())
+}
+
 /// The two seats of a split.
 pub(crate) fn split(
     rt: &impl Abort,
@@ -45,9 +51,13 @@ pub(crate) fn split(
     ensures first { IsOf round.now result.0 }
     ensures second { IsOf round.now result.1 }
 {
+    let whole = share(&seat);
     match round.split(seat) {
         Ok(both) => both,
-        Err((seat, _)) => round.split(seat).ok().expect(rt, "two seats"),
+        Err((seat, Memory)) => {
+            assert_same(rt, "a seat handed back", share(&seat), whole);
+            round.split(seat).ok().expect(rt, "two seats")
+        }
     }
 }
 
@@ -62,9 +72,13 @@ pub(crate) fn join(
     requires from { IsOf round.now from }
     ensures { IsOf round.now result }
 {
+    let both = (share(&into), share(&from));
     match round.join(into, from) {
         Ok(seat) => seat,
-        Err((into, from, _)) => round.join(into, from).ok().expect(rt, "one seat"),
+        Err((into, from, Memory)) => {
+            assert_same(rt, "seats handed back", (share(&into), share(&from)), both);
+            round.join(into, from).ok().expect(rt, "one seat")
+        }
     }
 }
 
@@ -232,4 +246,77 @@ fn two_seats_of_three_pebbles(rt: HostRuntime) {
     assert_same(&rt, "two seats", tally, NINE);
     let seat = join(&rt, &round, first, second);
     assert_won(&rt, round, seat, &[0, 13, 26]);
+}
+
+/// What each of sixteen seats has to strike, of three pebbles on the cycle at value 0.
+const SIXTEEN: [u32; 16] = [1, 1, 1, 0, 1, 0, 1, 0, 1, 0, 1, 0, 1, 0, 1, 0];
+
+/// Works a seat by so many seats of width 1, of which the first has this number: split left to right, worked, and joined again.
+fn work_apart(
+    rt: &impl Abort,
+    round: &SharedRound<'_, LinkLists>,
+    mut seat: RoundSeat,
+    first: usize,
+    seats: usize,
+    tally: &mut Tally,
+) -> RoundSeat
+    requires { IsOf round.now seat }
+    ensures { IsOf round.now result }
+{
+    let half = seats / 2;
+    if half == 0 || seat.width() < 2 {
+        let wanted = SIXTEEN.get(first).copied();
+        assert_same(rt, first, (seat.width(), Some(seat.todo())), (1, wanted));
+        work(round, &mut seat, tally);
+        return seat;
+    }
+    let (left, right) = split(rt, round, seat);
+    let left = work_apart(rt, round, left, first, half, tally);
+    let right = work_apart(rt, round, right, first.saturating_add(half), half, tally);
+    join(rt, round, left, right)
+}
+
+#[test]
+fn sixteen_seats_of_three_pebbles(rt: HostRuntime) {
+    let board = board_of(&rt, rt.alloc(), THREE_PEBBLES);
+    let solver = opened(&rt, rt.alloc(), &board);
+    let (round, seat) = open_round(&rt, rt.alloc(), &solver, 16);
+    let mut tally = Tally::none();
+    let seat = work_apart(&rt, &round, seat, 0, 16, &mut tally);
+    assert_same(&rt, "sixteen seats", tally, NINE);
+    assert_won(&rt, round, seat, &[0, 13, 26]);
+}
+
+// The seat that a split makes has less room, and grows where it takes over the other's lists.
+#[test]
+fn the_new_seat_takes_over_the_first(rt: HostRuntime) {
+    let board = board_of(&rt, rt.alloc(), THREE_PEBBLES);
+    let solver = opened(&rt, rt.alloc(), &board);
+    let (round, seat) = open_round(&rt, rt.alloc(), &solver, 2);
+    let (first, second) = split(&rt, &round, seat);
+    let mut seat = join(&rt, &round, second, first);
+    assert_same(&rt, "one seat", share(&seat), (2, 9, 0, 0));
+    work(&round, &mut seat, &mut Tally::none());
+    assert_won(&rt, round, seat, &[0, 13, 26]);
+}
+
+// A run refuses at most one growth, whichever. That call says so, and the others open a round.
+#[test]
+fn a_round_is_opened_in_turn(rt: HostRuntime) {
+    let board = board_of(&rt, rt.alloc(), THREE_PEBBLES);
+    let solver = opened(&rt, rt.alloc(), &board);
+    let mut was_refused = false;
+    for _ in 0..3 {
+        match SharedRound::open(rt.alloc(), &solver, 4) {
+            Ok((round, mut seat)) => {
+                assert_same(&rt, "the first seat", share(&seat), (4, 9, 0, 0));
+                work(&round, &mut seat, &mut Tally::none());
+                assert_won(&rt, round, seat, &[0, 13, 26]);
+            }
+            Err(Memory) => {
+                assert_same(&rt, "refused before", was_refused, false);
+                was_refused = true;
+            }
+        }
+    }
 }

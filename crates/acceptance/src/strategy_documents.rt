@@ -68,18 +68,26 @@ fn document_of(alloc: Global, board: &Board, values: &Values) -> Result<Proof, M
     }
 }
 
-/// The text of a board's document.
-fn document_text(alloc: Global, board: &Board) -> Option<String> {
-    let values = values_of(alloc, board)?;
-    let proof = document_of(alloc, board, &values).ok()?;
-    print_document(alloc, values.space(), &proof).ok()
+/// Asserts that the document of a board with these values has this text.
+pub(crate) fn assert_text(
+    rt: &impl Abort,
+    alloc: Global,
+    board: &Board,
+    values: &Values,
+    text: &str,
+)
+    requires { values.now ≡ board.now }
+{
+    let proof = document_of(alloc, board, values).expect(rt, "a document");
+    let written = print_document(alloc, values.space(), &proof).expect(rt, "its text");
+    assert_same(rt, text, written.as_str(), text);
 }
 
 /// Asserts that the document of the board with the first text has the second.
 fn assert_document(rt: &impl Abort, alloc: Global, board: &str, text: &str) {
     let board = board_of(rt, alloc, board);
-    let written = document_text(alloc, &board).expect(rt, "a document");
-    assert_same(rt, text, written.as_str(), text);
+    let values = values_of(alloc, &board).expect(rt, "values");
+    assert_text(rt, alloc, &board, &values, text);
 }
 
 #[test]

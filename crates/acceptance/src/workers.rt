@@ -3,16 +3,18 @@
 //! A worker that waits at the gate takes so many turns and then goes on, so that every test ends.
 //! A run of the tests may refuse one growth of memory, whichever. So a call that was refused one is made once more.
 
-ghost use Rattle.std.specs.Prelude.{◌≤◌};
+ghost use Rattle.std.specs.Prelude.{◌≡◌, ◌≤◌, IfSome};
 
 use crate::assertions::assert_same;
+use crate::documents::THREE_PEBBLES_VALUE_ONE;
 use crate::solving::{solve, value};
 use crate::solving_shapes::chain;
+use crate::strategy_documents::assert_text;
 use crate::texts::{CHAIN_OF_THREE, THREE_CYCLE, THREE_PEBBLES, board_of};
 use board_text::Board;
 use claim_round::RoundSeat;
 use index_lists::LinkLists;
-use retro_core::Values;
+use retro_core::{SolveFault, Values};
 use round_workers::{Gate, NoGate, solve_values};
 use std::alloc::{AllocError, Global};
 use std::process::Abort;
@@ -182,10 +184,28 @@ fn try_watched(
     waits: Waits,
 ) -> Option<(Values, Watch)>
     requires { (1 ≤ workers) × (workers ≤ 16) }
+    ensures { IfSome result (λ found. found.0 ≡ board.now) }
 {
     let watch = Watch::open(alloc, workers, waits).ok()?;
     let values = solve_values(rt, alloc, board, workers, &watch).ok()?;
     Some((values, watch))
+}
+
+/// The same where nothing more is refused.
+fn watched_values(
+    rt: &(impl Abort + Threads + Wait + Sync),
+    alloc: Global,
+    board: &Board,
+    workers: u32,
+    waits: Waits,
+) -> (Values, Watch)
+    requires { (1 ≤ workers) × (workers ≤ 16) }
+    ensures { result.0 ≡ board.now }
+{
+    match try_watched(rt, alloc, board, workers, waits) {
+        Some(found) => found,
+        None => try_watched(rt, alloc, board, workers, waits).expect(rt, "values"),
+    }
 }
 
 /// The gate that watched so many workers. Asserts that they find the values that one thread finds by itself.
@@ -198,10 +218,7 @@ fn watched(
 ) -> Watch
     requires { (1 ≤ workers) × (workers ≤ 16) }
 {
-    let (values, watch) = match try_watched(rt, alloc, board, workers, waits) {
-        Some(found) => found,
-        None => try_watched(rt, alloc, board, workers, waits).expect(rt, "values"),
-    };
+    let (values, watch) = watched_values(rt, alloc, board, workers, waits);
     assert_values(rt, alloc, board, &values);
     watch
 }
@@ -306,9 +323,10 @@ fn sixteen_workers_on_the_chain(rt: HostRuntime) {
 /// Asserts that each worker, each time that it came, saw what it waited for, in so many rounds.
 fn assert_met(rt: &impl Abort, watch: &Watch, rounds: u32) {
     let times = u64::from(rounds).saturating_mul(u64::from(watch.workers));
-    assert_same(rt, rounds, watch.met.load(SeqCst), times);
+    assert_same(rt, "workers side by side", watch.met.load(SeqCst), times);
 }
 
+// Workers that run one after the other don't meet: the first waits for as many turns as it may, and the test fails.
 #[test]
 fn two_workers_meet(rt: HostRuntime) {
     let board = board_of(&rt, rt.alloc(), THREE_PEBBLES);
@@ -321,8 +339,9 @@ fn one_worker_waits_for_the_others_to_come(rt: HostRuntime) {
     let board = board_of(&rt, rt.alloc(), THREE_PEBBLES);
     for held in 0..4 {
         let waits = Waits::ForOthersToCome(held);
-        let watch = watched(&rt, rt.alloc(), &board, 4, waits);
+        let (values, watch) = watched_values(&rt, rt.alloc(), &board, 4, waits);
         assert_met(&rt, &watch, 2);
+        assert_text(&rt, rt.alloc(), &board, &values, THREE_PEBBLES_VALUE_ONE);
     }
 }
 
@@ -333,5 +352,23 @@ fn one_worker_waits_for_the_others_to_leave(rt: HostRuntime) {
         let waits = Waits::ForOthersToLeave(held);
         let watch = watched(&rt, rt.alloc(), &board, 16, waits);
         assert_met(&rt, &watch, 64);
+    }
+}
+
+// A run refuses at most one growth or start, whichever. That call says so, and the others give the values. `tests/refused/run` refuses
+// each in turn: the toolchain's own runs refuse growths, but no start. `tests/cli/run` sets limits from outside.
+#[test]
+fn four_workers_in_turn(rt: HostRuntime) {
+    let board = board_of(&rt, rt.alloc(), THREE_PEBBLES);
+    let mut was_refused = false;
+    for _ in 0..3 {
+        match solve_values(&rt, rt.alloc(), &board, 4, &NoGate) {
+            Ok(values) => assert_text(&rt, rt.alloc(), &board, &values, THREE_PEBBLES_VALUE_ONE),
+            Err(fault) => {
+                let refused = matches!(fault, SolveFault::Memory | SolveFault::Worker);
+                assert_same(&rt, fault, (refused, was_refused), (true, false));
+                was_refused = true;
+            }
+        }
     }
 }
