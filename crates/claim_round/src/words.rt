@@ -21,7 +21,9 @@ fn first_counts<S: ListStore>(alloc: Global, solver: &Solver<S>) -> Result<Vec<u
 {
     let gaps = solver.space().gaps();
     let room = gaps as usize + solver.space().configurations() as usize;
-    let mut words = Vec::with_capacity(alloc, room)?;
+    // Room for twice the words, half of it never touched: glibc keeps freed memory for the next round up to twice the
+    // largest block that was given back.
+    let mut words = Vec::with_capacity(alloc, 2 * room)?;
     for gap in 0..gaps {
         words.push_reserved(u64::from(solver.count_of(gap)));
     }
