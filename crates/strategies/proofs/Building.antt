@@ -16,12 +16,6 @@ pub record AreExactlyBelow {X : Type 0} (board : PlainBoard) (IsRow : X → Type
   pub ascending : AllPairs (λ first second. IsBefore board (at first) (at second)) rows
 
 module _ {X : Type 0} (board : PlainBoard) (IsRow : X → Type 0) (at : X → List ℕ) where
-  pub no_rows : AreExactlyBelow board IsRow at 0 []
-  no_rows = record {
-    each = λ row. (λ among. absurd (let inside : among.0 < 0 = among.1 in omega arith), λ is. absurd (let below : rank_of board (at row) < 0 = is.1 in omega arith));
-    ascending = λ i j d less inside. absurd (omega arith);
-  }
-
   -- ranks without a row
   pub pass_ranks : (bound next : ℕ) (rows : List X) → bound ≤ next → AreExactlyBelow board IsRow at bound rows
       → ((row : X) → IsRow row → bound ≤ rank_of board (at row) → rank_of board (at row) < next → ⊥) → AreExactlyBelow board IsRow at next rows
