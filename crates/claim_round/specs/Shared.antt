@@ -171,7 +171,8 @@ Stays p q = (q.table ≡ p.table) × (q.view.key ≡ p.view.key)
 
 -- a seat was cut in two: what it keeps, and a new seat of the same table
 abbrev pub IsSplit : Place → Place → Place → Type 0
-IsSplit seat kept new = (kept.table ≡ seat.table) × (kept.view ≡ kept_part seat.view) × (new.table ≡ seat.table) × (new.view ≡ new_part seat.view)
+IsSplit seat kept new = (kept.table ≡ seat.table) × (kept.view ≡ kept_part seat.view)
+    × (new.table ≡ seat.table) × (new.view ≡ new_part seat.view)
 
 -- a seat took over all that another one had
 abbrev pub IsJoined : Place → Place → Place → Type 0
