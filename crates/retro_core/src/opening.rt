@@ -1,6 +1,6 @@
 //! A stage before the first round.
 
-ghost use Rattle.std.specs.Prelude.{◌≡◌, ◌+◌, ◌<◌, ◌≤◌, length, IfOk};
+ghost use Rattle.std.specs.Prelude.{if◌then◌else◌, ◌==◌, ◌≡◌, ◌+◌, ◌<◌, ◌≤◌, length, IfOk};
 ghost use Rattle.board_text.specs.PlainBoard.{places};
 ghost use Rattle.positions.specs.Ranks.{configurations};
 ghost use Rattle.positions.specs.Gaps.{gaps};
@@ -103,8 +103,19 @@ fn stop(words: &mut [u32], first: usize, counts: &[u32])
     requires { first + length counts.now ≤ length words.old }
     ensures { IsWritten first counts.now (length counts.now) words.old words.new }
 {
-    for place in 0..counts.len() {
-        let word = words[first + place];
-        words[first + place] = if counts[place] == 0 { 0 } else { word };
+    // The gaps of the last pebble are runs of one gap each: for those there is no loop.
+    if counts.len() == 1 {
+        words[first] = stopped(counts[0], words[first]);
+        return;
     }
+    for place in 0..counts.len() {
+        words[first + place] = stopped(counts[place], words[first + place]);
+    }
+}
+
+/// What becomes of a word where there are so many answers.
+fn stopped(count: u32, word: u32) -> u32
+    ensures { result ≡ (if count == 0 then 0 else word) }
+{
+    if count == 0 { 0 } else { word }
 }

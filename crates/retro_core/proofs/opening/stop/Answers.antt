@@ -1,20 +1,23 @@
-use Rattle.std.proofs.Common.{◌≡◌, ◌+◌, ◌==◌, ◌∙◌, ℕ, cond, slice_index, sym, arith}
-use Rattle.index_lists.proofs.Times.{cond_same, cond_other}
+use Rattle.std.proofs.Common.{◌≡◌, ◌+◌, ◌==◌, ◌∙◌, ℕ, List, cond, slice_index, slice_set, subst, sym, ap, arith}
+use Rattle.retro_core.specs.Opening.{IsWritten}
 use Rattle.retro_core.proofs.FirstWords.{written-start, written-more}
 use Rattle.retro_core.proofs.opening.stop.Goals as goal
-use Rattle.retro_core.proofs.opening.stop.Goals.{then-counts-place-eq0, else-counts-place-eq0}
 
 pub loop-place-init : goal.loop-place-init
 loop-place-init c = written-start c.args.first c.args.counts.now c.args.words.now
 
 pub loop-place-preserved : goal.loop-place-preserved
 loop-place-preserved c =
-    let counts = c.args.counts.now in
-    let now = c.loop-place.words in
-    let at : ℕ = c.args.first + c.loop-place.place in
-    let word_is : c.if-counts-place-eq0.words ≡ cond (slice_index counts c.loop-place.place == 0) 0 (slice_index now at) =
-    elim c.if-counts-place-eq0.branch [
-      | then-counts-place-eq0 w ↦ w.words-is ∙ sym (cond_same (slice_index counts c.loop-place.place) 0 0 (slice_index now at) w.if-counts-place-eq0.true)
-      | else-counts-place-eq0 w ↦ w.words-is ∙ sym (cond_other (slice_index counts c.loop-place.place) 0 0 (slice_index now at) w.if-counts-place-eq0.false)
-    ] in
-    written-more c.args.first counts c.loop-place.place c.args.words.now now c.if-counts-place-eq0.words (omega (arith, c.requires, c.loop-place-test.true)) c.loop-place.invariant word_is
+    written-more c.args.first c.args.counts.now c.loop-place.place c.args.words.now c.loop-place.words c.stopped-in-loop-place.result (omega (arith, c.requires, c.loop-place-test.true)) c.loop-place.invariant c.stopped-in-loop-place.ensures
+
+pub returns-then-counts-eq1 : goal.returns-then-counts-eq1
+returns-then-counts-eq1 c =
+    let first : ℕ = c.args.first in
+    let counts : List ℕ = c.args.counts.now in
+    let words : List ℕ = c.args.words.now in
+    let here : first + 0 ≡ first = omega arith in
+    let one = c.if-counts-eq1.true in
+    let written = written-more first counts 0 words words c.stopped.result (omega (arith, c.requires, one)) (written-start first counts words)
+        (c.stopped.ensures ∙ ap (λ (at : ℕ). cond (slice_index counts 0 == 0) 0 (slice_index words at)) (sym here)) in
+    subst (λ (n : ℕ). IsWritten first counts n words (slice_set words first c.stopped.result)) (sym one)
+    (subst (λ (at : ℕ). IsWritten first counts 1 words (slice_set words at c.stopped.result)) here written)
