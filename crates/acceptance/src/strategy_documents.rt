@@ -226,7 +226,9 @@ fn checked(
 ) -> Option<Result<Shown, CheckFault>> {
     let values = values_of(alloc, board)?;
     let _ = values.space().configurations();
-    let proof = document_of(alloc, board, &values).ok()?;
+    let Ok(proof) = document_of(alloc, board, &values) else {
+        return None;
+    };
     Some(check_document(rt, alloc, board, &proof))
 }
 
