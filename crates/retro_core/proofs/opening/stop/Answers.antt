@@ -18,6 +18,6 @@ returns-then-counts-eq1 c =
     let here : first + 0 ≡ first = omega arith in
     let one = c.if-counts-eq1.true in
     let written = written-more first counts 0 words words c.stopped.result (omega (arith, c.requires, one)) (written-start first counts words)
-        (c.stopped.ensures ∙ ap (λ (at : ℕ). cond (slice_index counts 0 == 0) 0 (slice_index words at)) (sym here)) in
+    (c.stopped.ensures ∙ ap (λ (at : ℕ). cond (slice_index counts 0 == 0) 0 (slice_index words at)) (sym here)) in
     subst (λ (n : ℕ). IsWritten first counts n words (slice_set words first c.stopped.result)) (sym one)
     (subst (λ (at : ℕ). IsWritten first counts 1 words (slice_set words at c.stopped.result)) here written)
