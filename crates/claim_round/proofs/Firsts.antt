@@ -1,15 +1,15 @@
 -- What is known before a step: the seat is of the round, and its first entry is of the game.
-use Rattle.std.proofs.Common.{◌≡◌, ℕ, ◌<◌, List, [], ◌∷◌, length, sym, ap, ◌∙◌, subst}
+use Rattle.std.proofs.Common.{◌≡◌, ℕ, ◌+◌, ◌<◌, List, [], ◌∷◌, length, sym, ap, ◌∙◌, subst, arith}
 use Rattle.atomic_table.specs.Seated.{TableId}
 use Rattle.board_text.specs.PlainBoard.{PlainBoard}
 use Rattle.positions.specs.Gaps.{gaps}
 use Rattle.retro_core.specs.Solving.{Solving}
 use Rattle.retro_core.specs.Round.{IsDue, first_of}
-use Rattle.claim_round.specs.Shared.{Key, IsOf, RoundId, Place}
+use Rattle.claim_round.specs.Shared.{Key, IsOf, RoundId, Place, size}
 use Rattle.claim_round.specs.Seats.{IsSeated, place_of}
 use Rattle.claim_round.specs.Rounds.{IsRound, round_id}
 use Rattle.claim_round.specs.declared.seat.RoundSeat.TheInside.{Inside}
-use Rattle.claim_round.proofs.Seats.{first_due}
+use Rattle.claim_round.proofs.Seats.{first_due, times_first}
 
 -- a seat that clauses see as one of the round is so by its fields
 pub of_round : (table : TableId) (k : Key) (r : RoundId) (s : Inside) (p : Place) → round_id table k ≡ r → place_of s ≡ p → IsOf r p → IsOf (round_id table k) (place_of s)
@@ -44,3 +44,23 @@ strikes_next table k r given width s p config rest round_is seat_is round seated
       first = first;
       due = first_due s given config seated some_todo (ap (λ (q : Key). q.solving) of.1 ∙ solving) first;
     }
+
+-- a seat of a round that owes something, and the word of the first that it owes
+pub record ClaimsNext (table : TableId) (k : Key) (s : Inside) (word : ℕ) : Type 0 where
+  pub of : IsOf (round_id table k) (place_of s)
+  pub some_owed : 0 < length s.seat.me.0.has.owed
+  pub here : word ≡ gaps k.solving.board + first_of s.seat.me.0.has.owed
+  pub inside : word < table.words
+
+pub claims_next : (table : TableId) (k : Key) (r : RoundId) (given : Solving) (width : ℕ) (s : Inside) (p : Place) (board : PlainBoard) (count config : ℕ) (rest : List ℕ)
+    → round_id table k ≡ r → place_of s ≡ p → IsRound (record { solving = given; width = width }) k table → IsSeated s → IsOf r p → 0 < length p.view.has.owed
+    → s.owed.items ≡ config ∷ rest → board ≡ given.board → count ≡ gaps board → ClaimsNext table k s (count + config)
+claims_next table k r given width s p board count config rest round_is seat_is round seated mine some items board_is count_is =
+    let of = of_round table k r s p round_is seat_is mine in
+    let some_owed : 0 < length s.seat.me.0.has.owed = subst (λ (q : Place). 0 < length q.view.has.owed) (sym seat_is) some in
+    let first : first_of s.seat.me.0.has.owed ≡ config = ap first_of (sym seated.owed ∙ items) in
+    let gaps_are : count ≡ gaps k.solving.board = count_is ∙ ap gaps board_is ∙ ap (λ (q : Key). gaps q.solving.board) (sym round.key_is) in
+    let low : first_of s.seat.me.0.has.owed < size k =
+    subst (λ (q : Key). first_of s.seat.me.0.has.owed < size q) of.1 (seated.inside (first_of s.seat.me.0.has.owed) (times_first s.seat.me.0.has.owed some_owed)) in
+    let words = round.words in
+    record { of = of; some_owed = some_owed; here = omega arith; inside = omega arith }

@@ -5,10 +5,10 @@ use Rattle.std.proofs.lemmas.List.{map-set, map_push, length-map, length-take, l
 use mathlib.Core.Option.{none, some, some-ne-none, some-injective}
 use prog.Atomic.{either}
 use lib.ListN.{get_elem?}
-use Rattle.atomic_table.specs.Table.{Me, step, keeps, Allows, Splits, Joins}
+use Rattle.atomic_table.specs.Table.{Me, step, stepped, keeps, Allows, Splits, Joins}
 use Rattle.atomic_table.proofs.Lists.{exchanged, set_again}
 use Rattle.index_lists.specs.Lists.{times}
-use Rattle.index_lists.proofs.Times.{distinct-length, same_is, differ_is}
+use Rattle.index_lists.proofs.Times.{cond_same, cond_other, distinct-length, same_is, differ_is}
 use Rattle.positions.specs.Ranks.{configuration_at, configurations}
 use Rattle.positions.specs.Gaps.{gaps, gap_of, IsDominator}
 use Rattle.retro_core.specs.Solving.{Solving}
@@ -17,7 +17,7 @@ use Rattle.retro_core.specs.Words.{open_word, value_of_word, round_of_words}
 use Rattle.retro_core.proofs.Lasting.{same_or_not}
 use Rattle.retro_core.proofs.RoundSteps.{split-lawful, join-lawful}
 use Rattle.retro_core.proofs.SharedSteps.{IsWordStruck, word-strike, word-try}
-use Rattle.claim_round.specs.Shared.{Key, View, Unit0, Kept, IsTraced, Strikes, Claims, Looks, IsBounded, seats_of, total, most, size, load, struck, claimed, kept_part, new_part, joined, spent}
+use Rattle.claim_round.specs.Shared.{Key, View, Unit0, Kept, IsTraced, Strikes, Claims, Reads, Looks, IsBounded, seats_of, total, most, size, load, struck, claimed, kept_part, new_part, joined, spent}
 use Rattle.claim_round.proofs.Totals.{total_at, won_total, seat_read, get_elsewhere}
 use Rattle.claim_round.proofs.Tracing.{traced_strike, traced_try, lost_of_win, lost_of_loss, traced_split, traced_join}
 
@@ -199,3 +199,29 @@ look_allowed k slots id me i wide s kept same at small =
     width_at [] j v e = absurd (some-ne-none v (sym e))
     width_at (x ∷ xs) zero v e = let same : x.has.width ≡ v.has.width = ap (λ (u : View). u.has.width) (some-injective x v e) in omega arith
     width_at (x ∷ xs) (suc j) v e = let r = width_at xs j v e in omega arith
+
+-- a look at the value of the first that is owed is a look where it has none, and a claim that is lost where it has one
+pub read_allowed : (k : Key) (slots id : ℕ) (me : Me Unit0 View) (i : ℕ) → k.solving.rounds < configurations k.solving.board → 0 < me.0.has.width → 0 < length me.0.has.owed
+    → i ≡ gaps k.solving.board + first_of me.0.has.owed → Allows (Kept k) slots id me i (λ n. n) (Reads (step slots i 0 0 none) me)
+read_allowed k slots id me i below wide some_owed here s kept same at small =
+    let n : ℕ = slice_index s.words i in
+    elim (same_or_not n open_word) [
+      | inl hit ↦ (
+          let look = look_allowed k slots id me i wide s kept same at small in
+          let stays = ap (λ (m : Me Unit0 View). m.0) look.4.0 ∙ sym (cond_same n open_word me.0 (claimed me.0 n) hit) in
+          (look.0, look.1, look.2, look.3, (stays, ap (λ (m : Me Unit0 View). m.1) look.4.0)))
+      | inr miss ↦ (
+          let next : ℕ = suc k.solving.rounds in
+          let lost = claim_allowed k slots id me i next below wide some_owed here refl s kept same at small in
+          let as_it_was : either (eqb n open_word) next n ≡ n = exchanged n open_word next (λ m. m ≡ n) (λ hit. absurd (miss hit)) (λ _. refl) in (
+            lost.0,
+            lost.1,
+            lost.2,
+            subst (λ m. Kept k (stepped s i m id me.1 lost.0 lost.1)) as_it_was lost.3,
+            (lost.4.0 ∙ sym (cond_other n open_word me.0 (claimed me.0 n) miss), lost.4.1),
+          ))
+    ]
+
+-- what has no value is left as it was
+pub read_open : (m m' : Me Unit0 View) (n : ℕ) → Reads (step 0 0 0 0 none) m n m' → n ≡ open_word → m' ≡ m
+read_open m m' n reads hit j = ((reads.0 ∙ cond_same n open_word m.0 (claimed m.0 n) hit) j, reads.1 j)

@@ -1,4 +1,4 @@
--- What is read before the first step: the words, and the members that are owed.
+-- What is read before the first step: the words.
 use Rattle.std.proofs.Common.{◌≡◌, ℕ, ◌+◌, ◌*◌, ◌<◌, ◌≤◌, ◌↔◌, List, [], ◌∷◌, ◌++◌, map, length, take, drop, get_or, refl, mul-le-mul_left, sym, ap, ◌∙◌, subst, inl, inr, arith, length-append, length-take, length-drop, get_or-take, get_or-drop, Option, Some, None}
 use Rattle.std.specs.Prelude.{slice_index}
 use Rattle.std.specs.List.{filter}
@@ -17,27 +17,14 @@ use Rattle.positions.proofs.Sizes.{size_zero}
 use Rattle.retro_core.specs.Solving.{Solving, IsSolving, AnswerLasts, bucket}
 use Rattle.retro_core.specs.Round.{AreToStrike, AreFirstCounts, AreFirstValues, IsDue}
 use Rattle.retro_core.specs.Rules.{has_home}
-use Rattle.retro_core.specs.Tables.{rest_from}
 use Rattle.retro_core.specs.Words.{open_word, value_of_word}
 use Rattle.retro_core.proofs.Lasting.{same_or_not}
-use Rattle.retro_core.proofs.Owing.{IsOwing}
-use Rattle.retro_core.proofs.Walking.{rest-step}
-use Rattle.index_lists.proofs.Places.{place-of}
 use Rattle.retro_core.proofs.RoundStart.{has-home-tells}
 use Rattle.retro_core.proofs.Homes.{times-filter-true, times-filter-le}
 use Rattle.retro_core.proofs.RoundSteps.{opening-lawful}
 use Rattle.claim_round.specs.Shared.{Key, Kept, opening, most}
 use Rattle.claim_round.proofs.Totals.{knows_push}
 use Rattle.claim_round.specs.Openings.{HasCounts, AreFirstWords}
-
--- there is room for what is owed yet
-pub owing_room : (xs initial owed : List ℕ) (rank : ℕ) → IsOwing xs initial owed (Some rank) → ((x : ℕ) → times x xs ≤ 1) → 0 < times rank xs → length owed < length initial + length xs
-owing_room xs initial owed rank owing once here =
-    let place = place-of rank xs here in
-    let grown = ap length owing.grown ∙ length-append initial owing.more in
-    let all = sym (ap length owing.left) ∙ length-append owing.more (rest_from (Some rank) xs) in
-    let rest = ap length (rest-step xs place.0 rank once place.1) in
-    omega arith
 
 -- ---- words that are read one after the other
 

@@ -148,6 +148,10 @@ Strikes s m n m' = (m'.0 ≡ struck m.0 s.word n) × (m'.1 ≡ m.1) × (0 < n)
 abbrev pub Claims : Step Unit0 → Me Unit0 View → ℕ → Me Unit0 View → Type 0
 Claims s m n m' = (m'.0 ≡ claimed m.0 n) × (m'.1 ≡ m.1) × (length m'.0.has.won ≤ size m'.0.key)
 
+-- a look at the value of the first that is owed: it is claimed where it has one, and else nothing changes
+abbrev pub Reads : Step Unit0 → Me Unit0 View → ℕ → Me Unit0 View → Type 0
+Reads s m n m' = (m'.0 ≡ cond (n == open_word) m.0 (claimed m.0 n)) × (m'.1 ≡ m.1)
+
 -- what any state of the round says of one seat: its width is at most the round's, and its lists are no longer than they can be
 pub record IsBounded (v : View) : Type 0 where
   pub width : v.has.width ≤ v.key.width

@@ -43,10 +43,8 @@ pub(crate) fn owe_members<S: ListStore>(owed: &mut VecDeque<u32>, solver: &Solve
     ensures items { owed.new.items ≡ owed.old.items ++ source solver.now gap }
     ensures room { deque_capacity owed.new ≡ deque_capacity owed.old }
 {
-    let _ = solver.round_number();
-    let mut at = solver.first_source(gap);
-    while let Some(rank) = at {
+    let mut members = solver.sources(gap);
+    while let Some(rank) = members.take_next() {
         owed.push_back_reserved(rank);
-        at = solver.next_source(gap, rank);
     }
 }

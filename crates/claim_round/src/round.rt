@@ -9,7 +9,7 @@ ghost use Rattle.claim_round.specs.Reasons.{IsReason};
 use crate::closed::Closed;
 use crate::room::{make_places, make_room, owe_members, places_for};
 use crate::seat::RoundSeat;
-use crate::table::{Halves, Hand, Look, Plan, Rule, Strike, Try};
+use crate::table::{Halves, Hand, Look, Plan, Read, Rule, Strike, Try};
 use crate::words::{OPEN, first_words};
 use atomic_table::Table;
 use board_text::Memory;
@@ -152,7 +152,7 @@ impl<'a, S: ListStore> SharedRound<'a, S> {
         }
     }
 
-    /// Claims the first configuration that is owed: one step on its value.
+    /// Claims the first configuration that is owed: one step on its value, or a look where it has one already.
     pub fn claim(&self, seat: &mut RoundSeat) -> Claim
         requires mine { IsOf self.now seat.old }
         requires owed { 0 < length seat.old.view.has.owed }
@@ -164,10 +164,11 @@ impl<'a, S: ListStore> SharedRound<'a, S> {
         };
         let word = self.solver.space().gaps() as usize + config as usize;
         let next = u64::from(self.solver.round_number()) + 1;
-        let found = self
-            .table
-            .shared
-            .compare_exchange::<Try>(&mut seat.seat, word, OPEN, next);
+        let shared = &self.table.shared;
+        if shared.load::<Read>(&mut seat.seat, word) != OPEN {
+            return Claim { config, won: false };
+        }
+        let found = shared.compare_exchange::<Try>(&mut seat.seat, word, OPEN, next);
         if found == OPEN {
             seat.won.push_reserved(config);
             return Claim { config, won: true };

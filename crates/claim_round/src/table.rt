@@ -77,6 +77,14 @@ impl Join<Hand> for Halves {
     ghost spent = { spent };
 }
 
+pub struct Read;
+
+impl Play<(), Hand> for Read {
+    ghost use Rattle.claim_round.specs.Shared.{Reads};
+
+    ghost then = { Reads };
+}
+
 pub struct Look;
 
 impl Play<(), Hand> for Look {

@@ -1,5 +1,5 @@
 -- What a finished round has won is filed: all that the next round begins with is there.
-use Rattle.std.proofs.Common.{◌≡◌, ◌≢◌, ℕ, ◌+◌, ◌-◌, ◌<◌, ◌≤◌, ◌==◌, inl, inr, Bool, true, false, not, cond, suc, refl, arith, sym, ap, ◌∙◌, subst, List, [], ◌∷◌, ◌++◌, length, take, drop, slice_index, slice_set, get_or, get_or-set_other, get_or-set_same}
+use Rattle.std.proofs.Common.{◌≡◌, ℕ, ◌+◌, ◌-◌, ◌<◌, ◌≤◌, ◌==◌, inl, inr, Bool, true, false, not, cond, suc, refl, arith, sym, ap, ◌∙◌, subst, List, [], ◌∷◌, ◌++◌, length, take, drop, slice_index, slice_set, get_or, get_or-set_other, get_or-set_same}
 use Rattle.std.proofs.lemmas.Bool.{cases_lt}
 use Rattle.std.proofs.lemmas.List.{take_more, take-append-drop}
 use Rattle.std.proofs.lemmas.Bool.Decides.{nat_tests}
@@ -9,12 +9,12 @@ use Rattle.positions.specs.Ranks.{configurations}
 use Rattle.positions.specs.Gaps.{gaps}
 use Rattle.positions.specs.Counts.{HasSize}
 use Rattle.positions.proofs.Sizes.{same_size}
-use Rattle.retro_core.specs.Arena.{Arena, IsArena, live, next, lasts}
+use Rattle.retro_core.specs.Arena.{Arena, IsArena, live, lasts}
 use Rattle.retro_core.specs.BoardArena.{arena_of}
 use Rattle.retro_core.specs.Ending.{IsRoundEnd}
 use Rattle.retro_core.specs.Round.{IsWorth}
 use Rattle.retro_core.specs.Solving.{AnswerLasts}
-use Rattle.retro_core.specs.Stage.{PlainStage, filed, solving, counting, IsFiled, IsKept, IsStage, IsStriking, IsUnstruck, FilesAll, TakesCounts}
+use Rattle.retro_core.specs.Stage.{PlainStage, filed, solving, IsFiled, IsKept, IsStriking, IsUnstruck, FilesAll, TakesCounts}
 use Rattle.retro_core.specs.Tables.{is_open, alive, IsCounted, AreWords}
 use Rattle.retro_core.proofs.BoardArenas.{arena_is, value_of_lasts, lasts_of_value}
 use Rattle.retro_core.proofs.Closing.{IsCounted-same, AreWords-same, same-open}

@@ -4,7 +4,6 @@ pub mod Strikes
 pub mod Closing
 pub mod BoardArenas
 pub mod Listed
-pub mod Walking
 pub mod Entered
 pub mod Sources
 pub mod Noting

@@ -1,7 +1,8 @@
--- The first open member of a gap, from a place on.
-use Rattle.std.proofs.Common.{◌≡◌, ◌≢◌, ℕ, suc, ◌+◌, ◌-◌, ◌<◌, ◌∙◌, sym, ap, arith, List, Some, slice_get, slice_index}
+-- The open members of a gap, from a place on.
+use Rattle.std.proofs.Common.{◌≡◌, ◌≢◌, ℕ, zero, suc, ◌+◌, ◌-◌, ◌*◌, ◌<◌, ◌≤◌, ◌∙◌, refl, sym, ap, arith, List, [], ◌∷◌, Some, slice_get, slice_index}
 use Rattle.board_text.specs.PlainBoard.{PlainBoard, places}
 use Rattle.retro_core.specs.BoardArena.{arena_of}
+use Rattle.retro_core.specs.SourceWalk.{open_from}
 use Rattle.retro_core.specs.Tables.{is_open, members_from}
 use Rattle.retro_core.proofs.Lasting.{same_is}
 use Rattle.retro_core.proofs.Listed.{shut_word}
@@ -22,3 +23,33 @@ module _ (b : PlainBoard) (values : List ℕ) (gap place rank : ℕ) (low : plac
   shut-here word =
       ap (λ n. slice_get (members_from (arena_of b) (is_open values) gap place n) 0) count
       ∙ ap (λ (xs : List ℕ). slice_get xs 0) (members-skip (arena_of b) (is_open values) gap place (places b - (place + 1)) (ap (is_open values) (sym rank_is) ∙ shut_word values rank word))
+
+-- ---- a walk over them
+
+-- the member with this place is passed over, or comes first
+pub walk-skip : (values : List ℕ) (first step place places rank : ℕ) → place < places → rank ≡ first + place * step → slice_index values rank ≢ 4294967295
+    → open_from values first step place (places - place) ≡ open_from values first step (place + 1) (places - (place + 1))
+walk-skip values first step place places rank low here word =
+    let count : places - place ≡ suc (places - (place + 1)) = omega arith in
+    ap (open_from values first step place) count ∙ rw (ap (is_open values) (sym here) ∙ shut_word values rank word) refl
+
+pub walk-take : (values : List ℕ) (first step place places rank : ℕ) → place < places → rank ≡ first + place * step → slice_index values rank ≡ 4294967295
+    → open_from values first step place (places - place) ≡ rank ∷ open_from values first step (place + 1) (places - (place + 1))
+walk-take values first step place places rank low here word =
+    let count : places - place ≡ suc (places - (place + 1)) = omega arith in
+    ap (open_from values first step place) count
+    ∙ rw (ap (is_open values) (sym here) ∙ same_is (slice_index values rank) 4294967295 word) (ap (λ x. x ∷ open_from values first step (place + 1) (places - (place + 1))) (sym here))
+
+-- behind the last place none is left
+pub walk-end : (values : List ℕ) (first step place places : ℕ) → places ≤ place → open_from values first step place (places - place) ≡ []
+walk-end values first step place places high =
+    let none : places - place ≡ 0 = omega arith in
+    ap (open_from values first step place) none
+
+-- a walk from the first place on has the open members of the gap
+pub walk-all : (b : PlainBoard) (values : List ℕ) (gap first step : ℕ) → ((place : ℕ) → place < places b → first + place * step ≡ (arena_of b).member gap place)
+    → (from count : ℕ) → from + count ≤ places b → open_from values first step from count ≡ members_from (arena_of b) (is_open values) gap from count
+walk-all b values gap first step ranks from zero low = refl
+walk-all b values gap first step ranks from (suc count) low =
+    let rest = walk-all b values gap first step ranks (from + 1) count (omega arith) in
+    rw (ranks from (omega arith), rest) refl

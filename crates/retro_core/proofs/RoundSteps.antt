@@ -1,5 +1,5 @@
 -- Each step leads from a lawful round to a lawful one; the opening is lawful; and at the end all of the next value is won.
-use Rattle.std.proofs.Common.{◌≡◌, ◌≢◌, ◌⊎◌, ℕ, suc, ◌-◌, ◌<◌, ◌≤◌, ◌↔◌, Bool, true, false, cond, List, [], ◌∷◌, length, set, refl, sym, ap, ◌∙◌, inl, inr, subst, arith, Option, Some, None, get_or, slice_index, length-set, get_or-set_same, get_or-set_other}
+use Rattle.std.proofs.Common.{◌≡◌, ◌≢◌, ◌⊎◌, ℕ, suc, ◌-◌, ◌<◌, ◌≤◌, Bool, true, false, cond, List, [], ◌∷◌, length, set, refl, sym, ap, ◌∙◌, inl, inr, subst, arith, Option, Some, None, get_or, slice_index, length-set, get_or-set_same, get_or-set_other}
 use Rattle.std.specs.Option.{is_none}
 use Rattle.std.proofs.lemmas.Bool.{cases_lt}
 use Rattle.index_lists.specs.Lists.{times}
@@ -13,7 +13,7 @@ use Rattle.positions.proofs.GapLaws.{gap_below}
 use Rattle.retro_core.specs.Arena.{live, lasts}
 use Rattle.retro_core.specs.BoardArena.{arena_of}
 use Rattle.retro_core.specs.Solving.{Solving, IsSolving, AnswerLasts}
-use Rattle.retro_core.specs.Round.{PlainSeat, Round, round_of, spent, seat_at, together, all_todo, all_owed, all_won, IsWorth, IsDue, IsLawful, AreToStrike, AreFirstCounts, AreFirstValues, opening, IsOpening, IsWorkedOff, HasWonAll, first_of, rest_of, seat_tried, struck, first_is_open, tried, split, joined}
+use Rattle.retro_core.specs.Round.{PlainSeat, Round, round_of, spent, seat_at, together, all_todo, all_owed, all_won, IsDue, IsLawful, AreToStrike, AreFirstCounts, AreFirstValues, opening, IsOpening, IsWorkedOff, HasWonAll, first_of, rest_of, seat_tried, struck, first_is_open, tried, split, joined}
 use Rattle.retro_core.specs.declared.step.Step.{Step}
 use Rattle.retro_core.specs.declared.step.Step.TheVariants as steps
 use Rattle.retro_core.specs.declared.step.Seen.{Seen}

@@ -11,3 +11,4 @@ pub mod Rules
 pub mod Stepping
 pub mod Words
 pub mod Ending
+pub mod SourceWalk

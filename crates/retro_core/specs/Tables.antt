@@ -1,5 +1,5 @@
 -- What a solver's tables and lists say of the game.
-use Rattle.std.specs.Prelude.{◌≡◌, ℕ, ◌<◌, ◌≢◌, ◌==◌, not, Bool, true, false, cond, suc, List, [], ◌∷◌, length, Option, None, Some, slice_index, map, filter}
+use Rattle.std.specs.Prelude.{◌≡◌, ℕ, ◌<◌, ◌≢◌, ◌==◌, not, Bool, true, false, cond, suc, List, length, slice_index, map, filter}
 use Rattle.std.specs.List.{range_with_len}
 use Rattle.index_lists.specs.Lists.{times}
 use Rattle.board_text.specs.PlainBoard.{PlainBoard}
@@ -41,12 +41,6 @@ pub record AreFirstWords (a : Arena) (words : List ℕ) : Type 0 where
 pub record IsBetween (a : Arena) (r : ℕ) (above : ℕ → Bool) : Type 0 where
   pub lower : (y : ℕ) → y < a.configurations → lasts a (suc r) y ≡ true → above y ≡ true
   pub upper : (y : ℕ) → y < a.configurations → above y ≡ true → lasts a r y ≡ true
-
--- what stands in a list from a node on
-abbrev pub rest_from : Option ℕ → List ℕ → List ℕ
-rest_from None xs = []
-rest_from (Some node) [] = []
-rest_from (Some node) (x ∷ xs) = cond (x == node) (x ∷ xs) (rest_from (Some node) xs)
 
 -- it lasts more than r requests, or stands in the list of what is to strike
 abbrev pub alive : Arena → ℕ → List ℕ → ℕ → Bool

@@ -6,9 +6,10 @@ ghost use Rattle.positions.specs.Ranks.{configurations, configuration_at};
 ghost use Rattle.positions.specs.Gaps.{gaps, IsDominator};
 ghost use Rattle.positions.specs.Counts.{IsSmallest};
 ghost use Rattle.retro_core.specs.BoardArena.{arena_of};
-ghost use Rattle.retro_core.specs.Tables.{is_open, members_from};
+ghost use Rattle.retro_core.specs.Tables.{is_open, members_from, open_members};
 ghost use Rattle.retro_core.specs.Stage.{filed_at};
 
+use crate::source_walk::SourceWalk;
 use crate::stage::{NO_PEBBLE, OPEN, Stage};
 use index_lists::ListStore;
 use positions::Space;
@@ -81,6 +82,19 @@ impl<S: ListStore> Stage<S> {
         ensures not_filed { ((value : ℕ) → (place : ℕ) → slice_get (filed_at self.now value) place ≡ Some rank → ⊥) → result ≡ None }
     {
         self.buckets.next(rank)
+    }
+
+    /// A walk over the open members of a gap.
+    pub(crate) fn sources(&self, gap: u32) -> SourceWalk<'_>
+        requires { gap < gaps self.now.board }
+        ensures { result ≡ open_members (arena_of self.now.board) self.now.values gap }
+    {
+        SourceWalk {
+            values: &self.values,
+            members: self.space.members(gap),
+            place: 0,
+            places: self.space.places(),
+        }
     }
 
     /// The first open member of a gap whose place is at least a bound.

@@ -151,15 +151,13 @@ fn owe_members<S: ListStore>(owed: &mut Queue, solver: &Solver<S>, gap: u32) -> 
     requires { gap < gaps solver.now.board }
     ensures { owed.new ≡ (if is_ok result then owed.old ++ source solver.now gap else owed.old) }
 {
-    let _ = solver.round_number();
     let before = owed.len();
-    let mut at = solver.first_source(gap);
-    while let Some(rank) = at {
+    let mut members = solver.sources(gap);
+    while let Some(rank) = members.take_next() {
         if owed.push(rank).is_err() {
             owed.truncate(before);
             return Err(Memory);
         }
-        at = solver.next_source(gap, rank);
     }
     Ok(())
 }

@@ -14,6 +14,7 @@ use crate::end::RoundEnd;
 use crate::fault::SolveFault;
 use crate::next_value::{ByStrikes, FromEnd, NextValue};
 use crate::progress::Progress;
+use crate::source_walk::SourceWalk;
 use crate::stage::{OPEN, Stage};
 use crate::values::Values;
 use board_text::{Board, Memory};
@@ -206,6 +207,14 @@ impl<S: ListStore> Solver<S> {
         ensures { AreToStrike self.now result.now }
     {
         self.stage.strikes()
+    }
+
+    /// The members of a gap that have no value of at most the number of rounds, one after the other.
+    pub fn sources(&self, gap: u32) -> SourceWalk<'_>
+        requires { gap < gaps self.now.board }
+        ensures { result ≡ source self.now gap }
+    {
+        self.stage.sources(gap)
     }
 
     /// The first configuration of a gap that has no value of at most the number of rounds.

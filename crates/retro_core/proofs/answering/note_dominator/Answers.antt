@@ -1,4 +1,4 @@
-use Rattle.std.proofs.Common.{◌≤◌, ◌+◌, ◌*◌, ◌∙◌, subst, arith}
+use Rattle.std.proofs.Common.{◌∙◌, subst, arith}
 use Rattle.positions.proofs.Walking.{walk_begins, from_zero, next_of, after_step, none_left}
 use Rattle.retro_core.specs.Opening.{AreNoted}
 use Rattle.retro_core.proofs.Noting.{HasLabel, has_few, low_label, low_place, noted-end, noted-step}

@@ -1,11 +1,7 @@
-use Rattle.std.proofs.Common.{◌≡◌, ◌≢◌, ℕ, ◌+◌, ◌<◌, ◌≤◌, true, zero, suc, refl, sym, ap, ◌∙◌, subst, arith, List, [], ◌∷◌, ◌++◌, length, take, get_or, add-one}
-use Rattle.std.proofs.Math.Seq.{take-suc}
+use Rattle.std.proofs.Common.{ℕ, sym, ap, ◌∙◌, subst, arith, List, [], ◌∷◌, ◌++◌, take, get_or}
 use Rattle.std.proofs.lemmas.List.{take_all}
-use Rattle.index_lists.specs.Lists.{times}
-use Rattle.index_lists.proofs.Times.{times-append}
 use Rattle.positions.specs.Ranks.{configurations}
-use Rattle.retro_core.specs.Stage.{PlainStage, filed, FilesAll}
-use Rattle.retro_core.specs.Tables.{is_open}
+use Rattle.retro_core.specs.Stage.{FilesAll}
 use Rattle.retro_core.proofs.Closing.{same-open}
 use Rattle.retro_core.proofs.EndFiled.{files-none, files-more, is-next}
 use Rattle.retro_core.proofs.stage.Stage.file_all.Goals as goal

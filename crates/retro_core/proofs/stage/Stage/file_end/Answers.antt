@@ -1,4 +1,4 @@
-use Rattle.std.proofs.Common.{ℕ, ◌<◌, List, sym, subst}
+use Rattle.std.proofs.Common.{ℕ, ◌<◌, List, subst}
 use Rattle.index_lists.specs.Lists.{times}
 use Rattle.retro_core.specs.Stage.{FilesAll}
 use Rattle.retro_core.proofs.EndFiled.{worth-open, end-struck, end-kept}
