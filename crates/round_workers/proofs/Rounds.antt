@@ -1,5 +1,5 @@
 -- How many rounds there can be.
-use Rattle.std.proofs.Common.{◌≡◌, ℕ, suc, ◌+◌, ◌-◌, ◌<◌, ◌≤◌, inl, inr, cond, true, false, List, [], ◌∷◌, length, refl, sym, ap, subst, arith}
+use Rattle.std.proofs.Common.{◌≡◌, ℕ, suc, ◌+◌, ◌-◌, ◌<◌, ◌≤◌, inl, inr, cond, true, false, List, [], ◌∷◌, length, refl, sym, ap, ◌∙◌, subst, arith}
 use Rattle.std.proofs.lemmas.Bool.{cases_lt}
 use Rattle.board_text.specs.PlainBoard.{PlainBoard, IsConfiguration}
 use Rattle.index_lists.specs.Lists.{times}
@@ -13,7 +13,7 @@ use Rattle.positions.proofs.Trees.{lasts_at_most}
 use Rattle.positions.proofs.Values.{same_value}
 use Rattle.retro_core.specs.declared.progress.Progress.{Progress}
 use Rattle.retro_core.specs.declared.progress.Progress.TheVariants.{Filed, Done}
-use Rattle.retro_core.specs.Solving.{Solving, bucket, IsSolving}
+use Rattle.retro_core.specs.Solving.{Solving, bucket, IsSolving, NoneHas}
 
 -- how many rounds are left at most, and one more as long as the last isn't known
 abbrev pub rounds_left : Solving → ℕ
@@ -42,14 +42,20 @@ rounds_few solver is some =
     value_few solver.board (configuration_at solver.board filed.0) solver.rounds (configuration_at_is solver.board filed.0 is_rank) has
 
 -- fewer rounds are left after one that filed something, or found that nothing has the next value
-pub fewer_left : (before after : Solving) (result : Progress) → before.is_done ≡ false → after.board ≡ before.board → IsSolving after
-    → ((n : ℕ) → result ≡ Filed n → (0 < n) × (n ≡ length (bucket after (suc before.rounds))) × (after.rounds ≡ before.rounds + 1) × (after.is_done ≡ false))
-    → (result ≡ Done → after.is_done ≡ true) → rounds_left after < rounds_left before
-fewer_left before after (Filed n) going same is filed none =
-    let here = filed n refl in
-    let next : after.rounds ≡ suc before.rounds = (let more = here.2 in omega (arith, more)) in
-    let some : 0 < length (bucket after after.rounds) = subst (λ (r : ℕ). 0 < length (bucket after r)) (sym next) (subst (λ (k : ℕ). 0 < k) here.1 here.0) in
-    let few : after.rounds ≤ configurations after.board = rounds_few after is some in
-    let boards : configurations after.board ≡ configurations before.board = ap (λ (b : PlainBoard). configurations b) same in
-    rw (going, here.3) (omega (arith, next, few, boards))
-fewer_left before after Done going same is filed none = rw (going, none refl) (omega arith)
+pub fewer_left : (before held after : Solving) (result : Progress) → (before.is_done ≡ false) × (held ≡ before) → after.board ≡ held.board → IsSolving after
+    → ((n : ℕ) → result ≡ Filed n → (0 < n) × (n ≡ length (bucket after (suc held.rounds))) × (after.rounds ≡ held.rounds + 1) × (after.is_done ≡ false))
+    → (result ≡ Done → NoneHas held.board (suc held.rounds) × (after.rounds ≡ held.rounds) × (after.is_done ≡ true)) → rounds_left after < rounds_left before
+fewer_left before held after result unfinished same is filed none =
+    subst (λ (s : Solving). rounds_left after < rounds_left s) unfinished.1 (fewer result (ap (λ (s : Solving). s.is_done) unfinished.1 ∙ unfinished.0) filed (λ done. (none done).2))
+  where
+    fewer : (result : Progress) → held.is_done ≡ false
+        → ((n : ℕ) → result ≡ Filed n → (0 < n) × (n ≡ length (bucket after (suc held.rounds))) × (after.rounds ≡ held.rounds + 1) × (after.is_done ≡ false))
+        → (result ≡ Done → after.is_done ≡ true) → rounds_left after < rounds_left held
+    fewer (Filed n) going filed none =
+        let here = filed n refl in
+        let next : after.rounds ≡ suc held.rounds = (let more = here.2 in omega (arith, more)) in
+        let some : 0 < length (bucket after after.rounds) = subst (λ (r : ℕ). 0 < length (bucket after r)) (sym next) (subst (λ (k : ℕ). 0 < k) here.1 here.0) in
+        let few : after.rounds ≤ configurations after.board = rounds_few after is some in
+        let boards : configurations after.board ≡ configurations held.board = ap (λ (b : PlainBoard). configurations b) same in
+        rw (going, here.3) (omega (arith, next, few, boards))
+    fewer Done going filed none = rw (going, none refl) (omega arith)
