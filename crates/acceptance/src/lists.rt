@@ -42,8 +42,8 @@ impl Draws {
 
 /// What `new` answers where it is refused no growth.
 fn make<S: ListStore>(rt: &impl Abort, alloc: Global, nodes: u32, lists: u32) -> S
-    ensures nodes { S.nodes result ≡ nodes }
-    ensures lists { S.lists result ≡ lists }
+    ensures nodes { (S.state result).nodes ≡ nodes }
+    ensures lists { (S.state result).lists ≡ lists }
 {
     let made: Result<S, Memory> = match S::new(alloc, nodes, lists) {
         Err(Memory) => S::new(alloc, nodes, lists),
@@ -54,10 +54,10 @@ fn make<S: ListStore>(rt: &impl Abort, alloc: Global, nodes: u32, lists: u32) ->
 
 /// Appends a node, if it is in no list. Whether it was in none.
 fn push<S: ListStore>(store: &mut S, to: u32, node: u32) -> bool
-    requires to_in { to < S.lists store.old }
-    requires node_in { node < S.nodes store.old }
-    ensures nodes_same { S.nodes store.new ≡ S.nodes store.old }
-    ensures lists_same { S.lists store.new ≡ S.lists store.old }
+    requires to_in { to < (S.state store.old).lists }
+    requires node_in { node < (S.state store.old).nodes }
+    ensures nodes_same { (S.state store.new).nodes ≡ (S.state store.old).nodes }
+    ensures lists_same { (S.state store.new).lists ≡ (S.state store.old).lists }
 {
     match store.home(node) {
         Some(_) => false,
@@ -70,9 +70,9 @@ fn push<S: ListStore>(store: &mut S, to: u32, node: u32) -> bool
 
 /// Takes a node out of its list, if it is in one. Whether it was in one.
 fn unlink<S: ListStore>(store: &mut S, node: u32) -> bool
-    requires node_in { node < S.nodes store.old }
-    ensures nodes_same { S.nodes store.new ≡ S.nodes store.old }
-    ensures lists_same { S.lists store.new ≡ S.lists store.old }
+    requires node_in { node < (S.state store.old).nodes }
+    ensures nodes_same { (S.state store.new).nodes ≡ (S.state store.old).nodes }
+    ensures lists_same { (S.state store.new).lists ≡ (S.state store.old).lists }
 {
     match store.home(node) {
         Some(_) => {
@@ -85,7 +85,7 @@ fn unlink<S: ListStore>(store: &mut S, node: u32) -> bool
 
 /// Whether a list is read as these nodes, from its front and from its back.
 fn reads_as<S: ListStore>(store: &S, of: u32, nodes: &[u32]) -> bool
-    requires { of < S.lists store.now }
+    requires { of < (S.state store.now).lists }
 {
     let mut at = store.first(of);
     for wanted in nodes {
@@ -109,24 +109,24 @@ fn reads_as<S: ListStore>(store: &S, of: u32, nodes: &[u32]) -> bool
 
 /// Whether a node is read as being in no list.
 fn is_loose<S: ListStore>(store: &S, node: u32) -> bool
-    requires { node < S.nodes store.now }
+    requires { node < (S.state store.now).nodes }
 {
     store.home(node).is_none() && store.next(node).is_none() && store.prev(node).is_none()
 }
 
 /// Whether the two lists of a store are read as these nodes.
 fn both_read_as<S: ListStore>(store: &S, first: &[u32], second: &[u32]) -> bool
-    requires { S.lists store.now ≡ 2 }
+    requires { (S.state store.now).lists ≡ 2 }
 {
     reads_as(store, 0, first) && reads_as(store, 1, second)
 }
 
 /// Pushes of three nodes out of four, of which one is unlinked.
 fn push_and_unlink<S: ListStore>(rt: &impl Abort, store: &mut S)
-    requires nodes { S.nodes store.old ≡ 4 }
-    requires lists { S.lists store.old ≡ 2 }
-    ensures nodes { S.nodes store.new ≡ 4 }
-    ensures lists { S.lists store.new ≡ 2 }
+    requires nodes { (S.state store.old).nodes ≡ 4 }
+    requires lists { (S.state store.old).lists ≡ 2 }
+    ensures nodes { (S.state store.new).nodes ≡ 4 }
+    ensures lists { (S.state store.new).lists ≡ 2 }
 {
     assert!(rt; both_read_as(store, &[], &[]));
     assert!(rt; push(store, 0, 3) & push(store, 0, 1) & push(store, 0, 2));
@@ -144,8 +144,8 @@ fn push_and_unlink<S: ListStore>(rt: &impl Abort, store: &mut S)
 
 /// Moves of nodes from a list with 3 and 2 to another.
 fn move_between<S: ListStore>(rt: &impl Abort, store: &mut S)
-    requires nodes { S.nodes store.old ≡ 4 }
-    requires lists { S.lists store.old ≡ 2 }
+    requires nodes { (S.state store.old).nodes ≡ 4 }
+    requires lists { (S.state store.old).lists ≡ 2 }
 {
     store.move_to(3, 1);
     assert!(rt; both_read_as(store, &[2], &[3]));
@@ -158,8 +158,8 @@ fn move_between<S: ListStore>(rt: &impl Abort, store: &mut S)
 
 /// Pushes, unlinks and moves of four nodes in two lists.
 fn four_nodes<S: ListStore>(rt: &impl Abort, store: &mut S)
-    requires nodes { S.nodes store.old ≡ 4 }
-    requires lists { S.lists store.old ≡ 2 }
+    requires nodes { (S.state store.old).nodes ≡ 4 }
+    requires lists { (S.state store.old).lists ≡ 2 }
 {
     push_and_unlink(rt, store);
     move_between(rt, store);
@@ -167,8 +167,8 @@ fn four_nodes<S: ListStore>(rt: &impl Abort, store: &mut S)
 
 /// Both ends of a list of three nodes are unlinked, and one comes back.
 fn three_nodes<S: ListStore>(rt: &impl Abort, store: &mut S)
-    requires nodes { S.nodes store.old ≡ 3 }
-    requires lists { S.lists store.old ≡ 1 }
+    requires nodes { (S.state store.old).nodes ≡ 3 }
+    requires lists { (S.state store.old).lists ≡ 1 }
 {
     assert!(rt; push(store, 0, 0) & push(store, 0, 1) & push(store, 0, 2));
     assert!(rt; unlink(store, 0) & unlink(store, 2));
@@ -200,10 +200,10 @@ fn one_node<S: ListStore + Drop>(rt: &impl Abort, alloc: Global) {
 
 /// Makes one of the three operations, where it may be made.
 fn operate<S: ListStore>(store: &mut S, operation: u32, node: u32, list: u32)
-    requires node_in { node < S.nodes store.old }
-    requires list_in { list < S.lists store.old }
-    ensures nodes_same { S.nodes store.new ≡ S.nodes store.old }
-    ensures lists_same { S.lists store.new ≡ S.lists store.old }
+    requires node_in { node < (S.state store.old).nodes }
+    requires list_in { list < (S.state store.old).lists }
+    ensures nodes_same { (S.state store.new).nodes ≡ (S.state store.old).nodes }
+    ensures lists_same { (S.state store.new).lists ≡ (S.state store.old).lists }
 {
     match operation {
         0 => {
@@ -218,8 +218,8 @@ fn operate<S: ListStore>(store: &mut S, operation: u32, node: u32, list: u32)
 
 /// Whether a list is read alike from both stores.
 fn same_list<S: ListStore, T: ListStore>(store: &S, other: &T, of: u32) -> bool
-    requires in_store { of < S.lists store.now }
-    requires in_other { of < T.lists other.now }
+    requires in_store { of < (S.state store.now).lists }
+    requires in_other { of < (T.state other.now).lists }
 {
     store.first(of) == other.first(of)
         && store.last(of) == other.last(of)
@@ -228,8 +228,8 @@ fn same_list<S: ListStore, T: ListStore>(store: &S, other: &T, of: u32) -> bool
 
 /// Whether a node is read alike from both stores.
 fn same_node<S: ListStore, T: ListStore>(store: &S, other: &T, node: u32) -> bool
-    requires in_store { node < S.nodes store.now }
-    requires in_other { node < T.nodes other.now }
+    requires in_store { node < (S.state store.now).nodes }
+    requires in_other { node < (T.state other.now).nodes }
 {
     store.next(node) == other.next(node)
         && store.prev(node) == other.prev(node)
@@ -238,10 +238,10 @@ fn same_node<S: ListStore, T: ListStore>(store: &S, other: &T, node: u32) -> boo
 
 /// Whether all is read alike from both stores.
 fn same_readings<S: ListStore, T: ListStore>(store: &S, other: &T) -> bool
-    requires store_nodes { S.nodes store.now ≡ NODES }
-    requires store_lists { S.lists store.now ≡ LISTS }
-    requires other_nodes { T.nodes other.now ≡ NODES }
-    requires other_lists { T.lists other.now ≡ LISTS }
+    requires store_nodes { (S.state store.now).nodes ≡ NODES }
+    requires store_lists { (S.state store.now).lists ≡ LISTS }
+    requires other_nodes { (T.state other.now).nodes ≡ NODES }
+    requires other_lists { (T.state other.now).lists ≡ LISTS }
 {
     for of in 0..LISTS {
         if !same_list(store, other, of) {

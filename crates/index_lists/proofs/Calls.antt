@@ -3,7 +3,7 @@ use Rattle.std.proofs.Common.{◌≡◌, ℕ, ◌+◌, ◌-◌, ◌<◌, ◌≤�
 use Rattle.std.proofs.lemmas.List.{get_or-replicate, length-replicate}
 use Rattle.std.proofs.lemmas.Bool.{cases_eq, cases_lt}
 use Rattle.index_lists.specs.Lists.{times, without_node, IsFree, IsIn, IsHome, AreLists}
-use Rattle.index_lists.specs.Links.{follow, IsLinked, IsStore, IsLinks, Chains, listed, unless_none}
+use Rattle.index_lists.specs.Links.{follow, IsLinked, IsStore, IsLinks, Chains, listed, chained, unless_none}
 use Rattle.index_lists.proofs.Times.{same_is, differ_is, cond_same, cond_other, length-without}
 use Rattle.index_lists.proofs.Together.{store-are, home-of_free, room, at-home, seen, settle, push-store, unlink-store, from_back, from_forth, at-home-once}
 use Rattle.index_lists.proofs.Links.{tail}
@@ -56,12 +56,12 @@ module _ (nodes lists : ℕ) (next prev home first last len : List ℕ) (v : Cha
   last-in to h = end-below nodes (slice_index next) (slice_index prev) (slice_index last to) (slice_index first to) (listed v to) (store_here.linked to (let e = lists-are in omega arith))
 
   -- a push
-  module _ (to node at n : ℕ) (to_in : to < v.lists) (node_in : node < v.nodes) (free : IsFree (listed v) node) (at_is : at ≡ slice_index last to) (n_is : n ≡ slice_index len to) where
+  module _ (to node at n : ℕ) (to_in : to < v.lists) (node_in : node < v.nodes) (free : IsFree (chained v) node) (at_is : at ≡ slice_index last to) (n_is : n ≡ slice_index len to) where
     pub push-room : n < nodes
     push-room =
         let e = lists-are in let f = nodes-are in
         let b = room nodes lists (slice_index next) (slice_index prev) (slice_index home) (slice_index first) (slice_index last) (slice_index len) (listed v) store_here to node (omega arith) (omega arith)
-        (home-of_free nodes lists (slice_index next) (slice_index prev) (slice_index home) (slice_index first) (slice_index last) (slice_index len) (listed v) store_here node (omega arith) free) in
+        (home-of_free nodes lists (slice_index next) (slice_index prev) (slice_index home) (slice_index first) (slice_index last) (slice_index len) (listed v) store_here node (omega arith) free.free) in
         omega arith
 
     module _ (next' first' : List ℕ) (next_is : next' ≡ slice_set next at node) (first_is : first' ≡ cond (at == length next) (slice_set first to node) first) where
@@ -72,7 +72,7 @@ module _ (nodes lists : ℕ) (next prev home first last len : List ℕ) (v : Cha
           push-store nodes lists (slice_index next) (slice_index prev) (slice_index home) (slice_index first) (slice_index last) (slice_index len) (listed v) store_here
           (slice_index next') (slice_index (slice_set prev node at)) (slice_index (slice_set home node to)) (slice_index first') (slice_index (slice_set last to node)) (slice_index (slice_set len to (n + 1)))
           to node to_here node_here
-          (home-of_free nodes lists (slice_index next) (slice_index prev) (slice_index home) (slice_index first) (slice_index last) (slice_index len) (listed v) store_here node node_here free)
+          (home-of_free nodes lists (slice_index next) (slice_index prev) (slice_index home) (slice_index first) (slice_index last) (slice_index len) (listed v) store_here node node_here free.free)
           (λ x i. rw (next_is, ← at_is) (read-set next at node x (let e = s.next_length in omega arith)))
           (λ x i. rw (← at_is) (read-set prev node at x (let e = s.prev_length in omega arith)))
           (λ x i. read-set home node to x (let e = s.home_length in omega arith))
@@ -110,7 +110,7 @@ module _ (nodes lists : ℕ) (next prev home first last len : List ℕ) (v : Cha
     push-shown next' first' len' next_is first_is len_is l = rw len_is (push-seen next' first' next_is first_is l)
 
   -- an unlink
-  module _ (node h p z : ℕ) (node_in : node < v.nodes) (stands : IsIn (listed v) node) (h_is : h ≡ slice_index home node) (p_is : p ≡ slice_index prev node) (z_is : z ≡ slice_index next node) where
+  module _ (node h p z : ℕ) (node_in : node < v.nodes) (stands : IsIn (chained v) node) (h_is : h ≡ slice_index home node) (p_is : p ≡ slice_index prev node) (z_is : z ≡ slice_index next node) where
     node_here : node < nodes
     node_here = let e = nodes-are in omega arith
 
@@ -201,7 +201,7 @@ module _ (nodes lists : ℕ) (next prev home first last len : List ℕ) (v : Cha
   nothing : unless_none nodes nodes ≡ None
   nothing = cond_same nodes nodes None (Some nodes) refl
 
-  pub lists-kept : AreLists v.nodes v.lists (listed v)
+  pub lists-kept : AreLists (chained v)
   lists-kept = rw (← nodes-are, ← lists-are) (store-are nodes lists (slice_index next) (slice_index prev) (slice_index home) (slice_index first) (slice_index last) (slice_index len) (listed v) store_here)
 
   in-one : (l place node : ℕ) → slice_get (listed v l) place ≡ Some node → l < lists
@@ -259,23 +259,23 @@ module _ (nodes lists : ℕ) (next prev home first last len : List ℕ) (v : Cha
   pub link-below : (at link : ℕ) (o : Option ℕ) → link ≤ nodes → at ≡ link → o ≡ unless_none nodes at → IfSome o (λ node. node < v.nodes)
   link-below at link o h e f = rw (f, e, ← nodes-are) (unless-below nodes link h)
 
-  loose-here : (node : ℕ) → node < v.nodes → IsFree (listed v) node → (slice_index next node ≡ nodes) × (slice_index prev node ≡ nodes)
+  loose-here : (node : ℕ) → node < v.nodes → IsFree (chained v) node → (slice_index next node ≡ nodes) × (slice_index prev node ≡ nodes)
   loose-here node h free =
       let i : node < nodes = (let d = nodes-are in omega arith) in
-      store_here.loose node i (home-of_free nodes lists (slice_index next) (slice_index prev) (slice_index home) (slice_index first) (slice_index last) (slice_index len) (listed v) store_here node i free)
+      store_here.loose node i (home-of_free nodes lists (slice_index next) (slice_index prev) (slice_index home) (slice_index first) (slice_index last) (slice_index len) (listed v) store_here node i free.free)
 
-  pub next-none : (node at : ℕ) → node < v.nodes → at ≡ slice_index next node → IsFree (listed v) node → unless_none nodes at ≡ None
+  pub next-none : (node at : ℕ) → node < v.nodes → at ≡ slice_index next node → IsFree (chained v) node → unless_none nodes at ≡ None
   next-none node at h e free = cond_same at nodes None (Some at) (e ∙ (loose-here node h free).0)
 
-  pub prev-none : (node at : ℕ) → node < v.nodes → at ≡ slice_index prev node → IsFree (listed v) node → unless_none nodes at ≡ None
+  pub prev-none : (node at : ℕ) → node < v.nodes → at ≡ slice_index prev node → IsFree (chained v) node → unless_none nodes at ≡ None
   prev-none node at h e free = cond_same at nodes None (Some at) (e ∙ (loose-here node h free).1)
 
   -- the list of a node
-  pub home-seen : (node at : ℕ) (o : Option ℕ) → node < v.nodes → at ≡ slice_index home node → o ≡ unless_none lists at → MatchOption o (IsFree (listed v) node) (λ found. IsHome v.lists (listed v) node found)
+  pub home-seen : (node at : ℕ) (o : Option ℕ) → node < v.nodes → at ≡ slice_index home node → o ≡ unless_none lists at → MatchOption o (IsFree (chained v) node) (λ found. IsHome (chained v) node found)
   home-seen node at o h e f =
       let i : node < nodes = (let d = nodes-are in omega arith) in
       elim (cases_lt at lists) [
-        | inl low ↦ subst (λ found. MatchOption found (IsFree (listed v) node) (λ l. IsHome v.lists (listed v) node l)) (sym (f ∙ cond_other at lists None (Some at) (λ same. omega arith))) (record {
+        | inl low ↦ subst (λ found. MatchOption found (IsFree (chained v) node) (λ l. IsHome (chained v) node l)) (sym (f ∙ cond_other at lists None (Some at) (λ same. omega arith))) (record {
           home_in = let d = lists-are in omega arith;
           times_is = λ l. elim (cases_lt l lists) [
             | inl inside ↦ store_here.held l node inside i ∙ ap (λ n. cond (n == l) 1 0) (sym e)
@@ -285,7 +285,7 @@ module _ (nodes lists : ℕ) (next prev home first last len : List ℕ) (v : Cha
         | inr high ↦ (
             let b = store_here.homes node i in
             let none : at ≡ lists = omega arith in
-            subst (λ found. MatchOption found (IsFree (listed v) node) (λ l. IsHome v.lists (listed v) node l)) (sym (f ∙ cond_same at lists None (Some at) none)) (record {
+            subst (λ found. MatchOption found (IsFree (chained v) node) (λ l. IsHome (chained v) node l)) (sym (f ∙ cond_same at lists None (Some at) none)) (record {
               free = λ l. elim (cases_lt l lists) [
                 | inl inside ↦ store_here.held l node inside i ∙ cond_other (slice_index home node) l 1 0 (λ same. omega arith)
                 | inr beyond ↦ ap (times node) (store_here.beyond l beyond)

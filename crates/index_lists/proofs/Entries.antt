@@ -4,8 +4,8 @@ use Rattle.std.proofs.lemmas.Bool.{cases_eq, cases_lt}
 use Rattle.std.specs.List.{filter, count_by}
 use Rattle.std.proofs.lemmas.List.{length-map}
 use Rattle.std.proofs.lemmas.List.Sums.{length-filter}
-use Rattle.index_lists.specs.Lists.{times, without_node, IsFree, IsHome, AreLists}
-use Rattle.index_lists.specs.Pairs.{Pairs, nodes_of, all_nodes, home_in, IsPlain}
+use Rattle.index_lists.specs.Lists.{times, without_node, IsFree, IsHome, AreLists, lists_of}
+use Rattle.index_lists.specs.Pairs.{Pairs, nodes_of, paired, all_nodes, home_in, IsPlain}
 use Rattle.index_lists.proofs.Times.{same_is, differ_is, cond_same, cond_other, times-here, times-later, times-append, times-without_same, times-without_other, distinct-length}
 
 -- the first entry is of the list
@@ -84,9 +84,9 @@ none-of_free x (e ∷ entries) free =
     omega arith
 
 -- what `home_in` finds
-pub home-found : (lists x : ℕ) (entries : List (ℕ × ℕ)) → times x (all_nodes entries) ≤ 1 → ((l : ℕ) → lists ≤ l → nodes_of entries l ≡ []) → MatchOption (home_in x entries) (IsFree (nodes_of entries) x) (λ h. IsHome lists (nodes_of entries) x h)
-home-found lists x [] once beyond = record { free = λ l. refl }
-home-found lists x (e ∷ entries) once beyond = elim (cases_eq (e.1) x) [
+pub home-found : (nodes lists x : ℕ) (entries : List (ℕ × ℕ)) → times x (all_nodes entries) ≤ 1 → ((l : ℕ) → lists ≤ l → nodes_of entries l ≡ []) → MatchOption (home_in x entries) (IsFree (lists_of nodes lists (nodes_of entries)) x) (λ h. IsHome (lists_of nodes lists (nodes_of entries)) x h)
+home-found nodes lists x [] once beyond = record { free = λ l. refl }
+home-found nodes lists x (e ∷ entries) once beyond = elim (cases_eq (e.1) x) [
   | inl d ↦ rw (same_is (e.1) x d) (record {
     home_in = elim (cases_lt (e.0) lists) [
       | inl lt ↦ lt
@@ -100,7 +100,7 @@ home-found lists x (e ∷ entries) once beyond = elim (cases_eq (e.1) x) [
           | inr f ↦ rw (of-there l e entries f, differ_is (e.0) l f) (omega arith)
         ]);
   })
-  | inr d ↦ rw (differ_is (e.1) x d) (later (home_in x entries) d (home-found lists x entries (let s = times-later (e.1) x (all_nodes entries) d in omega arith) (λ l g. shorter-nothing l (beyond l g))))
+  | inr d ↦ rw (differ_is (e.1) x d) (later (home_in x entries) d (home-found nodes lists x entries (let s = times-later (e.1) x (all_nodes entries) d in omega arith) (λ l g. shorter-nothing l (beyond l g))))
 ]
   where
     same : (l : ℕ) → e.1 ≢ x → times x (nodes_of (e ∷ entries) l) ≡ times x (nodes_of entries l)
@@ -115,7 +115,7 @@ home-found lists x (e ∷ entries) once beyond = elim (cases_eq (e.1) x) [
       | inr f ↦ sym (of-there l e entries f) ∙ z
     ]
 
-    later : (o : Option ℕ) → e.1 ≢ x → MatchOption o (IsFree (nodes_of entries) x) (λ h. IsHome lists (nodes_of entries) x h) → MatchOption o (IsFree (nodes_of (e ∷ entries)) x) (λ h. IsHome lists (nodes_of (e ∷ entries)) x h)
+    later : (o : Option ℕ) → e.1 ≢ x → MatchOption o (IsFree (lists_of nodes lists (nodes_of entries)) x) (λ h. IsHome (lists_of nodes lists (nodes_of entries)) x h) → MatchOption o (IsFree (lists_of nodes lists (nodes_of (e ∷ entries))) x) (λ h. IsHome (lists_of nodes lists (nodes_of (e ∷ entries))) x h)
     later None d m = record { free = λ l. same l d ∙ m.free l }
     later (Some h) d m = record { home_in = m.home_in; times_is = λ l. same l d ∙ m.times_is l }
 
@@ -131,9 +131,9 @@ module _ (nodes lists capacity : ℕ) (entries : List (ℕ × ℕ)) (s : IsPlain
   times-one : (node x : ℕ) → node ≢ x → times x (node ∷ []) ≡ 0
   times-one node x d = times-later node x [] d
 
-  pushed-once : (to node : ℕ) → IsFree (nodes_of entries) node → (x : ℕ) → times x (all_nodes (entries ++ (to, node) ∷ [])) ≤ 1
+  pushed-once : (to node : ℕ) → ((l : ℕ) → times node (nodes_of entries l) ≡ 0) → (x : ℕ) → times x (all_nodes (entries ++ (to, node) ∷ [])) ≤ 1
   pushed-once to node f x =
-      let none = none-of_free node entries f.free in
+      let none = none-of_free node entries f in
       let sum = ap (times x) (all-append entries ((to, node) ∷ [])) ∙ times-append x (all_nodes entries) (node ∷ []) in
       let was = s.once x in
       elim (cases_eq node x) [
@@ -148,7 +148,7 @@ module _ (nodes lists capacity : ℕ) (entries : List (ℕ × ℕ)) (s : IsPlain
       let more = times-one node x (λ e. omega arith) in
       omega arith
 
-  pub plain-room : (to node : ℕ) → node < nodes → IsFree (nodes_of entries) node → length entries < capacity
+  pub plain-room : (to node : ℕ) → node < nodes → ((l : ℕ) → times node (nodes_of entries l) ≡ 0) → length entries < capacity
   plain-room to node i f =
       let all = distinct-length nodes (all_nodes (entries ++ (to, node) ∷ [])) (pushed-once to node f) (pushed-below to node i) in
       let size = length-all (entries ++ (to, node) ∷ []) in
@@ -163,7 +163,7 @@ module _ (nodes lists capacity : ℕ) (entries : List (ℕ × ℕ)) (s : IsPlain
       let part = shorter entries l in
       omega arith
 
-  pub plain-push : (to node capacity' : ℕ) → to < lists → node < nodes → IsFree (nodes_of entries) node → capacity ≤ capacity' → IsPlain nodes lists capacity' (entries ++ (to, node) ∷ [])
+  pub plain-push : (to node capacity' : ℕ) → to < lists → node < nodes → ((l : ℕ) → times node (nodes_of entries l) ≡ 0) → capacity ≤ capacity' → IsPlain nodes lists capacity' (entries ++ (to, node) ∷ [])
   plain-push to node capacity' h i f c = record {
     once = pushed-once to node f;
     below = pushed-below to node i;
@@ -185,14 +185,14 @@ module _ (nodes lists capacity : ℕ) (entries : List (ℕ × ℕ)) (s : IsPlain
     room = s.room;
   }
 
-  pub plain-home : (x : ℕ) → MatchOption (home_in x entries) (IsFree (nodes_of entries) x) (λ h. IsHome lists (nodes_of entries) x h)
-  plain-home x = home-found lists x entries (s.once x) s.beyond
+  pub plain-home : (x : ℕ) → MatchOption (home_in x entries) (IsFree (lists_of nodes lists (nodes_of entries)) x) (λ h. IsHome (lists_of nodes lists (nodes_of entries)) x h)
+  plain-home x = home-found nodes lists x entries (s.once x) s.beyond
 
-  pub at-found : (x h : ℕ) → home_in x entries ≡ Some h → IsHome lists (nodes_of entries) x h
-  at-found x h e = subst (λ o. MatchOption o (IsFree (nodes_of entries) x) (λ k. IsHome lists (nodes_of entries) x k)) e (plain-home x)
+  pub at-found : (x h : ℕ) → home_in x entries ≡ Some h → IsHome (lists_of nodes lists (nodes_of entries)) x h
+  at-found x h e = subst (λ o. MatchOption o (IsFree (lists_of nodes lists (nodes_of entries)) x) (λ k. IsHome (lists_of nodes lists (nodes_of entries)) x k)) e (plain-home x)
 
-  pub at-lost : (x : ℕ) → home_in x entries ≡ None → IsFree (nodes_of entries) x
-  at-lost x e = subst (λ o. MatchOption o (IsFree (nodes_of entries) x) (λ k. IsHome lists (nodes_of entries) x k)) e (plain-home x)
+  pub at-lost : (x : ℕ) → home_in x entries ≡ None → IsFree (lists_of nodes lists (nodes_of entries)) x
+  at-lost x e = subst (λ o. MatchOption o (IsFree (lists_of nodes lists (nodes_of entries)) x) (λ k. IsHome (lists_of nodes lists (nodes_of entries)) x k)) e (plain-home x)
 
   pub only-home : (x h l : ℕ) → home_in x entries ≡ Some h → 0 < times x (nodes_of entries l) → h ≡ l
   only-home x h l e some = elim (cases_eq h l) [
@@ -200,14 +200,14 @@ module _ (nodes lists capacity : ℕ) (entries : List (ℕ × ℕ)) (s : IsPlain
     | inr d ↦ absurd (let t = (at-found x h e).times_is l ∙ cond_other h l 1 0 d in omega arith)
   ]
 
-  pub not-free : (x h : ℕ) → home_in x entries ≡ Some h → IsFree (nodes_of entries) x → ⊥
+  pub not-free : (x h : ℕ) → home_in x entries ≡ Some h → IsFree (lists_of nodes lists (nodes_of entries)) x → ⊥
   not-free x h e f = let t = (at-found x h e).times_is h ∙ cond_same h h 1 0 refl in let z = f.free h in omega arith
 
   pub in-none : (x l : ℕ) → home_in x entries ≡ None → 0 < times x (nodes_of entries l) → ⊥
   in-none x l e some = let z = (at-lost x e).free l in omega arith
 
   -- each node in at most one list and once
-  pub plain-are : AreLists nodes lists (nodes_of entries)
+  pub plain-are : AreLists (lists_of nodes lists (nodes_of entries))
   plain-are = record {
     below = λ l x h. elim (cases_lt x nodes) [
       | inl lt ↦ lt
@@ -223,5 +223,5 @@ module _ (nodes lists capacity : ℕ) (entries : List (ℕ × ℕ)) (s : IsPlain
       one-home l m x h k (Some p) e = sym (only-home x p l e h) ∙ only-home x p m e k
 
 -- the same of what a caller sees
-pub plain-kept : (nodes lists capacity : ℕ) (entries : List (ℕ × ℕ)) (v : Pairs) → ◌≡◌ {A = Pairs} (record { nodes = nodes; lists = lists; entries = entries }) v → IsPlain nodes lists capacity entries → AreLists v.nodes v.lists (nodes_of v.entries)
-plain-kept nodes lists capacity entries v view s = subst (λ w. AreLists w.nodes w.lists (nodes_of w.entries)) view (plain-are nodes lists capacity entries s)
+pub plain-kept : (nodes lists capacity : ℕ) (entries : List (ℕ × ℕ)) (v : Pairs) → ◌≡◌ {A = Pairs} (record { nodes = nodes; lists = lists; entries = entries }) v → IsPlain nodes lists capacity entries → AreLists (paired v)
+plain-kept nodes lists capacity entries v view s = subst (λ w. AreLists (paired w)) view (plain-are nodes lists capacity entries s)

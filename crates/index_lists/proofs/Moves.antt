@@ -1,21 +1,34 @@
 -- A node out of its list, from wherever it was.
-use Rattle.std.proofs.Common.{◌≡◌, ℕ, Bool, true, false, List, Option, Some, None, MatchOption, is_some, refl, sym, ap, ◌∙◌, arith}
-use Rattle.index_lists.specs.Lists.{times, without_node, IsFree, IsIn, IsHome}
+use Rattle.std.proofs.Common.{◌≡◌, ℕ, ◌==◌, ◌++◌, ◌∷◌, [], Bool, true, false, if◌then◌else◌, Option, Some, None, MatchOption, is_some, refl, sym, ap, ◌∙◌, arith}
+use Rattle.index_lists.specs.Lists.{Lists, times, IsFree, IsIn, IsHome, AreSame, pushed, unlinked, moved}
 use Rattle.index_lists.proofs.Times.{times-without_same, without-absent, cond_same}
 
-pub free-after : (list list' : ℕ → List ℕ) (node : ℕ) → ((l : ℕ) → list' l ≡ without_node node (list l)) → IsFree list' node
-free-after list list' node e = record { free = λ l. ap (times node) (e l) ∙ times-without_same node (list l) }
+pub free-after : (s s' : Lists) (node : ℕ) → AreSame s' (unlinked s node) → IsFree s' node
+free-after s s' node same = record { free = λ l. ap (times node) (same.same_list l) ∙ times-without_same node (s.list l) }
 
-pub same-without : (list : ℕ → List ℕ) (node : ℕ) → IsFree list node → (l : ℕ) → list l ≡ without_node node (list l)
-same-without list node f l = sym (without-absent node (list l) (f.free l))
+-- a node that is in no list need not be taken out
+pub same-without : (s : Lists) (node : ℕ) → IsFree s node → AreSame s (unlinked s node)
+same-without s node f = record {
+  same_nodes = refl;
+  same_lists = refl;
+  same_list = λ l. sym (without-absent node (s.list l) (f.free l));
+}
 
-pub free-at_none : (lists : ℕ) (list : ℕ → List ℕ) (node : ℕ) (home : Option ℕ) (b : Bool) → MatchOption home (IsFree list node) (λ h. IsHome lists list node h) → b ≡ is_some home → b ≡ false → IsFree list node
-free-at_none lists list node None b m e f = m
-free-at_none lists list node (Some h) b m e f = absurd (let d : true ≡ false = sym e ∙ f in cc)
+-- a node that was taken out is pushed
+pub moved-same : (s s' s'' : Lists) (node to : ℕ) → AreSame s' (unlinked s node) → AreSame s'' (pushed s' to node) → AreSame s'' (moved s node to)
+moved-same s s' s'' node to out in-again = record {
+  same_nodes = in-again.same_nodes ∙ out.same_nodes;
+  same_lists = in-again.same_lists ∙ out.same_lists;
+  same_list = λ l. in-again.same_list l ∙ ap (λ xs. if l == to then xs ++ node ∷ [] else xs) (out.same_list l);
+}
 
-pub in-at_home : (lists : ℕ) (list : ℕ → List ℕ) (node home : ℕ) → IsHome lists list node home → IsIn list node
-in-at_home lists list node home h = (home, (let t = h.times_is home ∙ cond_same home home 1 0 refl in omega arith))
+pub free-at_none : (s : Lists) (node : ℕ) (home : Option ℕ) (b : Bool) → MatchOption home (IsFree s node) (λ h. IsHome s node h) → b ≡ is_some home → b ≡ false → IsFree s node
+free-at_none s node None b m e f = m
+free-at_none s node (Some h) b m e f = absurd (let d : true ≡ false = sym e ∙ f in cc)
 
-pub in-at_some : (lists : ℕ) (list : ℕ → List ℕ) (node : ℕ) (home : Option ℕ) (b : Bool) → MatchOption home (IsFree list node) (λ h. IsHome lists list node h) → b ≡ is_some home → b ≡ true → IsIn list node
-in-at_some lists list node None b m e f = absurd (let d : false ≡ true = sym e ∙ f in cc)
-in-at_some lists list node (Some h) b m e f = in-at_home lists list node h m
+pub in-at_home : (s : Lists) (node home : ℕ) → IsHome s node home → IsIn s node
+in-at_home s node home h = (home, (let t = h.times_is home ∙ cond_same home home 1 0 refl in omega arith))
+
+pub in-at_some : (s : Lists) (node : ℕ) (home : Option ℕ) (b : Bool) → MatchOption home (IsFree s node) (λ h. IsHome s node h) → b ≡ is_some home → b ≡ true → IsIn s node
+in-at_some s node None b m e f = absurd (let d : false ≡ true = sym e ∙ f in cc)
+in-at_some s node (Some h) b m e f = in-at_home s node h m

@@ -3,7 +3,7 @@ use Rattle.std.proofs.Common.{◌≡◌, ℕ, ◌+◌, ◌<◌, ◌≤◌, inl, 
 use Rattle.std.proofs.lemmas.Bool.{cases_eq}
 use Rattle.std.specs.List.{count_by}
 use Rattle.std.proofs.lemmas.List.Recursion.{is_count_by}
-use Rattle.index_lists.specs.Lists.{times, AreLists}
+use Rattle.index_lists.specs.Lists.{Lists, times, AreLists}
 use Rattle.index_lists.proofs.Times.{same_is, times-here, times-more, times-rest}
 
 pub some_is : (x y : ℕ) → Some x ≡ Some y → x ≡ y
@@ -56,6 +56,6 @@ past-end (suc place) [] h e = absurd (omega arith)
 past-end (suc place) (x ∷ xs) h e = let rest = past-end place xs (omega arith) e in omega arith
 
 -- what is read off a list is below the number of nodes
-pub read-below : (nodes lists : ℕ) (list : ℕ → List ℕ) (l place : ℕ) (o : Option ℕ) → AreLists nodes lists list → o ≡ slice_get (list l) place → IfSome o (λ node. node < nodes)
-read-below nodes lists list l place None are e = tt
-read-below nodes lists list l place (Some node) are e = are.below l node (stands-at place node (list l) (sym e))
+pub read-below : (s : Lists) (l place : ℕ) (o : Option ℕ) → AreLists s → o ≡ slice_get (s.list l) place → IfSome o (λ node. node < s.nodes)
+read-below s l place None are e = tt
+read-below s l place (Some node) are e = are.below l node (stands-at place node (s.list l) (sym e))

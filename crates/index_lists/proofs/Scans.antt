@@ -1,7 +1,7 @@
 -- What is found by going through a list, by places.
 use Rattle.std.proofs.Common.{◌≡◌, ℕ, ◌+◌, ◌-◌, ◌<◌, ◌≤◌, ◌⊎◌, inl, inr, zero, suc, List, [], ◌∷◌, length, refl, sym, ◌∙◌, arith, add-one, Option, Some, None, IfSome, slice_get}
 use Rattle.std.proofs.lemmas.Bool.{cases_eq}
-use Rattle.index_lists.specs.Lists.{times, AreLists}
+use Rattle.index_lists.specs.Lists.{Lists, times, AreLists}
 use Rattle.index_lists.specs.Pairs.{after, before_from, last_from}
 use Rattle.index_lists.proofs.Times.{same_is, differ_is, times-more, times-here}
 use Rattle.index_lists.proofs.Places.{some_is, stands-at}
@@ -66,13 +66,13 @@ before-in front node other (x ∷ xs) e = elim (cases_eq x node) [
   ]
 ]
 
-pub after-below : (nodes lists : ℕ) (list : ℕ → List ℕ) (l node : ℕ) (o : Option ℕ) → AreLists nodes lists list → o ≡ after node (list l) → IfSome o (λ other. other < nodes)
-after-below nodes lists list l node None are e = tt
-after-below nodes lists list l node (Some other) are e = are.below l other (after-in node other (list l) (sym e))
+pub after-below : (s : Lists) (l node : ℕ) (o : Option ℕ) → AreLists s → o ≡ after node (s.list l) → IfSome o (λ other. other < s.nodes)
+after-below s l node None are e = tt
+after-below s l node (Some other) are e = are.below l other (after-in node other (s.list l) (sym e))
 
-pub before-below : (nodes lists : ℕ) (list : ℕ → List ℕ) (l node : ℕ) (o : Option ℕ) → AreLists nodes lists list → o ≡ before_from None node (list l) → IfSome o (λ other. other < nodes)
-before-below nodes lists list l node None are e = tt
-before-below nodes lists list l node (Some other) are e = elim (before-in None node other (list l) (sym e)) [
+pub before-below : (s : Lists) (l node : ℕ) (o : Option ℕ) → AreLists s → o ≡ before_from None node (s.list l) → IfSome o (λ other. other < s.nodes)
+before-below s l node None are e = tt
+before-below s l node (Some other) are e = elim (before-in None node other (s.list l) (sym e)) [
   | inl f ↦ absurd (cc f)
   | inr f ↦ are.below l other f
 ]

@@ -1,7 +1,7 @@
 -- All lists of a store under a push and an unlink.
 use Rattle.std.proofs.Common.{◌≡◌, ◌≢◌, ℕ, ◌+◌, ◌-◌, ◌<◌, ◌≤◌, ◌==◌, ◌⊎◌, inl, inr, cond, List, [], ◌∷◌, ◌++◌, length, refl, sym, ap, ◌∙◌, arith, length-append}
 use Rattle.std.proofs.lemmas.Bool.{cases_eq, cases_lt}
-use Rattle.index_lists.specs.Lists.{times, without_node, IsFree, AreLists}
+use Rattle.index_lists.specs.Lists.{times, without_node, AreLists, lists_of}
 use Rattle.index_lists.specs.Links.{follow, IsLinked, IsStore, skip}
 use Rattle.index_lists.proofs.Times.{same_is, differ_is, cond_same, cond_other, times-append, times-without_same, times-without_other, length-without, distinct-length, times-later}
 use Rattle.index_lists.proofs.Links.{linked-follow, length-follow, back, forth, head, tail, frame, linked-push, linked-unlink}
@@ -28,9 +28,9 @@ module _ (none nowhere : ℕ) (next prev home first last len : ℕ → ℕ) (lis
   pub away : (l x : ℕ) → l < nowhere → x < none → home x ≢ l → times x (list l) ≡ 0
   away l x h i ne = s.held l x h i ∙ cond_other (home x) l 1 0 ne
 
-  pub home-of_free : (x : ℕ) → x < none → IsFree list x → home x ≡ nowhere
+  pub home-of_free : (x : ℕ) → x < none → ((l : ℕ) → times x (list l) ≡ 0) → home x ≡ nowhere
   home-of_free x i f = elim (cases_lt (home x) nowhere) [
-    | inl lt ↦ absurd (let t = at-home-once (home x) x lt i refl in let z = f.free (home x) in omega arith)
+    | inl lt ↦ absurd (let t = at-home-once (home x) x lt i refl in let z = f (home x) in omega arith)
     | inr ge ↦ (let b = s.homes x i in omega arith)
   ]
 
@@ -51,7 +51,7 @@ module _ (none nowhere : ℕ) (next prev home first last len : ℕ → ℕ) (lis
   beyond_none l x before at (y ∷ ys) ge c = times-later y x ys (λ e. (let b = c.1 in omega arith)) ∙ beyond_none l x y (next y) ys ge c.3
 
   -- each node in at most one list and once
-  pub store-are : AreLists none nowhere list
+  pub store-are : AreLists (lists_of none nowhere list)
   store-are = record {
     below = held-below;
     once = λ l x. elim (cases_lt 0 (times x (list l))) [

@@ -1,6 +1,6 @@
 -- Lists kept by links.
 use Rattle.std.specs.Prelude.{◌≡◌, ℕ, ◌<◌, ◌≤◌, ◌==◌, cond, List, [], ◌∷◌, zero, suc, length, slice_index, Option, None, Some}
-use Rattle.index_lists.specs.Lists.{times}
+use Rattle.index_lists.specs.Lists.{Lists, times, lists_of}
 
 -- n nodes from a node on, along the links
 abbrev pub follow : (ℕ → ℕ) → ℕ → ℕ → List ℕ
@@ -45,6 +45,9 @@ pub record Chains : Type 0 where
 
 abbrev pub listed : Chains → ℕ → List ℕ
 listed c l = follow (slice_index c.next) (slice_index c.first l) (slice_index c.len l)
+
+abbrev pub chained : Chains → Lists
+chained c = lists_of c.nodes c.lists (listed c)
 
 -- a number that may stand for none
 abbrev pub unless_none : ℕ → ℕ → Option ℕ

@@ -1,6 +1,6 @@
 -- Lists kept as one list of pairs (list, node), and what is found by going through them from the front.
 use Rattle.std.specs.Prelude.{◌≡◌, ℕ, ◌≤◌, ◌==◌, Bool, List, [], ◌∷◌, Option, None, Some, if◌then◌else◌, map, filter, slice_get}
-use Rattle.index_lists.specs.Lists.{times}
+use Rattle.index_lists.specs.Lists.{Lists, times, lists_of}
 
 -- what a caller sees of the pairs
 pub record Pairs : Type 0 where
@@ -11,6 +11,9 @@ pub record Pairs : Type 0 where
 -- the nodes of the list l, in order
 abbrev pub nodes_of : List (ℕ × ℕ) → ℕ → List ℕ
 nodes_of entries l = map (λ e. e.1) (filter (λ e. e.0 == l) entries)
+
+abbrev pub paired : Pairs → Lists
+paired p = lists_of p.nodes p.lists (nodes_of p.entries)
 
 -- all nodes that stand in lists
 abbrev pub all_nodes : List (ℕ × ℕ) → List ℕ

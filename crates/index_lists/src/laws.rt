@@ -1,7 +1,7 @@
 //! Laws of lists of nodes, each the contract of a function without a body.
 
 ghost use Rattle.std.specs.Prelude.{◌≡◌, ◌≢◌, ℕ, ◌+◌, ◌<◌, ◌≤◌, ◌==◌, List, ◌∷◌, length, slice_get, count_by};
-ghost use Rattle.index_lists.specs.Lists.{times, without_node, IsHome, AreLists};
+ghost use Rattle.index_lists.specs.Lists.{Lists, times, without_node, IsHome, AreLists};
 
 /// A node stands in a list as often as there are places at which it stands.
 pub fn nodes_at_places()
@@ -15,11 +15,10 @@ pub fn nodes_at_places()
 /// A list has no more nodes than there are. A node that is in a list has that list as its home, and taking it out
 /// leaves each other list as it is.
 pub fn nodes_in_lists()
-    ensures fit { (nodes : ℕ) → (lists : ℕ) → (list : ℕ → List ℕ) → AreLists nodes lists list → (l : ℕ) → length (list l) ≤ nodes }
-    ensures home { (nodes : ℕ) → (lists : ℕ) → (list : ℕ → List ℕ) → AreLists nodes lists list → (l : ℕ) → (node : ℕ)
-        → 0 < times node (list l) → IsHome lists list node l }
-    ensures elsewhere { (nodes : ℕ) → (lists : ℕ) → (list : ℕ → List ℕ) → AreLists nodes lists list → (l : ℕ) → (m : ℕ) → (node : ℕ)
-        → 0 < times node (list l) → m ≢ l → without_node node (list m) ≡ list m }
+    ensures fit { (s : Lists) → AreLists s → (l : ℕ) → length (s.list l) ≤ s.nodes }
+    ensures home { (s : Lists) → AreLists s → (l : ℕ) → (node : ℕ) → 0 < times node (s.list l) → IsHome s node l }
+    ensures elsewhere { (s : Lists) → AreLists s → (l : ℕ) → (m : ℕ) → (node : ℕ)
+        → 0 < times node (s.list l) → m ≢ l → without_node node (s.list m) ≡ s.list m }
 {}
 
 /// What is left of a list without a node.

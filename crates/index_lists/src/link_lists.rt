@@ -1,7 +1,7 @@
 //! Lists linked both ways by index.
 
 ghost use Rattle.std.specs.Prelude.{◌≡◌, ℕ, ◌+◌, ◌-◌, ◌<◌, ◌≤◌, ◌==◌, ◌++◌, ◌∷◌, [], List, length, slice_get, slice_index, slice_set, cond, map};
-ghost use Rattle.index_lists.specs.Links.{Chains, listed, unless_none};
+ghost use Rattle.index_lists.specs.Links.{Chains, chained, unless_none};
 
 use crate::store::ListStore;
 use board_text::Memory;
@@ -31,11 +31,7 @@ impl Model for LinkLists {
 }
 
 impl ListStore for LinkLists {
-    ghost nodes = { λ s. s.nodes };
-
-    ghost lists = { λ s. s.lists };
-
-    ghost list = { listed };
+    ghost state = { chained };
 
     fn new(alloc: Global, node_count: u32, list_count: u32) -> Result<Self, Memory> {
         let loose = Node {

@@ -2,7 +2,7 @@
 
 ghost use Rattle.std.specs.Prelude.{◌≡◌, ℕ, ◌+◌, ◌<◌, ◌≤◌, ◌==◌, ◌++◌, ◌∷◌, [], List, length, slice_get, not, filter, count_by, vec_capacity};
 ghost use Rattle.index_lists.specs.Lists.{without_node};
-ghost use Rattle.index_lists.specs.Pairs.{Pairs, nodes_of, all_nodes, home_in, after, before_from, last_from};
+ghost use Rattle.index_lists.specs.Pairs.{Pairs, nodes_of, paired, home_in, after, before_from, last_from};
 
 use crate::store::ListStore;
 use board_text::Memory;
@@ -30,11 +30,7 @@ impl Model for PlainLists {
 }
 
 impl ListStore for PlainLists {
-    ghost nodes = { λ s. s.nodes };
-
-    ghost lists = { λ s. s.lists };
-
-    ghost list = { λ s. nodes_of s.entries };
+    ghost state = { paired };
 
     fn new(alloc: Global, node_count: u32, list_count: u32) -> Result<Self, Memory> {
         let entries = Vec::with_capacity(alloc, node_count as usize)?;

@@ -1,14 +1,15 @@
 -- The lists of a stage after a configuration is filed.
-use Rattle.std.proofs.Common.{◌≡◌, ◌≢◌, ℕ, ◌+◌, ◌<◌, ◌≤◌, ◌==◌, inl, inr, true, cond, zero, suc, refl, arith, sym, ap, ◌∙◌, List, [], ◌∷◌, ◌++◌, length, get_or, slice_index, slice_set, get_or-set_other, get_or-set_same}
+use Rattle.std.proofs.Common.{◌≡◌, ◌≢◌, ℕ, ◌+◌, ◌<◌, ◌≤◌, ◌==◌, subst, inl, inr, true, cond, zero, suc, refl, arith, sym, ap, ◌∙◌, List, [], ◌∷◌, ◌++◌, length, get_or, slice_index, slice_set, get_or-set_other, get_or-set_same}
 use Rattle.std.proofs.Math.ListN.{length-set}
 use Rattle.std.proofs.lemmas.Bool.{cases_lt}
 use Rattle.std.proofs.lemmas.List.{ext_get_or}
 use Rattle.std.proofs.lemmas.List.FromFn.{length-map-range_with_len, get_or-map-range_with_len}
-use Rattle.index_lists.specs.Lists.{times}
+use Rattle.index_lists.specs.Lists.{Lists, times, AreLists, AreSame, pushed}
 use Rattle.index_lists.proofs.Times.{cond_same, cond_other, times-append}
+use Rattle.board_text.specs.PlainBoard.{PlainBoard}
 use Rattle.positions.specs.Ranks.{configurations}
 use Rattle.retro_core.specs.Solving.{first_lists}
-use Rattle.retro_core.specs.Stage.{PlainStage, filed_at, listed, filed, IsFiled}
+use Rattle.retro_core.specs.Stage.{PlainStage, stage_of, filed_at, listed, filed, IsFiled}
 use Rattle.retro_core.specs.Tables.{is_open}
 use Rattle.retro_core.proofs.Lasting.{same_or_not}
 use Rattle.retro_core.proofs.Listed.{open_word, times_one, times_none}
@@ -21,39 +22,50 @@ past [] (suc i) h = refl
 past (x ∷ xs) zero h = absurd (omega arith)
 past (x ∷ xs) (suc i) h = past xs i (omega arith)
 
-pub list-shown : (count : ℕ) (list : ℕ → List ℕ) → ((l : ℕ) → count ≤ l → list l ≡ []) → (l : ℕ) → get_or (first_lists count list) l [] ≡ list l
-list-shown count list beyond l = elim (cases_lt l count) [
-  | inl inside ↦ get_or-map-range_with_len list 0 count l l [] inside (omega arith)
-  | inr outside ↦ past (first_lists count list) l (let size = length-map-range_with_len list 0 count in omega arith) ∙ sym (beyond l outside)
+pub list-shown : (s : Lists) → AreLists s → (l : ℕ) → get_or (first_lists s.lists s.list) l [] ≡ s.list l
+list-shown s are l = elim (cases_lt l s.lists) [
+  | inl inside ↦ get_or-map-range_with_len s.list 0 s.lists l l [] inside (omega arith)
+  | inr outside ↦ past (first_lists s.lists s.list) l (let size = length-map-range_with_len s.list 0 s.lists in omega arith) ∙ sym (are.beyond l outside)
 ]
 
--- a push at one list
-abbrev pub IsPush : (ℕ → List ℕ) → (ℕ → List ℕ) → ℕ → ℕ → Type 0
-IsPush list list' to node = (l : ℕ) → list' l ≡ cond (l == to) (list l ++ node ∷ []) (list l)
+-- what is filed at a value is a list of the store
+pub filed-shown : (b : PlainBoard) (value : ℕ) (values counts : List ℕ) (s : Lists) (strikes : List ℕ) (v : PlainStage)
+    → stage_of b value values counts s strikes ≡ v → AreLists s → (l : ℕ) → filed_at v l ≡ s.list l
+filed-shown b value values counts s strikes v view are l = ap (λ (w : PlainStage). filed_at w l) (sym view) ∙ list-shown s are l
 
-pub push-here : (list list' : ℕ → List ℕ) (to node : ℕ) → IsPush list list' to node → list' to ≡ list to ++ node ∷ []
-push-here list list' to node pushed = pushed to ∙ cond_same to to (list to ++ node ∷ []) (list to) refl
+-- ---- a push at one of the lists
 
-pub push-away : (list list' : ℕ → List ℕ) (to node l : ℕ) → IsPush list list' to node → l ≢ to → list' l ≡ list l
-push-away list list' to node l pushed d = pushed l ∙ cond_other l to (list l ++ node ∷ []) (list l) d
+module _ (s s' : Lists) (to node : ℕ) (same : AreSame s' (pushed s to node)) where
+  pub push-here : s'.list to ≡ s.list to ++ node ∷ []
+  push-here = same.same_list to ∙ cond_same to to (s.list to ++ node ∷ []) (s.list to) refl
 
--- a push sets one of the lists
-pub push-shown : (count : ℕ) (list list' : ℕ → List ℕ) (to node : ℕ) → to < count → IsPush list list' to node
-    → first_lists count list' ≡ slice_set (first_lists count list) to (get_or (first_lists count list) to [] ++ node ∷ [])
-push-shown count list list' to node inside pushed =
-    let size = length-map-range_with_len list 0 count in
-    let size' = length-map-range_with_len list' 0 count in
-    let before : get_or (first_lists count list) to [] ≡ list to = get_or-map-range_with_len list 0 count to to [] inside (omega arith) in
-    ext_get_or [] (first_lists count list') (slice_set (first_lists count list) to (get_or (first_lists count list) to [] ++ node ∷ []))
-    (size' ∙ sym (length-set (first_lists count list) to (get_or (first_lists count list) to [] ++ node ∷ []) ∙ size)) (λ i low.
-    let within : i < count = omega arith in
-    get_or-map-range_with_len list' 0 count i i [] within (omega arith) ∙ elim (same_or_not i to) [
-      | inl here ↦ ap list' here ∙ push-here list list' to node pushed ∙ ap (λ (xs : List ℕ). xs ++ node ∷ []) (sym before)
-          ∙ sym (ap (λ k. get_or (slice_set (first_lists count list) to (get_or (first_lists count list) to [] ++ node ∷ [])) k []) here
-          ∙ get_or-set_same (first_lists count list) to (get_or (first_lists count list) to [] ++ node ∷ []) [] (omega arith))
-      | inr away ↦ push-away list list' to node i pushed away
-          ∙ sym (get_or-set_other (first_lists count list) to i (get_or (first_lists count list) to [] ++ node ∷ []) [] away ∙ get_or-map-range_with_len list 0 count i i [] within (omega arith))
-    ])
+  push-away : (l : ℕ) → l ≢ to → s'.list l ≡ s.list l
+  push-away l d = same.same_list l ∙ cond_other l to (s.list l ++ node ∷ []) (s.list l) d
+
+  abbrev was : List (List ℕ)
+  was = first_lists s.lists s.list
+
+  abbrev longer : List ℕ
+  longer = get_or was to [] ++ node ∷ []
+
+  set-shown : to < s.lists → first_lists s.lists s'.list ≡ slice_set was to longer
+  set-shown inside =
+      let size = length-map-range_with_len s.list 0 s.lists in
+      let size' = length-map-range_with_len s'.list 0 s.lists in
+      let before : get_or was to [] ≡ s.list to = get_or-map-range_with_len s.list 0 s.lists to to [] inside (omega arith) in
+      ext_get_or [] (first_lists s.lists s'.list) (slice_set was to longer) (size' ∙ sym (length-set was to longer ∙ size)) (λ i low.
+      let within : i < s.lists = omega arith in
+      get_or-map-range_with_len s'.list 0 s.lists i i [] within (omega arith) ∙ elim (same_or_not i to) [
+        | inl here ↦ ap s'.list here ∙ push-here ∙ ap (λ (xs : List ℕ). xs ++ node ∷ []) (sym before)
+            ∙ sym (ap (λ k. get_or (slice_set was to longer) k []) here ∙ get_or-set_same was to longer [] (omega arith))
+        | inr away ↦ push-away i away ∙ sym (get_or-set_other was to i longer [] away ∙ get_or-map-range_with_len s.list 0 s.lists i i [] within (omega arith))
+      ])
+
+  pub push-shown : (b : PlainBoard) (value : ℕ) (values counts strikes : List ℕ) (v : PlainStage) → value ≡ to → to < s.lists
+      → stage_of b value values counts s strikes ≡ v → stage_of b value values counts s' strikes ≡ listed v node
+  push-shown b value values counts strikes v here inside view =
+      subst (λ (w : PlainStage). stage_of b value values counts s' strikes ≡ listed w node) view
+      (rw (same.same_lists, here) (ap (λ (bs : List (List ℕ)). record (stage_of b to values counts s strikes) { buckets = bs }) (set-shown inside)))
 
 -- ---- the stage after a configuration is listed
 

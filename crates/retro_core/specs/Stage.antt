@@ -1,6 +1,6 @@
 -- A stage as plain data, and what a round does to it.
 use Rattle.std.specs.Prelude.{◌≡◌, ◌≢◌, ℕ, suc, ◌+◌, ◌-◌, ◌<◌, ◌≤◌, ◌==◌, Bool, true, false, cond, List, [], ◌∷◌, ◌++◌, length, filter, AllPairs, slice_index, slice_index_or, slice_set}
-use Rattle.index_lists.specs.Lists.{times}
+use Rattle.index_lists.specs.Lists.{Lists, times}
 use Rattle.board_text.specs.PlainBoard.{PlainBoard, IsBoard}
 use Rattle.positions.specs.Ranks.{configurations}
 use Rattle.positions.specs.Gaps.{gaps}
@@ -19,6 +19,11 @@ pub record PlainStage : Type 0 where
   pub counts : List ℕ
   pub buckets : List (List ℕ)
   pub strikes : List ℕ
+
+-- the stage of these parts, of which the buckets stand in a store
+abbrev pub stage_of : PlainBoard → ℕ → List ℕ → List ℕ → Lists → List ℕ → PlainStage
+stage_of board value values counts stored strikes =
+    record { board = board; value = value; values = values; counts = counts; buckets = first_lists stored.lists stored.list; strikes = strikes }
 
 -- what is filed at a value, in order of filing
 abbrev pub filed_at : PlainStage → ℕ → List ℕ

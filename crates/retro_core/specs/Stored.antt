@@ -1,6 +1,6 @@
 -- What a stage keeps of its board, its dominators and its lists, whatever it does.
 use Rattle.std.specs.Prelude.{◌≡◌, ℕ, ◌+◌, ◌<◌, ◌≤◌, ◌==◌, cond, List, length, filter, Option, Some, None, slice_index}
-use Rattle.index_lists.specs.Lists.{AreLists}
+use Rattle.index_lists.specs.Lists.{Lists, AreLists}
 use Rattle.board_text.specs.PlainBoard.{PlainBoard, IsBoard}
 use Rattle.positions.specs.Ranks.{configurations, configuration_at}
 use Rattle.positions.specs.Gaps.{gaps, IsDominator}
@@ -24,10 +24,10 @@ pub record AreDominators (board : PlainBoard) (dominators : List ℕ) : Type 0 w
   pub each : (c : ℕ) → c < configurations board → IsSmallest (IsDominator board (configuration_at board c)) (known_pebble (slice_index dominators c))
 
 -- a store of a list for each value, of configurations
-pub record AreStored (board : PlainBoard) (nodes lists : ℕ) (list : ℕ → List ℕ) : Type 0 where
-  pub nodes_is : nodes ≡ configurations board
-  pub lists_is : lists ≡ configurations board + 1
-  pub are_lists : AreLists nodes lists list
+pub record AreStored (board : PlainBoard) (s : Lists) : Type 0 where
+  pub nodes_is : s.nodes ≡ configurations board
+  pub lists_is : s.lists ≡ configurations board + 1
+  pub are_lists : AreLists s
 
 -- those of a bucket that have a dominator, and how many stand in it
 pub record AreNext (board : PlainBoard) (bucket next : List ℕ) (filed : ℕ) : Type 0 where

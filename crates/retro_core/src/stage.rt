@@ -48,16 +48,16 @@ pub(crate) struct Stage<S: ListStore> {
 
 impl<S: ListStore> Model for Stage<S> {
     ghost use Rattle.std.specs.Prelude.{◌≡◌, ◌≤◌, length, vec_capacity};
-    ghost use Rattle.retro_core.specs.Solving.{first_lists};
-    ghost use Rattle.retro_core.specs.Stage.{PlainStage};
+    ghost use Rattle.retro_core.specs.Stage.{PlainStage, stage_of};
     ghost use Rattle.retro_core.specs.Stored.{IsSmall, AreWide, AreDominators, AreNext, AreStored, HasRoom};
 
     ghost Value = { PlainStage };
 
-    ghost view = { λ s. record { board = s.space; value = s.value; values = s.values.items; counts = s.counts.items; buckets = first_lists (S.lists s.buckets) (S.list s.buckets); strikes = s.strikes.items } };
+    ghost view = { λ s. stage_of s.space s.value s.values.items s.counts.items (S.state s.buckets) s.strikes.items };
 
-    ghost invariant = { λ s. IsSmall s.space s.value × AreWide s.space s.values.items s.counts.items × AreDominators s.space s.dominators.items × AreStored s.space (S.nodes s.buckets) (S.lists s.buckets) (S.list s.buckets)
-        × AreNext s.space (S.list s.buckets s.value) s.next.items s.filed × HasRoom s.space (vec_capacity s.strikes) (vec_capacity s.next) };
+    ghost invariant = { λ s. IsSmall s.space s.value × AreWide s.space s.values.items s.counts.items
+        × AreDominators s.space s.dominators.items × AreStored s.space (S.state s.buckets)
+        × AreNext s.space ((S.state s.buckets).list s.value) s.next.items s.filed × HasRoom s.space (vec_capacity s.strikes) (vec_capacity s.next) };
 }
 
 impl<S: ListStore> Stage<S> {

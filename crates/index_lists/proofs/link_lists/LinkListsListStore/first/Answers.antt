@@ -15,6 +15,6 @@ returns c =
     let shows = c.known.ensures ∙ sym (first-seen _ _ _ _ _ _ _ _ _ c.self.view_is c.self.invariant c.args.of c.index.result.now.first c.requires e) in
     record {
       first = shows;
-      below = read-below _ _ _ c.args.of 0 _ (lists-kept _ _ _ _ _ _ _ _ _ c.self.view_is c.self.invariant) shows;
+      below = read-below _ c.args.of 0 _ (lists-kept _ _ _ _ _ _ _ _ _ c.self.view_is c.self.invariant) shows;
       kept = lists-kept _ _ _ _ _ _ _ _ _ c.self.view_is c.self.invariant;
     }

@@ -15,9 +15,13 @@ invariant_of-result c =
     (empty-links n l)
 
 pub returns-clause-empty : goal.returns-clause-empty
-returns-clause-empty c = λ i.
+returns-clause-empty c =
     let ends = c.in_ok-ends.ensures.items_if_clones_equal (λ y e. e) in
-    empty-seen c.args.list_count i _ _ _ (ap (map (λ (x : Ends). x.len)) ends ∙ fields-alike (λ (x : Ends). x.len) c.args.list_count _)
+    record {
+      same_nodes = refl;
+      same_lists = refl;
+      same_list = λ i. empty-seen c.args.list_count i _ _ _ (ap (map (λ (x : Ends). x.len)) ends ∙ fields-alike (λ (x : Ends). x.len) c.args.list_count _);
+    }
 
 pub returns-clause-kept : goal.returns-clause-kept
 returns-clause-kept c = lists-kept _ _ _ _ _ _ _ _ _ refl (invariant_of-result c)

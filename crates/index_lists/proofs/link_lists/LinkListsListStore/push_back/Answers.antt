@@ -3,7 +3,7 @@ use Rattle.std.proofs.lemmas.List.{length-map}
 use Rattle.index_lists.specs.declared.link_lists.Node.{Node}
 use Rattle.index_lists.specs.declared.link_lists.Ends.{Ends}
 use Rattle.index_lists.proofs.Fields.{field-read}
-use Rattle.index_lists.proofs.Kept.{renumbered, pushed-are}
+use Rattle.index_lists.proofs.Kept.{pushed-are}
 use Rattle.index_lists.proofs.Calls.{lists-kept, last-in, push-room, push-written, push-shown}
 use Rattle.index_lists.proofs.link_lists.LinkListsListStore.push_back.Goals as goal
 use Rattle.index_lists.proofs.link_lists.LinkListsListStore.push_back.Goals.{After-index, After-append}
@@ -73,8 +73,12 @@ pub returns-clause-pushed : goal.returns-clause-pushed
 returns-clause-pushed c =
     let last = last-is (goal.at.returns-clause-pushed c).After-index in
     let done = (goal.at.returns-clause-pushed c).After-append in
-    push-shown _ _ _ _ _ _ _ _ _ c.self.view_is c.self.invariant c.args.to c.args.node _ _ c.requires.to_in c.requires.node_in c.requires.free last refl _ _ _ (nexts-are done) (firsts-are done) (lens-are done)
+    record {
+      same_nodes = ap (λ w. w.nodes) c.self.view_is;
+      same_lists = ap (λ w. w.lists) c.self.view_is;
+      same_list = push-shown _ _ _ _ _ _ _ _ _ c.self.view_is c.self.invariant c.args.to c.args.node _ _ c.requires.to_in c.requires.node_in c.requires.free last refl _ _ _ (nexts-are done) (firsts-are done) (lens-are done);
+    }
 
 pub returns-clause-kept : goal.returns-clause-kept
 returns-clause-kept c =
-    renumbered _ _ _ _ _ (ap (λ w. w.nodes) c.self.view_is) (ap (λ w. w.lists) c.self.view_is) (pushed-are _ _ _ (lists-kept _ _ _ _ _ _ _ _ _ c.self.view_is c.self.invariant) _ c.args.to c.args.node c.requires.to_in c.requires.node_in c.requires.free (returns-clause-pushed c))
+    pushed-are _ (lists-kept _ _ _ _ _ _ _ _ _ c.self.view_is c.self.invariant) _ c.args.to c.args.node c.requires.to_in c.requires.node_in c.requires.free (returns-clause-pushed c)

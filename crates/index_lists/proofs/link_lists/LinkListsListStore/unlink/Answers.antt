@@ -3,7 +3,7 @@ use Rattle.std.proofs.lemmas.List.{length-map}
 use Rattle.index_lists.specs.declared.link_lists.Node.{Node}
 use Rattle.index_lists.specs.declared.link_lists.Ends.{Ends}
 use Rattle.index_lists.proofs.Fields.{field-read}
-use Rattle.index_lists.proofs.Kept.{renumbered, unlinked-are}
+use Rattle.index_lists.proofs.Kept.{unlinked-are}
 use Rattle.index_lists.proofs.Calls.{lists-kept, home-in, before-in, behind-in, some-left, unlink-written, unlink-shown}
 use Rattle.index_lists.proofs.link_lists.LinkListsListStore.unlink.Goals as goal
 use Rattle.index_lists.proofs.link_lists.LinkListsListStore.unlink.Goals.{After-index, After-shorten}
@@ -158,9 +158,12 @@ pub returns-clause-unlinked : goal.returns-clause-unlinked
 returns-clause-unlinked c =
     let read = (goal.at.returns-clause-unlinked c).After-index in
     let done = (goal.at.returns-clause-unlinked c).After-shorten in
-    unlink-shown _ _ _ _ _ _ _ _ _ c.self.view_is c.self.invariant c.args.node _ _ _ c.requires.node_in c.requires.stands (home-is read) (prev-is read) (next-is read) _ refl _ _ _ _
-    (nexts-are done) (firsts-are done) (lasts-are done) (lens-are done)
+    record {
+      same_nodes = ap (λ w. w.nodes) c.self.view_is;
+      same_lists = ap (λ w. w.lists) c.self.view_is;
+      same_list = unlink-shown _ _ _ _ _ _ _ _ _ c.self.view_is c.self.invariant c.args.node _ _ _ c.requires.node_in c.requires.stands (home-is read) (prev-is read) (next-is read) _ refl _ _ _ _
+          (nexts-are done) (firsts-are done) (lasts-are done) (lens-are done);
+    }
 
 pub returns-clause-kept : goal.returns-clause-kept
-returns-clause-kept c =
-    renumbered _ _ _ _ _ (ap (λ w. w.nodes) c.self.view_is) (ap (λ w. w.lists) c.self.view_is) (unlinked-are _ _ _ (lists-kept _ _ _ _ _ _ _ _ _ c.self.view_is c.self.invariant) _ c.args.node (returns-clause-unlinked c))
+returns-clause-kept c = unlinked-are _ (lists-kept _ _ _ _ _ _ _ _ _ c.self.view_is c.self.invariant) _ c.args.node (returns-clause-unlinked c)

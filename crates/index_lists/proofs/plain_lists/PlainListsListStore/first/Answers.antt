@@ -1,5 +1,5 @@
 use Rattle.std.proofs.Common.{◌∙◌, ap, slice_get}
-use Rattle.index_lists.specs.Pairs.{nodes_of}
+use Rattle.index_lists.specs.Pairs.{nodes_of, paired}
 use Rattle.index_lists.proofs.Places.{read-below}
 use Rattle.index_lists.proofs.Entries.{plain-kept}
 use Rattle.index_lists.proofs.plain_lists.PlainListsListStore.first.Goals as goal
@@ -10,6 +10,6 @@ returns c =
     let shows = c.first_of.ensures ∙ ap (λ es. slice_get (nodes_of es c.args.of) 0) (c.deref.ensures.value ∙ view) in
     record {
       first = shows;
-      below = read-below _ _ (nodes_of c.args.self.now.entries) c.args.of 0 _ (plain-kept _ _ _ _ _ c.self.view_is c.self.invariant) shows;
+      below = read-below (paired c.args.self.now) c.args.of 0 _ (plain-kept _ _ _ _ _ c.self.view_is c.self.invariant) shows;
       kept = plain-kept _ _ _ _ _ c.self.view_is c.self.invariant;
     }

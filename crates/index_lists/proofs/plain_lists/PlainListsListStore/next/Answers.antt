@@ -1,6 +1,6 @@
 use Rattle.std.proofs.Common.{◌≡◌, ℕ, ◌<◌, ◌∙◌, ap, sym, subst, Some, None}
-use Rattle.index_lists.specs.Lists.{times, IsFree}
-use Rattle.index_lists.specs.Pairs.{nodes_of, home_in, after}
+use Rattle.index_lists.specs.Lists.{times}
+use Rattle.index_lists.specs.Pairs.{nodes_of, paired, home_in, after}
 use Rattle.index_lists.proofs.Places.{stands-at}
 use Rattle.index_lists.proofs.Scans.{after-place, after-below}
 use Rattle.index_lists.proofs.Entries.{only-home, not-free, in-none, plain-kept}
@@ -15,8 +15,8 @@ returns-in-Some c =
     let here : (l : ℕ) → 0 < times c.args.node (nodes_of c.args.self.now.entries l) → after c.args.node (nodes_of c.args.self.now.entries c.in-Some.home) ≡ after c.args.node (nodes_of c.args.self.now.entries l) = λ l some. ap (λ h. after c.args.node (nodes_of c.args.self.now.entries h)) (only-home _ _ _ _ c.self.invariant c.args.node c.in-Some.home l found (subst (λ es. 0 < times c.args.node (nodes_of es l)) (sym view) some)) in
     record {
       behind = λ l place stands. shows ∙ here l (stands-at place c.args.node _ stands) ∙ after-place place c.args.node (nodes_of c.args.self.now.entries l) (kept.once l c.args.node) stands;
-      free = λ free. absurd (not-free _ _ _ _ c.self.invariant c.args.node c.in-Some.home found (subst (λ es. IsFree (nodes_of es) c.args.node) (sym view) free));
-      below = after-below _ _ (nodes_of c.args.self.now.entries) c.in-Some.home c.args.node _ kept shows;
+      free = λ free. absurd (not-free _ _ _ _ c.self.invariant c.args.node c.in-Some.home found (record { free = subst (λ es. (l : ℕ) → times c.args.node (nodes_of es l) ≡ 0) (sym view) free.free }));
+      below = after-below (paired c.args.self.now) c.in-Some.home c.args.node _ kept shows;
       kept = kept;
     }
 

@@ -1,6 +1,6 @@
 use Rattle.std.proofs.Common.{◌≡◌, ℕ, ◌+◌, ◌<◌, ◌∙◌, ap, sym, subst, Some, None}
-use Rattle.index_lists.specs.Lists.{times, IsFree}
-use Rattle.index_lists.specs.Pairs.{nodes_of, home_in, before_from}
+use Rattle.index_lists.specs.Lists.{times}
+use Rattle.index_lists.specs.Pairs.{nodes_of, paired, home_in, before_from}
 use Rattle.index_lists.proofs.Places.{stands-at}
 use Rattle.index_lists.proofs.Scans.{before-place, before-front, before-below}
 use Rattle.index_lists.proofs.Entries.{only-home, not-free, in-none, plain-kept}
@@ -16,8 +16,8 @@ returns-in-Some c =
     record {
       before = λ l place stands. shows ∙ here l (stands-at (place + 1) c.args.node _ stands) ∙ before-place None place c.args.node (nodes_of c.args.self.now.entries l) (kept.once l c.args.node) stands;
       first = λ l stands. shows ∙ here l (stands-at 0 c.args.node _ stands) ∙ before-front None c.args.node (nodes_of c.args.self.now.entries l) stands;
-      free = λ free. absurd (not-free _ _ _ _ c.self.invariant c.args.node c.in-Some.home found (subst (λ es. IsFree (nodes_of es) c.args.node) (sym view) free));
-      below = before-below _ _ (nodes_of c.args.self.now.entries) c.in-Some.home c.args.node _ kept shows;
+      free = λ free. absurd (not-free _ _ _ _ c.self.invariant c.args.node c.in-Some.home found (record { free = subst (λ es. (l : ℕ) → times c.args.node (nodes_of es l) ≡ 0) (sym view) free.free }));
+      below = before-below (paired c.args.self.now) c.in-Some.home c.args.node _ kept shows;
       kept = kept;
     }
 

@@ -1,4 +1,4 @@
-use Rattle.std.proofs.Common.{◌≡◌, ◌<◌, ◌≤◌, ◌++◌, ◌∷◌, [], ℕ, Bool, List, length, sym, ap, ◌∙◌, subst, arith}
+use Rattle.std.proofs.Common.{◌≡◌, ◌<◌, ◌≤◌, ◌++◌, ◌∷◌, [], ℕ, Bool, List, length, sym, ap, ◌∙◌, arith, refl}
 use Rattle.std.specs.List.{filter}
 use Rattle.std.proofs.lemmas.List.{length_push, get_or_read}
 use Rattle.std.proofs.lemmas.List.Sums.{length-filter, count_by-le-length}
@@ -7,18 +7,13 @@ use Rattle.index_lists.proofs.Kept.{fits}
 use Rattle.positions.specs.Ranks.{configurations}
 use Rattle.retro_core.specs.Arena.{dominated}
 use Rattle.retro_core.specs.BoardArena.{arena_of}
-use Rattle.retro_core.specs.Solving.{first_lists}
-use Rattle.retro_core.specs.Stage.{PlainStage, filed_at, listed}
-use Rattle.retro_core.proofs.Filing.{list-shown, push-here, push-shown}
+use Rattle.retro_core.proofs.Filing.{filed-shown, push-here, push-shown}
 use Rattle.retro_core.proofs.Dominated.{next-more, next-same, some-dominator, dominated-by, no-dominator}
 use Rattle.retro_core.proofs.stage.Stage.list.Goals as goal
 
 pub push_back-requires-clause-free : goal.push_back-requires-clause-free
 push_back-requires-clause-free g c =
-    let s = c.self.inside in
-    let stored = c.self.invariant.3 in
-    let free = subst (λ (v : PlainStage). (l : ℕ) → times c.args.rank (filed_at v l) ≡ 0) (sym c.self.view_is) c.requires.free in
-    record { free = λ l. ap (times c.args.rank) (sym (list-shown _ (g.S.ListStore.list s.buckets) stored.are_lists.beyond l)) ∙ free l }
+    record { free = λ l. ap (times c.args.rank) (sym (filed-shown _ _ _ _ _ _ _ c.self.view_is c.self.invariant.3.are_lists l)) ∙ c.requires.free l }
 
 -- a list is longer by one, and no longer than there are nodes
 longer : (n : ℕ) (bucket bucket' : List ℕ) (rank : ℕ) → bucket' ≡ bucket ++ rank ∷ [] → length bucket' ≤ n → length bucket < n
@@ -29,10 +24,10 @@ overflow_add-self g c =
     let s = c.self.inside in
     let e = c.push_back.ensures in
     let few = c.self.invariant.0.few in
-    let most = fits _ _ _ e.kept s.value in
+    let most = fits _ e.kept s.value in
     let less = longer _ _ _ c.args.rank (push-here _ _ s.value c.args.rank e.pushed) most in
     let filed = c.self.invariant.4.filed_is in
-    omega (arith, few, less, filed, e.nodes_same, c.self.invariant.3.nodes_is)
+    omega (arith, few, less, filed, e.pushed.same_nodes, c.self.invariant.3.nodes_is)
 
 -- so many of a list
 few-filtered : (test : ℕ → Bool) (xs ys : List ℕ) → ys ≡ filter test xs → length ys ≤ length xs
@@ -42,10 +37,10 @@ pub push_reserved-requires : goal.push_reserved-requires
 push_reserved-requires g c =
     let s = c.self.inside in
     let e = c.push_back.ensures in
-    let less = longer _ _ _ c.args.rank (push-here _ _ s.value c.args.rank e.pushed) (fits _ _ _ e.kept s.value) in
-    let short = few-filtered (dominated (arena_of s.space)) (g.S.ListStore.list s.buckets s.value) s.next.items c.self.invariant.4.next_are in
+    let less = longer _ _ _ c.args.rank (push-here _ _ s.value c.args.rank e.pushed) (fits _ e.kept s.value) in
+    let short = few-filtered (dominated (arena_of s.space)) ((g.S.ListStore.state s.buckets).list s.value) s.next.items c.self.invariant.4.next_are in
     let room = c.self.invariant.5.for_next in
-    omega (arith, less, short, room, e.nodes_same, c.self.invariant.3.nodes_is)
+    omega (arith, less, short, room, e.pushed.same_nodes, c.self.invariant.3.nodes_is)
 
 pub invariant_of-self : goal.invariant_of-self
 invariant_of-self g c =
@@ -58,7 +53,7 @@ invariant_of-self g c =
       c.self.invariant.0,
       c.self.invariant.1,
       c.self.invariant.2,
-      record { nodes_is = e.nodes_same ∙ c.self.invariant.3.nodes_is; lists_is = e.lists_same ∙ c.self.invariant.3.lists_is; are_lists = e.kept },
+      record { nodes_is = e.pushed.same_nodes ∙ c.self.invariant.3.nodes_is; lists_is = e.pushed.same_lists ∙ c.self.invariant.3.lists_is; are_lists = e.kept },
       rw c.push_reserved.ensures.items (next-more s.space _ _ _ _ c.args.rank (push-here _ _ s.value c.args.rank e.pushed) (dominated-by (arena_of s.space) c.args.rank _ dominates) c.self.invariant.4),
       rw c.push_reserved.ensures.capacity c.self.invariant.5,
     )
@@ -74,27 +69,17 @@ invariant_of-self-else-index g c =
       c.self.invariant.0,
       c.self.invariant.1,
       c.self.invariant.2,
-      record { nodes_is = e.nodes_same ∙ c.self.invariant.3.nodes_is; lists_is = e.lists_same ∙ c.self.invariant.3.lists_is; are_lists = e.kept },
+      record { nodes_is = e.pushed.same_nodes ∙ c.self.invariant.3.nodes_is; lists_is = e.pushed.same_lists ∙ c.self.invariant.3.lists_is; are_lists = e.kept },
       next-same s.space _ _ _ _ c.args.rank (push-here _ _ s.value c.args.rank e.pushed) none c.self.invariant.4,
       c.self.invariant.5,
     )
 
 pub returns-then-index : goal.returns-then-index
 returns-then-index g c =
-    let s = c.self.inside in
-    let e = c.push_back.ensures in
-    let low = c.self.invariant.0.low in
-    let inside : s.value < g.S.ListStore.lists s.buckets = omega (arith, low, c.self.invariant.3.lists_is) in
-    subst (λ (v : PlainStage). (record { board = s.space; value = s.value; values = s.values.items; counts = s.counts.items; buckets = first_lists (g.S.ListStore.lists c.push_back.new.self) (g.S.ListStore.list c.push_back.new.self); strikes = s.strikes.items }) ≡ listed v c.args.rank) c.self.view_is
-    (rw e.lists_same (ap (λ (bs : List (List ℕ)). record { board = s.space; value = s.value; values = s.values.items; counts = s.counts.items; buckets = bs; strikes = s.strikes.items })
-    (push-shown (g.S.ListStore.lists s.buckets) _ _ s.value c.args.rank inside e.pushed)))
+    let inside : c.self.inside.value < (g.S.ListStore.state c.self.inside.buckets).lists = omega (arith, c.self.invariant.0.low, c.self.invariant.3.lists_is) in
+    push-shown _ _ c.self.inside.value c.args.rank c.push_back.ensures.pushed _ _ _ _ _ _ refl inside c.self.view_is
 
 pub returns-else-index : goal.returns-else-index
 returns-else-index g c =
-    let s = c.self.inside in
-    let e = c.push_back.ensures in
-    let low = c.self.invariant.0.low in
-    let inside : s.value < g.S.ListStore.lists s.buckets = omega (arith, low, c.self.invariant.3.lists_is) in
-    subst (λ (v : PlainStage). (record { board = s.space; value = s.value; values = s.values.items; counts = s.counts.items; buckets = first_lists (g.S.ListStore.lists c.push_back.new.self) (g.S.ListStore.list c.push_back.new.self); strikes = s.strikes.items }) ≡ listed v c.args.rank) c.self.view_is
-    (rw e.lists_same (ap (λ (bs : List (List ℕ)). record { board = s.space; value = s.value; values = s.values.items; counts = s.counts.items; buckets = bs; strikes = s.strikes.items })
-    (push-shown (g.S.ListStore.lists s.buckets) _ _ s.value c.args.rank inside e.pushed)))
+    let inside : c.self.inside.value < (g.S.ListStore.state c.self.inside.buckets).lists = omega (arith, c.self.invariant.0.low, c.self.invariant.3.lists_is) in
+    push-shown _ _ c.self.inside.value c.args.rank c.push_back.ensures.pushed _ _ _ _ _ _ refl inside c.self.view_is

@@ -3,9 +3,8 @@ use Rattle.std.specs.List.{filter}
 use Rattle.positions.specs.Ranks.{configurations}
 use Rattle.retro_core.specs.Arena.{dominated}
 use Rattle.retro_core.specs.BoardArena.{arena_of}
-use Rattle.retro_core.specs.Solving.{first_lists}
-use Rattle.retro_core.specs.Stage.{PlainStage, filed_at, turned}
-use Rattle.retro_core.proofs.Filing.{list-shown}
+use Rattle.retro_core.specs.Stage.{PlainStage, stage_of, filed_at, turned}
+use Rattle.retro_core.proofs.Filing.{list-shown, filed-shown}
 use Rattle.retro_core.proofs.stage.Stage.turn.Goals as goal
 
 pub invariant_of-self : goal.invariant_of-self
@@ -13,10 +12,9 @@ invariant_of-self g c =
     let s = c.self.inside in
     let small = c.self.invariant.0 in
     let low : s.value < configurations s.space = subst (λ (v : PlainStage). v.value < configurations v.board) (sym c.self.view_is) c.requires.value in
-    let shown = list-shown _ (g.S.ListStore.list s.buckets) c.self.invariant.3.are_lists.beyond (s.value + 1) in
-    let later : filed_at c.args.self.now (suc c.args.self.now.value) ≡ [] = c.requires.none_later in
-    let none : g.S.ListStore.list s.buckets (s.value + 1) ≡ [] =
-    sym shown ∙ ap (λ (v : PlainStage). filed_at v (v.value + 1)) c.self.view_is ∙ ap (filed_at c.args.self.now) (add-one c.args.self.now.value) ∙ later in (
+    let next : s.value + 1 ≡ suc c.args.self.now.value = add-one s.value ∙ ap (λ (v : PlainStage). suc v.value) c.self.view_is in
+    let none : (g.S.ListStore.state s.buckets).list (s.value + 1) ≡ [] =
+    sym (filed-shown _ _ _ _ _ _ _ c.self.view_is c.self.invariant.3.are_lists (s.value + 1)) ∙ ap (filed_at c.args.self.now) next ∙ c.requires.none_later in (
       record { is_board = small.is_board; few = small.few; low = omega arith },
       c.self.invariant.1,
       c.self.invariant.2,
@@ -27,15 +25,16 @@ invariant_of-self g c =
 
 pub returns-clause-filed : goal.returns-clause-filed
 returns-clause-filed g c =
-    let s = c.self.inside in
-    subst (λ (v : PlainStage). c.replace.result ≡ length (filed_at v v.value)) c.self.view_is
-    (c.replace.ensures.value ∙ c.self.invariant.4.filed_is ∙ sym (ap length (list-shown _ (g.S.ListStore.list s.buckets) c.self.invariant.3.are_lists.beyond s.value)))
+    rw (← ap (λ (v : PlainStage). v.value) c.self.view_is)
+    (c.replace.ensures.value ∙ c.self.invariant.4.filed_is ∙ sym (ap length (filed-shown _ _ _ _ _ _ _ c.self.view_is c.self.invariant.3.are_lists c.self.inside.value)))
 
 pub returns-clause-turned : goal.returns-clause-turned
 returns-clause-turned g c =
     let s = c.self.inside in
-    let strikes : c.swap.new.x.items ≡ filter (dominated (arena_of s.space)) (filed_at (record { board = s.space; value = s.value; values = s.values.items; counts = s.counts.items; buckets = first_lists (g.S.ListStore.lists s.buckets) (g.S.ListStore.list s.buckets); strikes = s.strikes.items }) s.value) =
+    let stored = g.S.ListStore.state s.buckets in
+    let was : PlainStage = stage_of s.space s.value s.values.items s.counts.items stored s.strikes.items in
+    let strikes : c.swap.new.x.items ≡ filter (dominated (arena_of s.space)) (filed_at was s.value) =
     ap (λ v. v.items) c.swap.ensures.x_after ∙ c.self.invariant.4.next_are
-    ∙ sym (ap (filter (dominated (arena_of s.space))) (list-shown _ (g.S.ListStore.list s.buckets) c.self.invariant.3.are_lists.beyond s.value)) in
-    subst (λ (v : PlainStage). (record { board = s.space; value = s.value + 1; values = s.values.items; counts = s.counts.items; buckets = first_lists (g.S.ListStore.lists s.buckets) (g.S.ListStore.list s.buckets); strikes = c.swap.new.x.items }) ≡ turned v) c.self.view_is
-    (ap (λ (xs : List ℕ). record { board = s.space; value = s.value + 1; values = s.values.items; counts = s.counts.items; buckets = first_lists (g.S.ListStore.lists s.buckets) (g.S.ListStore.list s.buckets); strikes = xs }) strikes)
+    ∙ sym (ap (filter (dominated (arena_of s.space))) (list-shown stored c.self.invariant.3.are_lists s.value)) in
+    subst (λ (v : PlainStage). stage_of s.space (s.value + 1) s.values.items s.counts.items stored c.swap.new.x.items ≡ turned v) c.self.view_is
+    (ap (stage_of s.space (s.value + 1) s.values.items s.counts.items stored) strikes)
