@@ -5,7 +5,7 @@ use Rattle.std.specs.List.{filter, count_by}
 use Rattle.std.proofs.lemmas.List.{length-map}
 use Rattle.std.proofs.lemmas.List.Sums.{length-filter}
 use Rattle.index_lists.specs.Lists.{times, without_node, IsFree, IsHome, AreLists, lists_of}
-use Rattle.index_lists.specs.Pairs.{Pairs, nodes_of, paired, all_nodes, home_in, IsPlain}
+use Rattle.index_lists.specs.Pairs.{Pairs, nodes_of, paired, all_nodes, home_in, ArePlain}
 use Rattle.index_lists.proofs.Times.{same_is, differ_is, cond_same, cond_other, times-here, times-later, times-append, times-without_same, times-without_other, distinct-length}
 
 -- the first entry is of the list
@@ -127,101 +127,90 @@ length-all : (entries : List (ℕ × ℕ)) → length (all_nodes entries) ≡ le
 length-all [] = refl
 length-all (e ∷ entries) = ap suc (length-all entries)
 
-module _ (nodes lists capacity : ℕ) (entries : List (ℕ × ℕ)) (s : IsPlain nodes lists capacity entries) where
+module _ (p : Pairs) (s : ArePlain p) where
   times-one : (node x : ℕ) → node ≢ x → times x (node ∷ []) ≡ 0
   times-one node x d = times-later node x [] d
 
-  pushed-once : (to node : ℕ) → ((l : ℕ) → times node (nodes_of entries l) ≡ 0) → (x : ℕ) → times x (all_nodes (entries ++ (to, node) ∷ [])) ≤ 1
+  pushed-once : (to node : ℕ) → ((l : ℕ) → times node (nodes_of p.entries l) ≡ 0) → (x : ℕ) → times x (all_nodes (p.entries ++ (to, node) ∷ [])) ≤ 1
   pushed-once to node f x =
-      let none = none-of_free node entries f in
-      let sum = ap (times x) (all-append entries ((to, node) ∷ [])) ∙ times-append x (all_nodes entries) (node ∷ []) in
+      let none = none-of_free node p.entries f in
+      let sum = ap (times x) (all-append p.entries ((to, node) ∷ [])) ∙ times-append x (all_nodes p.entries) (node ∷ []) in
       let was = s.once x in
       elim (cases_eq node x) [
-        | inl d ↦ (let one : times x (node ∷ []) ≡ 1 = rw (same_is node x d) refl in let z : times x (all_nodes entries) ≡ 0 = rw (← d) none in omega arith)
+        | inl d ↦ (let one : times x (node ∷ []) ≡ 1 = rw (same_is node x d) refl in let z : times x (all_nodes p.entries) ≡ 0 = rw (← d) none in omega arith)
         | inr d ↦ (let zero_more = times-one node x d in omega arith)
       ]
 
-  pushed-below : (to node : ℕ) → node < nodes → (x : ℕ) → nodes ≤ x → times x (all_nodes (entries ++ (to, node) ∷ [])) ≡ 0
+  pushed-below : (to node : ℕ) → node < p.nodes → (x : ℕ) → p.nodes ≤ x → times x (all_nodes (p.entries ++ (to, node) ∷ [])) ≡ 0
   pushed-below to node i x g =
-      let sum = ap (times x) (all-append entries ((to, node) ∷ [])) ∙ times-append x (all_nodes entries) (node ∷ []) in
+      let sum = ap (times x) (all-append p.entries ((to, node) ∷ [])) ∙ times-append x (all_nodes p.entries) (node ∷ []) in
       let was = s.below x g in
       let more = times-one node x (λ e. omega arith) in
       omega arith
 
-  pub plain-room : (to node : ℕ) → node < nodes → ((l : ℕ) → times node (nodes_of entries l) ≡ 0) → length entries < capacity
+  pub plain-room : (to node : ℕ) → node < p.nodes → ((l : ℕ) → times node (nodes_of p.entries l) ≡ 0) → length p.entries < p.nodes
   plain-room to node i f =
-      let all = distinct-length nodes (all_nodes (entries ++ (to, node) ∷ [])) (pushed-once to node f) (pushed-below to node i) in
-      let size = length-all (entries ++ (to, node) ∷ []) in
-      let size2 = length-append entries ((to, node) ∷ []) in
-      let r = s.room in
+      let all = distinct-length p.nodes (all_nodes (p.entries ++ (to, node) ∷ [])) (pushed-once to node f) (pushed-below to node i) in
+      let size = length-all (p.entries ++ (to, node) ∷ []) in
+      let size2 = length-append p.entries ((to, node) ∷ []) in
       omega arith
 
-  pub plain-few : (l : ℕ) → length (nodes_of entries l) ≤ nodes
-  plain-few l =
-      let all = distinct-length nodes (all_nodes entries) s.once s.below in
-      let size = length-all entries in
-      let part = shorter entries l in
-      omega arith
+  pub plain-few : length p.entries ≤ p.nodes
+  plain-few = let all = distinct-length p.nodes (all_nodes p.entries) s.once s.below in let size = length-all p.entries in omega arith
 
-  pub plain-push : (to node capacity' : ℕ) → to < lists → node < nodes → ((l : ℕ) → times node (nodes_of entries l) ≡ 0) → capacity ≤ capacity' → IsPlain nodes lists capacity' (entries ++ (to, node) ∷ [])
-  plain-push to node capacity' h i f c = record {
+  pub plain-push : (to node : ℕ) → to < p.lists → node < p.nodes → ((l : ℕ) → times node (nodes_of p.entries l) ≡ 0) → ArePlain (record p { entries = p.entries ++ (to, node) ∷ [] })
+  plain-push to node h i f = record {
     once = pushed-once to node f;
     below = pushed-below to node i;
-    beyond = λ l g. nodes-push to node l entries ∙ cond_other l to (nodes_of entries l ++ node ∷ []) (nodes_of entries l) (λ e. omega arith) ∙ s.beyond l g;
-    room = (let r = s.room in omega arith);
+    beyond = λ l g. nodes-push to node l p.entries ∙ cond_other l to (nodes_of p.entries l ++ node ∷ []) (nodes_of p.entries l) (λ e. omega arith) ∙ s.beyond l g;
   }
 
-  pub plain-unlink : (node : ℕ) → IsPlain nodes lists capacity (filter (λ e. not (e.1 == node)) entries)
+  pub plain-unlink : (node : ℕ) → ArePlain (record p { entries = filter (λ e. not (e.1 == node)) p.entries })
   plain-unlink node = record {
-    once = λ x. rw (all_without node entries) (elim (cases_eq x node) [
-      | inl e ↦ rw e (let z = times-without_same node (all_nodes entries) in omega arith)
-      | inr d ↦ (let z = times-without_other node x (all_nodes entries) d in let o = s.once x in omega arith)
+    once = λ x. rw (all_without node p.entries) (elim (cases_eq x node) [
+      | inl e ↦ rw e (let z = times-without_same node (all_nodes p.entries) in omega arith)
+      | inr d ↦ (let z = times-without_other node x (all_nodes p.entries) d in let o = s.once x in omega arith)
     ]);
-    below = λ x g. rw (all_without node entries) (elim (cases_eq x node) [
-      | inl e ↦ rw e (times-without_same node (all_nodes entries))
-      | inr d ↦ times-without_other node x (all_nodes entries) d ∙ s.below x g
+    below = λ x g. rw (all_without node p.entries) (elim (cases_eq x node) [
+      | inl e ↦ rw e (times-without_same node (all_nodes p.entries))
+      | inr d ↦ times-without_other node x (all_nodes p.entries) d ∙ s.below x g
     ]);
-    beyond = λ l g. nodes_without node entries l ∙ ap (without_node node) (s.beyond l g);
-    room = s.room;
+    beyond = λ l g. nodes_without node p.entries l ∙ ap (without_node node) (s.beyond l g);
   }
 
-  pub plain-home : (x : ℕ) → MatchOption (home_in x entries) (IsFree (lists_of nodes lists (nodes_of entries)) x) (λ h. IsHome (lists_of nodes lists (nodes_of entries)) x h)
-  plain-home x = home-found nodes lists x entries (s.once x) s.beyond
+  pub plain-home : (x : ℕ) → MatchOption (home_in x p.entries) (IsFree (paired p) x) (λ h. IsHome (paired p) x h)
+  plain-home x = home-found p.nodes p.lists x p.entries (s.once x) s.beyond
 
-  pub at-found : (x h : ℕ) → home_in x entries ≡ Some h → IsHome (lists_of nodes lists (nodes_of entries)) x h
-  at-found x h e = subst (λ o. MatchOption o (IsFree (lists_of nodes lists (nodes_of entries)) x) (λ k. IsHome (lists_of nodes lists (nodes_of entries)) x k)) e (plain-home x)
+  pub at-found : (x h : ℕ) → home_in x p.entries ≡ Some h → IsHome (paired p) x h
+  at-found x h e = subst (λ o. MatchOption o (IsFree (paired p) x) (λ k. IsHome (paired p) x k)) e (plain-home x)
 
-  pub at-lost : (x : ℕ) → home_in x entries ≡ None → IsFree (lists_of nodes lists (nodes_of entries)) x
-  at-lost x e = subst (λ o. MatchOption o (IsFree (lists_of nodes lists (nodes_of entries)) x) (λ k. IsHome (lists_of nodes lists (nodes_of entries)) x k)) e (plain-home x)
+  pub at-lost : (x : ℕ) → home_in x p.entries ≡ None → IsFree (paired p) x
+  at-lost x e = subst (λ o. MatchOption o (IsFree (paired p) x) (λ k. IsHome (paired p) x k)) e (plain-home x)
 
-  pub only-home : (x h l : ℕ) → home_in x entries ≡ Some h → 0 < times x (nodes_of entries l) → h ≡ l
+  pub only-home : (x h l : ℕ) → home_in x p.entries ≡ Some h → 0 < times x (nodes_of p.entries l) → h ≡ l
   only-home x h l e some = elim (cases_eq h l) [
     | inl d ↦ d
     | inr d ↦ absurd (let t = (at-found x h e).times_is l ∙ cond_other h l 1 0 d in omega arith)
   ]
 
-  pub not-free : (x h : ℕ) → home_in x entries ≡ Some h → IsFree (lists_of nodes lists (nodes_of entries)) x → ⊥
+  pub not-free : (x h : ℕ) → home_in x p.entries ≡ Some h → IsFree (paired p) x → ⊥
   not-free x h e f = let t = (at-found x h e).times_is h ∙ cond_same h h 1 0 refl in let z = f.free h in omega arith
 
-  pub in-none : (x l : ℕ) → home_in x entries ≡ None → 0 < times x (nodes_of entries l) → ⊥
+  pub in-none : (x l : ℕ) → home_in x p.entries ≡ None → 0 < times x (nodes_of p.entries l) → ⊥
   in-none x l e some = let z = (at-lost x e).free l in omega arith
 
   -- each node in at most one list and once
-  pub plain-are : AreLists (lists_of nodes lists (nodes_of entries))
+  pub plain-are : AreLists (paired p)
   plain-are = record {
-    below = λ l x h. elim (cases_lt x nodes) [
+    below = λ l x h. elim (cases_lt x p.nodes) [
       | inl lt ↦ lt
-      | inr ge ↦ absurd (let f = fewer x l entries in let z = s.below x ge in omega arith)
+      | inr ge ↦ absurd (let f = fewer x l p.entries in let z = s.below x ge in omega arith)
     ];
-    once = λ l x. (let f = fewer x l entries in let o = s.once x in omega arith);
-    apart = λ l m x h k. one-home l m x h k (home_in x entries) refl;
+    once = λ l x. (let f = fewer x l p.entries in let o = s.once x in omega arith);
+    apart = λ l m x h k. one-home l m x h k (home_in x p.entries) refl;
     beyond = s.beyond;
   }
     where
-      one-home : (l m x : ℕ) → 0 < times x (nodes_of entries l) → 0 < times x (nodes_of entries m) → (o : Option ℕ) → home_in x entries ≡ o → l ≡ m
+      one-home : (l m x : ℕ) → 0 < times x (nodes_of p.entries l) → 0 < times x (nodes_of p.entries m) → (o : Option ℕ) → home_in x p.entries ≡ o → l ≡ m
       one-home l m x h k None e = absurd (in-none x l e h)
-      one-home l m x h k (Some p) e = sym (only-home x p l e h) ∙ only-home x p m e k
-
--- the same of what a caller sees
-pub plain-kept : (nodes lists capacity : ℕ) (entries : List (ℕ × ℕ)) (v : Pairs) → ◌≡◌ {A = Pairs} (record { nodes = nodes; lists = lists; entries = entries }) v → IsPlain nodes lists capacity entries → AreLists (paired v)
-plain-kept nodes lists capacity entries v view s = subst (λ w. AreLists (paired w)) view (plain-are nodes lists capacity entries s)
+      one-home l m x h k (Some a) e = sym (only-home x a l e h) ∙ only-home x a m e k

@@ -7,5 +7,6 @@ pub mod Shown
 pub mod Calls
 pub mod Moves
 pub mod Scans
+pub mod Spread
 pub mod Entries
 pub mod Fields

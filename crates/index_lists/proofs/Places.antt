@@ -1,8 +1,9 @@
 -- Nodes at places of a list.
-use Rattle.std.proofs.Common.{◌≡◌, ℕ, ◌+◌, ◌<◌, ◌≤◌, inl, inr, zero, suc, List, [], ◌∷◌, length, refl, sym, ap, arith, Option, Some, None, IfSome, slice_get, Bool, true, false, cond, ◌==◌}
+use Rattle.std.proofs.Common.{◌≡◌, ℕ, ◌+◌, ◌<◌, ◌≤◌, inl, inr, zero, suc, List, [], ◌∷◌, length, refl, sym, ap, arith, Option, Some, None, IfSome, slice_get, slice_index, drop, Bool, true, false, cond, ◌==◌}
 use Rattle.std.proofs.lemmas.Bool.{cases_eq}
 use Rattle.std.specs.List.{count_by}
 use Rattle.std.proofs.lemmas.List.Recursion.{is_count_by}
+use Rattle.std.proofs.Math.Seq.{drop-nil}
 use Rattle.index_lists.specs.Lists.{Lists, times, AreLists}
 use Rattle.index_lists.proofs.Times.{same_is, times-here, times-more, times-rest}
 
@@ -59,3 +60,9 @@ past-end (suc place) (x ∷ xs) h e = let rest = past-end place xs (omega arith)
 pub read-below : (s : Lists) (l place : ℕ) (o : Option ℕ) → AreLists s → o ≡ slice_get (s.list l) place → IfSome o (λ node. node < s.nodes)
 read-below s l place None are e = tt
 read-below s l place (Some node) are e = are.below l node (stands-at place node (s.list l) (sym e))
+
+-- what stands at a place that is not past the end
+pub get-inside : (node : ℕ) (xs : List ℕ) (place : ℕ) → 0 < times node (drop place xs) → slice_index xs place ≡ node → slice_get xs place ≡ Some node
+get-inside node [] place h e = absurd (let none = ap (times node) (drop-nil {A = ℕ} place) in omega arith)
+get-inside node (x ∷ xs) zero h e = ap Some e
+get-inside node (x ∷ xs) (suc place) h e = get-inside node xs place h e

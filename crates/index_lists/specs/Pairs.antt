@@ -19,12 +19,11 @@ paired p = lists_of p.nodes p.lists (nodes_of p.entries)
 abbrev pub all_nodes : List (ℕ × ℕ) → List ℕ
 all_nodes entries = map (λ e. e.1) entries
 
--- each node once, and room for each
-pub record IsPlain (nodes lists capacity : ℕ) (entries : List (ℕ × ℕ)) : Type 0 where
-  pub once : (x : ℕ) → times x (all_nodes entries) ≤ 1
-  pub below : (x : ℕ) → nodes ≤ x → times x (all_nodes entries) ≡ 0
-  pub beyond : (l : ℕ) → lists ≤ l → nodes_of entries l ≡ []
-  pub room : nodes ≤ capacity
+-- each node once, each of them a node of a list that there is
+pub record ArePlain (p : Pairs) : Type 0 where
+  pub once : (x : ℕ) → times x (all_nodes p.entries) ≤ 1
+  pub below : (x : ℕ) → p.nodes ≤ x → times x (all_nodes p.entries) ≡ 0
+  pub beyond : (l : ℕ) → p.lists ≤ l → nodes_of p.entries l ≡ []
 
 -- the list of the first pair of a node
 abbrev pub home_in : ℕ → List (ℕ × ℕ) → Option ℕ

@@ -1,6 +1,10 @@
-use Rattle.std.proofs.Common.{◌≡◌, drop}
+use Rattle.std.proofs.Common.{◌≡◌, length}
 use Rattle.index_lists.specs.Pairs.{home_in}
+use Rattle.index_lists.specs.Runs.{pairs_left}
 use Rattle.index_lists.proofs.plain_lists.home_of.Given as goal
 
-abbrev pub invariant-loop-entry : goal.invariant-loop-entry
-invariant-loop-entry l = home_in l.node (drop l.entry-index l.entries) ≡ home_in l.node l.entries
+abbrev pub invariant-loop-list : goal.invariant-loop-list
+invariant-loop-list l = home_in l.node (pairs_left l.pairs) ≡ home_in l.node (pairs_left l.fn.pairs)
+
+abbrev pub decreases-loop-list : goal.decreases-loop-list
+decreases-loop-list l = length (pairs_left l.pairs)

@@ -1,6 +1,10 @@
-use Rattle.std.proofs.Common.{◌≡◌, drop, None}
+use Rattle.std.proofs.Common.{◌≡◌, length, None}
 use Rattle.index_lists.specs.Pairs.{nodes_of, last_from}
+use Rattle.index_lists.specs.Runs.{pairs_left}
 use Rattle.index_lists.proofs.plain_lists.last_of.Given as goal
 
-abbrev pub invariant-loop-entry : goal.invariant-loop-entry
-invariant-loop-entry l = last_from l.last (nodes_of (drop l.entry-index l.entries) l.of) ≡ last_from None (nodes_of l.entries l.of)
+abbrev pub invariant-loop-list : goal.invariant-loop-list
+invariant-loop-list l = last_from l.last (nodes_of (pairs_left l.pairs) l.of) ≡ last_from None (nodes_of (pairs_left l.fn.pairs) l.of)
+
+abbrev pub decreases-loop-list : goal.decreases-loop-list
+decreases-loop-list l = length (pairs_left l.pairs)

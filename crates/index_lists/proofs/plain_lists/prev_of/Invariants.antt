@@ -1,6 +1,10 @@
-use Rattle.std.proofs.Common.{◌≡◌, drop, None}
+use Rattle.std.proofs.Common.{◌≡◌, length, None}
 use Rattle.index_lists.specs.Pairs.{nodes_of, before_from}
+use Rattle.index_lists.specs.Runs.{pairs_left}
 use Rattle.index_lists.proofs.plain_lists.prev_of.Given as goal
 
-abbrev pub invariant-loop-entry : goal.invariant-loop-entry
-invariant-loop-entry l = before_from l.before l.node (nodes_of (drop l.entry-index l.entries) l.home) ≡ before_from None l.node (nodes_of l.entries l.home)
+abbrev pub invariant-loop-list : goal.invariant-loop-list
+invariant-loop-list l = before_from l.before l.node (nodes_of (pairs_left l.pairs) l.home) ≡ before_from None l.node (nodes_of (pairs_left l.fn.pairs) l.home)
+
+abbrev pub decreases-loop-list : goal.decreases-loop-list
+decreases-loop-list l = length (pairs_left l.pairs)

@@ -1,30 +1,30 @@
-use Rattle.std.proofs.Common.{◌≡◌, ℕ, ◌<◌, ◌∙◌, ap, sym, subst, Some, None}
-use Rattle.index_lists.specs.Lists.{times}
-use Rattle.index_lists.specs.Pairs.{nodes_of, paired, home_in, after}
+use Rattle.std.proofs.Common.{◌≡◌, ◌∙◌, ap, sym, Some, None}
+use Rattle.index_lists.specs.Pairs.{nodes_of, home_in, after}
 use Rattle.index_lists.proofs.Places.{stands-at}
 use Rattle.index_lists.proofs.Scans.{after-place, after-below}
-use Rattle.index_lists.proofs.Entries.{only-home, not-free, in-none, plain-kept}
+use Rattle.index_lists.proofs.Entries.{only-home, not-free, in-none, plain-are}
 use Rattle.index_lists.proofs.plain_lists.PlainListsListStore.next.Goals as goal
 
 pub returns-in-Some : goal.returns-in-Some
 returns-in-Some c =
-    let view = ap (λ w. w.entries) c.self.view_is in
-    let kept = plain-kept _ _ _ _ _ c.self.view_is c.self.invariant in
-    let found : home_in c.args.node c.self.inside.entries.items ≡ Some c.in-Some.home = sym (c.home_of.ensures ∙ ap (home_in c.args.node) c.deref.ensures.value) ∙ c.in-Some.is in
-    let shows = c.next_of.ensures ∙ ap (λ es. after c.args.node (nodes_of es c.in-Some.home)) (c.deref-in-Some.ensures.value ∙ view) in
-    let here : (l : ℕ) → 0 < times c.args.node (nodes_of c.args.self.now.entries l) → after c.args.node (nodes_of c.args.self.now.entries c.in-Some.home) ≡ after c.args.node (nodes_of c.args.self.now.entries l) = λ l some. ap (λ h. after c.args.node (nodes_of c.args.self.now.entries h)) (only-home _ _ _ _ c.self.invariant c.args.node c.in-Some.home l found (subst (λ es. 0 < times c.args.node (nodes_of es l)) (sym view) some)) in
+    let entries = c.args.self.now.entries in
+    let plain = c.pairs.ensures.kept in
+    let kept = plain-are _ plain in
+    let found : home_in c.args.node entries ≡ Some c.in-Some.home = sym (c.home_of.ensures ∙ ap (home_in c.args.node) c.pairs.ensures.entries) ∙ c.in-Some.is in
+    let shows = c.next_of.ensures ∙ ap (λ es. after c.args.node (nodes_of es c.in-Some.home)) c.pairs-in-Some.ensures.entries in
     record {
-      behind = λ l place stands. shows ∙ here l (stands-at place c.args.node _ stands) ∙ after-place place c.args.node (nodes_of c.args.self.now.entries l) (kept.once l c.args.node) stands;
-      free = λ free. absurd (not-free _ _ _ _ c.self.invariant c.args.node c.in-Some.home found (record { free = subst (λ es. (l : ℕ) → times c.args.node (nodes_of es l) ≡ 0) (sym view) free.free }));
-      below = after-below (paired c.args.self.now) c.in-Some.home c.args.node _ kept shows;
+      behind = λ l place stands.
+          shows ∙ ap (λ h. after c.args.node (nodes_of entries h)) (only-home _ plain c.args.node c.in-Some.home l found (stands-at place c.args.node _ stands))
+          ∙ after-place place c.args.node (nodes_of entries l) (kept.once l c.args.node) stands;
+      free = λ free. absurd (not-free _ plain c.args.node c.in-Some.home found free);
+      below = after-below _ c.in-Some.home c.args.node _ kept shows;
       kept = kept;
     }
 
 pub returns-in-None-clause-behind : goal.returns-in-None-clause-behind
 returns-in-None-clause-behind c = λ l place stands.
-    let view = ap (λ w. w.entries) c.self.view_is in
-    let lost : home_in c.args.node c.self.inside.entries.items ≡ None = sym (c.home_of.ensures ∙ ap (home_in c.args.node) c.deref.ensures.value) ∙ c.in-None.is in
-    absurd (in-none _ _ _ _ c.self.invariant c.args.node l lost (subst (λ es. 0 < times c.args.node (nodes_of es l)) (sym view) (stands-at place c.args.node _ stands)))
+    let lost : home_in c.args.node c.args.self.now.entries ≡ None = sym (c.home_of.ensures ∙ ap (home_in c.args.node) c.pairs.ensures.entries) ∙ c.in-None.is in
+    absurd (in-none _ c.pairs.ensures.kept c.args.node l lost (stands-at place c.args.node _ stands))
 
 pub returns-in-None-clause-kept : goal.returns-in-None-clause-kept
-returns-in-None-clause-kept c = plain-kept _ _ _ _ _ c.self.view_is c.self.invariant
+returns-in-None-clause-kept c = plain-are _ c.pairs.ensures.kept
