@@ -271,21 +271,24 @@ module _ (nodes lists : ℕ) (next prev home first last len : List ℕ) (v : Cha
   prev-none node at h e free = cond_same at nodes None (Some at) (e ∙ (loose-here node h free).1)
 
   -- the list of a node
-  pub home-seen : (node at : ℕ) (o : Option ℕ) → node < v.nodes → at ≡ slice_index home node → o ≡ unless_none lists at → MatchOption o (IsFree (chained v) node) (λ found. IsHome (chained v) node found)
+  pub home-seen : (node at : ℕ) (o : Option ℕ) → node < v.nodes → at ≡ slice_index home node → o ≡ unless_none lists at
+      → MatchOption o (IsFree (chained v) node) (λ found. IsHome (chained v) node found)
   home-seen node at o h e f =
       let i : node < nodes = (let d = nodes-are in omega arith) in
       elim (cases_lt at lists) [
-        | inl low ↦ subst (λ found. MatchOption found (IsFree (chained v) node) (λ l. IsHome (chained v) node l)) (sym (f ∙ cond_other at lists None (Some at) (λ same. omega arith))) (record {
-          home_in = let d = lists-are in omega arith;
-          times_is = λ l. elim (cases_lt l lists) [
-            | inl inside ↦ store_here.held l node inside i ∙ ap (λ n. cond (n == l) 1 0) (sym e)
-            | inr beyond ↦ ap (times node) (store_here.beyond l beyond) ∙ sym (cond_other at l 1 0 (λ same. omega arith))
-          ];
-        })
+        | inl low ↦ subst (λ found. MatchOption found (IsFree (chained v) node) (λ l. IsHome (chained v) node l)) (sym (f
+            ∙ cond_other at lists None (Some at) (λ same. omega arith))) (record {
+              home_in = let d = lists-are in omega arith;
+              times_is = λ l. elim (cases_lt l lists) [
+                | inl inside ↦ store_here.held l node inside i ∙ ap (λ n. cond (n == l) 1 0) (sym e)
+                | inr beyond ↦ ap (times node) (store_here.beyond l beyond) ∙ sym (cond_other at l 1 0 (λ same. omega arith))
+              ];
+            })
         | inr high ↦ (
             let b = store_here.homes node i in
             let none : at ≡ lists = omega arith in
-            subst (λ found. MatchOption found (IsFree (chained v) node) (λ l. IsHome (chained v) node l)) (sym (f ∙ cond_same at lists None (Some at) none)) (record {
+            subst (λ found. MatchOption found (IsFree (chained v) node) (λ l. IsHome (chained v) node l)) (sym (f
+            ∙ cond_same at lists None (Some at) none)) (record {
               free = λ l. elim (cases_lt l lists) [
                 | inl inside ↦ store_here.held l node inside i ∙ cond_other (slice_index home node) l 1 0 (λ same. omega arith)
                 | inr beyond ↦ ap (times node) (store_here.beyond l beyond)

@@ -53,9 +53,6 @@ all_without node (e ∷ entries) = elim (cases_eq (e.1) node) [
   | inr d ↦ rw (differ_is (e.1) node d) (ap (λ xs. e.1 ∷ xs) (all_without node entries))
 ]
 
-pub count_nodes : (entries : List (ℕ × ℕ)) (l : ℕ) → length (nodes_of entries l) ≡ count_by (λ e. e.0 == l) entries
-count_nodes entries l = length-map (filter (λ (e : ℕ × ℕ). e.0 == l) entries) (λ (e : ℕ × ℕ). e.1) ∙ length-filter (λ (e : ℕ × ℕ). e.0 == l) entries
-
 pub shorter : (entries : List (ℕ × ℕ)) (l : ℕ) → length (nodes_of entries l) ≤ length entries
 shorter [] l = omega arith
 shorter (e ∷ entries) l = elim (cases_eq (e.0) l) [
@@ -131,13 +128,15 @@ module _ (p : Pairs) (s : ArePlain p) where
   times-one : (node x : ℕ) → node ≢ x → times x (node ∷ []) ≡ 0
   times-one node x d = times-later node x [] d
 
-  pushed-once : (to node : ℕ) → ((l : ℕ) → times node (nodes_of p.entries l) ≡ 0) → (x : ℕ) → times x (all_nodes (p.entries ++ (to, node) ∷ [])) ≤ 1
+  pushed-once : (to node : ℕ) → ((l : ℕ) → times node (nodes_of p.entries l) ≡ 0) → (x : ℕ)
+      → times x (all_nodes (p.entries ++ (to, node) ∷ [])) ≤ 1
   pushed-once to node f x =
       let none = none-of_free node p.entries f in
       let sum = ap (times x) (all-append p.entries ((to, node) ∷ [])) ∙ times-append x (all_nodes p.entries) (node ∷ []) in
       let was = s.once x in
       elim (cases_eq node x) [
-        | inl d ↦ (let one : times x (node ∷ []) ≡ 1 = rw (same_is node x d) refl in let z : times x (all_nodes p.entries) ≡ 0 = rw (← d) none in omega arith)
+        | inl d ↦ (let one : times x (node ∷ []) ≡ 1 = rw (same_is node x d) refl in
+            let z : times x (all_nodes p.entries) ≡ 0 = rw (← d) none in omega arith)
         | inr d ↦ (let zero_more = times-one node x d in omega arith)
       ]
 
@@ -158,11 +157,13 @@ module _ (p : Pairs) (s : ArePlain p) where
   pub plain-few : length p.entries ≤ p.nodes
   plain-few = let all = distinct-length p.nodes (all_nodes p.entries) s.once s.below in let size = length-all p.entries in omega arith
 
-  pub plain-push : (to node : ℕ) → to < p.lists → node < p.nodes → ((l : ℕ) → times node (nodes_of p.entries l) ≡ 0) → ArePlain (record p { entries = p.entries ++ (to, node) ∷ [] })
+  pub plain-push : (to node : ℕ) → to < p.lists → node < p.nodes → ((l : ℕ) → times node (nodes_of p.entries l) ≡ 0)
+      → ArePlain (record p { entries = p.entries ++ (to, node) ∷ [] })
   plain-push to node h i f = record {
     once = pushed-once to node f;
     below = pushed-below to node i;
-    beyond = λ l g. nodes-push to node l p.entries ∙ cond_other l to (nodes_of p.entries l ++ node ∷ []) (nodes_of p.entries l) (λ e. omega arith) ∙ s.beyond l g;
+    beyond = λ l g. nodes-push to node l p.entries
+        ∙ cond_other l to (nodes_of p.entries l ++ node ∷ []) (nodes_of p.entries l) (λ e. omega arith) ∙ s.beyond l g;
   }
 
   pub plain-unlink : (node : ℕ) → ArePlain (record p { entries = filter (λ e. not (e.1 == node)) p.entries })
@@ -211,6 +212,7 @@ module _ (p : Pairs) (s : ArePlain p) where
     beyond = s.beyond;
   }
     where
-      one-home : (l m x : ℕ) → 0 < times x (nodes_of p.entries l) → 0 < times x (nodes_of p.entries m) → (o : Option ℕ) → home_in x p.entries ≡ o → l ≡ m
+      one-home : (l m x : ℕ) → 0 < times x (nodes_of p.entries l) → 0 < times x (nodes_of p.entries m) → (o : Option ℕ)
+          → home_in x p.entries ≡ o → l ≡ m
       one-home l m x h k None e = absurd (in-none x l e h)
       one-home l m x h k (Some a) e = sym (only-home x a l e h) ∙ only-home x a m e k

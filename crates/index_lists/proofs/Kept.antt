@@ -43,7 +43,8 @@ module _ (s : Lists) (are : AreLists s) where
     other : (l x : ℕ) → x ≢ node → times x (s'.list l) ≡ times x (s.list l)
     other l x d = elim (cases_eq l to) [
       | inl e ↦ (
-          let sum = ap (times x) (same.same_list l ∙ cond_same l to (s.list l ++ node ∷ []) (s.list l) e) ∙ times-append x (s.list l) (node ∷ []) in
+          let sum = ap (times x) (same.same_list l ∙ cond_same l to (s.list l ++ node ∷ []) (s.list l) e)
+          ∙ times-append x (s.list l) (node ∷ []) in
           let more = times-later node x [] (λ f. d (sym f)) in
           omega arith)
       | inr e ↦ elsewhere l x e
@@ -51,7 +52,8 @@ module _ (s : Lists) (are : AreLists s) where
 
     there : (l : ℕ) → l ≡ to → times node (s'.list l) ≡ 1
     there l e =
-        let sum = ap (times node) (same.same_list l ∙ cond_same l to (s.list l ++ node ∷ []) (s.list l) e) ∙ times-append node (s.list l) (node ∷ []) in
+        let sum = ap (times node) (same.same_list l ∙ cond_same l to (s.list l ++ node ∷ []) (s.list l) e)
+        ∙ times-append node (s.list l) (node ∷ []) in
         let more : times node (node ∷ []) ≡ 1 = rw (same_is node node refl) refl in
         let none = free.free l in
         omega arith

@@ -49,20 +49,14 @@ place-below place node [] e = absurd (cc e)
 place-below zero node (x ∷ xs) e = omega arith
 place-below (suc place) node (x ∷ xs) e = let rest = place-below place node xs e in omega arith
 
--- a walk that finds no more nodes has met them all
-pub past-end : (place : ℕ) (xs : List ℕ) → place ≤ length xs → slice_get xs place ≡ None → place ≡ length xs
-past-end zero [] h e = refl
-past-end zero (x ∷ xs) h e = absurd (cc e)
-past-end (suc place) [] h e = absurd (omega arith)
-past-end (suc place) (x ∷ xs) h e = let rest = past-end place xs (omega arith) e in omega arith
-
 -- what is read off a list is below the number of nodes
 pub read-below : (s : Lists) (l place : ℕ) (o : Option ℕ) → AreLists s → o ≡ slice_get (s.list l) place → IfSome o (λ node. node < s.nodes)
 read-below s l place None are e = tt
 read-below s l place (Some node) are e = are.below l node (stands-at place node (s.list l) (sym e))
 
 -- what stands at a place that is not past the end
-pub get-inside : (node : ℕ) (xs : List ℕ) (place : ℕ) → 0 < times node (drop place xs) → slice_index xs place ≡ node → slice_get xs place ≡ Some node
+pub get-inside : (node : ℕ) (xs : List ℕ) (place : ℕ) → 0 < times node (drop place xs) → slice_index xs place ≡ node
+    → slice_get xs place ≡ Some node
 get-inside node [] place h e = absurd (let none = ap (times node) (drop-nil {A = ℕ} place) in omega arith)
 get-inside node (x ∷ xs) zero h e = ap Some e
 get-inside node (x ∷ xs) (suc place) h e = get-inside node xs place h e

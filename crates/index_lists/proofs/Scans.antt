@@ -70,7 +70,8 @@ pub after-below : (s : Lists) (l node : ℕ) (o : Option ℕ) → AreLists s →
 after-below s l node None are e = tt
 after-below s l node (Some other) are e = are.below l other (after-in node other (s.list l) (sym e))
 
-pub before-below : (s : Lists) (l node : ℕ) (o : Option ℕ) → AreLists s → o ≡ before_from None node (s.list l) → IfSome o (λ other. other < s.nodes)
+pub before-below : (s : Lists) (l node : ℕ) (o : Option ℕ) → AreLists s → o ≡ before_from None node (s.list l)
+    → IfSome o (λ other. other < s.nodes)
 before-below s l node None are e = tt
 before-below s l node (Some other) are e = elim (before-in None node other (s.list l) (sym e)) [
   | inl f ↦ absurd (cc f)

@@ -48,7 +48,8 @@ pub trait ListStore {
     /// The node behind a node in its list. The last node has none, nor has a node in no list.
     fn next(&self, node: u32) -> Option<u32>
         requires { node < (state self.now).nodes }
-        ensures behind { (l : ℕ) → (place : ℕ) → slice_get ((state self.now).list l) place ≡ Some node → result ≡ slice_get ((state self.now).list l) (place + 1) }
+        ensures behind { (l : ℕ) → (place : ℕ) → slice_get ((state self.now).list l) place ≡ Some node
+            → result ≡ slice_get ((state self.now).list l) (place + 1) }
         ensures free { IsFree (state self.now) node → result ≡ None }
         ensures below { IfSome result (λ other. other < (state self.now).nodes) }
         ensures kept { AreLists (state self.now) };
@@ -56,7 +57,8 @@ pub trait ListStore {
     /// The node before a node in its list. The first node has none, nor has a node in no list.
     fn prev(&self, node: u32) -> Option<u32>
         requires { node < (state self.now).nodes }
-        ensures before { (l : ℕ) → (place : ℕ) → slice_get ((state self.now).list l) (place + 1) ≡ Some node → result ≡ slice_get ((state self.now).list l) place }
+        ensures before { (l : ℕ) → (place : ℕ) → slice_get ((state self.now).list l) (place + 1) ≡ Some node
+            → result ≡ slice_get ((state self.now).list l) place }
         ensures first { (l : ℕ) → slice_get ((state self.now).list l) 0 ≡ Some node → result ≡ None }
         ensures free { IsFree (state self.now) node → result ≡ None }
         ensures below { IfSome result (λ other. other < (state self.now).nodes) }

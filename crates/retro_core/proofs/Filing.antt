@@ -25,7 +25,8 @@ past (x ∷ xs) (suc i) h = past xs i (omega arith)
 pub list-shown : (s : Lists) → AreLists s → (l : ℕ) → get_or (first_lists s.lists s.list) l [] ≡ s.list l
 list-shown s are l = elim (cases_lt l s.lists) [
   | inl inside ↦ get_or-map-range_with_len s.list 0 s.lists l l [] inside (omega arith)
-  | inr outside ↦ past (first_lists s.lists s.list) l (let size = length-map-range_with_len s.list 0 s.lists in omega arith) ∙ sym (are.beyond l outside)
+  | inr outside ↦ past (first_lists s.lists s.list) l (let size = length-map-range_with_len s.list 0 s.lists in omega arith)
+      ∙ sym (are.beyond l outside)
 ]
 
 -- what is filed at a value is a list of the store
@@ -58,7 +59,8 @@ module _ (s s' : Lists) (to node : ℕ) (same : AreSame s' (pushed s to node)) w
       get_or-map-range_with_len s'.list 0 s.lists i i [] within (omega arith) ∙ elim (same_or_not i to) [
         | inl here ↦ ap s'.list here ∙ push-here ∙ ap (λ (xs : List ℕ). xs ++ node ∷ []) (sym before)
             ∙ sym (ap (λ k. get_or (slice_set was to longer) k []) here ∙ get_or-set_same was to longer [] (omega arith))
-        | inr away ↦ push-away i away ∙ sym (get_or-set_other was to i longer [] away ∙ get_or-map-range_with_len s.list 0 s.lists i i [] within (omega arith))
+        | inr away ↦ push-away i away
+            ∙ sym (get_or-set_other was to i longer [] away ∙ get_or-map-range_with_len s.list 0 s.lists i i [] within (omega arith))
       ])
 
   pub push-shown : (b : PlainBoard) (value : ℕ) (values counts strikes : List ℕ) (v : PlainStage) → value ≡ to → to < s.lists

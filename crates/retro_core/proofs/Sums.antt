@@ -1,6 +1,7 @@
 -- Sums over seats, and how they change where one seat changes.
 use Rattle.std.proofs.Common.{◌≡◌, ◌≢◌, ℕ, zero, suc, ◌+◌, ◌≤◌, List, [], ◌∷◌, ◌++◌, take, drop, set, refl, sym, ap, subst, arith, Option, Some, None, slice_get}
 use Rattle.index_lists.specs.Lists.{times}
+use Rattle.index_lists.proofs.Times.{times-append}
 use Rattle.retro_core.specs.Round.{PlainSeat, together, total_width}
 use Rattle.retro_core.specs.Rules.{tally, total}
 
@@ -24,12 +25,6 @@ pub total-at : (f : PlainSeat → ℕ) (seats : List PlainSeat) (i : ℕ) (v : P
 total-at f [] i v e = absurd (no_seat v e)
 total-at f (x ∷ xs) zero v e = let same : f x ≡ f v = ap f (same_seat x v e) in omega arith
 total-at f (x ∷ xs) (suc i) v e = let r = total-at f xs i v e in omega arith
-
-pub total-none : (f : PlainSeat → ℕ) (seats : List PlainSeat) → ((i : ℕ) (v : PlainSeat) → slice_get seats i ≡ Some v → f v ≡ 0) → total f seats ≡ 0
-total-none f [] none = refl
-total-none f (x ∷ xs) none =
-    let here : f x ≡ 0 = none 0 x refl in
-    let r = total-none f xs (λ i v at. none (suc i) v at) in omega arith
 
 pub total-le : (f h : PlainSeat → ℕ) (seats : List PlainSeat) → ((v : PlainSeat) → f v ≤ h v) → total f seats ≤ total h seats
 total-le f h [] le = omega arith
@@ -73,13 +68,9 @@ tally-cut home g (suc n) [] = refl
 tally-cut home g (suc n) (y ∷ xs) = let r = tally-cut home g n xs in omega arith
 
 -- what is counted in lists one after the other
-times-joined : (x : ℕ) (xs ys : List ℕ) → times x (xs ++ ys) ≡ times x xs + times x ys
-times-joined x [] ys = omega arith
-times-joined x (y ∷ xs) ys = let r = times-joined x xs ys in omega arith
-
 pub times-together : (x : ℕ) (list : PlainSeat → List ℕ) (seats : List PlainSeat) → times x (together list seats) ≡ total (λ v. times x (list v)) seats
 times-together x list [] = refl
-times-together x list (v ∷ seats) = let r = times-together x list seats in let s = times-joined x (list v) (together list seats) in omega arith
+times-together x list (v ∷ seats) = let r = times-together x list seats in let s = times-append x (list v) (together list seats) in omega arith
 
 pub tally-together : (home : ℕ → ℕ) (g : ℕ) (list : PlainSeat → List ℕ) (seats : List PlainSeat) → tally home g (together list seats) ≡ total (λ v. tally home g (list v)) seats
 tally-together home g list [] = refl

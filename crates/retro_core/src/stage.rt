@@ -57,7 +57,8 @@ impl<S: ListStore> Model for Stage<S> {
 
     ghost invariant = { λ s. IsSmall s.space s.value × AreWide s.space s.values.items s.counts.items
         × AreDominators s.space s.dominators.items × AreStored s.space (S.state s.buckets)
-        × AreNext s.space ((S.state s.buckets).list s.value) s.next.items s.filed × HasRoom s.space (vec_capacity s.strikes) (vec_capacity s.next) };
+        × AreNext s.space ((S.state s.buckets).list s.value) s.next.items s.filed
+        × HasRoom s.space (vec_capacity s.strikes) (vec_capacity s.next) };
 }
 
 impl<S: ListStore> Stage<S> {

@@ -31,4 +31,5 @@ pub returns-else-left-gt0-clause-places : goal.returns-else-left-gt0-clause-plac
 returns-else-left-gt0-clause-places c =
     let here = found (goal.at.returns-else-left-gt0-clause-places c).After-run_at-at in
     let some = run-some _ _ _ c.index.result.now _ here c.index.ensures in
-    ap spread c.remove.ensures.items ∙ spread-without _ _ _ c.index.result.now _ here c.index.ensures (omega (arith, some, c.if-left-gt0.false))
+    ap spread c.remove.ensures.items
+    ∙ spread-without _ _ _ c.index.result.now _ here c.index.ensures (omega (arith, some, c.if-left-gt0.false))

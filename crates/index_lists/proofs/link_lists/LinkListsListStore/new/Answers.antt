@@ -20,7 +20,8 @@ returns-clause-empty c =
     record {
       same_nodes = refl;
       same_lists = refl;
-      same_list = λ i. empty-seen c.args.list_count i _ _ _ (ap (map (λ (x : Ends). x.len)) ends ∙ fields-alike (λ (x : Ends). x.len) c.args.list_count _);
+      same_list = λ i. empty-seen c.args.list_count i _ _ _ (ap (map (λ (x : Ends). x.len)) ends
+          ∙ fields-alike (λ (x : Ends). x.len) c.args.list_count _);
     }
 
 pub returns-clause-kept : goal.returns-clause-kept

@@ -10,7 +10,8 @@ returns-in-Some c =
     let entries = c.args.self.now.entries in
     let plain = c.pairs.ensures.kept in
     let kept = plain-are _ plain in
-    let found : home_in c.args.node entries ≡ Some c.in-Some.home = sym (c.home_of.ensures ∙ ap (home_in c.args.node) c.pairs.ensures.entries) ∙ c.in-Some.is in
+    let found : home_in c.args.node entries ≡ Some c.in-Some.home = sym (c.home_of.ensures
+    ∙ ap (home_in c.args.node) c.pairs.ensures.entries) ∙ c.in-Some.is in
     let shows = c.next_of.ensures ∙ ap (λ es. after c.args.node (nodes_of es c.in-Some.home)) c.pairs-in-Some.ensures.entries in
     record {
       behind = λ l place stands.
@@ -23,7 +24,8 @@ returns-in-Some c =
 
 pub returns-in-None-clause-behind : goal.returns-in-None-clause-behind
 returns-in-None-clause-behind c = λ l place stands.
-    let lost : home_in c.args.node c.args.self.now.entries ≡ None = sym (c.home_of.ensures ∙ ap (home_in c.args.node) c.pairs.ensures.entries) ∙ c.in-None.is in
+    let lost : home_in c.args.node c.args.self.now.entries ≡ None = sym (c.home_of.ensures
+    ∙ ap (home_in c.args.node) c.pairs.ensures.entries) ∙ c.in-None.is in
     absurd (in-none _ c.pairs.ensures.kept c.args.node l lost (stands-at place c.args.node _ stands))
 
 pub returns-in-None-clause-kept : goal.returns-in-None-clause-kept

@@ -45,7 +45,8 @@ invariant_of-self c =
       rw (entries-are (goal.at.invariant_of-self c).After-push_reserved) (plain-push _ c.self.invariant.0 c.args.to c.args.node to_in (node-in before) (free before)),
       record {
         filled = c.add_place.ensures.filled;
-        fits = ap length c.add_place.ensures.places ∙ length_push _ c.args.to ∙ ap (λ n. n + 1) runs.fits ∙ sym (ap length c.push_reserved.ensures.items ∙ length_push _ c.args.node);
+        fits = ap length c.add_place.ensures.places ∙ length_push _ c.args.to ∙ ap (λ n. n + 1) runs.fits
+            ∙ sym (ap length c.push_reserved.ensures.items ∙ length_push _ c.args.node);
         for_runs = rw c.add_place.ensures.capacity runs.for_runs;
         for_nodes = rw c.push_reserved.ensures.capacity runs.for_nodes;
       },
@@ -55,7 +56,8 @@ pub returns-clause-pushed : goal.returns-clause-pushed
 returns-clause-pushed c = record {
   same_nodes = ap (λ (p : Pairs). p.nodes) c.self.view_is;
   same_lists = ap (λ (p : Pairs). p.lists) c.self.view_is;
-  same_list = λ l. ap (λ es. nodes_of es l) (entries-are (goal.at.returns-clause-pushed c).After-push_reserved) ∙ nodes-push c.args.to c.args.node l _
+  same_list = λ l. ap (λ es. nodes_of es l) (entries-are (goal.at.returns-clause-pushed c).After-push_reserved)
+      ∙ nodes-push c.args.to c.args.node l _
       ∙ ap (λ (p : Pairs). if l == c.args.to then nodes_of p.entries l ++ c.args.node ∷ [] else nodes_of p.entries l) c.self.view_is;
 }
 

@@ -30,14 +30,16 @@ take_place-requires-clause-place c =
 pub remove-requires : goal.remove-requires
 remove-requires c = let low = place-below c.place_of-place.result c.args.node c.self.inside.nodes.items (stands-here (goal.at.remove-requires c).After-take_place-arg-1) in omega (arith, low)
 
-entries-are : (c : After-remove) → slice_get c.self.inside.nodes.items c.place_of-place.result ≡ Some c.args.node → entries_of c.take_place.new.runs.items c.remove.new.self.items
+entries-are : (c : After-remove) → slice_get c.self.inside.nodes.items c.place_of-place.result ≡ Some c.args.node
+    → entries_of c.take_place.new.runs.items c.remove.new.self.items
     ≡ filter (λ e. not (e.1 == c.args.node)) (entries_of c.self.inside.runs.items c.self.inside.nodes.items)
 entries-are c stands =
     let runs = c.self.inside.runs.items in
     let nodes = c.self.inside.nodes.items in
     let fits = c.self.invariant.1.fits in
     let once : times c.args.node nodes ≤ 1 = subst (λ xs. times c.args.node xs ≤ 1) (entries-nodes runs nodes fits) (c.self.invariant.0.once c.args.node) in
-    ap (entries_of c.take_place.new.runs.items) c.remove.ensures.items ∙ entries-without runs c.take_place.new.runs.items nodes c.args.node _ fits stands once c.take_place.ensures.places
+    ap (entries_of c.take_place.new.runs.items) c.remove.ensures.items
+    ∙ entries-without runs c.take_place.new.runs.items nodes c.args.node _ fits stands once c.take_place.ensures.places
 
 pub invariant_of-self : goal.invariant_of-self
 invariant_of-self c =
@@ -45,8 +47,10 @@ invariant_of-self c =
     let low = place-below c.place_of-place.result c.args.node c.self.inside.nodes.items stands in
     let runs = c.self.invariant.1 in
     let places : length (spread c.take_place.new.runs.items) + 1 ≡ length (spread c.self.inside.runs.items) =
-    ap (λ xs. length xs + 1) c.take_place.ensures.places ∙ length-remove (spread c.self.inside.runs.items) c.place_of-place.result (omega (arith, low, runs.fits)) in
-    let nodes : length c.remove.new.self.items + 1 ≡ length c.self.inside.nodes.items = ap (λ xs. length xs + 1) c.remove.ensures.items ∙ length-remove _ c.place_of-place.result low in (
+    ap (λ xs. length xs + 1) c.take_place.ensures.places
+    ∙ length-remove (spread c.self.inside.runs.items) c.place_of-place.result (omega (arith, low, runs.fits)) in
+    let nodes : length c.remove.new.self.items + 1 ≡ length c.self.inside.nodes.items = ap (λ xs. length xs + 1) c.remove.ensures.items
+    ∙ length-remove _ c.place_of-place.result low in (
       rw (entries-are (goal.at.invariant_of-self c).After-remove stands) (plain-unlink _ c.self.invariant.0 c.args.node),
       record {
         filled = c.take_place.ensures.filled;

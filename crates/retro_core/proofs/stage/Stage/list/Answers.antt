@@ -13,7 +13,10 @@ use Rattle.retro_core.proofs.stage.Stage.list.Goals as goal
 
 pub push_back-requires-clause-free : goal.push_back-requires-clause-free
 push_back-requires-clause-free g c =
-    record { free = λ l. ap (times c.args.rank) (sym (filed-shown _ _ _ _ _ _ _ c.self.view_is c.self.invariant.3.are_lists l)) ∙ c.requires.free l }
+    record {
+      free = λ l. ap (times c.args.rank) (sym (filed-shown _ _ _ _ _ _ _ c.self.view_is c.self.invariant.3.are_lists l))
+          ∙ c.requires.free l;
+    }
 
 -- a list is longer by one, and no longer than there are nodes
 longer : (n : ℕ) (bucket bucket' : List ℕ) (rank : ℕ) → bucket' ≡ bucket ++ rank ∷ [] → length bucket' ≤ n → length bucket < n
@@ -53,7 +56,12 @@ invariant_of-self g c =
       c.self.invariant.0,
       c.self.invariant.1,
       c.self.invariant.2,
-      record { nodes_is = e.pushed.same_nodes ∙ c.self.invariant.3.nodes_is; lists_is = e.pushed.same_lists ∙ c.self.invariant.3.lists_is; are_lists = e.kept },
+      record {
+        nodes_is = e.pushed.same_nodes ∙ c.self.invariant.3.nodes_is;
+        lists_is = e.pushed.same_lists
+            ∙ c.self.invariant.3.lists_is;
+        are_lists = e.kept;
+      },
       rw c.push_reserved.ensures.items (next-more s.space _ _ _ _ c.args.rank (push-here _ _ s.value c.args.rank e.pushed) (dominated-by (arena_of s.space) c.args.rank _ dominates) c.self.invariant.4),
       rw c.push_reserved.ensures.capacity c.self.invariant.5,
     )
@@ -69,7 +77,12 @@ invariant_of-self-else-index g c =
       c.self.invariant.0,
       c.self.invariant.1,
       c.self.invariant.2,
-      record { nodes_is = e.pushed.same_nodes ∙ c.self.invariant.3.nodes_is; lists_is = e.pushed.same_lists ∙ c.self.invariant.3.lists_is; are_lists = e.kept },
+      record {
+        nodes_is = e.pushed.same_nodes ∙ c.self.invariant.3.nodes_is;
+        lists_is = e.pushed.same_lists
+            ∙ c.self.invariant.3.lists_is;
+        are_lists = e.kept;
+      },
       next-same s.space _ _ _ _ c.args.rank (push-here _ _ s.value c.args.rank e.pushed) none c.self.invariant.4,
       c.self.invariant.5,
     )

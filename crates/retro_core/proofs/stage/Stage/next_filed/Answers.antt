@@ -8,7 +8,8 @@ use Rattle.retro_core.proofs.stage.Stage.next_filed.Goals as goal
 pub returns-clause-behind : goal.returns-clause-behind
 returns-clause-behind g c = λ value place here.
     let shown = filed-shown _ _ _ _ _ _ _ c.self.view_is c.self.invariant.3.are_lists value in
-    c.next.ensures.behind value place (ap (λ (xs : List ℕ). slice_get xs place) (sym shown) ∙ here) ∙ ap (λ (xs : List ℕ). slice_get xs (place + 1)) (sym shown)
+    c.next.ensures.behind value place (ap (λ (xs : List ℕ). slice_get xs place) (sym shown) ∙ here)
+    ∙ ap (λ (xs : List ℕ). slice_get xs (place + 1)) (sym shown)
 
 none-times : (n : ℕ) → (0 < n → ⊥) → n ≡ 0
 none-times n none = elim (cases_lt 0 n) [ inl some ↦ absurd (none some) | inr nothing ↦ omega arith ]

@@ -14,7 +14,8 @@ invariant_of-self g c =
     let low : s.value < configurations s.space = subst (λ (v : PlainStage). v.value < configurations v.board) (sym c.self.view_is) c.requires.value in
     let next : s.value + 1 ≡ suc c.args.self.now.value = add-one s.value ∙ ap (λ (v : PlainStage). suc v.value) c.self.view_is in
     let none : (g.S.ListStore.state s.buckets).list (s.value + 1) ≡ [] =
-    sym (filed-shown _ _ _ _ _ _ _ c.self.view_is c.self.invariant.3.are_lists (s.value + 1)) ∙ ap (filed_at c.args.self.now) next ∙ c.requires.none_later in (
+    sym (filed-shown _ _ _ _ _ _ _ c.self.view_is c.self.invariant.3.are_lists (s.value + 1)) ∙ ap (filed_at c.args.self.now) next
+    ∙ c.requires.none_later in (
       record { is_board = small.is_board; few = small.few; low = omega arith },
       c.self.invariant.1,
       c.self.invariant.2,
@@ -26,7 +27,8 @@ invariant_of-self g c =
 pub returns-clause-filed : goal.returns-clause-filed
 returns-clause-filed g c =
     rw (← ap (λ (v : PlainStage). v.value) c.self.view_is)
-    (c.replace.ensures.value ∙ c.self.invariant.4.filed_is ∙ sym (ap length (filed-shown _ _ _ _ _ _ _ c.self.view_is c.self.invariant.3.are_lists c.self.inside.value)))
+    (c.replace.ensures.value ∙ c.self.invariant.4.filed_is
+    ∙ sym (ap length (filed-shown _ _ _ _ _ _ _ c.self.view_is c.self.invariant.3.are_lists c.self.inside.value)))
 
 pub returns-clause-turned : goal.returns-clause-turned
 returns-clause-turned g c =
