@@ -15,6 +15,7 @@ mod sink;
 mod source;
 mod through;
 mod whole;
+mod writing;
 
 pub use board::Board;
 pub use domination::{Domination, ROW_WORDS};
@@ -22,8 +23,9 @@ pub use fault::{BoardFault, BoardKind};
 pub use laws::{board_or_fault, one_board, one_fault};
 pub use memory::Memory;
 pub use parsing::parse;
-pub use printing::{print, write_place, write_places};
+pub use printing::print;
 pub use sink::Sink;
 pub use source::{Failed, Source};
 pub use through::Through;
 pub use whole::{ReadFault, read_all, write_all};
+pub use writing::{write_number, write_place, write_places};

@@ -1,11 +1,11 @@
 //! Writing a board's text.
 
-ghost use Rattle.std.specs.Prelude.{◌≡◌, ◌++◌, ◌∷◌, IfOk, OnOk, string_bytes};
-ghost use Rattle.board_text.specs.PlaceForms.{place_word, spaced_places};
+ghost use Rattle.std.specs.Prelude.{◌≡◌, ◌++◌, IfOk, OnOk, string_bytes};
 ghost use Rattle.board_text.specs.BoardText.{head, board_text};
 
 use crate::board::Board;
 use crate::memory::Memory;
+use crate::writing::write_places;
 use std::alloc::{AllocError, Global};
 use std::fmt::Write;
 
@@ -37,25 +37,4 @@ fn write_head(text: &mut String, board: &Board) -> Result<(), AllocError>
     )?;
     write_places(text, labels, board.start())?;
     text.push_str("\n")
-}
-
-/// Writes places, each with a space before it.
-pub fn write_places(text: &mut String, labels: u16, places: &[u16]) -> Result<(), AllocError>
-    ensures { OnOk result (string_bytes text.new ≡ string_bytes text.old ++ spaced_places labels places.now) }
-{
-    for place in places {
-        write_place(text, labels, *place)?;
-    }
-    Ok(())
-}
-
-/// Writes a place with a space before it: its label, or a hyphen for the number of labels, which stands for none.
-pub fn write_place(text: &mut String, labels: u16, place: u16) -> Result<(), AllocError>
-    ensures { OnOk result (string_bytes text.new ≡ string_bytes text.old ++ 32 ∷ place_word labels place) }
-{
-    if place == labels {
-        text.push_str(" -")
-    } else {
-        write!(text, " {place}")
-    }
 }

@@ -3,6 +3,7 @@ use Rattle.std.specs.Prelude.{◌≡◌, ℕ, ◌+◌, ◌-◌, ◌/◌, ◌^◌
 use Rattle.board_text.specs.PlainBoard.{PlainBoard, IsBoard, places}
 use Rattle.board_text.specs.Domination.{has_bit}
 use Rattle.positions.specs.Ranks.{configurations}
+use Rattle.positions.specs.declared.space.TheConstants.{MAX_CONFIGURATIONS}
 
 -- what one step of a pebble's place adds to a rank
 abbrev pub weight_of : PlainBoard → ℕ → ℕ
@@ -11,7 +12,7 @@ weight_of board pebble = places board ^ (board.pebbles - 1 - pebble)
 -- the numbers of a board with few configurations, a weight for each pebble, and a bit for each label
 pub record AreNumbersOf (board : PlainBoard) (labels pebbles base size : ℕ) (weights words : List ℕ) : Type 0 where
   pub is_board : IsBoard board
-  pub few : configurations board ≤ 1048576
+  pub few : configurations board ≤ MAX_CONFIGURATIONS
   pub labels_is : labels ≡ board.labels
   pub pebbles_is : pebbles ≡ board.pebbles
   pub base_is : base ≡ places board
@@ -23,5 +24,5 @@ pub record AreNumbersOf (board : PlainBoard) (labels pebbles base size : ℕ) (w
 -- a divisor with the factor whose product with a number, divided by 2^43, is the quotient
 pub record IsDivisor (by factor : ℕ) : Type 0 where
   pub some : 0 < by
-  pub few : by ≤ 1048576
+  pub few : by ≤ MAX_CONFIGURATIONS
   pub factor_is : factor ≡ 2 ^ 43 / by + 1

@@ -68,7 +68,8 @@ fn with_one_more(
 ) -> Result<Vec<u64>, Memory>
     requires number { number < ROW_WORDS }
     requires few { places board.now * length fewer.now ≤ MAX_CONFIGURATIONS }
-    ensures { IfOk result (λ more. (count : ℕ) → AreAllWords board.now number count fewer.now → AreAllWords board.now number (suc count) more.items) }
+    ensures { IfOk result (λ more. (count : ℕ) → AreAllWords board.now number count fewer.now
+        → AreAllWords board.now number (suc count) more.items) }
 {
     let places = board.places();
     let mut more = Vec::with_capacity(alloc, places as usize * fewer.len())?;
@@ -85,7 +86,8 @@ fn with_one_more(
 fn word_beating(board: &Board, number: usize, place: u16) -> u64
     requires number { number < ROW_WORDS }
     requires place { place < places board.now }
-    ensures { (bit : ℕ) → bit < 64 → (bit_at result bit ≡ 1) ↔ ((64 * number + bit < board.now.labels) × BeatsPlace board.now (64 * number + bit) place) }
+    ensures { (bit : ℕ) → bit < 64
+        → (bit_at result bit ≡ 1) ↔ ((64 * number + bit < board.now.labels) × BeatsPlace board.now (64 * number + bit) place) }
 {
     let every_label = LabelSet::below(board.labels()).words[number];
     if place < board.labels() {

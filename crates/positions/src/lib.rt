@@ -12,7 +12,6 @@ mod laws_of_gaps;
 mod laws_of_ranks;
 mod members;
 mod moves;
-mod place_texts;
 mod slow;
 mod space;
 mod too_large;
@@ -32,7 +31,6 @@ pub use laws_of_gaps::{answers_of_gaps, gaps_of_configurations, members_of_gaps}
 pub use laws_of_ranks::{ranks_and_configurations, ranks_are_in_order};
 pub use members::Members;
 pub use moves::Moves;
-pub use place_texts::PlaceTexts;
 pub use slow::{is_legal, labeller_lasts, value_of};
 pub use space::{MAX_CONFIGURATIONS, Space};
 pub use too_large::TooLarge;

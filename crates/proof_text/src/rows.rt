@@ -1,6 +1,6 @@
 //! The rows of a document, of either side: how they are read and written.
 
-ghost use Rattle.std.specs.Prelude.{◌≡◌, ◌<◌, ◌++◌, List, ℕ, OnOk, string_bytes};
+ghost use Rattle.std.specs.Prelude.{◌≡◌, ◌<◌, ◌++◌, ◌∷◌, List, ℕ, OnOk, string_bytes};
 ghost use Rattle.board_text.specs.PlainBoard.{PlainBoard};
 ghost use Rattle.positions.specs.Ranks.{configurations};
 ghost use Rattle.positions.specs.declared.claim.Claim.{Claim as Claimed};
@@ -11,9 +11,9 @@ use crate::fault::ProofKind;
 use crate::proof::{AdversaryRow, LabellerRow};
 use crate::row_words::{answer_words, request_words};
 use board_text::line_reader::LineReader;
-use positions::{Claim, PlaceTexts, Space, Turns};
+use board_text::{write_number, write_places};
+use positions::{Claim, Space, Turns, write_labels};
 use std::alloc::AllocError;
-use std::fmt::Write;
 
 /// A row of one side's section.
 pub(crate) trait Row: Copy {
@@ -41,9 +41,8 @@ pub(crate) trait Row: Copy {
         ensures { NextRow space.now (form space.now claim) least result text.old text.new };
 
     /// Writes the row's line.
-    fn write(&self, text: &mut String, space: &Space, places: &PlaceTexts) -> Result<(), AllocError>
-        requires places { places.now ≡ space.now.labels }
-        requires rank { (claim : Claimed) → (form space.now claim).rank self.now < configurations space.now }
+    fn write(&self, text: &mut String, space: &Space) -> Result<(), AllocError>
+        requires { (claim : Claimed) → (form space.now claim).rank self.now < configurations space.now }
         ensures { OnOk result ((claim : Claimed) → string_bytes text.new ≡ string_bytes text.old ++ (form space.now claim).line self.now) };
 }
 
@@ -98,19 +97,14 @@ impl Row for LabellerRow {
         })
     }
 
-    fn write(
-        &self,
-        text: &mut String,
-        space: &Space,
-        places: &PlaceTexts,
-    ) -> Result<(), AllocError> {
+    fn write(&self, text: &mut String, space: &Space) -> Result<(), AllocError> {
         let pebbles = space.pebbles() as usize;
         text.push_str("at")?;
-        places.write_labels(text, space, self.at)?;
-        text.push_str(" for ")?;
+        write_labels(text, space, self.at)?;
+        text.push_str(" for")?;
         write_turns(text, self.turns)?;
         text.push_str(" take")?;
-        places.write_places(text, &self.take[..pebbles])?;
+        write_places(text, space.labels(), &self.take[..pebbles])?;
         text.push_str("\n")
     }
 }
@@ -167,24 +161,23 @@ impl Row for AdversaryRow {
         })
     }
 
-    fn write(
-        &self,
-        text: &mut String,
-        space: &Space,
-        places: &PlaceTexts,
-    ) -> Result<(), AllocError> {
+    fn write(&self, text: &mut String, space: &Space) -> Result<(), AllocError> {
         text.push_str("at")?;
-        places.write_labels(text, space, self.at)?;
-        write!(text, " for {} ask {}\n", self.left, self.ask)
+        write_labels(text, space, self.at)?;
+        text.push_str(" for")?;
+        write_number(text, self.left)?;
+        text.push_str(" ask")?;
+        write_number(text, u32::from(self.ask))?;
+        text.push_str("\n")
     }
 }
 
-/// Writes a number of turns, or a star where they have no end.
+/// Writes a number of turns, or a star where they have no end, with a space before it.
 fn write_turns(text: &mut String, turns: Turns) -> Result<(), AllocError>
-    ensures { OnOk result (string_bytes text.new ≡ string_bytes text.old ++ turns_text turns) }
+    ensures { OnOk result (string_bytes text.new ≡ string_bytes text.old ++ 32 ∷ turns_text turns) }
 {
     match turns {
-        Turns::Count(number) => write!(text, "{number}"),
-        Turns::Always => text.push_str("*"),
+        Turns::Count(number) => write_number(text, number),
+        Turns::Always => text.push_str(" *"),
     }
 }

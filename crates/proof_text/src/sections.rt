@@ -9,7 +9,7 @@ use crate::fault::{ProofFault, ProofKind};
 use crate::proof::MOST_ROWS;
 use crate::rows::Row;
 use board_text::line_reader::LineReader;
-use positions::{Claim, PlaceTexts, Space};
+use positions::{Claim, Space};
 use std::alloc::{AllocError, Global};
 use std::fmt::Write;
 
@@ -73,12 +73,10 @@ pub(crate) fn read_part<R: Row>(
 pub(crate) fn write_part<R: Row>(
     text: &mut String,
     space: &Space,
-    places: &PlaceTexts,
     claim: Claim,
     rows: &[R],
 ) -> Result<(), AllocError>
-    requires places { places.now ≡ space.now.labels }
-    requires rows { (other : Claimed) → All (λ row. (R.form space.now other).rank row < configurations space.now) rows.now }
+    requires { (other : Claimed) → All (λ row. (R.form space.now other).rank row < configurations space.now) rows.now }
     ensures { OnOk result (string_bytes text.new ≡ string_bytes text.old ++ section_text (R.form space.now claim) rows.now) }
 {
     if !R::is_asked(claim) {
@@ -87,7 +85,7 @@ pub(crate) fn write_part<R: Row>(
     let count = rows.len();
     write!(text, "{} {count}\n", R::word())?;
     for row in rows {
-        row.write(text, space, places)?;
+        row.write(text, space)?;
     }
     Ok(())
 }

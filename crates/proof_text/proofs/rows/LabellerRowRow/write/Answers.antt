@@ -1,5 +1,5 @@
 use Rattle.positions.specs.declared.claim.Claim.TheVariants.{Forever}
 use Rattle.proof_text.proofs.rows.LabellerRowRow.write.Goals as goal
 
-pub write_labels-requires-clause-rank : goal.write_labels-requires-clause-rank
-write_labels-requires-clause-rank c = c.requires.rank Forever
+pub write_labels-requires : goal.write_labels-requires
+write_labels-requires c = c.requires Forever
