@@ -3,6 +3,8 @@ use Rattle.std.proofs.Common.{◌≡◌, ℕ, ◌+◌, ◌≤◌, List, [], ◌�
 use Rattle.std.specs.List.{Contains}
 use Rattle.std.proofs.lemmas.Bool.{cases_lt}
 use Rattle.std.proofs.lemmas.List.{map-append}
+use Rattle.std.proofs.lemmas.List.Elements.{All-push}
+use Rattle.std.specs.Prelude.{All}
 use Rattle.board_text.specs.PlainBoard.{PlainBoard, IsConfiguration}
 use Rattle.positions.specs.Counts.{IsSmallest}
 use Rattle.positions.specs.declared.value.Value.{Value}
@@ -12,20 +14,15 @@ use Rattle.positions.specs.Ranks.{rank_of, configuration_at}
 use Rattle.positions.specs.Table.{RequestRow}
 use Rattle.positions.proofs.Ranks.{rank_below, rank_of-configuration_at, configuration_at-rank_of}
 use Rattle.positions.proofs.Values.{same_value}
-use Rattle.strategies.specs.Document.{IsAnswerable, LeadsByAnswers, LeadsByRequests, AreExactly, IsLabellerRow, IsAdversaryRow}
-use Rattle.strategies.specs.Spreading.{AreRanksOf, IsReachedByAnswers, IsReachedByRequests}
+use Rattle.strategies.specs.Document.{IsAnswerable, LeadsByAnswers, LeadsByRequests, IsAdversaryRow}
+use Rattle.strategies.specs.Side.{Side, AreOfReached, AreSection, IsRowAt, labeller_side, adversary_side}
+use Rattle.strategies.specs.Spreading.{AreRanksOf}
 use Rattle.strategies.proofs.Building.{AreExactlyBelow, pass_ranks, push_row, all_rows}
 use Rattle.strategies.proofs.OneList.{one_answer_row, one_request_row}
 use Rattle.strategies.proofs.Reaching.{answers_lead_to, requests_lead_to}
 
--- rows stand at configurations that were reached, one at each
-pub record AreOfReached {X : Type 0} (board : PlainBoard) (IsRow : X → Type 0) (at : X → List ℕ) (IsReached : ℕ → Type 0) : Type 0 where
-  pub is_configuration : (row : X) → IsRow row → IsConfiguration board (at row)
-  pub reached : (row : X) (rank : ℕ) → IsRow row → at row ≡ configuration_at board rank → IsReached rank
-  pub one : (first second : X) → IsRow first → IsRow second → at first ≡ at second → first ≡ second
-
 pub labellers : (board : PlainBoard) (start : Value) → IsConfiguration board board.start
-    → AreOfReached board (IsLabellerRow board start) (λ row. row.at) (IsReachedByAnswers board)
+    → AreOfReached board (labeller_side board start)
 labellers board start is = record {
   is_configuration = λ row is_row. answers_lead_to board board.start is_row.requests row.at is is_row.reached;
   reached = λ row rank is_row at. record {
@@ -36,9 +33,8 @@ labellers board start is = record {
   one = one_answer_row board start;
 }
 
-pub adversarys : (board : PlainBoard) → IsConfiguration board board.start
-    → AreOfReached board (IsAdversaryRow board) (λ row. row.at) (IsReachedByRequests board)
-adversarys board is = record {
+pub adversarys : (board : PlainBoard) (start : Value) → IsConfiguration board board.start → AreOfReached board (adversary_side board start)
+adversarys board start is = record {
   is_configuration = λ row is_row. requests_lead_to board board.start is_row.labels row.at is is_row.reached;
   reached = λ row rank is_row at. record { labels = is_row.labels; reached = subst (LeadsByRequests board board.start is_row.labels) at is_row.reached };
   one = one_request_row board;
@@ -52,41 +48,53 @@ no_request board rank forever row is_row at =
     same_value board (configuration_at board rank) Forever (Finite row.left) forever (subst (λ (c : List ℕ). HasValue board c (Finite row.left)) at is_row.has_value) in
     absurd cc
 
-module _ {R X : Type 0} (board : PlainBoard) (shown : R → X) {IsRow : X → Type 0} {at : X → List ℕ} {IsReached : ℕ → Type 0} (side : AreOfReached board IsRow at IsReached)
-    (ranks : List ℕ) (are : AreRanksOf board IsReached ranks) (from : ℕ) (rows : List R) (exactly : AreExactlyBelow board IsRow at from (map shown rows)) where
+-- exactly the rows of the side at ranks below the bound
+pub record AreSectionBelow {R : Type 0} (board : PlainBoard) (side : Side R) (bound : ℕ) (rows : List R) : Type 0 where
+  pub exactly : AreExactlyBelow board side.IsRow side.at bound (map side.shown rows)
+  pub filled : All side.IsFilled rows
+
+module _ {R : Type 0} (board : PlainBoard) (side : Side R) (of_reached : AreOfReached board side)
+    (ranks : List ℕ) (are : AreRanksOf board side.IsReached ranks) (from : ℕ) (rows : List R) (section : AreSectionBelow board side from rows) where
   abbrev IsNext : Option ℕ → Type 0
   IsNext = IsSmallest (λ rank. (from ≤ rank) × Contains ranks rank)
 
-  at_rank : (row : X) (rank : ℕ) → IsRow row → rank_of board (at row) ≡ rank → at row ≡ configuration_at board rank
-  at_rank row rank is_row same = sym (configuration_at-rank_of board (at row) (side.is_configuration row is_row)) ∙ ap (configuration_at board) same
+  at_rank : (row : side.Row) (rank : ℕ) → side.IsRow row → rank_of board (side.at row) ≡ rank → side.at row ≡ configuration_at board rank
+  at_rank row rank is_row same = sym (configuration_at-rank_of board (side.at row) (of_reached.is_configuration row is_row)) ∙ ap (configuration_at board) same
 
-  among : (row : X) (rank : ℕ) → IsRow row → rank_of board (at row) ≡ rank → Contains ranks rank
+  among : (row : side.Row) (rank : ℕ) → side.IsRow row → rank_of board (side.at row) ≡ rank → Contains ranks rank
   among row rank is_row same =
-      let below = rank_below board (at row) (side.is_configuration row is_row) in
-      (are rank).1 (omega (arith, below, same), side.reached row rank is_row (at_rank row rank is_row same))
+      let below = rank_below board (side.at row) (of_reached.is_configuration row is_row) in
+      (are rank).1 (omega (arith, below, same), of_reached.reached row rank is_row (at_rank row rank is_row same))
 
-  up_to : (rank : ℕ) → IsNext (Some rank) → AreExactlyBelow board IsRow at rank (map shown rows)
-  up_to rank next = pass_ranks board IsRow at from rank (map shown rows) next.0.0 exactly (λ row is_row above below.
-      let least = next.1 (rank_of board (at row)) (above, among row (rank_of board (at row)) is_row refl) in omega arith)
+  up_to : (rank : ℕ) → IsNext (Some rank) → AreExactlyBelow board side.IsRow side.at rank (map side.shown rows)
+  up_to rank next = pass_ranks board side.IsRow side.at from rank (map side.shown rows) next.0.0 section.exactly (λ row is_row above below.
+      let least = next.1 (rank_of board (side.at row)) (above, among row (rank_of board (side.at row)) is_row refl) in omega arith)
 
   -- the next rank has this row
-  pub one_more : (rank : ℕ) (row : R) → IsNext (Some rank) → IsRow (shown row) → at (shown row) ≡ configuration_at board rank
-      → AreExactlyBelow board IsRow at (rank + 1) (map shown (rows ++ row ∷ []))
-  one_more rank row next is_row here =
-      subst (AreExactlyBelow board IsRow at (rank + 1)) (sym (map-append shown rows (row ∷ [])))
-      (push_row board IsRow at rank (map shown rows) (shown row) (up_to rank next) is_row
-      (ap (rank_of board) here ∙ rank_of-configuration_at board rank ((are rank).0 next.0.1).0)
-      (λ other is_other same. side.one (shown row) other is_row is_other (here ∙ sym (at_rank other rank is_other same))))
+  pub one_more : (rank : ℕ) (row : R) → IsNext (Some rank) → IsRowAt board side rank (Some row) → AreSectionBelow board side (rank + 1) (rows ++ row ∷ [])
+  one_more rank row next (is_row, here, filled) = record {
+    exactly = subst (AreExactlyBelow board side.IsRow side.at (rank + 1)) (sym (map-append side.shown rows (row ∷ [])))
+        (push_row board side.IsRow side.at rank (map side.shown rows) (side.shown row) (up_to rank next) is_row
+        (ap (rank_of board) here ∙ rank_of-configuration_at board rank ((are rank).0 next.0.1).0)
+        (λ other is_other same. of_reached.one (side.shown row) other is_row is_other (here ∙ sym (at_rank other rank is_other same))));
+    filled = All-push side.IsFilled rows row section.filled filled;
+  }
 
   -- the next rank has no row
-  pub none_there : (rank : ℕ) → IsNext (Some rank) → ((row : X) → IsRow row → at row ≡ configuration_at board rank → ⊥)
-      → AreExactlyBelow board IsRow at (rank + 1) (map shown rows)
-  none_there rank next none = pass_ranks board IsRow at rank (rank + 1) (map shown rows) (omega arith) (up_to rank next)
-      (λ row is_row above below. none row is_row (at_rank row rank is_row (omega arith)))
+  pub none_there : (rank : ℕ) → IsNext (Some rank) → IsRowAt board side rank None → AreSectionBelow board side (rank + 1) rows
+  none_there rank next none = record {
+    exactly = pass_ranks board side.IsRow side.at rank (rank + 1) (map side.shown rows) (omega arith) (up_to rank next)
+        (λ row is_row above below. none row is_row (at_rank row rank is_row (omega arith)));
+    filled = section.filled;
+  }
 
   -- no rank is left
-  pub all_gathered : IsNext None → AreExactly board IsRow at (map shown rows)
-  all_gathered none = all_rows board IsRow at from (map shown rows) exactly (λ row is_row. elim (cases_lt (rank_of board (at row)) from) [
-    | inl below ↦ below
-    | inr above ↦ absurd (none (rank_of board (at row)) (above, among row (rank_of board (at row)) is_row refl))
-  ])
+  pub all_gathered : IsNext None → AreSection board side rows
+  all_gathered none = record {
+    exactly = all_rows board side.IsRow side.at from (map side.shown rows) section.exactly
+        (λ row is_row. elim (cases_lt (rank_of board (side.at row)) from) [
+          | inl below ↦ below
+          | inr above ↦ absurd (none (rank_of board (side.at row)) (above, among row (rank_of board (side.at row)) is_row refl))
+        ]);
+    filled = section.filled;
+  }

@@ -1,5 +1,5 @@
 -- Turns that are left after a request, by values.
-use Rattle.std.proofs.Common.{◌≡◌, ℕ, suc, ◌≤◌, min, refl, arith}
+use Rattle.std.proofs.Common.{◌≡◌, suc, ◌≤◌, refl, arith}
 use Rattle.positions.specs.declared.value.Value.{Value}
 use Rattle.positions.specs.declared.value.Value.TheVariants.{Finite, Forever}
 use Rattle.proof_text.specs.Rules.{IsEnough, IsWanted, one_less}
@@ -22,7 +22,3 @@ enough_left (Finite number) (Finite value) (Finite after) stays keeps wanted = (
 enough_left (Finite number) (Finite value) Forever stays keeps wanted = (tt, omega arith)
 enough_left (Finite number) Forever (Finite after) stays keeps wanted = absurd keeps
 enough_left (Finite number) Forever Forever stays keeps wanted = (tt, omega arith)
-
--- what is listed at the start is what the claim wants
-pub start_enough : (number : ℕ) → number ≤ min number number
-start_enough number = omega arith

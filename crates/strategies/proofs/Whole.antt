@@ -1,8 +1,7 @@
 -- The whole document of a board.
-use Rattle.std.proofs.Common.{◌≡◌, ℕ, ◌<◌, List, [], arith}
+use Rattle.std.proofs.Common.{◌≡◌, ℕ, List}
 use Rattle.board_text.specs.PlainBoard.{PlainBoard, IsConfiguration}
 use Rattle.positions.specs.declared.value.Value.{Value}
-use Rattle.positions.specs.declared.value.Value.TheVariants.{Forever}
 use Rattle.positions.specs.declared.claim.Claim.{Claim}
 use Rattle.positions.specs.Value.{HasValue}
 use Rattle.positions.specs.Ranks.{rank_of, configuration_at}
@@ -15,13 +14,6 @@ pub asked : (board : PlainBoard) (value : Value) (rows : List RequestRow) → As
 asked board value rows asks exactly = record {
   each = λ row. (λ among. (asks, (exactly.each row).0 among), λ is. (exactly.each row).1 is.1);
   ascending = exactly.ascending;
-}
-
--- a start that lasts forever has no rows for the adversary
-pub none_asked : (board : PlainBoard) → AreExactly board (λ row. AsksAdversary Forever × IsAdversaryRow board row) (λ row. row.at) []
-none_asked board = record {
-  each = λ row. (λ among. absurd (let inside : among.0 < 0 = among.1 in omega arith), λ is. absurd is.0);
-  ascending = λ i j d less inside. absurd (omega arith);
 }
 
 pub is_whole : (board : PlainBoard) (start : ℕ) (value : Value) (claim : Claim) (labeller : List AnswerRow) (adversary : List RequestRow)

@@ -4,4 +4,5 @@ pub mod Example
 pub mod GapBest
 pub mod Listed
 pub mod Marks
+pub mod Side
 pub mod Spreading

@@ -55,9 +55,13 @@ impl<'a> BestMoves<'a> {
 
     /// The configurations and gaps of the board.
     pub(crate) fn space(&self) -> &'a Space
-        ensures { result.now ≡ self.now }
+        ensures value { result.now ≡ self.now }
+        ensures is_board { IsBoard self.now }
+        ensures few { configurations self.now ≤ MAX_CONFIGURATIONS }
     {
-        self.values.space()
+        let space = self.values.space();
+        let _ = space.configurations();
+        space
     }
 
     /// The board.
@@ -74,7 +78,6 @@ impl<'a> BestMoves<'a> {
         ensures is_board { IsBoard self.now }
         ensures few { configurations self.now ≤ MAX_CONFIGURATIONS }
     {
-        let _ = self.space().configurations();
         self.space().rank(self.board.start())
     }
 

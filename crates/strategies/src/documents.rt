@@ -1,16 +1,16 @@
 //! The document that shows the value of a board's start.
 
-ghost use Rattle.std.specs.Prelude.{◌≡◌, All, IfOk};
+ghost use Rattle.std.specs.Prelude.{◌≡◌, IfOk};
 ghost use Rattle.positions.specs.Claim.{Shows};
-ghost use Rattle.proof_text.specs.Proof.{IsDocument, IsPadded, answer_rows, plain_proof, request_rows};
+ghost use Rattle.proof_text.specs.Proof.{IsDocument, answer_rows, plain_proof, request_rows};
 ghost use Rattle.proof_text.specs.Rules.{BreaksNoRule};
-ghost use Rattle.strategies.specs.Document.{AreExactly, AsksAdversary, IsAdversaryRow, IsDocumentOf, IsLabellerRow, claim_of};
+ghost use Rattle.strategies.specs.Document.{AreExactly, AsksAdversary, IsAdversaryRow, IsDocumentOf, claim_of};
 
 use crate::best_moves::BestMoves;
 use crate::gap_best::best_of_gaps;
 use board_text::{Board, Memory};
 use positions::{Claim, Value};
-use proof_text::{AdversaryRow, LabellerRow, Proof};
+use proof_text::{AdversaryRow, Proof};
 use retro_core::Values;
 use std::alloc::Global;
 
@@ -30,7 +30,7 @@ pub fn document(alloc: Global, board: &Board, values: &Values) -> Result<Proof, 
     let value = moves.value(moves.start());
     Ok(Proof {
         claim: claim(value),
-        labeller: moves.labeller_section(alloc, value)?,
+        labeller: moves.section(alloc, value)?,
         adversary: moves.adversary_section(alloc, value)?,
     })
 }
@@ -46,25 +46,14 @@ pub fn claim(value: Value) -> Claim
 }
 
 impl BestMoves<'_> {
-    /// The labeller's rows, where the start has the value.
-    fn labeller_section(&self, alloc: Global, value: Value) -> Result<Vec<LabellerRow>, Memory>
-        ensures rows { IfOk result (λ rows. AreExactly self.now (IsLabellerRow self.now value) (λ row. row.at)
-            (answer_rows self.now rows.items)) }
-        ensures padded { IfOk result (λ rows. All (IsPadded self.now) rows.items) }
-    {
-        let reached = self.reached_by_answers(alloc)?;
-        self.labeller_rows(alloc, value, &reached)
-    }
-
     /// The adversary's rows, where the start has the value: none where that is Forever.
     fn adversary_section(&self, alloc: Global, value: Value) -> Result<Vec<AdversaryRow>, Memory>
         ensures { IfOk result (λ rows. AreExactly self.now (λ row. AsksAdversary value × IsAdversaryRow self.now row) (λ row. row.at)
             (request_rows self.now rows.items)) }
     {
-        let Value::Finite(_) = value else {
-            return Ok(Vec::new(alloc));
-        };
-        let reached = self.reached_by_requests(alloc)?;
-        self.adversary_rows(alloc, &reached)
+        match value {
+            Value::Finite(_) => self.section(alloc, value),
+            Value::Forever => Ok(Vec::new(alloc)),
+        }
     }
 }

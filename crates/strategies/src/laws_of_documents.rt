@@ -11,6 +11,8 @@ ghost use Rattle.proof_text.specs.Rules.{BreaksNoRule};
 ghost use Rattle.strategies.specs.Document.{IsLabellerRow, IsAdversaryRow, IsDocumentOf};
 ghost use Rattle.strategies.specs.Example.{small_board, small_document, lone_board, lone_document};
 
+use positions::MAX_CONFIGURATIONS;
+
 /// What the document of a board claims of the start holds.
 pub fn documents_claim_what_holds()
     ensures { (board : PlainBoard) → (proof : PlainProof) → IsDocumentOf board proof → Holds board proof.claim }
@@ -30,7 +32,7 @@ pub fn documents_break_no_rule()
 
 /// The document of a board with few configurations is one as the format has it.
 pub fn documents_have_their_form()
-    ensures { (board : PlainBoard) → (proof : PlainProof) → IsConfiguration board board.start → configurations board ≤ 1048576
+    ensures { (board : PlainBoard) → (proof : PlainProof) → IsConfiguration board board.start → configurations board ≤ MAX_CONFIGURATIONS
         → IsDocumentOf board proof → IsProof board proof }
 {}
 

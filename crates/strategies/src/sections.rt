@@ -1,83 +1,94 @@
-//! The rows of a document, one for each configuration that was reached.
+//! The sections of a document: a row for each configuration that was reached.
 
-ghost use Rattle.std.specs.Prelude.{◌≡◌, ◌<◌, All, IfOk, IfSome, None};
-ghost use Rattle.positions.specs.Ranks.{configurations, configuration_at};
-ghost use Rattle.positions.specs.Value.{HasValue};
-ghost use Rattle.positions.specs.declared.value.Value.TheVariants.{Forever};
-ghost use Rattle.proof_text.specs.Proof.{IsPadded, answer_row, answer_rows, request_row, request_rows};
-ghost use Rattle.strategies.specs.Document.{AreExactly, IsAdversaryRow, IsLabellerRow, turns_of};
-ghost use Rattle.strategies.specs.Spreading.{AreRanksOf, IsReachedByAnswers, IsReachedByRequests};
+ghost use Rattle.std.specs.Prelude.{◌≡◌, ◌<◌, ◌≤◌, IfOk};
+ghost use Rattle.board_text.specs.PlainBoard.{PlainBoard};
+ghost use Rattle.positions.specs.Ranks.{configurations};
+ghost use Rattle.positions.specs.declared.value.Value.{Value as Worth};
+ghost use Rattle.strategies.specs.Document.{turns_of};
+ghost use Rattle.strategies.specs.Side.{Side, AreOfReached, AreSection, IsRowAt, adversary_side, labeller_side};
+ghost use Rattle.strategies.specs.Spreading.{AreRanksOf};
 
 use crate::best_moves::BestMoves;
 use crate::reached::Reached;
 use board_text::Memory;
-use positions::{Turns, Value};
+use positions::{MAX_CONFIGURATIONS, Turns, Value};
 use proof_text::{AdversaryRow, LabellerRow};
 use std::alloc::Global;
 
-impl BestMoves<'_> {
-    /// The labeller's rows of the document of a board whose start has a value, in ascending rank.
-    pub(crate) fn labeller_rows(
-        &self,
-        alloc: Global,
-        start: Value,
-        reached: &Reached,
-    ) -> Result<Vec<LabellerRow>, Memory>
-        requires size { reached.now.size ≡ configurations self.now }
-        requires reached { AreRanksOf self.now (IsReachedByAnswers self.now) reached.now.ranks }
-        ensures rows { IfOk result (λ rows. AreExactly self.now (IsLabellerRow self.now start) (λ row. row.at)
-            (answer_rows self.now rows.items)) }
-        ensures padded { IfOk result (λ rows. All (IsPadded self.now) rows.items) }
-    {
-        let _ = self.space().configurations();
-        let mut rows = Vec::with_capacity(alloc, reached.len())?;
-        let mut from = 0;
-        while let Some(rank) = reached.first_from(from) {
-            let row = self.labeller_row(start, rank);
-            if rows.push(row).is_err() {
-                return Err(Memory);
-            }
-            from = rank + 1;
-        }
-        Ok(rows)
+/// A row of one side's section.
+pub(crate) trait SectionRow: Copy {
+    ghost side: { PlainBoard → Worth → Side Self };
+
+    /// The configurations that a row may stand at.
+    fn reached(moves: &BestMoves<'_>, alloc: Global) -> Result<Reached, Memory>
+        ensures size { IfOk result (λ reached. reached.size ≡ configurations moves.now) }
+        ensures reached { IfOk result (λ reached. (start : Worth) → AreRanksOf moves.now (side moves.now start).IsReached reached.ranks) }
+        ensures rows { (start : Worth) → AreOfReached moves.now (side moves.now start) }
+        ensures few { configurations moves.now ≤ MAX_CONFIGURATIONS };
+
+    /// The row of a configuration that was reached, if it has one, where the start has a value.
+    fn at(moves: &BestMoves<'_>, start: Value, rank: u32) -> Option<Self>
+        requires rank { rank < configurations moves.now }
+        requires reached { (side moves.now start).IsReached rank }
+        ensures { IsRowAt moves.now (side moves.now start) rank result };
+}
+
+impl SectionRow for LabellerRow {
+    ghost side = { labeller_side };
+
+    fn reached(moves: &BestMoves<'_>, alloc: Global) -> Result<Reached, Memory> {
+        moves.reached_by_answers(alloc)
     }
 
-    /// The labeller's row of a configuration that was reached.
-    fn labeller_row(&self, start: Value, rank: u32) -> LabellerRow
-        requires rank { rank < configurations self.now }
-        requires reached { IsReachedByAnswers self.now rank }
-        ensures row { IsLabellerRow self.now start (answer_row self.now result) }
-        ensures at { result.at ≡ rank }
-        ensures padded { IsPadded self.now result }
-    {
+    fn at(moves: &BestMoves<'_>, start: Value, rank: u32) -> Option<LabellerRow> {
         let mut take = [0; 6];
-        for pebble in 0..self.space().pebbles() {
-            if let Some(best) = self.answer(rank, pebble) {
+        for pebble in 0..moves.space().pebbles() {
+            if let Some(best) = moves.answer(rank, pebble) {
                 take[pebble as usize] = best.label;
             }
         }
-        LabellerRow {
+        Some(LabellerRow {
             at: rank,
-            turns: turns(start, self.value(rank)),
+            turns: turns(start, moves.value(rank)),
             take,
-        }
+        })
+    }
+}
+
+impl SectionRow for AdversaryRow {
+    ghost side = { adversary_side };
+
+    fn reached(moves: &BestMoves<'_>, alloc: Global) -> Result<Reached, Memory> {
+        moves.reached_by_requests(alloc)
     }
 
-    /// The adversary's rows of the document of a board whose start has a finite value, in ascending rank.
-    pub(crate) fn adversary_rows(
+    fn at(moves: &BestMoves<'_>, _start: Value, rank: u32) -> Option<AdversaryRow> {
+        let Value::Finite(left) = moves.value(rank) else {
+            return None;
+        };
+        let ask = moves.request(rank)?;
+        Some(AdversaryRow {
+            at: rank,
+            left,
+            ask,
+        })
+    }
+}
+
+impl BestMoves<'_> {
+    /// One side's rows of the document of a board whose start has a value, in ascending rank.
+    pub(crate) fn section<R: SectionRow>(
         &self,
         alloc: Global,
-        reached: &Reached,
-    ) -> Result<Vec<AdversaryRow>, Memory>
-        requires size { reached.now.size ≡ configurations self.now }
-        requires reached { AreRanksOf self.now (IsReachedByRequests self.now) reached.now.ranks }
-        ensures { IfOk result (λ rows. AreExactly self.now (IsAdversaryRow self.now) (λ row. row.at) (request_rows self.now rows.items)) }
+        start: Value,
+    ) -> Result<Vec<R>, Memory>
+        ensures { IfOk result (λ rows. AreSection self.now (R.side self.now start) rows.items) }
     {
-        let _ = self.space().configurations();
+        let reached = R::reached(self, alloc)?;
         let mut rows = Vec::with_capacity(alloc, reached.len())?;
         let mut from = 0;
         while let Some(rank) = reached.first_from(from) {
-            if let Some(row) = self.adversary_row(rank) {
+            if let Some(row) = R::at(self, start, rank) {
                 if rows.push(row).is_err() {
                     return Err(Memory);
                 }
@@ -85,25 +96,6 @@ impl BestMoves<'_> {
             from = rank + 1;
         }
         Ok(rows)
-    }
-
-    /// The adversary's row of a configuration that was reached, if its value is finite.
-    fn adversary_row(&self, rank: u32) -> Option<AdversaryRow>
-        requires rank { rank < configurations self.now }
-        requires reached { IsReachedByRequests self.now rank }
-        ensures row { IfSome result (λ row. IsAdversaryRow self.now (request_row self.now row)) }
-        ensures at { IfSome result (λ row. row.at ≡ rank) }
-        ensures none { result ≡ None → HasValue self.now (configuration_at self.now rank) Forever }
-    {
-        let Value::Finite(left) = self.value(rank) else {
-            return None;
-        };
-        let ask = self.request(rank)?;
-        Some(AdversaryRow {
-            at: rank,
-            left,
-            ask,
-        })
     }
 }
 

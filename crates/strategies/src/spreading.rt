@@ -1,6 +1,7 @@
 //! What best answers, and best requests, lead to from the start of a board.
 
-ghost use Rattle.std.specs.Prelude.{◌≡◌, ◌<◌, IfOk};
+ghost use Rattle.std.specs.Prelude.{◌≡◌, ◌<◌, ◌≤◌, IfOk};
+ghost use Rattle.board_text.specs.PlainBoard.{IsBoard};
 ghost use Rattle.positions.specs.Ranks.{configurations};
 ghost use Rattle.positions.specs.Gaps.{gaps};
 ghost use Rattle.strategies.specs.Spreading.{IsAnswerStep, AnswerLeads, RequestLeads, IsReachedByAnswers, IsReachedByRequests, IsWithAll};
@@ -11,6 +12,7 @@ use crate::gap_best::is_some;
 use crate::marks::Marks;
 use crate::reached::Reached;
 use board_text::Memory;
+use positions::MAX_CONFIGURATIONS;
 use std::alloc::Global;
 
 impl BestMoves<'_> {
@@ -18,6 +20,8 @@ impl BestMoves<'_> {
     pub(crate) fn reached_by_answers(&self, alloc: Global) -> Result<Reached, Memory>
         ensures size { IfOk result (λ reached. reached.size ≡ configurations self.now) }
         ensures reached { IfOk result (λ reached. AreRanksOf self.now (IsReachedByAnswers self.now) reached.ranks) }
+        ensures is_board { IsBoard self.now }
+        ensures few { configurations self.now ≤ MAX_CONFIGURATIONS }
     {
         let mut reached = Reached::new(alloc, self.space().configurations())?;
         let start = self.start();
@@ -66,6 +70,8 @@ impl BestMoves<'_> {
     pub(crate) fn reached_by_requests(&self, alloc: Global) -> Result<Reached, Memory>
         ensures size { IfOk result (λ reached. reached.size ≡ configurations self.now) }
         ensures reached { IfOk result (λ reached. AreRanksOf self.now (IsReachedByRequests self.now) reached.ranks) }
+        ensures is_board { IsBoard self.now }
+        ensures few { configurations self.now ≤ MAX_CONFIGURATIONS }
     {
         let space = self.space();
         let mut reached = Reached::new(alloc, space.configurations())?;

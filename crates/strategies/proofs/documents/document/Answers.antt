@@ -9,14 +9,14 @@ returns-clause-document c =
     let b = c.args.board.now in
     let start = rw c.new-moves.ensures at c.start.ensures in
     is_whole b c.start.result c.value-value.result c.claim.result _ _ start.is_board.start start.rank (rw c.new-moves.ensures at c.value-value.ensures) c.claim.ensures
-    (rw c.new-moves.ensures at c.in_ok-labeller_section.ensures.rows) (rw c.new-moves.ensures at c.in_ok-adversary_section.ensures)
+    (rw c.new-moves.ensures at c.in_ok-section.ensures.exactly) (rw c.new-moves.ensures at c.in_ok-adversary_section.ensures)
 
 pub returns-clause-form : goal.returns-clause-form
 returns-clause-form c =
     let start = rw c.new-moves.ensures at c.start.ensures in
     record {
       is_proof = is_formed c.args.board.now _ start.is_board.start start.few (returns-clause-document c);
-      padded = rw c.new-moves.ensures at c.in_ok-labeller_section.ensures.padded;
+      padded = rw c.new-moves.ensures at c.in_ok-section.ensures.filled;
     }
 
 pub returns-clause-rules : goal.returns-clause-rules

@@ -10,7 +10,7 @@ pub returns-in_ok-add-clause-added : goal.returns-in_ok-add-clause-added
 returns-in_ok-add-clause-added c =
     answer_added c.args.self.now c.args.rank c.args.pebble c.args.reached.now.ranks c.in-Some.best c.with.result _
     c.in-Some.ensures (c.if-is_some.ensures.0 refl) c.requires.pebble
-    (rw c.space.ensures at c.with.ensures.rank) c.in_ok-add.ensures.added
+    (rw c.space.ensures.value at c.with.ensures.rank) c.in_ok-add.ensures.added
 
 pub returns-else-is_some-clause-added : goal.returns-else-is_some-clause-added
 returns-else-is_some-clause-added c =

@@ -13,6 +13,6 @@ pub returns-clause-added : goal.returns-clause-added
 returns-clause-added c =
     let b = c.args.self.now in
     let step = IsAnswerStep b c.args.rank in
-    let end : b.pebbles ≤ c.loop-pebble.pebble = omega (arith, c.loop-pebble-test.false, rw c.space.ensures at c.pebbles-pebble-end.ensures.value) in
+    let end : b.pebbles ≤ c.loop-pebble.pebble = omega (arith, c.loop-pebble-test.false, rw c.space.ensures.value at c.pebbles-pebble-end.ensures.value) in
     added_same _ _ (Below step c.loop-pebble.pebble) (AnswerLeads b c.args.rank)
     (λ to. below_all step c.loop-pebble.pebble to (λ pebble is. let low : pebble < b.pebbles = is.is_pebble in omega arith)) c.loop-pebble.invariant.added

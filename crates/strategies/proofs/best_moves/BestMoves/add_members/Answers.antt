@@ -12,7 +12,7 @@ pub rank-requires : goal.rank-requires
 rank-requires c =
     let b = c.args.self.now in
     let label = c.in-Some.label in
-    let same = c.space-space.ensures in
+    let same = c.space-space.ensures.value in
     let next = next_of (IsAnswer c.args.self.now c.args.gap) (answer_few c.args.self.now c.args.gap (rw same at c.answer_set.ensures.few)) c.loop-label.answers c.loop-label.invariant.left c.take_next.new.self label c.in-Some.ensures in
     let below = rw same at c.members-members.ensures.below label (label_is_place b label next.0.1.is_label) in
     let few = rw same at c.members-members.ensures.few in
@@ -22,7 +22,7 @@ pub add-requires : goal.add-requires
 add-requires c =
     let b = c.args.self.now in
     let label = c.in-Some.label in
-    let same = c.space-space.ensures in
+    let same = c.space-space.ensures.value in
     let next = next_of (IsAnswer c.args.self.now c.args.gap) (answer_few c.args.self.now c.args.gap (rw same at c.answer_set.ensures.few)) c.loop-label.answers c.loop-label.invariant.left c.take_next.new.self label c.in-Some.ensures in
     let below = rw same at c.members-members.ensures.below label (label_is_place b label next.0.1.is_label) in
     omega (arith, below, c.rank.ensures, c.loop-label.invariant.size, c.requires.size)
@@ -31,7 +31,7 @@ pub loop-label-preserved : goal.loop-label-preserved
 loop-label-preserved c =
     let b = c.args.self.now in
     let label = c.in-Some.label in
-    let same = c.space-space.ensures in
+    let same = c.space-space.ensures.value in
     let few = rw same at c.answer_set.ensures.few in
     let step = c.in-Some.ensures in
     let next = next_of (IsAnswer c.args.self.now c.args.gap) (answer_few c.args.self.now c.args.gap (rw same at c.answer_set.ensures.few)) c.loop-label.answers c.loop-label.invariant.left c.take_next.new.self label c.in-Some.ensures in
@@ -46,14 +46,14 @@ loop-label-preserved c =
 
 pub returns-clause-added : goal.returns-clause-added
 returns-clause-added c =
-    let same = c.space-space.ensures in
+    let same = c.space-space.ensures.value in
     members_added c.args.self.now c.args.gap c.loop-label.answers.from _ _
     (none_left (IsAnswer c.args.self.now c.args.gap) (answer_few c.args.self.now c.args.gap (rw same at c.answer_set.ensures.few)) c.loop-label.answers c.loop-label.invariant.left c.in_default.ensures)
     c.loop-label.invariant.added
 
 pub loop-label-init : goal.loop-label-init
 loop-label-init c =
-    let same = c.space-space.ensures in
+    let same = c.space-space.ensures.value in
     let begins = from_zero c.answer_set.result c.walk-answers.result c.walk-answers.ensures in
     record {
       most = omega (arith, begins);

@@ -9,17 +9,17 @@ pub returns-then-get-clause-added : goal.returns-then-get-clause-added
 returns-then-get-clause-added c =
     let best = c.in-Some.ensures.best in
     results_known c.args.self.now c.args.rank c.requires.rank c.in-Some.pebble c.gap-gap.result _ c.args.expanded.now best.0.is_pebble best
-    (rw c.space.ensures at c.gap-gap.ensures.gap) (rw c.space.ensures at c.gap-gap.ensures.below)
+    (rw c.space.ensures.value at c.gap-gap.ensures.gap) (rw c.space.ensures.value at c.gap-gap.ensures.below)
     c.requires.expanded (sym c.get.ensures ∙ c.if-get.true)
 
 pub returns-clause-expanded : goal.returns-clause-expanded
 returns-clause-expanded c =
     rw c.set.ensures
     (expanded_more c.args.self.now c.args.expanded.now c.gap-gap.result c.args.reached.now.ranks _ c.requires.expanded
-    (rw c.space.ensures at c.gap-gap.ensures.below) c.in_ok-add_members.ensures.added)
+    (rw c.space.ensures.value at c.gap-gap.ensures.below) c.in_ok-add_members.ensures.added)
 
 pub returns-clause-added : goal.returns-clause-added
 returns-clause-added c =
     let best = c.in-Some.ensures.best in
     results_added c.args.self.now c.args.rank c.requires.rank c.in-Some.pebble c.gap-gap.result _ _ best.0.is_pebble best
-    (rw c.space.ensures at c.gap-gap.ensures.gap) c.in_ok-add_members.ensures.added
+    (rw c.space.ensures.value at c.gap-gap.ensures.gap) c.in_ok-add_members.ensures.added

@@ -7,4 +7,4 @@ pub returns : goal.returns
 returns c =
     let b = c.args.self.now in
     c.answer_of_gap.ensures (configuration_at b c.args.rank) c.args.pebble (configuration_at_is b c.args.rank c.requires.rank) c.requires.pebble
-    (sym (rw c.space.ensures at c.gap.ensures.gap))
+    (sym (rw c.space.ensures.value at c.gap.ensures.gap))

@@ -4,13 +4,13 @@ use Rattle.strategies.proofs.best_moves.BestMoves.reached_by_answers.Goals as go
 use Rattle.strategies.proofs.best_moves.BestMoves.reached_by_answers.Goals.{then-is_some+in_ok-add, else-is_some}
 
 pub add-requires : goal.add-requires
-add-requires c = omega (arith, c.start-start.ensures.below, c.in_ok-reached.ensures.size, rw c.space.ensures at c.configurations.ensures.value)
+add-requires c = omega (arith, c.start-start.ensures.below, c.in_ok-reached.ensures.size, rw c.space.ensures.value at c.configurations.ensures.value)
 
 pub loop-rank-init : goal.loop-rank-init
 loop-rank-init c =
     let b = c.args.self.now in
     let is = c.start-start.ensures.is_board.start in
-    let size = c.in_ok-reached.ensures.size ∙ (rw c.space.ensures at c.configurations.ensures.value) in
+    let size = c.in_ok-reached.ensures.size ∙ (rw c.space.ensures.value at c.configurations.ensures.value) in
     elim c.if-is_some.branch [
       | then-is_some+in_ok-add w ↦ rw w.reached-is (record {
         size = w.in_ok-add.ensures.size ∙ size;

@@ -4,15 +4,15 @@ use Rattle.strategies.proofs.Spread.{somewhere, request_below, requests_begin, r
 use Rattle.strategies.proofs.best_moves.BestMoves.reached_by_requests.Goals as goal
 
 pub add-requires : goal.add-requires
-add-requires c = omega (arith, c.start.ensures.below, c.in_ok-reached.ensures.size, rw c.space-space.ensures at c.configurations.ensures.value)
+add-requires c = omega (arith, c.start.ensures.below, c.in_ok-reached.ensures.size, rw c.space-space.ensures.value at c.configurations.ensures.value)
 
 pub loop-rank-init : goal.loop-rank-init
 loop-rank-init c =
     let b = c.args.self.now in
     let is = c.start.ensures.is_board in
     record {
-      size = c.in_ok-add.ensures.size ∙ c.in_ok-reached.ensures.size ∙ (rw c.space-space.ensures at c.configurations.ensures.value);
-      expanded = rw c.in_ok-expanded.ensures (none_expanded b c.gaps.result _ (rw c.space-space.ensures at c.gaps.ensures.value));
+      size = c.in_ok-add.ensures.size ∙ c.in_ok-reached.ensures.size ∙ (rw c.space-space.ensures.value at c.configurations.ensures.value);
+      expanded = rw c.in_ok-expanded.ensures (none_expanded b c.gaps.result _ (rw c.space-space.ensures.value at c.gaps.ensures.value));
       spread = requests_begin b is.start _ (rw (c.start.ensures.rank, c.in_ok-reached.ensures.empty) at c.in_ok-add.ensures.added);
     }
 

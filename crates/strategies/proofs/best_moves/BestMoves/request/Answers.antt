@@ -7,7 +7,7 @@ use Rattle.strategies.proofs.best_moves.BestMoves.request.Goals as goal
 pub returns-then-leads_below-clause-best : goal.returns-then-leads_below-clause-best
 returns-then-leads_below-clause-best c =
     let b = c.args.self.now in
-    let pebbles = rw c.space.ensures at c.pebbles-pebble-end.ensures.value in
+    let pebbles = rw c.space.ensures.value at c.pebbles-pebble-end.ensures.value in
     let is_pebble : c.loop-pebble.pebble < b.pebbles = omega (arith, pebbles, c.loop-pebble-test.true) in
     lowers_first b (configuration_at b c.args.rank) c.loop-pebble.pebble c.value-value.result c.answer.result
     (c.value-value.ensures) c.loop-pebble.invariant c.answer.ensures is_pebble (c.if-leads_below.ensures.0 refl)
@@ -15,7 +15,7 @@ returns-then-leads_below-clause-best c =
 pub returns-then-leads_below-clause-none : goal.returns-then-leads_below-clause-none
 returns-then-leads_below-clause-none c =
     let b = c.args.self.now in
-    let pebbles = rw c.space.ensures at c.pebbles-pebble-end.ensures.value in
+    let pebbles = rw c.space.ensures.value at c.pebbles-pebble-end.ensures.value in
     let is_pebble : c.loop-pebble.pebble < b.pebbles = omega (arith, pebbles, c.loop-pebble-test.true) in
     request_none b (configuration_at b c.args.rank) c.loop-pebble.pebble (configuration_at_is b c.args.rank c.requires)
     (lowers_first b (configuration_at b c.args.rank) c.loop-pebble.pebble c.value-value.result c.answer.result
@@ -30,7 +30,7 @@ loop-pebble-preserved c =
 pub returns-clause-none : goal.returns-clause-none
 returns-clause-none c =
     let b = c.args.self.now in
-    let pebbles = rw c.space.ensures at c.pebbles-pebble-end.ensures.value in
+    let pebbles = rw c.space.ensures.value at c.pebbles-pebble-end.ensures.value in
     let end = c.loop-pebble-test.false in
     let all : b.pebbles ≤ c.loop-pebble.pebble = omega (arith, pebbles, end) in
     no_request b (configuration_at b c.args.rank) c.loop-pebble.pebble (configuration_at_is b c.args.rank c.requires) all c.loop-pebble.invariant

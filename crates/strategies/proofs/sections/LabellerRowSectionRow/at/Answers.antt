@@ -1,0 +1,28 @@
+use Rattle.std.proofs.Common.{◌<◌, ◌≤◌, refl, arith}
+use Rattle.strategies.proofs.Making.{taken_more, has_answer, labeller_row_is}
+use Rattle.strategies.proofs.sections.LabellerRowSectionRow.at.Goals as goal
+use Rattle.strategies.proofs.sections.LabellerRowSectionRow.at.Goals.{in-Some, in_default}
+
+pub loop-pebble-preserved : goal.loop-pebble-preserved
+loop-pebble-preserved c =
+    let b = c.args.moves.now in
+    let pebbles = rw c.space.ensures.value at c.pebbles-pebble-end.ensures.value in
+    let is_pebble : c.loop-pebble.pebble < b.pebbles = omega (arith, pebbles, c.loop-pebble-test.true) in
+    let low : c.loop-pebble.pebble < 6 = omega (arith, is_pebble, c.space.ensures.is_board.pebbles) in
+    elim c.match-answer.branch [
+      | in-Some w ↦ rw w.take-is (taken_more b _ c.loop-pebble.pebble w.in-Some.best.label c.loop-pebble.take low c.loop-pebble.invariant
+          w.in-Some.ensures.0)
+      | in_default w ↦ absurd (has_answer b c.args.rank c.loop-pebble.pebble c.requires.reached is_pebble w.in_default.ensures)
+    ]
+
+pub returns : goal.returns
+returns c =
+    let b = c.args.moves.now in
+    let pebbles = rw c.space.ensures.value at c.pebbles-pebble-end.ensures.value in
+    let end : b.pebbles ≤ c.loop-pebble.pebble = omega (arith, pebbles, c.loop-pebble-test.false) in
+    rw c.turns.ensures (
+      labeller_row_is b c.args.start c.value.result c.args.rank c.loop-pebble.pebble c.loop-pebble.take c.space.ensures.is_board end
+          c.requires.reached c.value.ensures c.loop-pebble.invariant,
+      refl,
+      λ pebble above. c.loop-pebble.invariant.rest pebble (omega (arith, pebbles)),
+    )
