@@ -17,7 +17,7 @@ use Rattle.positions.proofs.Finiteness.{forever_from_count}
 use Rattle.positions.proofs.Ranks.{rank_below}
 use Rattle.proof_text.specs.Proof.{PlainProof, IsClaim, AreTurns, IsAnswerRow, IsRequestRow, AreRows, AreAnswerRows, asks_labeller, asks_adversary, IsProof, most_rows}
 use Rattle.strategies.specs.Best.{IsLess}
-use Rattle.strategies.specs.Document.{IsAnswerable, LeadsByAnswers, IsLabellerRow, IsAdversaryRow, AsksAdversary, AreExactly, IsDocumentOf, claim_of, turns_of}
+use Rattle.strategies.specs.Document.{IsAnswerable, IsAnswerMove, LeadsBy, IsLabellerRow, IsAdversaryRow, AsksAdversary, AreExactly, IsDocumentOf, claim_of, turns_of}
 use Rattle.strategies.proofs.Reaching.{answers_lead_to, requests_lead_to}
 
 -- a finite value is smaller than the number of configurations
@@ -72,9 +72,9 @@ turns_formed (Finite (suc number)) (Finite value) low some here = (omega (arith,
 turns_formed (Finite (suc number)) Forever low some here = (omega arith, omega (arith, low))
 
 -- best answers lead on from a start of value 1 or more alone
-pub start_answerable : (board : PlainBoard) (from requests to : List ℕ) → LeadsByAnswers board from requests to → IsAnswerable board to → IsAnswerable board from
+pub start_answerable : (board : PlainBoard) (from : List ℕ) (moves : List (ℕ × ℕ)) (to : List ℕ) → LeadsBy (IsAnswerMove board) from moves to → IsAnswerable board to → IsAnswerable board from
 start_answerable board from [] to leads some = subst (IsAnswerable board) (sym leads) some
-start_answerable board from (request ∷ requests) to leads some = leads.2
+start_answerable board from (move ∷ moves) to leads some = leads.0.answerable
 
 pub not_answerable : (board : PlainBoard) (configuration : List ℕ) → IsAnswerable board configuration → HasValue board configuration (Finite 0) → ⊥
 not_answerable board configuration is has =
@@ -86,11 +86,11 @@ not_answerable board configuration is has =
 
 module _ (board : PlainBoard) (is_start : IsConfiguration board board.start) (start : Value) (has_start : HasValue board board.start start) where
   answers_configuration : (row : AnswerRow) → IsLabellerRow board start row → IsConfiguration board row.at
-  answers_configuration row is = answers_lead_to board board.start is.requests row.at is_start is.reached
+  answers_configuration row is = answers_lead_to board board.start is.moves row.at is_start is.reached
 
   answers_formed : IsClaim (claim_of start) → (row : AnswerRow) → IsLabellerRow board start row → IsAnswerRow board (claim_of start) row
   answers_formed low row is =
-      let some : IsAnswerable board board.start = start_answerable board board.start is.requests row.at is.reached
+      let some : IsAnswerable board board.start = start_answerable board board.start is.moves row.at is.reached
       (record { value = is.value; has_value = is.has_value; some = is.some }) in
       let not_zero : start ≡ Finite 0 → ⊥ = λ same. not_answerable board board.start some (subst (HasValue board board.start) same has_start) in
       record {
@@ -105,7 +105,7 @@ module _ (board : PlainBoard) (is_start : IsConfiguration board board.start) (st
       }
 
   requests_configuration : (row : RequestRow) → AsksAdversary start × IsAdversaryRow board row → IsConfiguration board row.at
-  requests_configuration row is = requests_lead_to board board.start is.1.labels row.at is_start is.1.reached
+  requests_configuration row is = requests_lead_to board board.start is.1.moves row.at is_start is.1.reached
 
   requests_formed : configurations board ≤ most_rows → (row : RequestRow) → AsksAdversary start × IsAdversaryRow board row → IsRequestRow board row
   requests_formed few row is =

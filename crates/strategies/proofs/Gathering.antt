@@ -14,7 +14,7 @@ use Rattle.positions.specs.Ranks.{rank_of, configuration_at}
 use Rattle.positions.specs.Table.{RequestRow}
 use Rattle.positions.proofs.Ranks.{rank_below, rank_of-configuration_at, configuration_at-rank_of}
 use Rattle.positions.proofs.Values.{same_value}
-use Rattle.strategies.specs.Document.{IsAnswerable, LeadsByAnswers, LeadsByRequests, IsAdversaryRow}
+use Rattle.strategies.specs.Document.{IsAnswerable, IsAnswerMove, IsRequestMove, LeadsBy, IsAdversaryRow}
 use Rattle.strategies.specs.Side.{Side, AreOfReached, AreSection, IsRowAt, labeller_side, adversary_side}
 use Rattle.strategies.specs.Spreading.{AreRanksOf}
 use Rattle.strategies.proofs.Building.{AreExactlyBelow, pass_ranks, push_row, all_rows}
@@ -24,19 +24,23 @@ use Rattle.strategies.proofs.Reaching.{answers_lead_to, requests_lead_to}
 pub labellers : (board : PlainBoard) (start : Value) → IsConfiguration board board.start
     → AreOfReached board (labeller_side board start)
 labellers board start is = record {
-  is_configuration = λ row is_row. answers_lead_to board board.start is_row.requests row.at is is_row.reached;
+  is_configuration = λ row is_row. answers_lead_to board board.start is_row.moves row.at is is_row.reached;
   reached = λ row rank is_row at. record {
-    requests = is_row.requests;
-    reached = subst (LeadsByAnswers board board.start is_row.requests) at is_row.reached;
-    some = subst (IsAnswerable board) at (record { value = is_row.value; has_value = is_row.has_value; some = is_row.some });
+    moves = is_row.moves;
+    reached = subst (LeadsBy (IsAnswerMove board) board.start is_row.moves) at is_row.reached;
+    holds = subst (IsAnswerable board) at (record { value = is_row.value; has_value = is_row.has_value; some = is_row.some });
   };
   one = one_answer_row board start;
 }
 
 pub adversarys : (board : PlainBoard) (start : Value) → IsConfiguration board board.start → AreOfReached board (adversary_side board start)
 adversarys board start is = record {
-  is_configuration = λ row is_row. requests_lead_to board board.start is_row.labels row.at is is_row.reached;
-  reached = λ row rank is_row at. record { labels = is_row.labels; reached = subst (LeadsByRequests board board.start is_row.labels) at is_row.reached };
+  is_configuration = λ row is_row. requests_lead_to board board.start is_row.moves row.at is is_row.reached;
+  reached = λ row rank is_row at. record {
+    moves = is_row.moves;
+    reached = subst (LeadsBy (IsRequestMove board) board.start is_row.moves) at is_row.reached;
+    holds = tt;
+  };
   one = one_request_row board;
 }
 

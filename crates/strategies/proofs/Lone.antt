@@ -8,7 +8,7 @@ use Rattle.positions.specs.declared.turns.Turns.TheVariants.{Always}
 use Rattle.positions.specs.Game.{Legal, LabellerTree, HasAnswer, moved}
 use Rattle.positions.specs.Table.{AnswerRow, RequestRow}
 use Rattle.strategies.specs.Best.{HasNoGreaterValue, IsBestAnswer}
-use Rattle.strategies.specs.Document.{LeadsByAnswers, IsLabellerRow, IsAdversaryRow, AsksAdversary, AreExactly, IsDocumentOf}
+use Rattle.strategies.specs.Document.{IsAnswerMove, LeadsBy, IsLabellerRow, IsAdversaryRow, AsksAdversary, AreExactly, IsDocumentOf}
 use Rattle.strategies.specs.Example.{lone_board, lone_document}
 use Rattle.strategies.proofs.OneList.{one_answer_row}
 
@@ -62,7 +62,7 @@ answers = record { at = start; turns = Always; answers = 0 ∷ [] }
 
 is_row : IsLabellerRow lone_board Forever answers
 is_row = record {
-  requests = [];
+  moves = [];
   reached = refl;
   value = Forever;
   has_value = lasts;
@@ -76,11 +76,11 @@ is_row = record {
     best zero below = best_answer
     best (suc pebble) below = absurd (omega arith)
 
-only_start : (requests to : List ℕ) → LeadsByAnswers lone_board start requests to → start ≡ to
+only_start : (moves : List (ℕ × ℕ)) (to : List ℕ) → LeadsBy (IsAnswerMove lone_board) start moves to → start ≡ to
 only_start [] to leads = leads
-only_start (zero ∷ requests) to leads =
-    only_start requests to (subst (λ (l : ℕ). LeadsByAnswers lone_board (moved start 0 l) requests to) (only_label leads.0 leads.3.0.legal) leads.4)
-only_start (suc pebble ∷ requests) to leads = absurd (let below : suc pebble < 1 = leads.1 in omega arith)
+only_start ((zero, label) ∷ moves) to leads =
+    only_start moves to (subst (λ (l : ℕ). LeadsBy (IsAnswerMove lone_board) (moved start 0 l) moves to) (only_label label leads.0.best.0.legal) leads.1)
+only_start ((suc pebble, label) ∷ moves) to leads = absurd (omega (arith, leads.0.is_pebble))
 
 the_one : (row : AnswerRow) → Contains (answers ∷ []) row → answers ≡ row
 the_one row (zero, inside, same) = same
@@ -90,7 +90,7 @@ labeller_rows : AreExactly lone_board (IsLabellerRow lone_board Forever) (λ (ro
 labeller_rows = record {
   each = λ row. (
     λ among. subst (IsLabellerRow lone_board Forever) (the_one row among) is_row,
-    λ is. (0, omega arith, one_answer_row lone_board Forever answers row is_row is (only_start is.requests row.at is.reached)),
+    λ is. (0, omega arith, one_answer_row lone_board Forever answers row is_row is (only_start is.moves row.at is.reached)),
   );
   ascending = λ i j d less inside. absurd (omega arith);
 }

@@ -40,7 +40,7 @@ pub has_answer : (board : PlainBoard) (rank pebble : ℕ) → IsReachedByAnswers
     → IsBestFor board (configuration_at board rank) pebble None → ⊥
 has_answer board rank pebble reached is_pebble none =
     let c : List ℕ = configuration_at board rank in
-    let answer = answers_one board c reached.some.value reached.some.has_value reached.some.some pebble is_pebble in
+    let answer = answers_one board c reached.holds.value reached.holds.has_value reached.holds.some pebble is_pebble in
     none answer.0 answer.1
 
 -- the labeller's row of a configuration
@@ -49,15 +49,15 @@ pub labeller_row_is : (board : PlainBoard) (start value : Value) (rank bound : �
     → IsLabellerRow board start (record { at = configuration_at board rank; turns = turns_of start value; answers = take board.pebbles labels })
 labeller_row_is board start value rank bound labels is_board enough reached has taken =
     let c : List ℕ = configuration_at board rank in
-    let same : reached.some.value ≡ value = same_value board c reached.some.value value reached.some.has_value has in
+    let same : reached.holds.value ≡ value = same_value board c reached.holds.value value reached.holds.has_value has in
     let most = is_board.pebbles in
     let room : board.pebbles ≤ length labels = omega (arith, most, taken.six) in
     record {
-      requests = reached.requests;
+      moves = reached.moves;
       reached = reached.reached;
       value = value;
       has_value = has;
-      some = subst (IsLess (Finite 0)) same reached.some.some;
+      some = subst (IsLess (Finite 0)) same reached.holds.some;
       turns = refl;
       one_each = length-take-le board.pebbles labels room;
       best = λ pebble below. subst (IsBestAnswer board c pebble) (sym (get_or-take board.pebbles labels pebble 0 below)) (taken.best pebble (omega (arith, below, enough)));

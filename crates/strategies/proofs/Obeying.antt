@@ -17,10 +17,10 @@ use Rattle.positions.proofs.Values.{same_value}
 use Rattle.proof_text.specs.Proof.{PlainProof}
 use Rattle.proof_text.specs.Rules.{IsEnough, one_less, IsListedFor, Serves, MeetsRequests, LabellerObeys, IsListedBelow, MeetsAnswers, AdversaryObeys, wanted_of, StartIsBelow, BreaksNoRule}
 use Rattle.strategies.specs.Best.{IsLess}
-use Rattle.strategies.specs.Document.{LeadsByAnswers, LeadsByRequests, IsLabellerRow, IsAdversaryRow, AsksAdversary, AreExactly, IsDocumentOf, claim_of, turns_of}
+use Rattle.strategies.specs.Document.{IsAnswerMove, IsRequestMove, LeadsBy, IsLabellerRow, IsAdversaryRow, AsksAdversary, AreExactly, IsDocumentOf, claim_of, turns_of}
 use Rattle.strategies.proofs.Comparing.{at_least, less_than_finite}
 use Rattle.strategies.proofs.Answers.{lasts_after}
-use Rattle.strategies.proofs.Reaching.{one_answer_more, answers_lead_to, stays_forever, one_request_more}
+use Rattle.strategies.proofs.Reaching.{one_more, answers_lead_to, stays_forever}
 use Rattle.strategies.proofs.Turns.{Keeps, enough_left}
 use Rattle.strategies.proofs.Rows.{answer_row_for, request_row_for}
 
@@ -46,10 +46,10 @@ keeps board from to lasts Forever Forever one other = tt
 module _ (board : PlainBoard) (is_start : IsConfiguration board board.start) (start : Value) (has_start : HasValue board board.start start)
     (rows : List AnswerRow) (exactly : AreExactly board (IsLabellerRow board start) (λ (row : AnswerRow). row.at) rows) where
   -- a configuration that best answers lead to is listed, for the turns of its value
-  listed : (requests to : List ℕ) → LeadsByAnswers board board.start requests to → (value : Value) → HasValue board to value → IsLess (Finite 0) value
+  listed : (moves : List (ℕ × ℕ)) (to : List ℕ) → LeadsBy (IsAnswerMove board) board.start moves to → (value : Value) → HasValue board to value → IsLess (Finite 0) value
       → (wanted : Turns) → IsEnough wanted (turns_of start value) → IsListedFor rows to wanted
-  listed requests to leads value has some wanted enough =
-      let found = answer_row_for board start value requests to is_start leads has some in
+  listed moves to leads value has some wanted enough =
+      let found = answer_row_for board start value moves to is_start leads has some in
       record {
         row = found.0;
         among = (exactly.each found.0).1 found.1;
@@ -63,9 +63,10 @@ module _ (board : PlainBoard) (is_start : IsConfiguration board board.start) (st
       let label = slice_index row.answers pebble in
       let best = is.best pebble below in
       let to = moved row.at pebble label in
-      let is_to = moved_is_configuration board row.at pebble label best.0.legal.is_label (answers_lead_to board board.start is.requests row.at is_start is.reached) in
+      let is_to = moved_is_configuration board row.at pebble label best.0.legal.is_label (answers_lead_to board board.start is.moves row.at is_start is.reached) in
       let after = some_value board to is_to in
-      let leads = one_answer_more board board.start is.requests row.at pebble label is.reached below (record { value = is.value; has_value = is.has_value; some = is.some }) best in
+      let leads = one_more (IsAnswerMove board) board.start is.moves row.at pebble label is.reached
+      (record { is_pebble = below; answerable = record { value = is.value; has_value = is.has_value; some = is.some }; best = best }) in
       let still : Keeps is.value after.0 = keeps board row.at to (λ number. lasts_after board number row.at pebble label below best) is.value after.0 is.has_value after.1 in
       let stays : start ≡ Forever → after.0 ≡ Forever = λ same.
       same_value board to after.0 Forever after.1 (stays_forever board board.start _ to (subst (HasValue board board.start) same has_start) leads) in
@@ -87,10 +88,10 @@ module _ (board : PlainBoard) (is_start : IsConfiguration board board.start) (st
 module _ (board : PlainBoard) (start : Value) (rows : List RequestRow)
     (exactly : AreExactly board (λ (row : RequestRow). AsksAdversary start × IsAdversaryRow board row) (λ (row : RequestRow). row.at) rows) where
   -- a configuration that best requests lead to is listed, with its value
-  listed_below : AsksAdversary start → (labels to : List ℕ) → LeadsByRequests board board.start labels to → (number bound : ℕ)
+  listed_below : AsksAdversary start → (moves : List (ℕ × ℕ)) (to : List ℕ) → LeadsBy (IsRequestMove board) board.start moves to → (number bound : ℕ)
       → HasValue board to (Finite number) → number < bound → IsListedBelow rows to bound
-  listed_below asks labels to leads number bound has below =
-      let found = request_row_for board number labels to leads has in
+  listed_below asks moves to leads number bound has below =
+      let found = request_row_for board number moves to leads has in
       record {
         row = found.0;
         among = (exactly.each found.0).1 (asks, found.1);
@@ -101,7 +102,7 @@ module _ (board : PlainBoard) (start : Value) (rows : List RequestRow)
   meets_answers : (row : RequestRow) → AsksAdversary start → IsAdversaryRow board row → MeetsAnswers board rows row
   meets_answers row asks is label legal =
       let less = less_than_finite board row.left (moved row.at row.request label) row.at is.has_value (is.best.0.lowers label legal) in
-      listed_below asks _ (moved row.at row.request label) (one_request_more board board.start is.labels row.at row.request label is.reached is.best legal)
+      listed_below asks _ (moved row.at row.request label) (one_more (IsRequestMove board) board.start is.moves row.at row.request label is.reached (record { best = is.best; legal = legal }))
       less.0 row.left less.2 less.1
 
   pub adversary_obeys : AdversaryObeys board rows

@@ -8,7 +8,7 @@ use Rattle.positions.specs.Value.{HasValue}
 use Rattle.positions.specs.Table.{AnswerRow, RequestRow}
 use Rattle.positions.proofs.Trees.{lasts_at_most}
 use Rattle.strategies.specs.Best.{IsLess, IsBestAnswer}
-use Rattle.strategies.specs.Document.{LeadsByAnswers, LeadsByRequests, IsLabellerRow, IsAdversaryRow, turns_of}
+use Rattle.strategies.specs.Document.{IsAnswerMove, IsRequestMove, LeadsBy, IsLabellerRow, IsAdversaryRow, turns_of}
 use Rattle.strategies.proofs.Answers.{best_answer}
 use Rattle.strategies.proofs.Requests.{best_request}
 use Rattle.strategies.proofs.Reaching.{answers_lead_to}
@@ -34,16 +34,16 @@ answers_one board configuration (Finite number) has some = lasts_at_most board c
 answers_one board configuration Forever has some = has 1
 
 -- each configuration of value 1 or more that best answers lead to has a row
-pub answer_row_for : (board : PlainBoard) (start value : Value) (requests to : List ℕ) → IsConfiguration board board.start
-    → LeadsByAnswers board board.start requests to → HasValue board to value → IsLess (Finite 0) value
+pub answer_row_for : (board : PlainBoard) (start value : Value) (moves : List (ℕ × ℕ)) (to : List ℕ) → IsConfiguration board board.start
+    → LeadsBy (IsAnswerMove board) board.start moves to → HasValue board to value → IsLess (Finite 0) value
     → (row : AnswerRow) × IsLabellerRow board start row × (row.at ≡ to) × (row.turns ≡ turns_of start value)
-answer_row_for board start value requests to is leads has some =
+answer_row_for board start value moves to is leads has some =
     let lasts = answers_one board to value has some in
     let answers = each_number (IsBestAnswer board to) board.pebbles
-    (λ pebble below. let answer = lasts pebble below in best_answer board to pebble (answers_lead_to board board.start requests to is leads) answer.0 answer.1) in
+    (λ pebble below. let answer = lasts pebble below in best_answer board to pebble (answers_lead_to board board.start moves to is leads) answer.0 answer.1) in
     let row : AnswerRow = record { at = to; turns = turns_of start value; answers = answers.0 } in
     let is_row : IsLabellerRow board start row = record {
-      requests = requests;
+      moves = moves;
       reached = leads;
       value = value;
       has_value = has;
@@ -55,10 +55,10 @@ answer_row_for board start value requests to is leads has some =
     (row, is_row, refl, refl)
 
 -- each configuration of a finite value that best requests lead to has a row
-pub request_row_for : (board : PlainBoard) (number : ℕ) (labels to : List ℕ) → LeadsByRequests board board.start labels to → HasValue board to (Finite number)
+pub request_row_for : (board : PlainBoard) (number : ℕ) (moves : List (ℕ × ℕ)) (to : List ℕ) → LeadsBy (IsRequestMove board) board.start moves to → HasValue board to (Finite number)
     → (row : RequestRow) × IsAdversaryRow board row × (row.at ≡ to) × (row.left ≡ number)
-request_row_for board number labels to leads has =
+request_row_for board number moves to leads has =
     let best = best_request board number to has in
     let row : RequestRow = record { at = to; left = number; request = best.0 } in
-    let is_row : IsAdversaryRow board row = record { labels = labels; reached = leads; has_value = has; best = best.1 } in
+    let is_row : IsAdversaryRow board row = record { moves = moves; reached = leads; has_value = has; best = best.1 } in
     (row, is_row, refl, refl)

@@ -14,10 +14,10 @@ use Rattle.positions.proofs.Trees.{lasts_at_most}
 use Rattle.positions.proofs.Finiteness.{some_value}
 use Rattle.proof_text.specs.Proof.{PlainProof}
 use Rattle.strategies.specs.Best.{IsLess, IsBestAnswer, IsBestRequest}
-use Rattle.strategies.specs.Document.{IsAnswerable, LeadsByAnswers, LeadsByRequests, IsLabellerRow, IsAdversaryRow, AsksAdversary, AreExactly, IsDocumentOf, claim_of}
+use Rattle.strategies.specs.Document.{IsAnswerable, IsAnswerMove, IsRequestMove, LeadsBy, IsLabellerRow, IsAdversaryRow, AsksAdversary, AreExactly, IsDocumentOf, claim_of}
 use Rattle.strategies.proofs.Comparing.{at_least, less_than_finite}
 use Rattle.strategies.proofs.Answers.{lasts_after}
-use Rattle.strategies.proofs.Reaching.{one_answer_more, answers_lead_to, stays_forever, one_request_more}
+use Rattle.strategies.proofs.Reaching.{one_more, answers_lead_to, stays_forever}
 use Rattle.strategies.proofs.Rows.{answer_row_for, request_row_for}
 use Rattle.strategies.proofs.Obeying.{held}
 use Rattle.strategies.proofs.Finding.{IsFound, find_row, find_listed, is_listed}
@@ -38,10 +38,10 @@ module _ (board : PlainBoard) (is_start : IsConfiguration board board.start) (st
   FoundAt configuration = IsFound (λ (row : AnswerRow). row.at) rows configuration
 
   -- where best answers lead, and one more request can be answered, the table has a row
-  finds : (requests to : List ℕ) → LeadsByAnswers board board.start requests to → LabellerTree board 1 to → FoundAt to
-  finds requests to leads lasts =
-      let value = some_value board to (answers_lead_to board board.start requests to is_start leads) in
-      let found = answer_row_for board start value.0 requests to is_start leads value.1 (some_from_tree board to value.0 lasts value.1) in
+  finds : (moves : List (ℕ × ℕ)) (to : List ℕ) → LeadsBy (IsAnswerMove board) board.start moves to → LabellerTree board 1 to → FoundAt to
+  finds moves to leads lasts =
+      let value = some_value board to (answers_lead_to board board.start moves to is_start leads) in
+      let found = answer_row_for board start value.0 moves to is_start leads value.1 (some_from_tree board to value.0 lasts value.1) in
       find_row (λ (row : AnswerRow). row.at) to rows found.0 ((exactly.each found.0).1 found.1) found.2
 
   -- such a row answers with a best answer
@@ -62,26 +62,29 @@ module _ (board : PlainBoard) (is_start : IsConfiguration board board.start) (st
   }
 
   -- and leads on
-  leads_on : (configuration : List ℕ) → (found : FoundAt configuration) → (requests : List ℕ) → LeadsByAnswers board board.start requests configuration
+  leads_on : (configuration : List ℕ) → (found : FoundAt configuration) → (moves : List (ℕ × ℕ)) → LeadsBy (IsAnswerMove board) board.start moves configuration
       → (pebble : ℕ) → pebble < board.pebbles
-      → LeadsByAnswers board board.start (requests ++ pebble ∷ []) (moved configuration pebble (slice_index found.row.answers pebble))
-  leads_on configuration found requests leads pebble below =
+      → LeadsBy (IsAnswerMove board) board.start (moves ++ (pebble, slice_index found.row.answers pebble) ∷ []) (moved configuration pebble (slice_index found.row.answers pebble))
+  leads_on configuration found moves leads pebble below =
       let is = row_is configuration found in
-      one_answer_more board board.start requests configuration pebble (slice_index found.row.answers pebble) leads below
-      (subst (IsAnswerable board) found.at_it (record { value = is.value; has_value = is.has_value; some = is.some })) (best_there configuration found pebble below)
+      one_more (IsAnswerMove board) board.start moves configuration pebble (slice_index found.row.answers pebble) leads (record {
+        is_pebble = below;
+        answerable = subst (IsAnswerable board) found.at_it (record { value = is.value; has_value = is.has_value; some = is.some });
+        best = best_there configuration found pebble below;
+      })
 
-  answers_each : (asked : List ℕ) (number : ℕ) (requests configuration : List ℕ) → LeadsByAnswers board board.start requests configuration
+  answers_each : (asked : List ℕ) (number : ℕ) (moves : List (ℕ × ℕ)) (configuration : List ℕ) → LeadsBy (IsAnswerMove board) board.start moves configuration
       → LabellerTree board number configuration → length asked ≤ number → All (λ pebble. pebble < board.pebbles) asked
       → AnswersAll board rows configuration asked
-  answers_each [] number requests configuration leads lasts short pebbles = tt
-  answers_each (pebble ∷ asked) zero requests configuration leads lasts short pebbles = absurd (omega arith)
-  answers_each (pebble ∷ asked) (suc number) requests configuration leads lasts short pebbles =
+  answers_each [] number moves configuration leads lasts short pebbles = tt
+  answers_each (pebble ∷ asked) zero moves configuration leads lasts short pebbles = absurd (omega arith)
+  answers_each (pebble ∷ asked) (suc number) moves configuration leads lasts short pebbles =
       let below = All-head (λ p. p < board.pebbles) pebble asked pebbles in
-      let found = finds requests configuration leads (lasts_at_most board configuration 1 (suc number) (omega arith) lasts) in
+      let found = finds moves configuration leads (lasts_at_most board configuration 1 (suc number) (omega arith) lasts) in
       let label = slice_index found.row.answers pebble in (
         label,
         answers_there configuration found pebble below,
-        answers_each asked number (requests ++ pebble ∷ []) (moved configuration pebble label) (leads_on configuration found requests leads pebble below)
+        answers_each asked number (moves ++ (pebble, label) ∷ []) (moved configuration pebble label) (leads_on configuration found moves leads pebble below)
             (lasts_after board number configuration pebble label below (best_there configuration found pebble below) lasts)
             (omega arith) (All-tail (λ p. p < board.pebbles) pebble asked pebbles),
       )
@@ -96,11 +99,11 @@ module _ (board : PlainBoard) (is_start : IsConfiguration board board.start) (st
   is_closed forever configuration listed pebble below =
       let found : FoundAt configuration = find_listed (λ (row : AnswerRow). row.at) configuration rows listed in
       let is = row_is configuration found in
-      let leads = subst (LeadsByAnswers board board.start is.requests) found.at_it is.reached in
+      let leads = subst (LeadsBy (IsAnswerMove board) board.start is.moves) found.at_it is.reached in
       let label = slice_index found.row.answers pebble in
-      let next = leads_on configuration found is.requests leads pebble below in
-      let lasts = stays_forever board board.start (is.requests ++ pebble ∷ []) (moved configuration pebble label) forever next in
-      let after = finds (is.requests ++ pebble ∷ []) (moved configuration pebble label) next (lasts 1) in
+      let next = leads_on configuration found is.moves leads pebble below in
+      let lasts = stays_forever board board.start (is.moves ++ (pebble, label) ∷ []) (moved configuration pebble label) forever next in
+      let after = finds (is.moves ++ (pebble, label) ∷ []) (moved configuration pebble label) next (lasts 1) in
       (label, answers_there configuration found pebble below, is_listed (λ (row : AnswerRow). row.at) (moved configuration pebble label) rows after)
 
 -- ---- the adversary
@@ -110,9 +113,9 @@ module _ (board : PlainBoard) (start : Value) (asks : AsksAdversary start) (rows
   abbrev AskedAt : List ℕ → Type 0
   AskedAt configuration = IsFound (λ (row : RequestRow). row.at) rows configuration
 
-  asked : (labels to : List ℕ) (number : ℕ) → LeadsByRequests board board.start labels to → HasValue board to (Finite number) → AskedAt to
-  asked labels to number leads has =
-      let found = request_row_for board number labels to leads has in
+  asked : (moves : List (ℕ × ℕ)) (to : List ℕ) (number : ℕ) → LeadsBy (IsRequestMove board) board.start moves to → HasValue board to (Finite number) → AskedAt to
+  asked moves to number leads has =
+      let found = request_row_for board number moves to leads has in
       find_row (λ (row : RequestRow). row.at) to rows found.0 ((exactly.each found.0).1 (asks, found.1)) found.2
 
   request_there : (configuration : List ℕ) → (found : AskedAt configuration) → request_at rows configuration ≡ Some found.row.request
@@ -121,21 +124,21 @@ module _ (board : PlainBoard) (start : Value) (asks : AsksAdversary start) (rows
   best_asked : (configuration : List ℕ) → (found : AskedAt configuration) → IsBestRequest board configuration found.row.request
   best_asked configuration found = subst (λ (c : List ℕ). IsBestRequest board c found.row.request) found.at_it ((exactly.each found.row).0 found.among).1.best
 
-  stops_each : (answers : List ℕ) (number : ℕ) (labels from to : List ℕ) → LeadsByRequests board board.start labels from → HasValue board from (Finite number)
+  stops_each : (answers : List ℕ) (number : ℕ) (moves : List (ℕ × ℕ)) (from to : List ℕ) → LeadsBy (IsRequestMove board) board.start moves from → HasValue board from (Finite number)
       → Leads board rows from answers to
       → ((pebble : ℕ) × Requests board rows to pebble) × (length answers ≤ number)
-  stops_each [] number labels from to reached has leads =
-      let found = asked labels from number reached has in
+  stops_each [] number moves from to reached has leads =
+      let found = asked moves from number reached has in
       let requests : Requests board rows from found.row.request =
       record { request = request_there from found; is_pebble = (best_asked from found).0.is_pebble } in
       ((found.row.request, subst (λ (c : List ℕ). Requests board rows c found.row.request) leads requests), omega arith)
-  stops_each (label ∷ answers) number labels from to reached has leads =
-      let found = asked labels from number reached has in
+  stops_each (label ∷ answers) number moves from to reached has leads =
+      let found = asked moves from number reached has in
       let same : found.row.request ≡ leads.0 = some_is found.row.request leads.0 (sym (request_there from found) ∙ leads.1.request) in
       let best : IsBestRequest board from leads.0 = subst (IsBestRequest board from) same (best_asked from found) in
       let less = less_than_finite board number (moved from leads.0 label) from has (best.0.lowers label leads.2) in
-      let ends = stops_each answers less.0 (labels ++ label ∷ []) (moved from leads.0 label) to
-      (one_request_more board board.start labels from leads.0 label reached best leads.2) less.2 leads.3 in
+      let ends = stops_each answers less.0 (moves ++ (leads.0, label) ∷ []) (moved from leads.0 label) to
+      (one_more (IsRequestMove board) board.start moves from leads.0 label reached (record { best = best; legal = leads.2 })) less.2 leads.3 in
       let fewer : length answers ≤ less.0 = ends.1 in
       let below : less.0 < number = less.1 in
       (ends.0, omega arith)

@@ -10,7 +10,7 @@ use Rattle.positions.specs.Value.{HasValue}
 use Rattle.positions.specs.Table.{AnswerRow, RequestRow}
 use Rattle.proof_text.specs.Proof.{IsBefore}
 use Rattle.strategies.specs.Best.{HasSmallerValue, HasNoGreaterValue, IsBestAnswer, LowersValue, IsBestRequest}
-use Rattle.strategies.specs.Document.{IsAnswerable, LeadsByAnswers, LeadsByRequests, IsLabellerRow, IsAdversaryRow, AsksAdversary, AreExactly, IsDocumentOf}
+use Rattle.strategies.specs.Document.{IsAnswerable, IsAnswerMove, IsRequestMove, LeadsBy, IsLabellerRow, IsAdversaryRow, AsksAdversary, AreExactly, IsDocumentOf}
 use Rattle.strategies.specs.Example.{small_board, small_document}
 use Rattle.strategies.proofs.Comparing.{not_less}
 use Rattle.strategies.proofs.Requests as requests
@@ -149,7 +149,7 @@ answers = record { at = start; turns = Count 1; answers = 1 ∷ 1 ∷ [] }
 
 is_labeller_row : IsLabellerRow small_board (Finite 1) answers
 is_labeller_row = record {
-  requests = [];
+  moves = [];
   reached = refl;
   value = Finite 1;
   has_value = start_value;
@@ -164,13 +164,13 @@ is_labeller_row = record {
     best (suc zero) below = best_answer 1 below
     best (suc (suc pebble)) below = absurd (omega arith)
 
-only_start : (requests to : List ℕ) → LeadsByAnswers small_board start requests to → IsAnswerable small_board to → start ≡ to
+only_start : (moves : List (ℕ × ℕ)) (to : List ℕ) → LeadsBy (IsAnswerMove small_board) start moves to → IsAnswerable small_board to → start ≡ to
 only_start [] to leads some = leads
-only_start (pebble ∷ requests) to leads some =
-    let below : pebble < 2 = leads.1 in
-    let reached : IsAnswerable small_board (moved start pebble leads.0) = start_answerable small_board (moved start pebble leads.0) requests to leads.4 some in
+only_start ((pebble, label) ∷ moves) to leads some =
+    let reached : IsAnswerable small_board (moved start pebble label) = start_answerable small_board (moved start pebble label) moves to leads.1 some in
     absurd (not_answerable small_board (after pebble)
-    (subst (λ (l : ℕ). IsAnswerable small_board (moved start pebble l)) (legal_is start pebble (start_held pebble) leads.0 leads.3.0.legal).0 reached) (after_value pebble below))
+    (subst (λ (l : ℕ). IsAnswerable small_board (moved start pebble l)) (legal_is start pebble (start_held pebble) label leads.0.best.0.legal).0 reached)
+    (after_value pebble leads.0.is_pebble))
 
 labeller_rows : AreExactly small_board (IsLabellerRow small_board (Finite 1)) (λ (row : AnswerRow). row.at) small_document.labeller
 labeller_rows = record {
@@ -180,7 +180,7 @@ labeller_rows = record {
       0,
       omega arith,
       one_answer_row small_board (Finite 1) answers row is_labeller_row is
-          (only_start is.requests row.at is.reached (record { value = is.value; has_value = is.has_value; some = is.some })),
+          (only_start is.moves row.at is.reached (record { value = is.value; has_value = is.has_value; some = is.some })),
     ),
   );
   ascending = λ i j d less inside. absurd (omega arith);
@@ -199,34 +199,35 @@ abbrev second_request : RequestRow
 second_request = record { at = after 0; left = 0; request = 1 }
 
 is_first : IsAdversaryRow small_board first_request
-is_first = record { labels = []; reached = refl; has_value = start_value; best = best_at_start }
+is_first = record { moves = []; reached = refl; has_value = start_value; best = best_at_start }
 
 is_second : IsAdversaryRow small_board second_request
 is_second = record {
-  labels = 1 ∷ [];
-  reached = (0, best_at_start, legal_from start 0 (omega arith) (start_free 0), refl);
+  moves = (0, 1) ∷ [];
+  reached = (record { best = best_at_start; legal = legal_from start 0 (omega arith) (start_free 0) }, refl);
   has_value = after_value 0 (omega arith);
   best = best_after;
 }
 
 -- what best requests lead to after the first move
-then_after : (labels to : List ℕ) → LeadsByRequests small_board (after 0) labels to → after 0 ≡ to
+then_after : (moves : List (ℕ × ℕ)) (to : List ℕ) → LeadsBy (IsRequestMove small_board) (after 0) moves to → after 0 ≡ to
 then_after [] to leads = leads
-then_after (label ∷ labels) to leads =
-    let asked : leads.0 ≡ 1 = requests.same_request small_board (after 0) leads.0 1 leads.1 best_after in
-    absurd (none_after label (subst (λ (p : ℕ). Legal small_board (after 0) p label) asked leads.2))
+then_after ((pebble, label) ∷ moves) to leads =
+    let asked : pebble ≡ 1 = requests.same_request small_board (after 0) pebble 1 leads.0.best best_after in
+    absurd (none_after label (subst (λ (p : ℕ). Legal small_board (after 0) p label) asked leads.0.legal))
 
 one_of_two : (row : RequestRow) → IsAdversaryRow small_board row → Contains small_document.adversary row
-one_of_two row is = by is.labels is.reached
+one_of_two row is = by is.moves is.reached
   where
-    by : (labels : List ℕ) → LeadsByRequests small_board start labels row.at → Contains (first_request ∷ second_request ∷ []) row
+    by : (moves : List (ℕ × ℕ)) → LeadsBy (IsRequestMove small_board) start moves row.at → Contains (first_request ∷ second_request ∷ []) row
     by [] leads = (0, omega arith, one_request_row small_board first_request row is_first is leads)
-    by (label ∷ labels) leads =
-        let asked : leads.0 ≡ 0 = requests.same_request small_board start leads.0 0 leads.1 best_at_start in
-        let taken : label ≡ 1 = (legal_is start leads.0 (start_held leads.0) label leads.2).0 in
-        let rest : LeadsByRequests small_board (after 0) labels row.at =
-        subst (λ (l : ℕ). LeadsByRequests small_board (moved start 0 l) labels row.at) taken (subst (λ (p : ℕ). LeadsByRequests small_board (moved start p label) labels row.at) asked leads.3) in
-        (1, omega arith, one_request_row small_board second_request row is_second is (then_after labels row.at rest))
+    by ((pebble, label) ∷ moves) leads =
+        let asked : pebble ≡ 0 = requests.same_request small_board start pebble 0 leads.0.best best_at_start in
+        let taken : label ≡ 1 = (legal_is start pebble (start_held pebble) label leads.0.legal).0 in
+        let rest : LeadsBy (IsRequestMove small_board) (after 0) moves row.at =
+        subst (λ (l : ℕ). LeadsBy (IsRequestMove small_board) (moved start 0 l) moves row.at) taken
+        (subst (λ (p : ℕ). LeadsBy (IsRequestMove small_board) (moved start p label) moves row.at) asked leads.1) in
+        (1, omega arith, one_request_row small_board second_request row is_second is (then_after moves row.at rest))
 
 adversary_rows : AreExactly small_board (λ (row : RequestRow). AsksAdversary (Finite 1) × IsAdversaryRow small_board row) (λ (row : RequestRow). row.at) small_document.adversary
 unfolding places

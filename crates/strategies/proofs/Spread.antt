@@ -5,17 +5,17 @@ use Rattle.std.proofs.lemmas.Bool.{cases_lt}
 use Rattle.board_text.specs.PlainBoard.{PlainBoard, IsBoard, IsConfiguration}
 use Rattle.positions.specs.declared.value.Value.{Value}
 use Rattle.positions.specs.declared.value.Value.TheVariants.{Finite}
-use Rattle.positions.specs.Game.{Legal, moved}
+use Rattle.positions.specs.Game.{moved}
 use Rattle.positions.specs.Value.{HasValue}
 use Rattle.positions.specs.Ranks.{configurations, rank_of, configuration_at}
 use Rattle.positions.proofs.Configurations.{moved_is_configuration}
 use Rattle.positions.proofs.Ranks.{rank_below, rank_of-configuration_at, configuration_at-rank_of, configuration_at_is}
 use Rattle.positions.proofs.Values.{same_value}
-use Rattle.strategies.specs.Best.{IsLess, IsBestAnswer, IsBestRequest}
-use Rattle.strategies.specs.Document.{IsAnswerable, LeadsByAnswers, LeadsByRequests}
-use Rattle.strategies.specs.Spreading.{IsAnswerStep, AnswerLeads, IsRequestStep, RequestLeads, IsReachedByAnswers, IsReachedByRequests, IsWith, IsWithAll, AreRanksOf}
+use Rattle.strategies.specs.Best.{IsLess}
+use Rattle.strategies.specs.Document.{IsAnswerable, IsAnswerMove, IsRequestMove, LeadsBy}
+use Rattle.strategies.specs.Spreading.{AnswerLeads, RequestLeads, IsReachedBy, IsWith, IsWithAll, AreRanksOf}
 use Rattle.strategies.proofs.Added.{only_one}
-use Rattle.strategies.proofs.Reaching.{one_answer_more, one_request_more, answers_stay, requests_stay}
+use Rattle.strategies.proofs.Reaching.{one_more, moves_stay}
 
 -- ---- a list of ranks that is worked off
 
@@ -90,41 +90,61 @@ has_start : (start : ℕ) (ranks : List ℕ) → IsWith [] start ranks → Conta
 has_start start ranks with =
     subst (λ (xs : List ℕ). Contains xs start) (sym (with.other (λ none. absurd (let inside : none.0 < 0 = none.1 in omega arith)))) (0, omega arith, refl)
 
--- ---- best answers
+-- ---- what moves of one kind lead to
 
-abbrev FoundByAnswers : PlainBoard → ℕ → Type 0
-FoundByAnswers board rank = (rank < configurations board) × IsReachedByAnswers board rank
+-- what `Leads` says of ranks is one move of the kind, to a configuration with the property; and moves start at such ones
+pub record AreMoves (board : PlainBoard) (IsMove : List ℕ → ℕ → ℕ → Type 0) (Holds : List ℕ → Type 0) (Leads : ℕ → ℕ → Type 0) : Type 0 where
+  pub is_label : (c : List ℕ) (pebble label : ℕ) → IsMove c pebble label → label < board.labels
+  pub before : (c : List ℕ) (pebble label : ℕ) → IsMove c pebble label → Holds c
+  pub leads : (rank pebble label : ℕ) → IsMove (configuration_at board rank) pebble label → Holds (moved (configuration_at board rank) pebble label)
+      → Leads rank (rank_of board (moved (configuration_at board rank) pebble label))
+  pub move : (rank to : ℕ) → Holds (configuration_at board rank) → Leads rank to → (pebble label : ℕ) × IsMove (configuration_at board rank) pebble label
+      × (to ≡ rank_of board (moved (configuration_at board rank) pebble label)) × Holds (moved (configuration_at board rank) pebble label)
 
-pub record IsSpreadByAnswers (board : PlainBoard) (place : ℕ) (ranks : List ℕ) : Type 0 where
-  pub on : IsSpread (FoundByAnswers board) (AnswerLeads board) place ranks
-  pub start : IsAnswerable board board.start → Contains ranks (rank_of board board.start)
+pub answer_moves : (board : PlainBoard) → AreMoves board (IsAnswerMove board) (IsAnswerable board) (AnswerLeads board)
+answer_moves board = record {
+  is_label = λ c pebble label move. move.best.0.legal.is_label;
+  before = λ c pebble label move. move.answerable;
+  leads = λ rank pebble label move some. (pebble, record { is_pebble = move.is_pebble; label = label; best = move.best; to_is = refl; some = some });
+  move = λ rank to some (pebble, step). (pebble, step.label, record { is_pebble = step.is_pebble; answerable = some; best = step.best }, step.to_is, step.some);
+}
 
-answer_keeps : (board : PlainBoard) (rank to : ℕ) → FoundByAnswers board rank → AnswerLeads board rank to → FoundByAnswers board to
-answer_keeps board rank to found leads =
-    let step : IsAnswerStep board rank leads.0 to = leads.1 in
-    let c : List ℕ = configuration_at board rank in
-    let next : List ℕ = moved c leads.0 step.label in
-    let is : IsConfiguration board next = moved_is_configuration board c leads.0 step.label step.best.0.legal.is_label (configuration_at_is board rank found.0) in
-    let here : configuration_at board to ≡ next = ap (configuration_at board) step.to_is ∙ configuration_at-rank_of board next is in (
-      subst (λ (r : ℕ). r < configurations board) (sym step.to_is) (rank_below board next is),
-      record {
-        requests = found.1.requests ++ leads.0 ∷ [];
-        reached = subst (LeadsByAnswers board board.start (found.1.requests ++ leads.0 ∷ [])) (sym here)
-            (one_answer_more board board.start found.1.requests c leads.0 step.label found.1.reached step.is_pebble found.1.some step.best);
-        some = subst (IsAnswerable board) (sym here) step.some;
-      },
-    )
+pub request_moves : (board : PlainBoard) → AreMoves board (IsRequestMove board) (λ c. Unit {0}) (RequestLeads board)
+request_moves board = record {
+  is_label = λ c pebble label move. move.legal.is_label;
+  before = λ c pebble label move. tt;
+  leads = λ rank pebble label move some. (label, record { pebble = pebble; best = move.best; legal = move.legal; to_is = refl });
+  move = λ rank to some (label, step). (step.pebble, label, record { best = step.best; legal = step.legal }, step.to_is, tt);
+}
 
-module _ (board : PlainBoard) (is : IsConfiguration board board.start) where
-  pub answers_begin : (ranks : List ℕ) → IsAnswerable board board.start → IsWith [] (rank_of board board.start) ranks → IsSpreadByAnswers board 0 ranks
-  answers_begin ranks some with = record {
+module _ (board : PlainBoard) (IsMove : List ℕ → ℕ → ℕ → Type 0) (Holds : List ℕ → Type 0) (Leads : ℕ → ℕ → Type 0) where
+  abbrev IsFound : ℕ → Type 0
+  IsFound rank = (rank < configurations board) × IsReachedBy board IsMove Holds rank
+
+  pub record IsSpreadBy (place : ℕ) (ranks : List ℕ) : Type 0 where
+    pub on : IsSpread IsFound Leads place ranks
+    pub start : Holds board.start → Contains ranks (rank_of board board.start)
+
+  pub spread_below : (place rank : ℕ) (ranks : List ℕ) → IsSpreadBy place ranks → slice_get ranks place ≡ Some rank → rank < configurations board
+  spread_below place rank ranks spread there = (spread.on.sound rank (get_there ranks place rank there)).0
+
+abbrev pub IsSpreadByAnswers : PlainBoard → ℕ → List ℕ → Type 0
+IsSpreadByAnswers board = IsSpreadBy board (IsAnswerMove board) (IsAnswerable board) (AnswerLeads board)
+
+abbrev pub IsSpreadByRequests : PlainBoard → ℕ → List ℕ → Type 0
+IsSpreadByRequests board = IsSpreadBy board (IsRequestMove board) (λ c. Unit {0}) (RequestLeads board)
+
+module _ (board : PlainBoard) (IsMove : List ℕ → ℕ → ℕ → Type 0) (Holds : List ℕ → Type 0) (Leads : ℕ → ℕ → Type 0)
+    (is : IsConfiguration board board.start) where
+  pub spread_begins : (ranks : List ℕ) → Holds board.start → IsWith [] (rank_of board board.start) ranks → IsSpreadBy board IsMove Holds Leads 0 ranks
+  spread_begins ranks holds with = record {
     on = record {
-      sound = λ rank among. subst (FoundByAnswers board) (sym (only_start (rank_of board board.start) ranks rank with among)) (
+      sound = λ rank among. subst (IsFound board IsMove Holds Leads) (sym (only_start (rank_of board board.start) ranks rank with among)) (
         rank_below board board.start is,
         record {
-          requests = [];
+          moves = [];
           reached = sym (configuration_at-rank_of board board.start is);
-          some = subst (IsAnswerable board) (sym (configuration_at-rank_of board board.start is)) some;
+          holds = subst Holds (sym (configuration_at-rank_of board board.start is)) holds;
         },
       );
       spread = λ at from to before there leads. absurd (omega arith);
@@ -132,128 +152,65 @@ module _ (board : PlainBoard) (is : IsConfiguration board board.start) where
     start = λ _. has_start (rank_of board board.start) ranks with;
   }
 
-  pub answers_none : ¬ IsAnswerable board board.start → IsSpreadByAnswers board 0 []
-  answers_none not = record {
+  pub spread_none : ¬ Holds board.start → IsSpreadBy board IsMove Holds Leads 0 []
+  spread_none not = record {
     on = record {
       sound = λ rank among. absurd (let inside : among.0 < 0 = among.1 in omega arith);
       spread = λ at from to before there leads. absurd (omega arith);
     };
-    start = λ some. absurd (not some);
+    start = λ holds. absurd (not holds);
   }
 
-  pub answers_step : (place rank : ℕ) (ranks more : List ℕ) → IsSpreadByAnswers board place ranks → slice_get ranks place ≡ Some rank
-      → IsWithAll ranks (AnswerLeads board rank) more → IsSpreadByAnswers board (place + 1) more
-  answers_step place rank ranks more spread here added = record {
-    on = spread_step (FoundByAnswers board) (AnswerLeads board) place rank ranks more spread.on here added (answer_keeps board rank);
-    start = λ some. (added.each (rank_of board board.start)).1 (inl (spread.start some));
-  }
+  module _ (are : AreMoves board IsMove Holds Leads) where
+    keeps : (to rank : ℕ) → IsFound board IsMove Holds Leads rank → Leads rank to → IsFound board IsMove Holds Leads to
+    keeps to rank found leads =
+        let c : List ℕ = configuration_at board rank in
+        let (pebble, label, move, to_is, holds) = are.move rank to found.1.holds leads in
+        let next : List ℕ = moved c pebble label in
+        let is_next : IsConfiguration board next = moved_is_configuration board c pebble label (are.is_label c pebble label move) (configuration_at_is board rank found.0) in
+        let here : configuration_at board to ≡ next = ap (configuration_at board) to_is ∙ configuration_at-rank_of board next is_next in (
+          subst (λ (r : ℕ). r < configurations board) (sym to_is) (rank_below board next is_next),
+          record {
+            moves = found.1.moves ++ (pebble, label) ∷ [];
+            reached = subst (LeadsBy IsMove board.start (found.1.moves ++ (pebble, label) ∷ [])) (sym here)
+                (one_more IsMove board.start found.1.moves c pebble label found.1.reached move);
+            holds = subst Holds (sym here) holds;
+          },
+        )
 
-  pub answers_end : (place : ℕ) (ranks : List ℕ) → IsSpreadByAnswers board place ranks → slice_get ranks place ≡ None
-      → AreRanksOf board (IsReachedByAnswers board) ranks
-  answers_end place ranks spread end rank = (spread.on.sound rank, λ found. subst (Contains ranks) (rank_of-configuration_at board rank found.0) (all found.1).1)
-    where
-      P : List ℕ → Type 0
-      P c = IsConfiguration board c × Contains ranks (rank_of board c)
+    pub spread_more : (place rank : ℕ) (ranks more : List ℕ) → IsSpreadBy board IsMove Holds Leads place ranks → slice_get ranks place ≡ Some rank
+        → IsWithAll ranks (Leads rank) more → IsSpreadBy board IsMove Holds Leads (place + 1) more
+    spread_more place rank ranks more spread here added = record {
+      on = spread_step (IsFound board IsMove Holds Leads) Leads place rank ranks more spread.on here added (λ to. keeps to rank);
+      start = λ holds. (added.each (rank_of board board.start)).1 (inl (spread.start holds));
+    }
 
-      step : (c : List ℕ) (pebble label : ℕ) → P c → pebble < board.pebbles → IsBestAnswer board c pebble label → IsAnswerable board (moved c pebble label)
-          → P (moved c pebble label)
-      step c pebble label there is_pebble best some =
-          let same : configuration_at board (rank_of board c) ≡ c = configuration_at-rank_of board c there.0 in
-          let next : List ℕ = moved c pebble label in
-          let leads : IsAnswerStep board (rank_of board c) pebble (rank_of board next) = record {
-            is_pebble = is_pebble;
-            label = label;
-            best = subst (λ (d : List ℕ). IsBestAnswer board d pebble label) (sym same) best;
-            to_is = ap (λ (d : List ℕ). rank_of board (moved d pebble label)) (sym same);
-            some = subst (λ (d : List ℕ). IsAnswerable board (moved d pebble label)) (sym same) some;
-          } in (
-            moved_is_configuration board c pebble label best.0.legal.is_label there.0,
-            spread_all (FoundByAnswers board) (AnswerLeads board) place ranks spread.on end (rank_of board c) (rank_of board next) there.1 (pebble, leads),
-          )
+    pub spread_ends : (place : ℕ) (ranks : List ℕ) → IsSpreadBy board IsMove Holds Leads place ranks → slice_get ranks place ≡ None
+        → AreRanksOf board (IsReachedBy board IsMove Holds) ranks
+    spread_ends place ranks spread end rank = (spread.on.sound rank, λ found. subst (Contains ranks) (rank_of-configuration_at board rank found.0) (all found.1).1)
+      where
+        P : List ℕ → Type 0
+        P c = IsConfiguration board c × Contains ranks (rank_of board c)
 
-      all : IsReachedByAnswers board rank → P (configuration_at board rank)
-      all reached = answers_stay board P step board.start reached.requests (configuration_at board rank) (λ some. (is, spread.start some)) reached.reached reached.some
+        step : (c : List ℕ) (pebble label : ℕ) → P c → IsMove c pebble label → Holds (moved c pebble label) → P (moved c pebble label)
+        step c pebble label there move holds =
+            let same : c ≡ configuration_at board (rank_of board c) = sym (configuration_at-rank_of board c there.0) in
+            let to : ℕ = rank_of board (moved c pebble label) in
+            let leads : Leads (rank_of board c) to = subst (λ (d : List ℕ). Leads (rank_of board c) (rank_of board (moved d pebble label))) (sym same)
+            (are.leads (rank_of board c) pebble label (subst (λ (d : List ℕ). IsMove d pebble label) same move)
+            (subst (λ (d : List ℕ). Holds (moved d pebble label)) same holds)) in (
+              moved_is_configuration board c pebble label (are.is_label c pebble label move) there.0,
+              spread_all (IsFound board IsMove Holds Leads) Leads place ranks spread.on end (rank_of board c) to there.1 leads,
+            )
 
--- ---- best requests
-
-abbrev FoundByRequests : PlainBoard → ℕ → Type 0
-FoundByRequests board rank = (rank < configurations board) × IsReachedByRequests board rank
-
-pub record IsSpreadByRequests (board : PlainBoard) (place : ℕ) (ranks : List ℕ) : Type 0 where
-  pub on : IsSpread (FoundByRequests board) (RequestLeads board) place ranks
-  pub start : Contains ranks (rank_of board board.start)
-
-request_keeps : (board : PlainBoard) (rank to : ℕ) → FoundByRequests board rank → RequestLeads board rank to → FoundByRequests board to
-request_keeps board rank to found leads =
-    let step : IsRequestStep board rank leads.0 to = leads.1 in
-    let c : List ℕ = configuration_at board rank in
-    let next : List ℕ = moved c step.pebble leads.0 in
-    let is : IsConfiguration board next = moved_is_configuration board c step.pebble leads.0 step.legal.is_label (configuration_at_is board rank found.0) in
-    let here : configuration_at board to ≡ next = ap (configuration_at board) step.to_is ∙ configuration_at-rank_of board next is in (
-      subst (λ (r : ℕ). r < configurations board) (sym step.to_is) (rank_below board next is),
-      record {
-        labels = found.1.labels ++ leads.0 ∷ [];
-        reached = subst (LeadsByRequests board board.start (found.1.labels ++ leads.0 ∷ [])) (sym here)
-            (one_request_more board board.start found.1.labels c step.pebble leads.0 found.1.reached step.best step.legal);
-      },
-    )
-
-module _ (board : PlainBoard) (is : IsConfiguration board board.start) where
-  pub requests_begin : (ranks : List ℕ) → IsWith [] (rank_of board board.start) ranks → IsSpreadByRequests board 0 ranks
-  requests_begin ranks with = record {
-    on = record {
-      sound = λ rank among. subst (FoundByRequests board) (sym (only_start (rank_of board board.start) ranks rank with among)) (
-        rank_below board board.start is,
-        record { labels = []; reached = sym (configuration_at-rank_of board board.start is) },
-      );
-      spread = λ at from to before there leads. absurd (omega arith);
-    };
-    start = has_start (rank_of board board.start) ranks with;
-  }
-
-  pub requests_step : (place rank : ℕ) (ranks more : List ℕ) → IsSpreadByRequests board place ranks → slice_get ranks place ≡ Some rank
-      → IsWithAll ranks (RequestLeads board rank) more → IsSpreadByRequests board (place + 1) more
-  requests_step place rank ranks more spread here added = record {
-    on = spread_step (FoundByRequests board) (RequestLeads board) place rank ranks more spread.on here added (request_keeps board rank);
-    start = (added.each (rank_of board board.start)).1 (inl spread.start);
-  }
-
-  pub requests_end : (place : ℕ) (ranks : List ℕ) → IsSpreadByRequests board place ranks → slice_get ranks place ≡ None
-      → AreRanksOf board (IsReachedByRequests board) ranks
-  requests_end place ranks spread end rank = (spread.on.sound rank, λ found. subst (Contains ranks) (rank_of-configuration_at board rank found.0) (all found.1).1)
-    where
-      P : List ℕ → Type 0
-      P c = IsConfiguration board c × Contains ranks (rank_of board c)
-
-      step : (c : List ℕ) (pebble label : ℕ) → P c → IsBestRequest board c pebble → Legal board c pebble label → P (moved c pebble label)
-      step c pebble label there best legal =
-          let same : configuration_at board (rank_of board c) ≡ c = configuration_at-rank_of board c there.0 in
-          let next : List ℕ = moved c pebble label in
-          let leads : IsRequestStep board (rank_of board c) label (rank_of board next) = record {
-            pebble = pebble;
-            best = subst (λ (d : List ℕ). IsBestRequest board d pebble) (sym same) best;
-            legal = subst (λ (d : List ℕ). Legal board d pebble label) (sym same) legal;
-            to_is = ap (λ (d : List ℕ). rank_of board (moved d pebble label)) (sym same);
-          } in (
-            moved_is_configuration board c pebble label legal.is_label there.0,
-            spread_all (FoundByRequests board) (RequestLeads board) place ranks spread.on end (rank_of board c) (rank_of board next) there.1 (label, leads),
-          )
-
-      all : IsReachedByRequests board rank → P (configuration_at board rank)
-      all reached = requests_stay board P step board.start reached.labels (configuration_at board rank) (is, spread.start) reached.reached
+        all : IsReachedBy board IsMove Holds rank → P (configuration_at board rank)
+        all reached = moves_stay IsMove Holds P are.before step board.start reached.moves (configuration_at board rank) (λ holds. (is, spread.start holds))
+            reached.reached reached.holds
 
 -- ---- ranks in range
 
 pub start_below : (board : PlainBoard) (start : ℕ) → IsBoard board → start ≡ rank_of board board.start → start < configurations board
 start_below board start is start_is = subst (λ (r : ℕ). r < configurations board) (sym start_is) (rank_below board board.start is.start)
-
-pub answer_below : (board : PlainBoard) (place rank : ℕ) (ranks : List ℕ) → IsSpreadByAnswers board place ranks → slice_get ranks place ≡ Some rank
-    → rank < configurations board
-answer_below board place rank ranks spread there = (spread.on.sound rank (get_there ranks place rank there)).0
-
-pub request_below : (board : PlainBoard) (place rank : ℕ) (ranks : List ℕ) → IsSpreadByRequests board place ranks → slice_get ranks place ≡ Some rank
-    → rank < configurations board
-request_below board place rank ranks spread there = (spread.on.sound rank (get_there ranks place rank there)).0
 
 -- ---- the value of the start
 

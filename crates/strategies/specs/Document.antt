@@ -19,19 +19,21 @@ pub record IsAnswerable (board : PlainBoard) (configuration : List ℕ) : Type 0
   pub has_value : HasValue board configuration value
   pub some : IsLess (Finite 0) value
 
--- these requests, each asked where the value is 1 or more, lead by best answers from one configuration to another
-abbrev pub LeadsByAnswers : PlainBoard → List ℕ → List ℕ → List ℕ → Type 0
-LeadsByAnswers board from [] to = from ≡ to
-LeadsByAnswers board from (pebble ∷ requests) to =
-    (label : ℕ) × (pebble < board.pebbles) × IsAnswerable board from × IsBestAnswer board from pebble label
-    × LeadsByAnswers board (moved from pebble label) requests to
+-- the pebble is asked where the value is 1 or more, and the label is the best answer
+pub record IsAnswerMove (board : PlainBoard) (configuration : List ℕ) (pebble label : ℕ) : Type 0 where
+  pub is_pebble : pebble < board.pebbles
+  pub answerable : IsAnswerable board configuration
+  pub best : IsBestAnswer board configuration pebble label
 
--- these labels, each a legal answer to the best request, lead from one configuration to another
-abbrev pub LeadsByRequests : PlainBoard → List ℕ → List ℕ → List ℕ → Type 0
-LeadsByRequests board from [] to = from ≡ to
-LeadsByRequests board from (label ∷ labels) to =
-    (pebble : ℕ) × IsBestRequest board from pebble × Legal board from pebble label
-    × LeadsByRequests board (moved from pebble label) labels to
+-- the pebble is the best request, and the label is a legal answer
+pub record IsRequestMove (board : PlainBoard) (configuration : List ℕ) (pebble label : ℕ) : Type 0 where
+  pub best : IsBestRequest board configuration pebble
+  pub legal : Legal board configuration pebble label
+
+-- these moves of pebbles to labels, each of the kind, lead from one configuration to another
+abbrev pub LeadsBy : (List ℕ → ℕ → ℕ → Type 0) → List ℕ → List (ℕ × ℕ) → List ℕ → Type 0
+LeadsBy IsMove from [] to = from ≡ to
+LeadsBy IsMove from ((pebble, label) ∷ moves) to = IsMove from pebble label × LeadsBy IsMove (moved from pebble label) moves to
 
 -- what the document says of the start, which has the value
 abbrev pub claim_of : Value → Claim
@@ -45,11 +47,11 @@ turns_of Forever value = Always
 turns_of (Finite number) (Finite value) = Count (min value number)
 turns_of (Finite number) Forever = Count number
 
--- a row that the document has for the labeller: a configuration of value 1 or more that some list of requests reaches from the start,
+-- a row that the document has for the labeller: a configuration of value 1 or more that best answers lead to from the start,
 -- its turns, and the best answer to each request
 pub record IsLabellerRow (board : PlainBoard) (start : Value) (row : AnswerRow) : Type 0 where
-  pub requests : List ℕ
-  pub reached : LeadsByAnswers board board.start requests row.at
+  pub moves : List (ℕ × ℕ)
+  pub reached : LeadsBy (IsAnswerMove board) board.start moves row.at
   pub value : Value
   pub has_value : HasValue board row.at value
   pub some : IsLess (Finite 0) value
@@ -57,11 +59,11 @@ pub record IsLabellerRow (board : PlainBoard) (start : Value) (row : AnswerRow) 
   pub one_each : length row.answers ≡ board.pebbles
   pub best : (pebble : ℕ) → pebble < board.pebbles → IsBestAnswer board row.at pebble (slice_index row.answers pebble)
 
--- a row that the document of a start with a finite value has for the adversary: a configuration that some play of best requests reaches,
+-- a row that the document of a start with a finite value has for the adversary: a configuration that answers to best requests lead to from the start,
 -- its value, and the best request
 pub record IsAdversaryRow (board : PlainBoard) (row : RequestRow) : Type 0 where
-  pub labels : List ℕ
-  pub reached : LeadsByRequests board board.start labels row.at
+  pub moves : List (ℕ × ℕ)
+  pub reached : LeadsBy (IsRequestMove board) board.start moves row.at
   pub has_value : HasValue board row.at (Finite row.left)
   pub best : IsBestRequest board row.at row.request
 

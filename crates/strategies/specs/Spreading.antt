@@ -6,7 +6,7 @@ use Rattle.positions.specs.Game.{Legal, moved}
 use Rattle.positions.specs.Ranks.{configurations, rank_of, configuration_at}
 use Rattle.positions.specs.Gaps.{gaps, member_of, IsAnswer}
 use Rattle.strategies.specs.Best.{IsBestAnswer, IsBestRequest}
-use Rattle.strategies.specs.Document.{IsAnswerable, LeadsByAnswers, LeadsByRequests}
+use Rattle.strategies.specs.Document.{IsAnswerable, IsAnswerMove, IsRequestMove, LeadsBy}
 
 -- the best answer to a request of the pebble leads from one rank to the other, which has a value of 1 or more
 pub record IsAnswerStep (board : PlainBoard) (from pebble to : ℕ) : Type 0 where
@@ -31,16 +31,19 @@ pub record IsRequestStep (board : PlainBoard) (from label to : ℕ) : Type 0 whe
 abbrev pub RequestLeads : PlainBoard → ℕ → ℕ → Type 0
 RequestLeads board from to = (label : ℕ) × IsRequestStep board from label to
 
--- some requests lead by best answers from the start to the configuration of the rank, which has a value of 1 or more
-pub record IsReachedByAnswers (board : PlainBoard) (rank : ℕ) : Type 0 where
-  pub requests : List ℕ
-  pub reached : LeadsByAnswers board board.start requests (configuration_at board rank)
-  pub some : IsAnswerable board (configuration_at board rank)
+-- moves of the kind lead from the start to the configuration of the rank, which has the property
+pub record IsReachedBy (board : PlainBoard) (IsMove : List ℕ → ℕ → ℕ → Type 0) (Holds : List ℕ → Type 0) (rank : ℕ) : Type 0 where
+  pub moves : List (ℕ × ℕ)
+  pub reached : LeadsBy IsMove board.start moves (configuration_at board rank)
+  pub holds : Holds (configuration_at board rank)
 
--- some legal answers to best requests lead from the start to the configuration of the rank
-pub record IsReachedByRequests (board : PlainBoard) (rank : ℕ) : Type 0 where
-  pub labels : List ℕ
-  pub reached : LeadsByRequests board board.start labels (configuration_at board rank)
+-- best answers lead to the configuration of the rank, which has a value of 1 or more
+abbrev pub IsReachedByAnswers : PlainBoard → ℕ → Type 0
+IsReachedByAnswers board = IsReachedBy board (IsAnswerMove board) (IsAnswerable board)
+
+-- legal answers to best requests lead to the configuration of the rank
+abbrev pub IsReachedByRequests : PlainBoard → ℕ → Type 0
+IsReachedByRequests board = IsReachedBy board (IsRequestMove board) (λ configuration. Unit {0})
 
 -- exactly the ranks of which the fact holds
 abbrev pub AreRanksOf : PlainBoard → (ℕ → Type 0) → List ℕ → Type 0

@@ -1,5 +1,5 @@
 use Rattle.std.proofs.Common.{refl, sym, ◌∙◌, arith}
-use Rattle.strategies.proofs.Spread.{somewhere, answers_begin, answers_none, start_answerable, start_worthless, answers_step, answers_end, answer_below}
+use Rattle.strategies.proofs.Spread.{somewhere, spread_begins, spread_none, spread_more, spread_ends, spread_below, answer_moves, start_answerable, start_worthless}
 use Rattle.strategies.proofs.best_moves.BestMoves.reached_by_answers.Goals as goal
 use Rattle.strategies.proofs.best_moves.BestMoves.reached_by_answers.Goals.{then-is_some+in_ok-add, else-is_some}
 
@@ -14,17 +14,17 @@ loop-rank-init c =
     elim c.if-is_some.branch [
       | then-is_some+in_ok-add w ↦ rw w.reached-is (record {
         size = w.in_ok-add.ensures.size ∙ size;
-        spread = answers_begin b is _ (start_answerable b c.start-start.result c.value.result is c.start-start.ensures.rank c.value.ensures (w.if-is_some.ensures.0 refl))
+        spread = spread_begins b _ _ _ is _ (start_answerable b c.start-start.result c.value.result is c.start-start.ensures.rank c.value.ensures (w.if-is_some.ensures.0 refl))
             (rw (c.start-start.ensures.rank, c.in_ok-reached.ensures.empty) at w.in_ok-add.ensures.added);
       })
       | else-is_some w ↦ rw (w.reached-is, c.in_ok-reached.ensures.empty) (record {
         size = size;
-        spread = answers_none b is (start_worthless b c.start-start.result c.value.result is c.start-start.ensures.rank c.value.ensures (λ some. let same = w.if-is_some.ensures.1 some in absurd cc));
+        spread = spread_none b _ _ _ is (start_worthless b c.start-start.result c.value.result is c.start-start.ensures.rank c.value.ensures (λ some. let same = w.if-is_some.ensures.1 some in absurd cc));
       })
     ]
 
 pub add_answers-requires-clause-rank : goal.add_answers-requires-clause-rank
-add_answers-requires-clause-rank c = answer_below _ _ _ _ c.loop-rank.invariant.spread (sym c.in-Some.ensures.rank)
+add_answers-requires-clause-rank c = spread_below _ _ _ _ _ _ _ c.loop-rank.invariant.spread (sym c.in-Some.ensures.rank)
 
 pub overflow_add-place : goal.overflow_add-place
 overflow_add-place c =
@@ -44,10 +44,10 @@ loop-rank-smaller c =
 pub loop-rank-preserved : goal.loop-rank-preserved
 loop-rank-preserved c = record {
   size = c.in_ok-add_answers.ensures.size ∙ c.loop-rank.invariant.size;
-  spread = answers_step c.args.self.now c.start-start.ensures.is_board.start c.loop-rank.place c.in-Some.rank _ _
+  spread = spread_more c.args.self.now _ _ _ c.start-start.ensures.is_board.start (answer_moves c.args.self.now) c.loop-rank.place c.in-Some.rank _ _
       c.loop-rank.invariant.spread (sym c.in-Some.ensures.rank) c.in_ok-add_answers.ensures.added;
 }
 
 pub returns-clause-reached : goal.returns-clause-reached
 returns-clause-reached c =
-    answers_end c.args.self.now c.start-start.ensures.is_board.start c.loop-rank.place _ c.loop-rank.invariant.spread (sym c.in_default.ensures.rank)
+    spread_ends c.args.self.now _ _ _ c.start-start.ensures.is_board.start (answer_moves c.args.self.now) c.loop-rank.place _ c.loop-rank.invariant.spread (sym c.in_default.ensures.rank)

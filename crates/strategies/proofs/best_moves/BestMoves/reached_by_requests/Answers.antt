@@ -1,6 +1,6 @@
 use Rattle.std.proofs.Common.{sym, ◌∙◌, arith}
 use Rattle.strategies.proofs.Steps.{none_expanded}
-use Rattle.strategies.proofs.Spread.{somewhere, request_below, requests_begin, requests_step, requests_end}
+use Rattle.strategies.proofs.Spread.{somewhere, spread_begins, spread_more, spread_ends, spread_below, request_moves}
 use Rattle.strategies.proofs.best_moves.BestMoves.reached_by_requests.Goals as goal
 
 pub add-requires : goal.add-requires
@@ -13,11 +13,11 @@ loop-rank-init c =
     record {
       size = c.in_ok-add.ensures.size ∙ c.in_ok-reached.ensures.size ∙ (rw c.space-space.ensures.value at c.configurations.ensures.value);
       expanded = rw c.in_ok-expanded.ensures (none_expanded b c.gaps.result _ (rw c.space-space.ensures.value at c.gaps.ensures.value));
-      spread = requests_begin b is.start _ (rw (c.start.ensures.rank, c.in_ok-reached.ensures.empty) at c.in_ok-add.ensures.added);
+      spread = spread_begins b _ _ _ is.start _ tt (rw (c.start.ensures.rank, c.in_ok-reached.ensures.empty) at c.in_ok-add.ensures.added);
     }
 
 pub add_results-requires-clause-rank : goal.add_results-requires-clause-rank
-add_results-requires-clause-rank c = request_below _ _ _ _ c.loop-rank.invariant.spread (sym c.in-Some.ensures.rank)
+add_results-requires-clause-rank c = spread_below _ _ _ _ _ _ _ c.loop-rank.invariant.spread (sym c.in-Some.ensures.rank)
 
 pub overflow_add-place : goal.overflow_add-place
 overflow_add-place c =
@@ -40,11 +40,11 @@ loop-rank-preserved c =
     record {
       size = c.in_ok-add_results.ensures.size ∙ c.loop-rank.invariant.size;
       expanded = c.in_ok-add_results.ensures.expanded;
-      spread = requests_step c.args.self.now is.start c.loop-rank.place c.in-Some.rank _ _
+      spread = spread_more c.args.self.now _ _ _ is.start (request_moves c.args.self.now) c.loop-rank.place c.in-Some.rank _ _
           c.loop-rank.invariant.spread (sym c.in-Some.ensures.rank) c.in_ok-add_results.ensures.added;
     }
 
 pub returns-clause-reached : goal.returns-clause-reached
 returns-clause-reached c =
     let is = c.start.ensures.is_board in
-    requests_end c.args.self.now is.start c.loop-rank.place _ c.loop-rank.invariant.spread (sym c.in_default.ensures.rank)
+    spread_ends c.args.self.now _ _ _ is.start (request_moves c.args.self.now) c.loop-rank.place _ c.loop-rank.invariant.spread (sym c.in_default.ensures.rank)
