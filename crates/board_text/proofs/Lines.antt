@@ -27,9 +27,6 @@ pub number_line_end : (word : List ℕ) (m n : ℕ) (old space number rest more 
 number_line_end word m n old space number rest more p q r no_digit small_m small_n e =
     number_split m n rest (10 ∷ more) (omega arith) (omega arith) no_digit (no_digit_lf more) (sym r ∙ number_line_number word n old space number more p q e)
 
-pub number_line_taken : (word : List ℕ) (n : ℕ) (old space number rest more : List ℕ) → old ≡ word ++ space → space ≡ (32 ∷ []) ++ number → number ≡ decimal n ++ rest → rest ≡ (10 ∷ []) ++ more → old ≡ number_line word n ++ more
-number_line_taken word n old space number rest more p q r s = rw (p, q, r, s) (sym (number_line_parts word n more))
-
 pub same_rest : (old rest more : List ℕ) → old ≡ (32 ∷ []) ++ rest → old ≡ 32 ∷ more → rest ≡ more
 same_rest old rest more p q = cc
 

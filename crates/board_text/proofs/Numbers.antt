@@ -4,7 +4,7 @@ use Rattle.std.specs.Prelude.{MatchOption}
 use Rattle.std.specs.Char.{is_ascii_digit, IsAsciiDigit, digit_value}
 use Rattle.std.specs.List.{prefix_len}
 use Rattle.std.specs.Fmt.{decimal}
-use Rattle.std.specs.Str.Parse.{AllDigits, IsNumeral, digits_value}
+use Rattle.std.specs.Str.Parse.{AllDigits, digits_value}
 use Rattle.std.proofs.lemmas.Fmt.{decimal_is_IsNumeral, decimal_injective, first_decimal, decimal_digit, decimal_nonempty, decimal-digits_value}
 use Rattle.std.proofs.lemmas.Str.{digit_value_digit}
 use Rattle.std.proofs.lemmas.Str.Parse.{IsNumeralModel, tells_digits, numerals_by_value, digit_from_value}
@@ -95,10 +95,3 @@ pub other_number : (m low high : ℕ) (old rest : List ℕ) → m < 2 ^ 32 → h
 other_number m low high old rest small bound taken no_digit outside n more in_range no_more e =
     let s = number_split m n rest more (omega arith) (omega arith) no_digit no_more (sym taken ∙ e) in
     outside (rw s.0 in_range)
-
--- no digits stand where no digit does
-pub no_place : (old digits rest : List ℕ) → digits ≡ [] → old ≡ digits ++ rest → NoDigit rest → (ds more : List ℕ) → IsNumeral 10 ds → old ≢ ds ++ more
-no_place old digits rest none taken no_digit [] more is e = omega (arith, is.0)
-no_place old digits rest none taken no_digit (d ∷ ds) more is e =
-    let first : rest ≡ (d ∷ ds) ++ more = sym (rw none at taken) ∙ e in
-    no_digit (rw first (tells_digits.parts d ds is.1).0)

@@ -203,9 +203,6 @@ places_line_end count labels word places texts old rest new more few p q are_tex
     texts_unique count labels (labels + 1) texts (map (place_word labels) places) new (10 ∷ more) are_texts (words_are_texts count labels (labels + 1) places (omega arith) are) no_digit (no_digit_lf more)
     (sym q ∙ places_line_places labels word places old rest more p e)
 
-pub places_line_taken : (labels : ℕ) (word places : List ℕ) (texts : List (List ℕ)) (old rest new more : List ℕ) → old ≡ word ++ rest → rest ≡ spaced_texts texts ++ new → texts ≡ map (place_word labels) places → new ≡ (10 ∷ []) ++ more → old ≡ places_line labels word places ++ more
-places_line_taken labels word places texts old rest new more p q r s = rw (p, q, r, s) (sym (places_line_parts labels word places more))
-
 -- a line of places is read in one way
 pub places_line_unique : (labels : ℕ) (word ms ns x y : List ℕ) → AllByRecursion (λ n. n < 2 ^ 32) ms → AllByRecursion (λ n. n < 2 ^ 32) ns → places_line labels word ms ++ x ≡ places_line labels word ns ++ y → (ms ≡ ns) × (x ≡ y)
 places_line_unique labels word ms ns x y small_ms small_ns e =

@@ -15,13 +15,6 @@ pub record AreDigits (base count number : ℕ) (digits : List ℕ) : Type 0 wher
 abbrev pub IsRest : ℕ → ℕ → List ℕ → ℕ → ℕ → Type 0
 IsRest base count digits place rest = AreDigits base (count - place) rest (drop place digits)
 
-pub rest_first : (base count number : ℕ) → number < base ^ count → IsRest base count (digits_of base count number) 0 number
-rest_first base count number below =
-    let all : count ≡ count - 0 = omega arith in record {
-      below = subst (λ n. number < base ^ n) all below;
-      same = ap (λ n. digits_of base n number) (sym all);
-    }
-
 -- the digit at the place, and the rest behind it
 pub record IsNextRest (base count : ℕ) (digits : List ℕ) (place digit rest : ℕ) : Type 0 where
   pub digit_is : digit ≡ get_or digits place 0

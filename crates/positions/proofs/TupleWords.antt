@@ -5,7 +5,7 @@ use Rattle.std.specs.List.{All}
 use Rattle.std.proofs.Math.Nat.{pow-zero, pow-succ', pow-le-pow_right}
 use Rattle.std.proofs.lemmas.Bool.{cases_lt, eqb-true, eq-eqb}
 use Rattle.std.proofs.lemmas.Nat.{div-mul-add, mod-mul-add}
-use Rattle.std.proofs.lemmas.Nat.Bits.{bit_at-zero, bit_at_and, bit_at-lt}
+use Rattle.std.proofs.lemmas.Nat.Bits.{bit_at_and, bit_at-lt}
 use Rattle.std.proofs.lemmas.List.{length_push, get_or_push, get_or_append_left}
 use Rattle.std.proofs.lemmas.List.Elements.{All-nil, All-cons, All-head, All-tail}
 use Rattle.board_text.specs.PlainBoard.{PlainBoard, IsBoard, Beats, BeatsPlace, places}
@@ -132,15 +132,6 @@ all_places board number count fewer more all words size = record {
 -- a word for each tuple
 pub whole_column : (board : PlainBoard) (number : ℕ) (words : List ℕ) → AreAllWords board number (board.pebbles - 1) words → IsColumn board number words
 whole_column board number words all tuple inside = all.each tuple (subst (λ n. tuple < n) (sym all.so_many) inside)
-
--- a column of no labels
-pub empty_column : (board : PlainBoard) (number : ℕ) (words : List ℕ) → board.labels ≤ 64 * number → words ≡ [] → IsColumn board number words
-empty_column board number words none is tuple inside = subst (λ (ws : List ℕ). AreBeating board number held (get_or ws tuple 0)) (sym is) (λ bit small. (
-  λ set. (let clear : bit_at 0 bit ≡ 0 = bit_at-zero bit in absurd (omega arith)),
-  λ beats. (let label = beats.0 in absurd (omega arith)),
-)) where
-  held : List ℕ
-  held = digits_of (places board) (board.pebbles - 1) tuple
 
 -- four columns
 pub four_columns : (board : PlainBoard) (first second third fourth : List ℕ) → IsColumn board 0 first → IsColumn board 1 second → IsColumn board 2 third → IsColumn board 3 fourth

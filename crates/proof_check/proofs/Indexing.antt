@@ -11,14 +11,6 @@ pub record IsIndexBelow {X : Type 0} (rank : X → ℕ) (rows : List X) (size : 
   pub only : (number : ℕ) (d : X) → number < size → get_or places number 0 < count → rank (get_or rows (get_or places number 0) d) ≡ number
   pub none : (number : ℕ) → number < size → (get_or places number 0 < count) ⊎ (get_or places number 0 ≡ 4294967295)
 
-pub index_none : {X : Type 0} (rank : X → ℕ) (rows : List X) (size : ℕ) → IsIndexBelow rank rows size (replicate size 4294967295) 0
-index_none rank rows size = record {
-  sized = length-replicate {A = ℕ} size 4294967295;
-  each = λ place d lt. absurd (omega arith);
-  only = λ number d inside lt. absurd (omega arith);
-  none = λ number inside. inr (get_or-replicate {A = ℕ} size number 4294967295 0 inside);
-}
-
 pub index_more : {X : Type 0} (rank : X → ℕ) (rows : List X) (size : ℕ) (places : List ℕ) (count : ℕ) (row : X) → AreRanked rank size rows → count < length rows → row ≡ get_or rows count row
     → IsIndexBelow rank rows size places count → IsIndexBelow rank rows size (set places (rank row) count) (count + 1)
 index_more {X} rank rows size places count row are inside here index = record {
@@ -64,9 +56,3 @@ index_more {X} rank rows size places count row are inside here index = record {
     none number low (inr other) =
         let kept : get_or (set places (rank row) count) number 0 ≡ get_or places number 0 = get_or-set_other places (rank row) number count 0 other in
         elim (index.none number low) [ inl less ↦ inl (omega (arith, kept, less)) | inr empty ↦ inr (kept ∙ empty) ]
-
-pub index_whole : {X : Type 0} (rank : X → ℕ) (rows : List X) (size : ℕ) (places : List ℕ) (count : ℕ) → AreRanked rank size rows → count ≡ length rows → IsIndexBelow rank rows size places count → IsIndex rank rows places
-index_whole {X} rank rows size places count are whole index = record {
-  each = λ place d lt. (let low : rank (get_or rows place d) < size = are.each place d lt in omega (arith, low, index.sized), index.each place d (omega (arith, lt, whole)));
-  only = λ number d low lt. index.only number d (omega (arith, low, index.sized)) (omega (arith, lt, whole));
-}

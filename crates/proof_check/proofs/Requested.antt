@@ -23,13 +23,6 @@ module _ (rows : List RequestRow) (configuration : List ℕ) (row : RequestRow) 
       let left : listed.row.left ≡ row.left = ap (λ (r : RequestRow). r.left) (is.only listed.row listed.among listed.at) in
       omega (arith, low, left, large)
 
--- the labels that are left are legal ones
-pub legal_begin : (board : PlainBoard) (position : Position) (rank pebble : ℕ) (words : List ℕ) (walk : Walk) → position ≡ position_at board rank → walk ≡ record { left = words; from = 0 }
-    → ((label : ℕ) → label < 256 → (has_bit words label ≡ true) ↔ Legal position.board position.configuration pebble label) → AreFrom (Legal board (configuration_at board rank) pebble) walk
-legal_begin board position rank pebble words walk is begins bits =
-    walk_begins (Legal board (configuration_at board rank) pebble) words walk begins
-    (subst (λ (p : Position). (label : ℕ) → label < 256 → (has_bit words label ≡ true) ↔ Legal p.board p.configuration pebble label) is bits)
-
 pub legal_few : (board : PlainBoard) (position : Position) (rank pebble : ℕ) → position ≡ position_at board rank → position.board.labels ≤ 256 → (label : ℕ) → Legal board (configuration_at board rank) pebble label → label < 256
 legal_few board position rank pebble is few label legal = let most : board.labels ≤ 256 = subst (λ (p : Position). p.board.labels ≤ 256) is few in omega (arith, legal.is_label, most)
 

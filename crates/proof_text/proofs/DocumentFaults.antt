@@ -1,5 +1,5 @@
 -- From the parts of a text to its fault.
-use Rattle.std.proofs.Common.{◌≡◌, ℕ, ◌+◌, Bool, cond, false, List, [], ◌∷◌, ◌++◌, length, map, refl, sym, ap, ◌∙◌, append_assoc, inl, inr}
+use Rattle.std.proofs.Common.{◌≡◌, ◌⊎◌, ℕ, ◌+◌, Bool, cond, false, List, [], ◌∷◌, ◌++◌, length, map, refl, sym, ap, ◌∙◌, append_assoc, inl, inr}
 use Rattle.std.specs.List.{flat_map}
 use Rattle.std.specs.Prelude.{codes}
 use Rattle.std.proofs.lemmas.List.{length-map}
@@ -21,31 +21,19 @@ use Rattle.proof_text.proofs.SectionLemmas.{rows_seen, fault_seen}
 pub head_taken : (claim : Claim) (text a b : List ℕ) → text ≡ version_line ++ a → a ≡ claim_line claim ++ b → text ≡ head claim ++ b
 head_taken claim text a b e f = e ∙ ap (λ (t : List ℕ). version_line ++ t) f ∙ sym (append_assoc version_line (claim_line claim) b)
 
-pub has_labeller_fault : (board : PlainBoard) (text : List ℕ) (line : ℕ) (kind : ProofKind) → LabellerFault board text line kind → HasFault board text line kind
-has_labeller_fault board text line kinds.Version f = absurd f.fault.6
-has_labeller_fault board text line kinds.Claim f = absurd f.fault.6
-has_labeller_fault board text line kinds.Section f = inl f
-has_labeller_fault board text line kinds.Row f = inl f
-has_labeller_fault board text line kinds.Label f = inl f
-has_labeller_fault board text line kinds.Pebble f = inl f
-has_labeller_fault board text line kinds.Number f = inl f
-has_labeller_fault board text line kinds.Order f = inl f
-has_labeller_fault board text line kinds.End f = absurd f.fault.6
-has_labeller_fault board text line kinds.Trailing f = absurd f.fault.6
-has_labeller_fault board text line kinds.Memory f = inl f
-
-pub has_adversary_fault : (board : PlainBoard) (text : List ℕ) (line : ℕ) (kind : ProofKind) → AdversaryFault board text line kind → HasFault board text line kind
-has_adversary_fault board text line kinds.Version f = absurd f.fault.6
-has_adversary_fault board text line kinds.Claim f = absurd f.fault.6
-has_adversary_fault board text line kinds.Section f = inr f
-has_adversary_fault board text line kinds.Row f = inr f
-has_adversary_fault board text line kinds.Label f = inr f
-has_adversary_fault board text line kinds.Pebble f = inr f
-has_adversary_fault board text line kinds.Number f = inr f
-has_adversary_fault board text line kinds.Order f = inr f
-has_adversary_fault board text line kinds.End f = absurd f.fault.6
-has_adversary_fault board text line kinds.Trailing f = absurd f.fault.6
-has_adversary_fault board text line kinds.Memory f = inr f
+pub has_part_fault : (board : PlainBoard) (text : List ℕ) (line : ℕ) (kind : ProofKind) → LabellerFault board text line kind ⊎ AdversaryFault board text line kind
+    → HasFault board text line kind
+has_part_fault board text line kinds.Version f = elim f [ inl l ↦ absurd l.fault.6 | inr a ↦ absurd a.fault.6 ]
+has_part_fault board text line kinds.Claim f = elim f [ inl l ↦ absurd l.fault.6 | inr a ↦ absurd a.fault.6 ]
+has_part_fault board text line kinds.Section f = f
+has_part_fault board text line kinds.Row f = f
+has_part_fault board text line kinds.Label f = f
+has_part_fault board text line kinds.Pebble f = f
+has_part_fault board text line kinds.Number f = f
+has_part_fault board text line kinds.Order f = f
+has_part_fault board text line kinds.End f = elim f [ inl l ↦ absurd l.fault.6 | inr a ↦ absurd a.fault.6 ]
+has_part_fault board text line kinds.Trailing f = elim f [ inl l ↦ absurd l.fault.6 | inr a ↦ absurd a.fault.6 ]
+has_part_fault board text line kinds.Memory f = f
 
 abbrev pub document : Claim → List AnswerRow → List RequestRow → PlainProof
 document claim labeller adversary = record { claim = claim; labeller = labeller; adversary = adversary }

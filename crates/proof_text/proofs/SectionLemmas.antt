@@ -63,9 +63,6 @@ last_before board at rows row configuration follows = follows rows row refl
 abbrev pub FollowsFrom : {X : Type 0} → PlainBoard → (X → List ℕ) → List X → ℕ → Type 0
 FollowsFrom board at rows least = (configuration : List ℕ) → (MayFollow board at rows configuration → least ≤ rank_of board configuration) × (least ≤ rank_of board configuration → MayFollow board at rows configuration)
 
-pub from_none : {X : Type 0} (board : PlainBoard) (at : X → List ℕ) → FollowsFrom board at [] 0
-from_none board at configuration = (λ h. omega arith, λ h. follows_none board at configuration)
-
 pub from_push : {X : Type 0} (board : PlainBoard) (at : X → List ℕ) (rows : List X) (row : X) (rank : ℕ) → rank_of board (at row) ≡ rank → FollowsFrom board at (rows ++ row ∷ []) (rank + 1)
 from_push board at rows row rank e configuration = (
   λ h. let lt : rank_of board (at row) < rank_of board configuration = last_before board at rows row configuration h in omega (arith, e, lt),

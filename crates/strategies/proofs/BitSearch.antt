@@ -1,8 +1,8 @@
 -- The first mark from a bound on.
-use Rattle.std.proofs.Common.{◌≡◌, ℕ, ◌+◌, ◌-◌, ◌/◌, ◌%◌, ◌^◌, ◌<◌, ◌≤◌, true, false, List, get_or, Some, None, sym, ap, ◌∙◌, inl, inr, arith}
+use Rattle.std.proofs.Common.{rules, ◌≡◌, ℕ, ◌+◌, ◌-◌, ◌/◌, ◌%◌, ◌^◌, ◌<◌, ◌≤◌, true, false, List, length, get_or, Some, None, sym, ap, ◌∙◌, inl, inr, arith}
 use Rattle.std.specs.Int.{bit_at, trailing_zeros, w64}
 use Rattle.std.proofs.lemmas.Bool.{cases_lt, eqb-true, eq-eqb}
-use Rattle.std.proofs.lemmas.List.{get_or_past}
+use Rattle.std.proofs.lemmas.List.{get_or_past, get_or_read}
 use Rattle.std.proofs.lemmas.Nat.{shr-shr}
 use Rattle.std.proofs.lemmas.Nat.Bits.{bit_at-zero, bit_at_above, bit_at-trailing_zeros}
 use Rattle.board_text.specs.Domination.{has_bit}
@@ -14,7 +14,17 @@ use Rattle.strategies.proofs.BitMarks.{so_many, mark_at}
 abbrev pub NoneBetween : List ℕ → ℕ → ℕ → Type 0
 NoneBetween words bound number = (x : ℕ) → bound ≤ x → x < number → has_bit words x ≡ true → ⊥
 
-module _ (words : List ℕ) (number rest : ℕ) (rest_is : rest ≡ get_or words (number / 64) 0 / 2 ^ (number % 64)) where
+-- the word of a number, as it was read
+module _ (words : List ℕ) (number word : ℕ) (inside_words : number / 64 < length words) (as_read : word ≡ get_or words (number / 64) word) where
+  abbrev rest : ℕ
+  rest = word / 2 ^ (number % 64)
+
+  word_is : word ≡ get_or words (number / 64) 0
+  word_is = get_or_read words (number / 64) word inside_words as_read 0
+
+  rest_is : rest ≡ get_or words (number / 64) 0 / 2 ^ (number % 64)
+  rest_is = ap (λ (w : ℕ). w / 2 ^ (number % 64)) word_is
+
   -- what is left of a word has the bits from the number on
   bit_of_rest : (x : ℕ) → number ≤ x → x / 64 ≡ number / 64 → bit_at rest (x - number) ≡ bit_at (get_or words (x / 64) 0) (x % 64)
   bit_of_rest x above same =
@@ -59,10 +69,11 @@ module _ (words : List ℕ) (number rest : ℕ) (rest_is : rest ≡ get_or words
         | inr high ↦ omega (arith, word_bit, bit_at_above (get_or words (number / 64) 0) 64 (number % 64 + lowest) fits high)
       ]
 
-  pub first_in_word : (bound : ℕ) → 0 < rest → rest < 2 ^ 64 → get_or words (number / 64) 0 < 2 ^ 64 → NoneBetween words bound number
+  pub first_in_word : (bound : ℕ) → 0 < rest → word < 2 ^ 64 → NoneBetween words bound number
       → (has_bit words (number + trailing_zeros w64 rest) ≡ true) × NoneBetween words bound (number + trailing_zeros w64 rest)
-  first_in_word bound some small fits none =
-      let at = bit_at-trailing_zeros w64 rest some small in lowest_bit bound (trailing_zeros w64 rest) fits at.1 at.2 none
+  first_in_word bound some fits none =
+      let small : rest < 2 ^ 64 = search rules in
+      let at = bit_at-trailing_zeros w64 rest some small in lowest_bit bound (trailing_zeros w64 rest) (rw word_is at fits) at.1 at.2 none
 
 module _ (size : ℕ) (words : List ℕ) (bound : ℕ) where
   abbrev IsMarkFrom : ℕ → Type 0

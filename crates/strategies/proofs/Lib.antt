@@ -22,4 +22,3 @@ pub mod Spread
 pub mod Steps
 pub mod Gathering
 pub mod Making
-pub mod Whole

@@ -1,8 +1,8 @@
 -- What steps from one rank to another lead to.
-use Rattle.std.proofs.Common.{◌≡◌, ℕ, zero, suc, ◌+◌, ◌<◌, inl, inr, List, [], ◌∷◌, ◌++◌, length, Some, None, slice_get, slice_index_or, refl, sym, ap, ◌∙◌, subst, arith}
+use Rattle.std.proofs.Common.{◌≡◌, ℕ, zero, suc, ◌+◌, ◌<◌, ◌≤◌, inl, inr, List, [], ◌∷◌, ◌++◌, length, Some, None, slice_get, slice_index_or, refl, sym, ap, ◌∙◌, subst, arith}
 use Rattle.std.specs.List.{Contains}
 use Rattle.std.proofs.lemmas.Bool.{cases_lt}
-use Rattle.board_text.specs.PlainBoard.{PlainBoard, IsBoard, IsConfiguration}
+use Rattle.board_text.specs.PlainBoard.{PlainBoard, IsConfiguration}
 use Rattle.positions.specs.declared.value.Value.{Value}
 use Rattle.positions.specs.declared.value.Value.TheVariants.{Finite}
 use Rattle.positions.specs.Game.{moved}
@@ -42,10 +42,14 @@ nowhere (y ∷ ys) zero at x end there = absurd cc
 nowhere (y ∷ ys) (suc place) zero x end there = omega arith
 nowhere (y ∷ ys) (suc place) (suc at) x end there = let less = nowhere ys place at x end there in omega (arith, less)
 
-pub somewhere : (xs : List ℕ) (place x : ℕ) → slice_get xs place ≡ Some x → place < length xs
+somewhere : (xs : List ℕ) (place x : ℕ) → slice_get xs place ≡ Some x → place < length xs
 somewhere [] place x there = absurd cc
 somewhere (y ∷ ys) zero x there = omega arith
 somewhere (y ∷ ys) (suc place) x there = let less = somewhere ys place x there in omega (arith, less)
+
+-- a place in a list that isn't longer than a bound
+pub place_below : (xs : List ℕ) (place x most bound : ℕ) → slice_get xs place ≡ Some x → length xs ≤ most → most ≡ bound → place < bound
+place_below xs place x most bound there few same = let inside = somewhere xs place x there in omega arith
 
 at_place : (xs : List ℕ) (place d : ℕ) → place < length xs → slice_get xs place ≡ Some (slice_index_or xs place d)
 at_place [] place d inside = absurd (omega arith)
@@ -206,11 +210,6 @@ module _ (board : PlainBoard) (IsMove : List ℕ → ℕ → ℕ → Type 0) (Ho
         all : IsReachedBy board IsMove Holds rank → P (configuration_at board rank)
         all reached = moves_stay IsMove Holds P are.before step board.start reached.moves (configuration_at board rank) (λ holds. (is, spread.start holds))
             reached.reached reached.holds
-
--- ---- ranks in range
-
-pub start_below : (board : PlainBoard) (start : ℕ) → IsBoard board → start ≡ rank_of board board.start → start < configurations board
-start_below board start is start_is = subst (λ (r : ℕ). r < configurations board) (sym start_is) (rank_below board board.start is.start)
 
 -- ---- the value of the start
 

@@ -1,4 +1,4 @@
-use Rattle.strategies.proofs.Whole.{is_whole}
+use Rattle.strategies.proofs.Spread.{start_value}
 use Rattle.strategies.proofs.Formed.{is_formed}
 use Rattle.strategies.proofs.Obeying.{breaks_no_rule}
 use Rattle.strategies.proofs.Showing.{shows_claim}
@@ -8,8 +8,13 @@ pub returns-clause-document : goal.returns-clause-document
 returns-clause-document c =
     let b = c.args.board.now in
     let start = rw c.new-moves.ensures at c.start.ensures in
-    is_whole b c.start.result c.value-value.result c.claim.result _ _ start.is_board.start start.rank (rw c.new-moves.ensures at c.value-value.ensures) c.claim.ensures
-    (rw c.new-moves.ensures at c.in_ok-section.ensures.exactly) (rw c.new-moves.ensures at c.in_ok-adversary_section.ensures)
+    record {
+      value = c.value-value.result;
+      has_value = start_value b c.start.result c.value-value.result start.is_board.start start.rank (rw c.new-moves.ensures at c.value-value.ensures);
+      claim = c.claim.ensures;
+      labeller = rw c.new-moves.ensures at c.in_ok-section.ensures.exactly;
+      adversary = rw c.new-moves.ensures at c.in_ok-adversary_section.ensures;
+    }
 
 pub returns-clause-form : goal.returns-clause-form
 returns-clause-form c =

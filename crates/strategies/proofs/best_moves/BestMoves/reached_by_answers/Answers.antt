@@ -1,5 +1,5 @@
 use Rattle.std.proofs.Common.{refl, sym, ◌∙◌, arith}
-use Rattle.strategies.proofs.Spread.{somewhere, spread_begins, spread_none, spread_more, spread_ends, spread_below, answer_moves, start_answerable, start_worthless}
+use Rattle.strategies.proofs.Spread.{place_below, spread_begins, spread_none, spread_more, spread_ends, spread_below, answer_moves, start_answerable, start_worthless}
 use Rattle.strategies.proofs.best_moves.BestMoves.reached_by_answers.Goals as goal
 use Rattle.strategies.proofs.best_moves.BestMoves.reached_by_answers.Goals.{then-is_some+in_ok-add, else-is_some}
 
@@ -28,18 +28,13 @@ add_answers-requires-clause-rank c = spread_below _ _ _ _ _ _ _ c.loop-rank.inva
 
 pub overflow_add-place : goal.overflow_add-place
 overflow_add-place c =
-    let inside = somewhere c.loop-rank.reached.ranks c.loop-rank.place c.in-Some.rank (sym c.in-Some.ensures.rank) in
-    let few = c.in-Some.ensures.few in
-    let size = c.loop-rank.invariant.size in
-    let most = c.start-start.ensures.few in
-    omega (arith, inside, few, size, most)
+    let inside = place_below _ _ _ _ _ (sym c.in-Some.ensures.rank) c.in-Some.ensures.few c.loop-rank.invariant.size in
+    omega (arith, inside, c.start-start.ensures.few)
 
 pub loop-rank-smaller : goal.loop-rank-smaller
 loop-rank-smaller c =
-    let inside = somewhere c.loop-rank.reached.ranks c.loop-rank.place c.in-Some.rank (sym c.in-Some.ensures.rank) in
-    let few = c.in-Some.ensures.few in
-    let size = c.loop-rank.invariant.size in
-    omega (arith, inside, few, size)
+    let inside = place_below _ _ _ _ _ (sym c.in-Some.ensures.rank) c.in-Some.ensures.few c.loop-rank.invariant.size in
+    omega (arith, inside)
 
 pub loop-rank-preserved : goal.loop-rank-preserved
 loop-rank-preserved c = record {

@@ -1,6 +1,6 @@
 use Rattle.std.proofs.Common.{sym, ◌∙◌, arith}
 use Rattle.strategies.proofs.Steps.{none_expanded}
-use Rattle.strategies.proofs.Spread.{somewhere, spread_begins, spread_more, spread_ends, spread_below, request_moves}
+use Rattle.strategies.proofs.Spread.{place_below, spread_begins, spread_more, spread_ends, spread_below, request_moves}
 use Rattle.strategies.proofs.best_moves.BestMoves.reached_by_requests.Goals as goal
 
 pub add-requires : goal.add-requires
@@ -21,18 +21,13 @@ add_results-requires-clause-rank c = spread_below _ _ _ _ _ _ _ c.loop-rank.inva
 
 pub overflow_add-place : goal.overflow_add-place
 overflow_add-place c =
-    let inside = somewhere c.loop-rank.reached.ranks c.loop-rank.place c.in-Some.rank (sym c.in-Some.ensures.rank) in
-    let few = c.in-Some.ensures.few in
-    let size = c.loop-rank.invariant.size in
-    let most = c.start.ensures.few in
-    omega (arith, inside, few, size, most)
+    let inside = place_below _ _ _ _ _ (sym c.in-Some.ensures.rank) c.in-Some.ensures.few c.loop-rank.invariant.size in
+    omega (arith, inside, c.start.ensures.few)
 
 pub loop-rank-smaller : goal.loop-rank-smaller
 loop-rank-smaller c =
-    let inside = somewhere c.loop-rank.reached.ranks c.loop-rank.place c.in-Some.rank (sym c.in-Some.ensures.rank) in
-    let few = c.in-Some.ensures.few in
-    let size = c.loop-rank.invariant.size in
-    omega (arith, inside, few, size)
+    let inside = place_below _ _ _ _ _ (sym c.in-Some.ensures.rank) c.in-Some.ensures.few c.loop-rank.invariant.size in
+    omega (arith, inside)
 
 pub loop-rank-preserved : goal.loop-rank-preserved
 loop-rank-preserved c =
