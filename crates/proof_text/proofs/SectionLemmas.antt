@@ -41,11 +41,6 @@ rows_push board IsRow at rows row are is follows few = record {
   ascending = all_pairs_push (λ first second. IsBefore board (at first) (at second)) rows row are.ascending (follows_all board at rows (at row) are.ascending follows);
 }
 
--- anything may follow no row
-pub follows_none : {X : Type 0} (board : PlainBoard) (at : X → List ℕ) (configuration : List ℕ) → MayFollow board at [] configuration
-follows_none {X} board at configuration before last e =
-    absurd (omega (arith, ap length e, length_push before last))
-
 last_is : {X : Type 0} (rows before : List X) (row last : X) → rows ++ row ∷ [] ≡ before ++ last ∷ [] → row ≡ last
 last_is {X} rows before row last e =
     let same : length before ≡ length rows = omega (arith, ap length e, length_push rows row, length_push before last) in

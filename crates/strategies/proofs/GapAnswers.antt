@@ -14,7 +14,7 @@ use Rattle.positions.proofs.GapLaws.{member_of-gap_of, legal_is_answer}
 use Rattle.positions.proofs.Ranks.{configuration_at-rank_of}
 use Rattle.positions.proofs.Finiteness.{some_value}
 use Rattle.strategies.specs.declared.gap_best.Best.{Best}
-use Rattle.strategies.specs.Best.{IsLess, HasGreatestResult}
+use Rattle.strategies.specs.Best.{IsLess}
 use Rattle.strategies.specs.GapBest.{IsBestFor}
 use Rattle.strategies.proofs.Comparing.{cases_value, not_above}
 use Rattle.strategies.proofs.Answers.{IsBestBelow, NoneBelow, first_next, better_next, as_good_next, best_of_all}
@@ -152,11 +152,6 @@ module _ (board : PlainBoard) (configuration : List ℕ) (pebble gap : ℕ) (is 
 -- ---- what a best answer says of a request
 
 module _ (board : PlainBoard) (configuration : List ℕ) (pebble : ℕ) where
-  pub best_is_smallest : (best : Option Best) → IsBestFor board configuration pebble best
-      → IsSmallest (HasGreatestResult board configuration pebble) (option_map (λ (b : Best). b.label) best)
-  best_is_smallest (Some best) is = is.0
-  best_is_smallest None none = λ label greatest. none label greatest.legal
-
   pub best_is_none : (best : Option Best) → IsBestFor board configuration pebble best
       → (option_map (λ (b : Best). b.label) best ≡ None) ↔ ((label : ℕ) → Legal board configuration pebble label → ⊥)
   best_is_none (Some best) is = (λ same. absurd cc, λ none. absurd (none best.label is.0.0.legal))

@@ -4,22 +4,14 @@ use Rattle.positions.proofs.Ranks.{configuration_at_is}
 use Rattle.strategies.proofs.Lowering.{lowers_first, none_lowers, request_none, no_request}
 use Rattle.strategies.proofs.best_moves.BestMoves.request.Goals as goal
 
-pub returns-then-leads_below-clause-best : goal.returns-then-leads_below-clause-best
-returns-then-leads_below-clause-best c =
+pub returns-then-leads_below : goal.returns-then-leads_below
+returns-then-leads_below c =
     let b = c.args.self.now in
     let pebbles = rw c.space.ensures.value at c.pebbles-pebble-end.ensures.value in
     let is_pebble : c.loop-pebble.pebble < b.pebbles = omega (arith, pebbles, c.loop-pebble-test.true) in
-    lowers_first b (configuration_at b c.args.rank) c.loop-pebble.pebble c.value-value.result c.answer.result
-    (c.value-value.ensures) c.loop-pebble.invariant c.answer.ensures is_pebble (c.if-leads_below.ensures.0 refl)
-
-pub returns-then-leads_below-clause-none : goal.returns-then-leads_below-clause-none
-returns-then-leads_below-clause-none c =
-    let b = c.args.self.now in
-    let pebbles = rw c.space.ensures.value at c.pebbles-pebble-end.ensures.value in
-    let is_pebble : c.loop-pebble.pebble < b.pebbles = omega (arith, pebbles, c.loop-pebble-test.true) in
-    request_none b (configuration_at b c.args.rank) c.loop-pebble.pebble (configuration_at_is b c.args.rank c.requires)
-    (lowers_first b (configuration_at b c.args.rank) c.loop-pebble.pebble c.value-value.result c.answer.result
-    (c.value-value.ensures) c.loop-pebble.invariant c.answer.ensures is_pebble (c.if-leads_below.ensures.0 refl))
+    let best = lowers_first b (configuration_at b c.args.rank) c.loop-pebble.pebble c.value-value.result c.answer.result
+    c.value-value.ensures c.loop-pebble.invariant c.answer.ensures is_pebble (c.if-leads_below.ensures.0 refl) in
+    record { best = best; none = request_none b (configuration_at b c.args.rank) c.loop-pebble.pebble (configuration_at_is b c.args.rank c.requires) best }
 
 pub loop-pebble-preserved : goal.loop-pebble-preserved
 loop-pebble-preserved c =
