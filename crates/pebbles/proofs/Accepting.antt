@@ -1,8 +1,9 @@
 -- A check accepts the document that was printed for a board.
-use Rattle.std.proofs.Common.{◌≡◌, ◌≤◌, ◌++◌, ◌∙◌, ℕ, List, [], Option, Some, None, append-nil, ap, subst, sym}
+use Rattle.std.proofs.Common.{◌≡◌, ◌≤◌, ◌++◌, ◌∙◌, ℕ, List, [], Option, Some, None, append-nil, ap, arith, refl, subst, sym}
 use Rattle.board_text.specs.Ends.{GaveAll}
 use Rattle.board_text.specs.PlainBoard.{PlainBoard, IsBoard}
-use Rattle.board_text.proofs.OneReading.{one_board}
+use Rattle.board_text.specs.BoardText.{board_text}
+use Rattle.board_text.proofs.OneReading.{one_board, no_fault as faultless_board}
 use Rattle.positions.specs.Ranks.{configurations}
 use Rattle.positions.specs.declared.value.Value.{Value}
 use Rattle.positions.proofs.Values.{same_value}
@@ -10,13 +11,16 @@ use Rattle.proof_check.proofs.Refusing.{only_memory}
 use Rattle.proof_text.specs.Proof.{PlainProof, IsProof}
 use Rattle.proof_text.specs.ProofText.{proof_text}
 use Rattle.proof_text.specs.Rules.{BreaksNoRule}
-use Rattle.proof_text.proofs.OneDocument.{one_document}
+use Rattle.proof_text.proofs.OneDocument.{one_document, no_fault as faultless_document}
 use Rattle.strategies.specs.Document.{claim_of}
 use Rattle.strategies.proofs.Formed.{is_formed}
 use Rattle.strategies.proofs.Obeying.{breaks_no_rule}
 use Rattle.pebbles.specs.CheckRun.{RanCheck}
-use Rattle.pebbles.specs.Run.{IsVerdict, most_configurations}
-use Rattle.pebbles.specs.SolveRun.{IsSolved, RanSolve}
+use Rattle.pebbles.specs.Answer.{IsChecked, IsVerdict}
+use Rattle.pebbles.specs.SolveRun.{IsSolution, IsSolved, RanSolve}
+use Rattle.pebbles.specs.Texts.{BringsNoBoard, BringsNoProof, IsMemory, IsSmallBoard, most_configurations}
+use Rattle.pebbles.specs.declared.running.RunFault.{RunFault}
+use Rattle.pebbles.specs.declared.running.RunFault.TheVariants.{Board, TooLarge, Proof, Memory, Worker, Read, Write, Limit}
 use Rattle.pebbles.specs.declared.running.Verdict.{Verdict}
 use Rattle.pebbles.specs.declared.running.Verdict.TheVariants.{Accepted, Refused}
 
@@ -39,6 +43,42 @@ module _ (board : PlainBoard) (value : Value) (text : List ℕ) (is_board : IsBo
       let claim : proof.claim ≡ claim_of value = ap (λ (p : PlainProof). p.claim) (sym same) ∙ found.claim ∙ ap claim_of same_worth in
       verdict_of board proof value verdict rules claim is
 
+module _ (text written : List ℕ) (value : Value) (solution : IsSolution text value written) where
+  -- the text is that of one board
+  same_board : (board : PlainBoard) → IsBoard board → text ≡ board_text board → solution.0 ≡ board
+  same_board board is spelled = one_board solution.0 board solution.1.is_board is (sym solution.1.spelled ∙ spelled)
+
+  pub no_fault_of_board : (fault : RunFault) → BringsNoBoard text fault → IsMemory fault
+  no_fault_of_board (Board fault) wrong = absurd (wrong.1 (faultless_board text fault.line fault.kind solution.0 solution.1.is_board solution.1.spelled wrong.0))
+  no_fault_of_board TooLarge (board, is, spelled, many) =
+      let few : configurations board ≤ most_configurations = subst (λ b. configurations b ≤ most_configurations) (same_board board is spelled) solution.1.few in
+      absurd (omega (arith, few, many))
+  no_fault_of_board Memory wrong = refl
+  no_fault_of_board (Proof fault) wrong = absurd wrong
+  no_fault_of_board Worker wrong = absurd wrong
+  no_fault_of_board Read wrong = absurd wrong
+  no_fault_of_board Write wrong = absurd wrong
+  no_fault_of_board Limit wrong = absurd wrong
+
+  module _ (board : PlainBoard) (small : IsSmallBoard text board) where
+    solved : IsSolved board value written
+    solved = subst (λ b. IsSolved b value written) (same_board board small.is_board small.spelled) solution.2
+
+    pub accepts_text : (verdict : Verdict) (line : List ℕ) → IsChecked board written verdict line → verdict ≡ Accepted (record { claim = claim_of value })
+    accepts_text verdict line is = accepts board value written small.is_board small.few solved is.proof verdict is.is_proof is.text_is is.verdict_is
+
+    pub no_fault_of_document : (fault : RunFault) → BringsNoProof board written fault → IsMemory fault
+    no_fault_of_document (Proof fault) wrong =
+        absurd (wrong.1 (faultless_document board written fault.line fault.kind solved.document small.is_board
+        (is_formed board solved.document small.is_board.start small.few solved.is_document) solved.text_is wrong.0))
+    no_fault_of_document Memory wrong = refl
+    no_fault_of_document (Board fault) wrong = absurd wrong
+    no_fault_of_document TooLarge wrong = absurd wrong
+    no_fault_of_document Worker wrong = absurd wrong
+    no_fault_of_document Read wrong = absurd wrong
+    no_fault_of_document Write wrong = absurd wrong
+    no_fault_of_document Limit wrong = absurd wrong
+
 -- bytes that were all given are the text
 known_all : (bytes text : List ℕ) (left : Option (List ℕ)) → GaveAll (Some bytes) left text → bytes ≡ text
 known_all bytes text None gave = absurd gave.0
@@ -47,10 +87,8 @@ known_all bytes text (Some rest) gave = gave.0 ∙ ap (λ r. text ++ r) gave.1 �
 pub runs_agree : (bytes text : List ℕ) (solve_left board_left proof_left taken_old taken_new : Option (List ℕ)) (value : Value) (verdict : Verdict)
     → RanSolve (Some bytes) solve_left (Some []) (Some text) value → RanCheck (Some bytes) board_left (Some text) proof_left taken_old taken_new verdict
     → verdict ≡ Accepted (record { claim = claim_of value })
-runs_agree bytes text solve_left board_left proof_left taken_old taken_new value verdict (board, printed, gave, solved, written) (other, proof, gave_too, gave_proof, is, wrote) =
-    let same : other ≡ board = one_board other board gave_too.is_board gave.is_board (sym (known_all bytes _ board_left gave_too.gave) ∙ known_all bytes _ solve_left gave.gave) in
-    let spelled : text ≡ proof_text other proof = known_all text _ proof_left gave_proof.gave in
-    accepts board value printed gave.is_board gave.few solved proof verdict
-    (subst (λ b. IsProof b proof) same gave_proof.is_proof)
-    (sym written ∙ subst (λ b. text ≡ proof_text b proof) same spelled)
-    (subst (λ b. IsVerdict b proof verdict) same is)
+runs_agree bytes text solve_left board_left proof_left taken_old taken_new value verdict (read, printed, gave, solution, written) (board, (other, gave_too, small), (read_proof, line, gave_proof, checked, wrote)) =
+    let same : other ≡ read = sym (known_all bytes other board_left gave_too) ∙ known_all bytes read solve_left gave in
+    let spelled : read_proof ≡ printed = sym (known_all text read_proof proof_left gave_proof) ∙ written in
+    accepts_text read printed value solution board (subst (λ t. IsSmallBoard t board) same small) verdict line
+    (subst (λ t. IsChecked board t verdict line) spelled checked)

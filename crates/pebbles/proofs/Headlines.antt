@@ -1,6 +1,5 @@
 -- What a solved board's document means.
-use Rattle.std.proofs.Common.{◌≡◌, ℕ, suc, List, Option, ap, ◌∙◌, subst}
-use Rattle.std.specs.Io.KnownBytes.{Appends}
+use Rattle.std.proofs.Common.{◌≡◌, ℕ, suc, List, ap, ◌∙◌, subst}
 use Rattle.board_text.specs.PlainBoard.{PlainBoard}
 use Rattle.positions.specs.declared.value.Value.{Value}
 use Rattle.positions.specs.declared.value.Value.TheVariants.{Finite, Forever}
@@ -15,7 +14,7 @@ use Rattle.strategies.proofs.Formed.{is_formed}
 use Rattle.strategies.proofs.Obeying.{breaks_no_rule}
 use Rattle.strategies.proofs.Showing.{shows_claim}
 use Rattle.pebbles.specs.Headline.{Means, ShowsValue}
-use Rattle.pebbles.specs.SolveRun.{RanSolve, IsSolved}
+use Rattle.pebbles.specs.SolveRun.{IsSolution}
 
 means : (board : PlainBoard) (document : PlainProof) (value : Value) → HasValue board board.start value → document.claim ≡ claim_of value
     → Shows board document.labeller document.adversary document.claim → Means board document value
@@ -26,22 +25,18 @@ means board document Forever has claim shows =
     let shown : Shows board document.labeller document.adversary claims.Forever = subst (Shows board document.labeller document.adversary) claim shows in
     (claim, has, shown.0, shown.1)
 
-pub shows_value : (left_old left_new taken_old taken_new : Option (List ℕ)) (value : Value) → RanSolve left_old left_new taken_old taken_new value
-    → ShowsValue left_old left_new taken_old taken_new value
-shows_value left_old left_new taken_old taken_new value ran =
-    let board : PlainBoard = ran.0 in
-    let gave = ran.2 in
-    let solved : IsSolved board value ran.1 = ran.3 in
+pub shows_value : (text : List ℕ) (value : Value) (written : List ℕ) → IsSolution text value written → ShowsValue text value written
+shows_value text value written (board, small, solved) =
     let is = solved.is_document in
-    let start = gave.is_board.start in
+    let start = small.is_board.start in
     let same : is.value ≡ value = same_value board board.start is.value value is.has_value solved.has_value in
     record {
       board = board;
       document = solved.document;
-      is_board = gave.is_board;
-      is_proof = is_formed board solved.document start gave.few is;
-      read = gave.gave;
-      written = subst (Appends taken_old taken_new) solved.text_is ran.4;
+      is_board = small.is_board;
+      is_proof = is_formed board solved.document start small.few is;
+      text_is = small.spelled;
+      written_is = solved.text_is;
       accepted = breaks_no_rule board solved.document start is;
       means = means board solved.document value solved.has_value (is.claim ∙ ap claim_of same) (shows_claim board solved.document start is);
     }

@@ -15,7 +15,7 @@ use Rattle.proof_text.specs.Proof.{PlainProof, IsClaim, greatest_number}
 use Rattle.proof_check.specs.declared.checking.Shown.{Shown}
 use Rattle.proof_check.specs.declared.fault.CheckFault.{CheckFault}
 use Rattle.pebbles.specs.Output.{fault_words}
-use Rattle.pebbles.specs.Run.{IsVerdict, IsAnswered}
+use Rattle.pebbles.specs.Answer.{IsVerdict, IsAnswered}
 use Rattle.pebbles.specs.Meaning.{AcceptsLeast, CanAnswer}
 use Rattle.pebbles.specs.declared.running.Verdict.{Verdict}
 use Rattle.pebbles.specs.declared.running.Verdict.TheVariants.{Accepted, Refused}

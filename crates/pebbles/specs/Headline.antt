@@ -1,9 +1,7 @@
 -- What the document that is printed for a board means for its designer.
-use Rattle.std.specs.Prelude.{◌≡◌, ℕ, suc, List, Option}
-use Rattle.std.specs.Io.KnownBytes.{Appends}
+use Rattle.std.specs.Prelude.{◌≡◌, ℕ, suc, List}
 use Rattle.board_text.specs.PlainBoard.{PlainBoard, IsBoard}
 use Rattle.board_text.specs.BoardText.{board_text}
-use Rattle.board_text.specs.Ends.{GaveAll}
 use Rattle.positions.specs.declared.value.Value.{Value}
 use Rattle.positions.specs.declared.value.Value.TheVariants.{Finite, Forever}
 use Rattle.positions.specs.declared.claim.Claim.TheVariants as claims
@@ -28,13 +26,13 @@ Means board document Forever =
     × ((number : ℕ) → LabellerTree board number board.start)
     × IsClosed board document.labeller × IsListed document.labeller board.start
 
--- what was read is the text of this board, and what was written is the text of this document for it, which a check accepts and which means the value
-pub record ShowsValue (left_old left_new taken_old taken_new : Option (List ℕ)) (value : Value) : Type 0 where
+-- the text is that of this board, and what is written is the text of this document for it, which a check accepts and which means the value
+pub record ShowsValue (text : List ℕ) (value : Value) (written : List ℕ) : Type 0 where
   pub board : PlainBoard
   pub document : PlainProof
   pub is_board : IsBoard board
   pub is_proof : IsProof board document
-  pub read : GaveAll left_old left_new (board_text board)
-  pub written : Appends taken_old taken_new (proof_text board document)
+  pub text_is : text ≡ board_text board
+  pub written_is : written ≡ proof_text board document
   pub accepted : BreaksNoRule board document
   pub means : Means board document value

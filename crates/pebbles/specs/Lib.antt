@@ -1,5 +1,7 @@
 pub mod Joined
 pub mod Output
+pub mod Texts
+pub mod Answer
 pub mod Run
 pub mod Meaning
 pub mod CheckRun

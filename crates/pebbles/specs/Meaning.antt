@@ -7,7 +7,7 @@ use Rattle.board_text.specs.BoardText.{board_text}
 use Rattle.positions.specs.Game.{LabellerTree}
 use Rattle.positions.specs.Table.{AnswerRow, Answers}
 use Rattle.proof_text.specs.Proof.{greatest_number}
-use Rattle.pebbles.specs.Run.{IsAnswered}
+use Rattle.pebbles.specs.Answer.{IsAnswered}
 use Rattle.pebbles.specs.declared.running.Verdict.{Verdict}
 
 -- the text was answered with the line `accepted least k`, k being a number that documents have

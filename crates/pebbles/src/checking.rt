@@ -1,16 +1,13 @@
 //! A check of a board and a document in two texts.
 
 ghost use Rattle.std.specs.Prelude.{◌≡◌, ◌≢◌, ◌↔◌, ◌⊎◌, true, false, Err, IfOk, IfErr};
-ghost use Rattle.proof_text.specs.Proof.{IsDocument, plain_proof};
-ghost use Rattle.pebbles.specs.CheckRun.{GaveProof, GaveNoProof, RanCheck, CheckFails};
+ghost use Rattle.pebbles.specs.CheckRun.{RanCheck, CheckFails};
 ghost use Rattle.pebbles.specs.declared.running.RunFault.TheVariants.{Read, Write};
 
-use crate::answering::{answer_on, proof_of};
+use crate::answering::check_text;
 use crate::reading::{MAX_BOARD_BYTES, read_board, read_text};
 use crate::running::{RunFault, Verdict};
 use board_text::{Failed, Sink, Source, write_all};
-use positions::Space;
-use proof_text::Proof;
 use std::alloc::Global;
 use std::thread::Threads;
 
@@ -39,23 +36,10 @@ pub fn run_check<B: Source, P: Source, W: Sink>(
     ensures unwritten { IfErr result (λ fault. fault ≢ Write → writer.new ≡ writer.old) }
 {
     let (board, space) = read_board(alloc, board)?;
-    let proof = read_proof(alloc, &space, proof)?;
-    let answer = answer_on(rt, alloc, &board, &space, &proof)?;
+    let text = read_text(alloc, proof, MAX_PROOF_BYTES)?;
+    let answer = check_text(rt, alloc, &board, &space, text.as_slice())?;
     match write_all(writer, answer.line.as_bytes()) {
         Ok(()) => Ok(answer.verdict),
         Err(Failed) => Err(RunFault::Write),
     }
-}
-
-/// The document for the board of the space whose text the reader gives.
-fn read_proof<R: Source>(alloc: Global, space: &Space, reader: &mut R) -> Result<Proof, RunFault>
-    requires { R.has_failed reader.old ≡ false }
-    ensures document { IfOk result (IsDocument space.now) }
-    ensures found { IfOk result (λ proof. GaveProof space.now (R.left reader.old) (R.left reader.new) (plain_proof space.now proof)) }
-    ensures fault { IfErr result (GaveNoProof space.now (R.left reader.old) (R.left reader.new) MAX_PROOF_BYTES) }
-    ensures read { (R.has_failed reader.new ≡ true) ↔ (result ≡ Err Read) }
-    ensures unwritten { result ≢ Err Write }
-{
-    let text = read_text(alloc, reader, MAX_PROOF_BYTES)?;
-    proof_of(alloc, space, text.as_slice())
 }

@@ -8,6 +8,7 @@
 #![tactic(auto)]
 
 mod answering;
+mod boards;
 mod checking;
 mod joined;
 mod laws;

@@ -1,11 +1,12 @@
 //! Reading a text to its end, and the board that it is.
 
-ghost use Rattle.std.specs.Prelude.{◌≡◌, ◌≢◌, ◌<◌, ◌≤◌, ◌↔◌, ◌^◌, true, false, Err, IfOk, IfErr};
+ghost use Rattle.std.specs.Prelude.{◌≡◌, ◌≢◌, ◌<◌, ◌↔◌, ◌^◌, true, false, Err, IfOk, IfErr};
 ghost use Rattle.board_text.specs.Ends.{GaveAll};
-ghost use Rattle.pebbles.specs.CheckRun.{GaveBoard, GaveNoBoard, IsUnread};
+ghost use Rattle.pebbles.specs.CheckRun.{GaveBoard, GaveNoBoard};
+ghost use Rattle.pebbles.specs.Run.{IsUnread};
 ghost use Rattle.pebbles.specs.declared.running.RunFault.TheVariants.{Read, Write};
 
-use crate::answering::board_of;
+use crate::boards::small_board;
 use crate::running::RunFault;
 use board_text::{Board, ReadFault, Source, read_all};
 use positions::Space;
@@ -46,9 +47,5 @@ pub(crate) fn read_board<R: Source>(
     ensures unwritten { result ≢ Err Write }
 {
     let text = read_text(alloc, reader, MAX_BOARD_BYTES)?;
-    let board = board_of(alloc, text.as_slice())?;
-    let Ok(space) = Space::of(&board) else {
-        return Err(RunFault::TooLarge);
-    };
-    Ok((board, space))
+    small_board(alloc, text.as_slice())
 }

@@ -3,13 +3,14 @@
 ghost use Rattle.std.specs.Prelude.{◌≡◌, ◌≢◌, ◌↔◌, ◌≤◌, ℕ, List, ◌++◌, true, false, Err, IfOk, IfErr, OnOk, string_bytes};
 ghost use Rattle.board_text.specs.Ranges.{InRange};
 ghost use Rattle.positions.specs.Ranks.{configurations};
-ghost use Rattle.pebbles.specs.Run.{most_configurations};
 ghost use Rattle.pebbles.specs.Report.{AreCounts, IsCountOfValues, IsReportOf, count_line, count_lines, end_lines, head_lines, size_line, size_lines, start_line};
-ghost use Rattle.pebbles.specs.ReportRun.{RanReport, ReportFails};
-ghost use Rattle.pebbles.specs.SolveRun.{IsRefused};
+ghost use Rattle.pebbles.specs.ReportRun.{IsReportOfText, RanReport, ReportFails};
+ghost use Rattle.pebbles.specs.SolveRun.{CannotSolve, IsRefused};
+ghost use Rattle.pebbles.specs.Texts.{most_configurations};
 ghost use Rattle.pebbles.specs.declared.running.RunFault.TheVariants.{Read, Write};
 
-use crate::reading::{MAX_BOARD_BYTES, read_board};
+use crate::boards::small_board;
+use crate::reading::{MAX_BOARD_BYTES, read_text};
 use crate::running::RunFault;
 use crate::solving::values_by;
 use board_text::{Board, Failed, Sink, Source, write_all};
@@ -43,12 +44,27 @@ pub fn run_report<R: Source, W: Sink>(
     ensures write { (W.has_failed writer.new ≡ true) ↔ (result ≡ Err Write) }
     ensures unwritten { IfErr result (λ fault. fault ≢ Write → writer.new ≡ writer.old) }
 {
-    let (board, _) = read_board(alloc, reader)?;
-    let text = report_on(rt, alloc, &board, workers)?;
-    match write_all(writer, text.as_bytes()) {
+    let text = read_text(alloc, reader, MAX_BOARD_BYTES)?;
+    let report = report_text(rt, alloc, workers, text.as_slice())?;
+    match write_all(writer, report.as_bytes()) {
         Ok(()) => Ok(()),
         Err(Failed) => Err(RunFault::Write),
     }
+}
+
+/// The report of the board that the bytes are the text of. The number of workers is 1 to 16.
+pub fn report_text(
+    rt: &(impl Threads + Wait + Sync),
+    alloc: Global,
+    workers: u8,
+    text: &[u8],
+) -> Result<String, RunFault>
+    requires workers { InRange 1 16 workers }
+    ensures report { IfOk result (λ report. IsReportOfText text.now (string_bytes report)) }
+    ensures fault { IfErr result (CannotSolve workers text.now) }
+{
+    let (board, _) = small_board(alloc, text)?;
+    report_on(rt, alloc, &board, workers)
 }
 
 /// The report of a small board.

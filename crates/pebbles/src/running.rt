@@ -1,10 +1,10 @@
 //! From the bytes that are read to the line that is written.
 
-ghost use Rattle.std.specs.Prelude.{◌≡◌, ◌≢◌, ◌↔◌, ◌≤◌, true, false, Err, IfOk, IfErr};
+ghost use Rattle.std.specs.Prelude.{◌≡◌, ◌≢◌, ◌↔◌, true, false, Err, IfOk, IfErr};
 ghost use Rattle.pebbles.specs.Run.{RanWell, RunFails};
 ghost use Rattle.pebbles.specs.declared.running.RunFault.TheVariants.{Read, Write};
 
-use crate::answering::answer_to;
+use crate::answering::check_joined_text;
 use crate::reading::read_text;
 use board_text::{BoardFault, Failed, Sink, Source, write_all};
 use proof_check::{CheckFault, Shown};
@@ -72,7 +72,7 @@ pub fn run_joined<R: Source, W: Sink>(
     ensures unwritten { IfErr result (λ fault. fault ≢ Write → writer.new ≡ writer.old) }
 {
     let text = read_text(alloc, reader, MAX_JOINED_BYTES)?;
-    let answer = answer_to(rt, alloc, text.as_slice())?;
+    let answer = check_joined_text(rt, alloc, text.as_slice())?;
     match write_all(writer, answer.line.as_bytes()) {
         Ok(()) => Ok(answer.verdict),
         Err(Failed) => Err(RunFault::Write),

@@ -1,13 +1,16 @@
-//! Solving a board: its document, from the bytes of the board to the bytes written.
+//! Solving a board: its document, from the text of the board to the bytes written.
 
 ghost use Rattle.std.specs.Prelude.{◌≡◌, ◌≢◌, ◌↔◌, ◌≤◌, true, false, Err, IfOk, IfErr, string_bytes};
 ghost use Rattle.board_text.specs.Ranges.{InRange};
 ghost use Rattle.positions.specs.Ranks.{configurations};
-ghost use Rattle.pebbles.specs.Run.{IsMemory, most_configurations};
-ghost use Rattle.pebbles.specs.SolveRun.{IsRefused, IsSolved, RanSolve, SolveFails};
+ghost use Rattle.pebbles.specs.Headline.{ShowsValue};
+ghost use Rattle.pebbles.specs.Run.{WroteAll};
+ghost use Rattle.pebbles.specs.SolveRun.{CannotSolve, IsRefused, IsSolution, IsSolved, RanSolve, SolveFails};
+ghost use Rattle.pebbles.specs.Texts.{IsMemory, most_configurations};
 ghost use Rattle.pebbles.specs.declared.running.RunFault.TheVariants.{Read, Write};
 
-use crate::reading::{MAX_BOARD_BYTES, read_board};
+use crate::boards::small_board;
+use crate::reading::{MAX_BOARD_BYTES, read_text};
 use crate::running::RunFault;
 use board_text::{Board, Failed, Memory, Sink, Source, write_all};
 use index_lists::PlainLists;
@@ -37,13 +40,14 @@ pub fn run_solve<R: Source, W: Sink>(
     requires reader_ready { R.has_failed reader.old ≡ false }
     requires writer_ready { W.has_failed writer.old ≡ false }
     ensures ok { IfOk result (RanSolve (R.left reader.old) (R.left reader.new) (W.taken writer.old) (W.taken writer.new)) }
+    ensures shows { IfOk result (λ value. WroteAll (λ text written. ShowsValue text value written) (R.left reader.old) (R.left reader.new) (W.taken writer.old) (W.taken writer.new)) }
     ensures fault { IfErr result (SolveFails workers (R.left reader.old) (R.left reader.new) MAX_BOARD_BYTES (W.taken writer.old) (W.taken writer.new)) }
     ensures read { (R.has_failed reader.new ≡ true) ↔ (result ≡ Err Read) }
     ensures write { (W.has_failed writer.new ≡ true) ↔ (result ≡ Err Write) }
     ensures unwritten { IfErr result (λ fault. fault ≢ Write → writer.new ≡ writer.old) }
 {
-    let (board, _) = read_board(alloc, reader)?;
-    let solved = solve(rt, alloc, &board, workers)?;
+    let text = read_text(alloc, reader, MAX_BOARD_BYTES)?;
+    let solved = solve_text(rt, alloc, workers, text.as_slice())?;
     match write_all(writer, solved.text.as_bytes()) {
         Ok(()) => Ok(solved.value),
         Err(Failed) => Err(RunFault::Write),
@@ -52,9 +56,27 @@ pub fn run_solve<R: Source, W: Sink>(
 
 /// The value of a board's start, and the text of the board's document.
 #[derive(Drop)]
-struct Solved {
-    value: Value,
-    text: String,
+pub struct Solved {
+    pub value: Value,
+    pub text: String,
+}
+
+/// The value of the start of the board that the bytes are the text of, and the text of its document, which shows that value.
+///
+/// The number of workers is 1 to 16, and what is found is the same for every number of them.
+pub fn solve_text(
+    rt: &(impl Threads + Wait + Sync),
+    alloc: Global,
+    workers: u8,
+    text: &[u8],
+) -> Result<Solved, RunFault>
+    requires workers { InRange 1 16 workers }
+    ensures solved { IfOk result (λ solved. IsSolution text.now solved.value (string_bytes solved.text)) }
+    ensures shows { IfOk result (λ solved. ShowsValue text.now solved.value (string_bytes solved.text)) }
+    ensures fault { IfErr result (CannotSolve workers text.now) }
+{
+    let (board, _) = small_board(alloc, text)?;
+    solve(rt, alloc, &board, workers)
 }
 
 /// The value of the start of a small board, and the text of the board's document.

@@ -1,0 +1,25 @@
+//! The small board that a text is.
+
+ghost use Rattle.std.specs.Prelude.{◌≡◌, IfOk, IfErr};
+ghost use Rattle.pebbles.specs.Texts.{IsSmallBoard, BringsNoBoard};
+
+use crate::running::RunFault;
+use board_text::{Board, BoardKind, parse};
+use positions::Space;
+use std::alloc::Global;
+
+/// The board that the bytes are the text of, with its space. It has at most 1,048,576 configurations.
+pub fn small_board(alloc: Global, text: &[u8]) -> Result<(Board, Space), RunFault>
+    ensures found { IfOk result (λ p. IsSmallBoard text.now p.0 × (p.1 ≡ p.0)) }
+    ensures fault { IfErr result (BringsNoBoard text.now) }
+{
+    let board = match parse(alloc, text) {
+        Ok(board) => board,
+        Err(fault) if fault.kind == BoardKind::Memory => return Err(RunFault::Memory),
+        Err(fault) => return Err(RunFault::Board(fault)),
+    };
+    match Space::of(&board) {
+        Ok(space) => Ok((board, space)),
+        Err(_) => Err(RunFault::TooLarge),
+    }
+}
