@@ -5,7 +5,7 @@ ghost use Rattle.std.specs.Prelude.{false};
 use crate::playing::run_play;
 use crate::running::RunFault;
 use board_text::{BoardFault, BoardKind, Failed, Sink, Source};
-use fakes::{Drip, Failing, Trickle};
+use fakes::{Drip, Failing, Outcome, Trickle, comes_right};
 use player::PlayEnd;
 use proof_check::Side;
 use std::alloc::Global;
@@ -70,7 +70,7 @@ const ANSWERING: Play = Play {
 
 const STUCK: Result<PlayEnd, RunFault> = Ok(PlayEnd::Stuck { requests: 2 });
 
-/// Whether a play answers and writes what it should, or was refused memory and wrote a front of that; and whether the ends failed where it says so.
+/// Whether a play answers and writes what it should, when it is asked once more where it was refused memory.
 fn serves(
     rt: &(impl Threads + Sync),
     alloc: Global,
@@ -78,16 +78,30 @@ fn serves(
     wanted: Result<PlayEnd, RunFault>,
     written: &[u8],
 ) -> bool {
+    comes_right(|| outcome(rt, alloc, play, wanted, written))
+}
+
+/// Whether a play answers and writes what it should, or was refused memory and wrote a front of that; and whether the ends failed where it says so.
+fn outcome(
+    rt: &(impl Threads + Sync),
+    alloc: Global,
+    play: Play,
+    wanted: Result<PlayEnd, RunFault>,
+    written: &[u8],
+) -> Outcome {
     let mut board = Drip::new(play.board, play.board_reads);
     let mut lines = Drip::new(play.lines, play.line_reads);
     let mut writer = Trickle::<ROOM>::new(play.writes, play.failing);
     let answer = run_play(rt, alloc, play.side, &mut board, &mut lines, &mut writer);
     let told = (board.failed() || lines.failed()) == (answer == Err(RunFault::Read))
         && writer.failed() == (answer == Err(RunFault::Write));
-    if answer == Err(RunFault::Memory) {
-        return told && written.starts_with(writer.taken());
-    }
-    told && answer == wanted && writer.taken() == written
+    let is_refused = answer == Err(RunFault::Memory);
+    let is_right = if is_refused {
+        written.starts_with(writer.taken())
+    } else {
+        answer == wanted && writer.taken() == written
+    };
+    Outcome::of(is_refused, told && is_right)
 }
 
 /// The answer to lines of a person who asks, and what is written beside the opening.
@@ -277,17 +291,46 @@ fn a_write_fails_at_each_call(rt: HostRuntime) {
     }
 }
 
-/// Takes all, and notes how many bytes that is.
+/// What a writer has taken, as far as there is room.
+#[derive(Clone, Copy)]
+struct Notes {
+    bytes: [u8; ROOM],
+    count: usize,
+}
+
+impl Notes {
+    fn taken(&self) -> &[u8] {
+        self.bytes.get(..self.count).unwrap_or(NOTHING)
+    }
+
+    fn add(&mut self, from: &[u8]) {
+        for byte in from {
+            if let Some(place) = self.bytes.get_mut(self.count) {
+                *place = *byte;
+                self.count = self.count.saturating_add(1);
+            }
+        }
+    }
+}
+
+const NO_NOTES: Notes = Notes {
+    bytes: [0; ROOM],
+    count: 0,
+};
+
+/// Takes all, and notes it where others can look.
 #[derive(Drop)]
 struct Noting<'a> {
-    noted: &'a Cell<usize>,
+    noted: &'a Cell<Notes>,
 }
 
 impl Sink for Noting<'_> {
     ghost has_failed = { λ _. false };
 
     fn write(&mut self, from: &[u8]) -> Result<usize, Failed> {
-        self.noted.set(self.noted.get().saturating_add(from.len()));
+        let mut notes = self.noted.get();
+        notes.add(from);
+        self.noted.set(notes);
         Ok(from.len())
     }
 
@@ -296,12 +339,13 @@ impl Sink for Noting<'_> {
     }
 }
 
-/// Gives one line a call, and looks whether as much was written as there is to be before that line.
+/// Gives one line a call, and looks whether that was written which is to be written before that line, and no more.
 #[derive(Drop)]
 struct Watching<'a> {
+    written: &'a [u8],
     lines: &'a [(usize, &'static [u8])],
     calls: usize,
-    noted: &'a Cell<usize>,
+    noted: &'a Cell<Notes>,
     is_late: bool,
 }
 
@@ -309,10 +353,11 @@ impl Source for Watching<'_> {
     ghost has_failed = { λ _. false };
 
     fn read(&mut self, into: &mut [u8]) -> Result<usize, Failed> {
-        let Some((written, line)) = self.lines.get(self.calls) else {
+        let Some((size, line)) = self.lines.get(self.calls) else {
             return Ok(0);
         };
-        if self.noted.get() != *written {
+        let notes = self.noted.get();
+        if Some(notes.taken()) != self.written.get(..*size) {
             self.is_late = true;
         }
         self.calls = self.calls.saturating_add(1);
@@ -326,32 +371,61 @@ impl Source for Watching<'_> {
     }
 }
 
-#[test]
-fn each_answer_is_written_before_the_next_read(rt: HostRuntime) {
-    let noted = Cell::new(0);
-    let lines: [(usize, &[u8]); 4] = [(15, b"1\n"), (39, b"x\n"), (53, b"0\n"), (77, b"1\n")];
+/// Whether a play in which each of the lines is asked for when so much was written ends stuck, with all written.
+fn watched_outcome(
+    rt: &(impl Threads + Sync),
+    alloc: Global,
+    side: Side,
+    lines: &[(usize, &'static [u8])],
+    written: &[u8],
+) -> Outcome {
+    let noted = Cell::new(NO_NOTES);
     let mut watching = Watching {
-        lines: &lines,
+        written,
+        lines,
         calls: 0,
         noted: &noted,
         is_late: false,
     };
     let mut board = Drip::new(CHAIN, PLENTY);
     let mut writer = Noting { noted: &noted };
-    let answer = run_play(
-        &rt,
-        rt.alloc(),
-        Side::Adversary,
-        &mut board,
-        &mut watching,
-        &mut writer,
-    );
-    if answer != Err(RunFault::Memory) {
-        assert_eq!(rt; answer, STUCK);
-        assert_eq!(rt; noted.get(), REPLIES.len());
-        assert_eq!(rt; watching.calls, 4);
+    let answer = run_play(rt, alloc, side, &mut board, &mut watching, &mut writer);
+    let is_refused = answer == Err(RunFault::Memory);
+    let notes = noted.get();
+    let is_right = if is_refused {
+        written.starts_with(notes.taken())
+    } else {
+        answer == STUCK && notes.taken() == written && watching.calls == lines.len()
+    };
+    Outcome::of(is_refused, is_right && !watching.is_late)
+}
+
+#[test]
+fn each_answer_is_written_before_the_next_read(rt: HostRuntime) {
+    let alloc = rt.alloc();
+    let requests: [(usize, &[u8]); 4] = [(15, b"1\n"), (39, b"x\n"), (53, b"0\n"), (77, b"1\n")];
+    assert!(rt; comes_right(|| watched_outcome(&rt, alloc, Side::Adversary, &requests, REPLIES)));
+    let answers: [(usize, &[u8]); 3] = [(21, b"0\n"), (35, b"1\n"), (48, b"2\n")];
+    assert!(rt; comes_right(|| watched_outcome(&rt, alloc, Side::Labeller, &answers, ASKED)));
+}
+
+/// Takes all, and counts how many bytes that is.
+#[derive(Drop)]
+struct Counting {
+    count: usize,
+}
+
+impl Sink for Counting {
+    ghost has_failed = { λ _. false };
+
+    fn write(&mut self, from: &[u8]) -> Result<usize, Failed> {
+        self.count = self.count.saturating_add(from.len());
+        Ok(from.len())
     }
-    assert!(rt; !watching.is_late);
+
+    fn failed(&self) -> bool {
+        false
+    }
 }
 
 /// Gives lines `x` for ever.
@@ -374,21 +448,29 @@ impl Source for Junk {
     }
 }
 
-#[test]
-fn a_million_lines_are_read(rt: HostRuntime) {
-    let noted = Cell::new(0);
+/// Whether a play is broken off behind a million lines, each of which was answered.
+fn million_outcome(rt: &(impl Threads + Sync), alloc: Global) -> Outcome {
     let mut board = Drip::new(CHAIN, PLENTY);
-    let mut writer = Noting { noted: &noted };
+    let mut writer = Counting { count: 0 };
     let answer = run_play(
-        &rt,
-        rt.alloc(),
+        rt,
+        alloc,
         Side::Adversary,
         &mut board,
         &mut Junk,
         &mut writer,
     );
-    if answer != Err(RunFault::Memory) {
-        assert_eq!(rt; answer, Err(RunFault::Limit));
-        assert_eq!(rt; noted.get(), 15 + 14_000_000);
-    }
+    let is_refused = answer == Err(RunFault::Memory);
+    let is_right = if is_refused {
+        writer.count <= 15 + 14_000_000
+    } else {
+        answer == Err(RunFault::Limit) && writer.count == 15 + 14_000_000
+    };
+    Outcome::of(is_refused, is_right)
+}
+
+#[test]
+fn a_million_lines_are_read(rt: HostRuntime) {
+    let alloc = rt.alloc();
+    assert!(rt; comes_right(|| million_outcome(&rt, alloc)));
 }

@@ -1,10 +1,12 @@
 //! Solving and reporting over readers and writers that are slow, that fail, and that are refused memory.
 
-use crate::reporting::run_report;
+ghost use Rattle.board_text.specs.Ranges.{InRange};
+
+use crate::reporting::{report_text, run_report};
 use crate::running::RunFault;
-use crate::solving::run_solve;
+use crate::solving::{run_solve, solve_text};
 use board_text::{BoardFault, BoardKind, Sink, Source};
-use fakes::{Drip, Failing, Trickle};
+use fakes::{Drip, Failing, Outcome, Trickle, comes_right};
 use positions::Value;
 use std::alloc::Global;
 use std::sync::Wait;
@@ -50,8 +52,7 @@ const READY: Ends = Ends {
     failing: Failing::Refuses,
 };
 
-/// Whether a run answers and writes what it should, or was refused memory and wrote nothing; and whether the ends failed where it says so.
-/// A report answers no value.
+/// Whether a run answers and writes what it should, when it is asked once more where it was refused memory. A report answers no value.
 fn serves(
     rt: &(impl Threads + Wait + Sync),
     alloc: Global,
@@ -60,6 +61,18 @@ fn serves(
     wanted: Result<Option<Value>, RunFault>,
     written: &[u8],
 ) -> bool {
+    comes_right(|| outcome(rt, alloc, command, ends, wanted, written))
+}
+
+/// Whether a run answers and writes what it should, or was refused memory and wrote nothing; and whether the ends failed where it says so.
+fn outcome(
+    rt: &(impl Threads + Wait + Sync),
+    alloc: Global,
+    command: Command,
+    ends: Ends,
+    wanted: Result<Option<Value>, RunFault>,
+    written: &[u8],
+) -> Outcome {
     let mut reader = Drip::new(ends.board, ends.reads);
     let mut writer = Trickle::<ROOM>::new(ends.writes, ends.failing);
     let answer = match command {
@@ -68,10 +81,13 @@ fn serves(
     };
     let told = reader.failed() == (answer == Err(RunFault::Read))
         && writer.failed() == (answer == Err(RunFault::Write));
-    if answer == Err(RunFault::Memory) {
-        return told && writer.taken().is_empty();
-    }
-    told && answer == wanted && writer.taken() == written
+    let is_refused = answer == Err(RunFault::Memory);
+    let is_right = if is_refused {
+        writer.taken().is_empty()
+    } else {
+        answer == wanted && writer.taken() == written
+    };
+    Outcome::of(is_refused, told && is_right)
 }
 
 #[test]
@@ -80,6 +96,27 @@ fn one_byte_a_call(rt: HostRuntime) {
     let value = Ok(Some(Value::Finite(1)));
     assert!(rt; serves(&rt, alloc, Command::Solve, READY, value, PAIR_DOCUMENT));
     assert!(rt; serves(&rt, alloc, Command::Report, READY, Ok(None), PAIR_REPORT));
+}
+
+/// Whether the text is solved so and has this report, or memory was refused.
+fn text_outcome(rt: &(impl Threads + Wait + Sync), alloc: Global, workers: u8) -> Outcome
+    requires { InRange 1 16 workers }
+{
+    let (Ok(solved), Ok(report)) = (
+        solve_text(rt, alloc, workers, PAIR),
+        report_text(rt, alloc, workers, PAIR),
+    ) else {
+        return Outcome::Refused;
+    };
+    let is_solved = solved.value == Value::Finite(1) && solved.text.as_bytes() == PAIR_DOCUMENT;
+    Outcome::of(false, is_solved && report.as_bytes() == PAIR_REPORT)
+}
+
+#[test]
+fn texts_in_memory(rt: HostRuntime) {
+    let alloc = rt.alloc();
+    assert!(rt; comes_right(|| text_outcome(&rt, alloc, 1)));
+    assert!(rt; comes_right(|| text_outcome(&rt, alloc, 3)));
 }
 
 #[test]

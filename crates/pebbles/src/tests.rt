@@ -1,11 +1,13 @@
 //! Runs over readers and writers that are slow, that fail, and that are refused memory.
 
+use crate::answering::{Answer as Answered, check_joined_text, check_text};
+use crate::boards::small_board;
 use crate::checking::run_check;
 use crate::joined::front_len;
-use crate::nesting::run_nested;
+use crate::nesting::{nested_text, run_nested};
 use crate::running::{RunFault, Verdict, run_joined};
 use board_text::{BoardFault, BoardKind, Sink, Source};
-use fakes::{Drip, Failing, Trickle};
+use fakes::{Drip, Failing, Outcome, Trickle, comes_right};
 use proof_check::{CheckFault, Shown, Side};
 use proof_text::{Claim, ProofFault, ProofKind};
 use std::alloc::Global;
@@ -37,7 +39,7 @@ const SHOWN: Answer = Ok(Verdict::Accepted(Shown {
     claim: Claim::AtLeast(2),
 }));
 
-/// Whether a run answers and writes what it should, or was refused memory and wrote nothing; and whether the ends failed where it says so.
+/// Whether a run answers and writes what it should, when it is asked once more where it was refused memory.
 fn serves(
     rt: &(impl Threads + Sync),
     alloc: Global,
@@ -48,15 +50,32 @@ fn serves(
     wanted: Answer,
     written: &[u8],
 ) -> bool {
+    comes_right(|| { joined_outcome(rt, alloc, text, reads, writes, failing, wanted, written) })
+}
+
+/// Whether a run answers and writes what it should, or was refused memory and wrote nothing; and whether the ends failed where it says so.
+fn joined_outcome(
+    rt: &(impl Threads + Sync),
+    alloc: Global,
+    text: &[u8],
+    reads: usize,
+    writes: usize,
+    failing: Failing,
+    wanted: Answer,
+    written: &[u8],
+) -> Outcome {
     let mut reader = Drip::new(text, reads);
     let mut writer = Trickle::<ROOM>::new(writes, failing);
     let answer = run_joined(rt, alloc, &mut reader, &mut writer);
     let told = reader.failed() == (answer == Err(RunFault::Read))
         && writer.failed() == (answer == Err(RunFault::Write));
-    if answer == Err(RunFault::Memory) {
-        return told && writer.taken().is_empty();
-    }
-    told && answer == wanted && writer.taken() == written
+    let is_refused = answer == Err(RunFault::Memory);
+    let is_right = if is_refused {
+        writer.taken().is_empty()
+    } else {
+        answer == wanted && writer.taken() == written
+    };
+    Outcome::of(is_refused, told && is_right)
 }
 
 #[test]
@@ -331,8 +350,8 @@ struct Ends {
     writes: usize,
 }
 
-/// Whether a check of two readers answers and writes what it should, or was refused memory and wrote nothing;
-/// whether the ends failed where it says so; and whether so much of the document is left.
+/// Whether a check of two readers answers and writes what it should, and leaves so much of the document, when it is asked once more
+/// where it was refused memory.
 fn checks(
     rt: &(impl Threads + Sync),
     alloc: Global,
@@ -341,16 +360,32 @@ fn checks(
     written: &[u8],
     left: &[u8],
 ) -> bool {
+    comes_right(|| check_outcome(rt, alloc, ends, wanted, written, left))
+}
+
+/// Whether a check of two readers answers and writes what it should, or was refused memory and wrote nothing;
+/// whether the ends failed where it says so; and whether so much of the document is left.
+fn check_outcome(
+    rt: &(impl Threads + Sync),
+    alloc: Global,
+    ends: Ends,
+    wanted: Answer,
+    written: &[u8],
+    left: &[u8],
+) -> Outcome {
     let mut board = Drip::new(ends.board, ends.board_reads);
     let mut proof = Drip::new(ends.proof, ends.proof_reads);
     let mut writer = Trickle::<ROOM>::new(ends.writes, Failing::Refuses);
     let answer = run_check(rt, alloc, &mut board, &mut proof, &mut writer);
     let told = (board.failed() || proof.failed()) == (answer == Err(RunFault::Read))
         && writer.failed() == (answer == Err(RunFault::Write));
-    if answer == Err(RunFault::Memory) {
-        return told && writer.taken().is_empty();
-    }
-    told && answer == wanted && writer.taken() == written && proof.rest() == left
+    let is_refused = answer == Err(RunFault::Memory);
+    let is_right = if is_refused {
+        writer.taken().is_empty()
+    } else {
+        answer == wanted && writer.taken() == written && proof.rest() == left
+    };
+    Outcome::of(is_refused, told && is_right)
 }
 
 const READY: Ends = Ends {
@@ -419,17 +454,92 @@ fn two_readers_that_fail_at_each_call(rt: HostRuntime) {
     }
 }
 
+/// Whether so much of the nested board is written as the writer takes, or memory was refused and nothing was written.
+fn nested_outcome(alloc: Global, writes: usize) -> Outcome {
+    let mut writer = Trickle::<ROOM>::new(writes, Failing::Refuses);
+    let answer = run_nested(alloc, 2, 1, &mut writer);
+    let wanted = if writes < CYCLE.len() {
+        Err(RunFault::Write)
+    } else {
+        Ok(())
+    };
+    let is_refused = answer == Err(RunFault::Memory);
+    let is_right = if is_refused {
+        writer.taken().is_empty()
+    } else {
+        answer == wanted && writer.taken() == CYCLE.get(..writes).unwrap_or(CYCLE)
+    };
+    let told = writer.failed() == (answer == Err(RunFault::Write));
+    Outcome::of(is_refused, told && is_right)
+}
+
 #[test]
 fn a_nested_board(rt: HostRuntime) {
+    let alloc = rt.alloc();
     for writes in 0..CYCLE.len() + 1 {
-        let mut writer = Trickle::<ROOM>::new(writes, Failing::Refuses);
-        match run_nested(rt.alloc(), 2, 1, &mut writer) {
-            Ok(()) => assert!(rt; writer.taken() == CYCLE),
-            Err(RunFault::Write) => {
-                assert!(rt; writes < CYCLE.len() && writer.failed());
-                assert!(rt; CYCLE.starts_with(writer.taken()) && writer.taken().len() == writes);
-            }
-            Err(fault) => assert!(rt; fault == RunFault::Memory && writer.taken().is_empty()),
-        }
+        assert!(rt;
+            comes_right(|| nested_outcome(alloc, writes)),
+            "at call {writes}"
+        );
     }
+}
+
+/// Whether the text of the nested board is this, or memory was refused.
+fn nested_text_outcome(alloc: Global) -> Outcome {
+    match nested_text(alloc, 2, 1) {
+        Ok(text) => Outcome::of(false, text.as_bytes() == CYCLE),
+        Err(fault) => Outcome::of(fault == RunFault::Memory, fault == RunFault::Memory),
+    }
+}
+
+/// Whether the answer to a text is this one with its line, or memory was refused.
+fn answer_outcome(answer: Result<Answered, RunFault>, wanted: Answer, line: &[u8]) -> Outcome {
+    match answer {
+        Ok(answer) => {
+            let is_right = Ok(answer.verdict) == wanted && answer.line.as_bytes() == line;
+            Outcome::of(false, is_right)
+        }
+        Err(fault) => Outcome::of(
+            fault == RunFault::Memory,
+            fault == RunFault::Memory || Err(fault) == wanted,
+        ),
+    }
+}
+
+/// What is answered to the text of a document for a board with this text.
+fn check_both_texts(
+    rt: &(impl Threads + Sync),
+    alloc: Global,
+    board: &[u8],
+    proof: &[u8],
+) -> Result<Answered, RunFault> {
+    let (board, space) = small_board(alloc, board)?;
+    check_text(rt, alloc, &board, &space, proof)
+}
+
+#[test]
+fn texts_in_memory(rt: HostRuntime) {
+    let alloc = rt.alloc();
+    assert!(rt; comes_right(|| nested_text_outcome(alloc)));
+    assert!(rt;
+        comes_right(|| answer_outcome(check_joined_text(&rt, alloc, LEAST_TWO), SHOWN, ACCEPTED))
+    );
+    assert!(rt;
+        comes_right(|| answer_outcome(
+            check_both_texts(&rt, alloc, CHAIN, CHAIN_DOCUMENT),
+            SHOWN,
+            ACCEPTED
+        ))
+    );
+    let fault = Err(RunFault::Board(BoardFault {
+        line: 1,
+        kind: BoardKind::Version,
+    }));
+    assert!(rt;
+        comes_right(|| answer_outcome(
+            check_both_texts(&rt, alloc, NOTHING, CHAIN_DOCUMENT),
+            fault,
+            NOTHING
+        ))
+    );
 }
