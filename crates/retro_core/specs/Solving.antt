@@ -8,6 +8,7 @@ use Rattle.positions.specs.Game.{LabellerTree}
 use Rattle.positions.specs.Value.{HasValue}
 use Rattle.positions.specs.Ranks.{configurations, rank_of, configuration_at}
 use Rattle.positions.specs.Gaps.{gaps, member_of, IsAnswer}
+use Rattle.positions.specs.declared.space.TheConstants.{MAX_CONFIGURATIONS}
 
 -- the board, the last round that filed something, whether a later one filed nothing; the configurations filed at each value,
 -- and the members of each gap that are not filed
@@ -49,7 +50,7 @@ pub record AreOpenMembers (s : Solving) : Type 0 where
 -- what a solver knows, whenever no call of it runs
 pub record IsSolving (s : Solving) : Type 0 where
   pub is_board : IsBoard s.board
-  pub few : configurations s.board ≤ 1048576
+  pub few : configurations s.board ≤ MAX_CONFIGURATIONS
   pub buckets : AreBuckets s
   pub sources : AreOpenMembers s
   pub forever : s.is_done ≡ true → (rank : ℕ) → rank < configurations s.board

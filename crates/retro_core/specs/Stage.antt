@@ -4,6 +4,7 @@ use Rattle.index_lists.specs.Lists.{Lists, times}
 use Rattle.board_text.specs.PlainBoard.{PlainBoard, IsBoard}
 use Rattle.positions.specs.Ranks.{configurations}
 use Rattle.positions.specs.Gaps.{gaps}
+use Rattle.positions.specs.declared.space.TheConstants.{MAX_CONFIGURATIONS}
 use Rattle.retro_core.specs.Arena.{Arena, count_below, lasts, IsLast, dominated}
 use Rattle.retro_core.specs.BoardArena.{arena_of}
 use Rattle.retro_core.specs.Solving.{Solving, first_lists}
@@ -126,7 +127,7 @@ pub record IsOpened (s : PlainStage) : Type 0 where
 -- a solver between its calls
 pub record IsState (s : PlainStage) (round : ℕ) (is_done : Bool) : Type 0 where
   pub is_board : IsBoard s.board
-  pub few : configurations s.board ≤ 1048576
+  pub few : configurations s.board ≤ MAX_CONFIGURATIONS
   pub value_is : s.value ≡ suc round
   pub stage : IsStage (lasts (arena_of s.board) (struck_rounds is_done round)) s
   pub some : 0 < count_below (configurations s.board) (lasts (arena_of s.board) round)

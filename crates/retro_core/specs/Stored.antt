@@ -5,13 +5,14 @@ use Rattle.board_text.specs.PlainBoard.{PlainBoard, IsBoard}
 use Rattle.positions.specs.Ranks.{configurations, configuration_at}
 use Rattle.positions.specs.Gaps.{gaps, IsDominator}
 use Rattle.positions.specs.Counts.{IsSmallest}
+use Rattle.positions.specs.declared.space.TheConstants.{MAX_CONFIGURATIONS}
 use Rattle.retro_core.specs.Arena.{dominated}
 use Rattle.retro_core.specs.BoardArena.{arena_of}
 
 -- a board with few configurations, and a value that one of them may have
 pub record IsSmall (board : PlainBoard) (value : ℕ) : Type 0 where
   pub is_board : IsBoard board
-  pub few : configurations board ≤ 1048576
+  pub few : configurations board ≤ MAX_CONFIGURATIONS
   pub low : value ≤ configurations board
 
 -- the pebble that a byte stands for, if it isn't the byte for none

@@ -19,7 +19,7 @@ use crate::stage::{OPEN, Stage};
 use crate::values::Values;
 use board_text::{Board, Memory};
 use index_lists::ListStore;
-use positions::{Space, TooLarge};
+use positions::{MAX_CONFIGURATIONS, Space, TooLarge};
 use std::alloc::Global;
 use std::marker::Model;
 
@@ -54,7 +54,7 @@ impl<S: ListStore + Drop> Solver<S> {
         ensures board { IfOk result (λ solver. solver.board ≡ board.now) }
         ensures start { IfOk result (λ solver. (solver.rounds ≡ 0) × (solver.is_done ≡ false)) }
         ensures kept { IfOk result (λ solver. IsSolving solver) }
-        ensures too_large { (result ≡ Err SolveFault.TooLarge) ↔ (1048576 < configurations board.now) }
+        ensures too_large { (result ≡ Err SolveFault.TooLarge) ↔ (MAX_CONFIGURATIONS < configurations board.now) }
         ensures no_worker { result ≡ Err SolveFault.Worker → ⊥ }
     {
         match Space::of(board) {

@@ -10,6 +10,7 @@ use crate::tree::share;
 use board_text::Board;
 use claim_round::{Closed, SharedRound};
 use index_lists::{ListStore, PlainLists};
+use positions::MAX_CONFIGURATIONS;
 use retro_core::{SolveFault, Solver, Values};
 use std::alloc::Global;
 use std::sync::Wait;
@@ -51,7 +52,7 @@ pub fn solve_values<G: Gate, R: Threads + Wait + Sync>(
 ) -> Result<Values, SolveFault>
     requires workers { (1 ≤ workers) × (workers ≤ 16) }
     ensures values { IfOk result (λ values. values ≡ board.now) }
-    ensures too_large { (result ≡ Err SolveFault.TooLarge) ↔ (1048576 < configurations board.now) }
+    ensures too_large { (result ≡ Err SolveFault.TooLarge) ↔ (MAX_CONFIGURATIONS < configurations board.now) }
     ensures worker { result ≡ Err SolveFault.Worker → 1 < workers }
 {
     let mut solver = Solver::<PlainLists>::open(alloc, board)?;

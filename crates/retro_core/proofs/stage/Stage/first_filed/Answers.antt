@@ -1,4 +1,4 @@
-use Rattle.std.proofs.Common.{◌≡◌, ◌∙◌, ◌≤◌, List, ℕ, slice_get, ap, sym, arith}
+use Rattle.std.proofs.Common.{◌∙◌, ◌≤◌, List, ℕ, slice_get, ap, sym, arith}
 use Rattle.retro_core.proofs.Filing.{filed-shown}
 use Rattle.retro_core.proofs.stage.Stage.first_filed.Goals as goal
 

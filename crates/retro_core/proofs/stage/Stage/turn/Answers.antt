@@ -1,4 +1,4 @@
-use Rattle.std.proofs.Common.{◌≡◌, ◌+◌, ◌<◌, ◌∙◌, ℕ, List, [], suc, length, ap, sym, subst, arith, add-one, refl}
+use Rattle.std.proofs.Common.{◌≡◌, ◌+◌, ◌<◌, ◌∙◌, [], suc, length, ap, sym, subst, arith, add-one, refl}
 use Rattle.std.specs.List.{filter}
 use Rattle.positions.specs.Ranks.{configurations}
 use Rattle.retro_core.specs.Arena.{dominated}
