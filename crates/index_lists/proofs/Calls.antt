@@ -56,12 +56,14 @@ module _ (nodes lists : ℕ) (next prev home first last len : List ℕ) (v : Cha
   last-in to h = end-below nodes (slice_index next) (slice_index prev) (slice_index last to) (slice_index first to) (listed v to) (store_here.linked to (let e = lists-are in omega arith))
 
   -- a push
-  module _ (to node at n : ℕ) (to_in : to < v.lists) (node_in : node < v.nodes) (free : IsFree (chained v) node) (at_is : at ≡ slice_index last to) (n_is : n ≡ slice_index len to) where
+  module _ (to node at n : ℕ) (to_in : to < v.lists) (node_in : node < v.nodes) (free : IsFree (chained v) node)
+      (at_is : at ≡ slice_index last to) (n_is : n ≡ slice_index len to) where
     pub push-room : n < nodes
     push-room =
         let e = lists-are in let f = nodes-are in
         let b = room nodes lists (slice_index next) (slice_index prev) (slice_index home) (slice_index first) (slice_index last) (slice_index len) (listed v) store_here to node (omega arith) (omega arith)
-        (home-of_free nodes lists (slice_index next) (slice_index prev) (slice_index home) (slice_index first) (slice_index last) (slice_index len) (listed v) store_here node (omega arith) free.free) in
+        (home-of_free nodes lists (slice_index next) (slice_index prev) (slice_index home) (slice_index first) (slice_index last)
+        (slice_index len) (listed v) store_here node (omega arith) free.free) in
         omega arith
 
     module _ (next' first' : List ℕ) (next_is : next' ≡ slice_set next at node) (first_is : first' ≡ cond (at == length next) (slice_set first to node) first) where
@@ -72,7 +74,8 @@ module _ (nodes lists : ℕ) (next prev home first last len : List ℕ) (v : Cha
           push-store nodes lists (slice_index next) (slice_index prev) (slice_index home) (slice_index first) (slice_index last) (slice_index len) (listed v) store_here
           (slice_index next') (slice_index (slice_set prev node at)) (slice_index (slice_set home node to)) (slice_index first') (slice_index (slice_set last to node)) (slice_index (slice_set len to (n + 1)))
           to node to_here node_here
-          (home-of_free nodes lists (slice_index next) (slice_index prev) (slice_index home) (slice_index first) (slice_index last) (slice_index len) (listed v) store_here node node_here free.free)
+          (home-of_free nodes lists (slice_index next) (slice_index prev) (slice_index home) (slice_index first) (slice_index last)
+          (slice_index len) (listed v) store_here node node_here free.free)
           (λ x i. rw (next_is, ← at_is) (read-set next at node x (let e = s.next_length in omega arith)))
           (λ x i. rw (← at_is) (read-set prev node at x (let e = s.prev_length in omega arith)))
           (λ x i. read-set home node to x (let e = s.home_length in omega arith))
@@ -110,7 +113,8 @@ module _ (nodes lists : ℕ) (next prev home first last len : List ℕ) (v : Cha
     push-shown next' first' len' next_is first_is len_is l = rw len_is (push-seen next' first' next_is first_is l)
 
   -- an unlink
-  module _ (node h p z : ℕ) (node_in : node < v.nodes) (stands : IsIn (chained v) node) (h_is : h ≡ slice_index home node) (p_is : p ≡ slice_index prev node) (z_is : z ≡ slice_index next node) where
+  module _ (node h p z : ℕ) (node_in : node < v.nodes) (stands : IsIn (chained v) node) (h_is : h ≡ slice_index home node)
+      (p_is : p ≡ slice_index prev node) (z_is : z ≡ slice_index next node) where
     node_here : node < nodes
     node_here = let e = nodes-are in omega arith
 
@@ -262,7 +266,8 @@ module _ (nodes lists : ℕ) (next prev home first last len : List ℕ) (v : Cha
   loose-here : (node : ℕ) → node < v.nodes → IsFree (chained v) node → (slice_index next node ≡ nodes) × (slice_index prev node ≡ nodes)
   loose-here node h free =
       let i : node < nodes = (let d = nodes-are in omega arith) in
-      store_here.loose node i (home-of_free nodes lists (slice_index next) (slice_index prev) (slice_index home) (slice_index first) (slice_index last) (slice_index len) (listed v) store_here node i free.free)
+      store_here.loose node i (home-of_free nodes lists (slice_index next) (slice_index prev) (slice_index home) (slice_index first)
+      (slice_index last) (slice_index len) (listed v) store_here node i free.free)
 
   pub next-none : (node at : ℕ) → node < v.nodes → at ≡ slice_index next node → IsFree (chained v) node → unless_none nodes at ≡ None
   next-none node at h e free = cond_same at nodes None (Some at) (e ∙ (loose-here node h free).0)

@@ -81,7 +81,10 @@ none-of_free x (e ∷ entries) free =
     omega arith
 
 -- what `home_in` finds
-pub home-found : (nodes lists x : ℕ) (entries : List (ℕ × ℕ)) → times x (all_nodes entries) ≤ 1 → ((l : ℕ) → lists ≤ l → nodes_of entries l ≡ []) → MatchOption (home_in x entries) (IsFree (lists_of nodes lists (nodes_of entries)) x) (λ h. IsHome (lists_of nodes lists (nodes_of entries)) x h)
+pub home-found : (nodes lists x : ℕ) (entries : List (ℕ × ℕ)) → times x (all_nodes entries) ≤ 1
+    → ((l : ℕ) → lists ≤ l → nodes_of entries l ≡ [])
+    → MatchOption (home_in x entries) (IsFree (lists_of nodes lists (nodes_of entries)) x)
+    (λ h. IsHome (lists_of nodes lists (nodes_of entries)) x h)
 home-found nodes lists x [] once beyond = record { free = λ l. refl }
 home-found nodes lists x (e ∷ entries) once beyond = elim (cases_eq (e.1) x) [
   | inl d ↦ rw (same_is (e.1) x d) (record {
@@ -97,7 +100,9 @@ home-found nodes lists x (e ∷ entries) once beyond = elim (cases_eq (e.1) x) [
           | inr f ↦ rw (of-there l e entries f, differ_is (e.0) l f) (omega arith)
         ]);
   })
-  | inr d ↦ rw (differ_is (e.1) x d) (later (home_in x entries) d (home-found nodes lists x entries (let s = times-later (e.1) x (all_nodes entries) d in omega arith) (λ l g. shorter-nothing l (beyond l g))))
+  | inr d ↦ rw (differ_is (e.1) x d) (later (home_in x entries) d
+      (home-found nodes lists x entries (let s = times-later (e.1) x (all_nodes entries) d in omega arith)
+      (λ l g. shorter-nothing l (beyond l g))))
 ]
   where
     same : (l : ℕ) → e.1 ≢ x → times x (nodes_of (e ∷ entries) l) ≡ times x (nodes_of entries l)
@@ -112,7 +117,10 @@ home-found nodes lists x (e ∷ entries) once beyond = elim (cases_eq (e.1) x) [
       | inr f ↦ sym (of-there l e entries f) ∙ z
     ]
 
-    later : (o : Option ℕ) → e.1 ≢ x → MatchOption o (IsFree (lists_of nodes lists (nodes_of entries)) x) (λ h. IsHome (lists_of nodes lists (nodes_of entries)) x h) → MatchOption o (IsFree (lists_of nodes lists (nodes_of (e ∷ entries))) x) (λ h. IsHome (lists_of nodes lists (nodes_of (e ∷ entries))) x h)
+    later : (o : Option ℕ) → e.1 ≢ x
+        → MatchOption o (IsFree (lists_of nodes lists (nodes_of entries)) x) (λ h. IsHome (lists_of nodes lists (nodes_of entries)) x h)
+        → MatchOption o (IsFree (lists_of nodes lists (nodes_of (e ∷ entries))) x)
+        (λ h. IsHome (lists_of nodes lists (nodes_of (e ∷ entries))) x h)
     later None d m = record { free = λ l. same l d ∙ m.free l }
     later (Some h) d m = record { home_in = m.home_in; times_is = λ l. same l d ∙ m.times_is l }
 

@@ -7,10 +7,11 @@ use Rattle.index_lists.proofs.Times.{same_is, differ_is, cond_same, cond_other, 
 module _ (s : Lists) (are : AreLists s) where
   -- a list has no more nodes than there are
   pub fits : (l : ℕ) → length (s.list l) ≤ s.nodes
-  fits l = distinct-length s.nodes (s.list l) (are.once l) (λ node g. (let o = are.below l node in elim (cases_lt 0 (times node (s.list l))) [
-    | inl h ↦ absurd (let b = o h in omega arith)
-    | inr h ↦ omega arith
-  ]))
+  fits l = distinct-length s.nodes (s.list l) (are.once l) (λ node g.
+      (let o = are.below l node in elim (cases_lt 0 (times node (s.list l))) [
+        | inl h ↦ absurd (let b = o h in omega arith)
+        | inr h ↦ omega arith
+      ]))
 
   -- a node that is in a list has that list as its home
   pub home-of_in : (l node : ℕ) → 0 < times node (s.list l) → IsHome s node l
@@ -36,7 +37,8 @@ module _ (s : Lists) (are : AreLists s) where
   ])
 
   -- a push
-  module _ (s' : Lists) (to node : ℕ) (to_in : to < s.lists) (node_in : node < s.nodes) (free : IsFree s node) (same : AreSame s' (pushed s to node)) where
+  module _ (s' : Lists) (to node : ℕ) (to_in : to < s.lists) (node_in : node < s.nodes) (free : IsFree s node)
+      (same : AreSame s' (pushed s to node)) where
     elsewhere : (l x : ℕ) → l ≢ to → times x (s'.list l) ≡ times x (s.list l)
     elsewhere l x d = ap (times x) (same.same_list l ∙ cond_other l to (s.list l ++ node ∷ []) (s.list l) d)
 

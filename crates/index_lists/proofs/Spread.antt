@@ -159,7 +159,8 @@ begun-some walk run runs are is = subst AreFilled are is.filled 0 run (omega ari
 
 -- a pair is taken
 pub taken : (walk : Walk) (nodes : List ℕ) (place d : ℕ) → walk.nodes ≡ drop place nodes → place < length nodes → 0 < walk.left
-    → pairs_left walk ≡ (walk.list, get_or nodes place d) ∷ pairs_left (record { list = walk.list; left = walk.left - 1; runs = walk.runs; nodes = drop (place + 1) nodes })
+    → pairs_left walk ≡ (walk.list, get_or nodes place d) ∷ pairs_left
+    (record { list = walk.list; left = walk.left - 1; runs = walk.runs; nodes = drop (place + 1) nodes })
 taken walk nodes place d are low some =
     let e : walk.left ≡ suc (walk.left - 1) = omega arith in
     ap (λ ns. zip (replicate walk.left walk.list ++ spread walk.runs) ns) (are ∙ drop-cons nodes place d low
@@ -225,7 +226,9 @@ remove-filter (e ∷ es) node zero stands once =
     rw (same_is (e.1) node here) (filter-absent node es (omega arith))
 remove-filter (e ∷ es) node (suc place) stands once =
     let later = stands-at place node (all_nodes es) stands in
-    let other : e.1 ≢ node = λ here. (let one : times node (all_nodes (e ∷ es)) ≡ 1 + times node (all_nodes es) = rw (same_is (e.1) node here) refl in omega arith) in
+    let other : e.1 ≢ node = λ here. (
+    let one : times node (all_nodes (e ∷ es)) ≡ 1 + times node (all_nodes es) = rw (same_is (e.1) node here) refl in
+    omega arith) in
     rw (differ_is (e.1) node other) (ap (λ xs. e ∷ xs) (remove-filter es node place stands (omega arith)))
 
 pub entries-nodes : (runs : List Run) (nodes : List ℕ) → length (spread runs) ≡ length nodes → all_nodes (entries_of runs nodes) ≡ nodes

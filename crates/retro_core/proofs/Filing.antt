@@ -67,7 +67,8 @@ module _ (s s' : Lists) (to node : ℕ) (same : AreSame s' (pushed s to node)) w
       → stage_of b value values counts s strikes ≡ v → stage_of b value values counts s' strikes ≡ listed v node
   push-shown b value values counts strikes v here inside view =
       subst (λ (w : PlainStage). stage_of b value values counts s' strikes ≡ listed w node) view
-      (rw (same.same_lists, here) (ap (λ (bs : List (List ℕ)). record (stage_of b to values counts s strikes) { buckets = bs }) (set-shown inside)))
+      (rw (same.same_lists, here) (ap (λ (bs : List (List ℕ)). record (stage_of b to values counts s strikes) { buckets = bs })
+      (set-shown inside)))
 
 -- ---- the stage after a configuration is listed
 

@@ -70,7 +70,8 @@ tally-cut home g (suc n) (y ∷ xs) = let r = tally-cut home g n xs in omega ari
 -- what is counted in lists one after the other
 pub times-together : (x : ℕ) (list : PlainSeat → List ℕ) (seats : List PlainSeat) → times x (together list seats) ≡ total (λ v. times x (list v)) seats
 times-together x list [] = refl
-times-together x list (v ∷ seats) = let r = times-together x list seats in let s = times-append x (list v) (together list seats) in omega arith
+times-together x list (v ∷ seats) =
+    let r = times-together x list seats in let s = times-append x (list v) (together list seats) in omega arith
 
 pub tally-together : (home : ℕ → ℕ) (g : ℕ) (list : PlainSeat → List ℕ) (seats : List PlainSeat) → tally home g (together list seats) ≡ total (λ v. tally home g (list v)) seats
 tally-together home g list [] = refl

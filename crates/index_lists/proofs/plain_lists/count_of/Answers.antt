@@ -7,7 +7,8 @@ use Rattle.index_lists.proofs.plain_lists.count_of.Goals as goal
 pub overflow_add-count : goal.overflow_add-count
 overflow_add-count c =
     let all = shorter (pairs_left c.args.pairs) c.args.of in
-    let left : length (nodes_of (pairs_left c.loop-list.pairs) c.args.of) ≡ suc (length (nodes_of (pairs_left c.take_next.new.self) c.args.of)) =
+    let left : length (nodes_of (pairs_left c.loop-list.pairs) c.args.of) ≡ suc
+    (length (nodes_of (pairs_left c.take_next.new.self) c.args.of)) =
     ap (λ es. length (nodes_of es c.args.of)) c.in-Some.ensures
     ∙ ap length (of-here c.args.of _ (pairs_left c.take_next.new.self) c.if-list-of.true) in
     omega (arith, all, left, c.loop-list.invariant, c.requires)

@@ -4,7 +4,8 @@ use Rattle.index_lists.specs.Runs.{pairs_left}
 use Rattle.index_lists.proofs.plain_lists.next_of.Given as goal
 
 abbrev pub invariant-loop-list : goal.invariant-loop-list
-invariant-loop-list l = behind l.passed l.node (nodes_of (pairs_left l.pairs) l.home) ≡ after l.node (nodes_of (pairs_left l.fn.pairs) l.home)
+invariant-loop-list l = behind l.passed l.node (nodes_of (pairs_left l.pairs) l.home) ≡ after l.node
+    (nodes_of (pairs_left l.fn.pairs) l.home)
 
 abbrev pub decreases-loop-list : goal.decreases-loop-list
 decreases-loop-list l = length (pairs_left l.pairs)

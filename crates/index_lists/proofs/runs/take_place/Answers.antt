@@ -11,7 +11,8 @@ pub index-requires : goal.index-requires
 index-requires c = let inside = run-in _ _ _ (found (goal.at.index-requires c).After-run_at-at) in omega (arith, inside)
 
 pub overflow_sub-left : goal.overflow_sub-left
-overflow_sub-left c = let some = run-some _ _ _ c.index.result.now _ (found (goal.at.overflow_sub-left c).After-run_at-at) c.index.ensures in omega arith
+overflow_sub-left c = let some = run-some _ _ _ c.index.result.now _ (found (goal.at.overflow_sub-left c).After-run_at-at) c.index.ensures
+    in omega arith
 
 pub index_mut-requires : goal.index_mut-requires
 index_mut-requires c = let inside = run-in _ _ _ (found (goal.at.index_mut-requires c).After-run_at-at) in omega (arith, inside)

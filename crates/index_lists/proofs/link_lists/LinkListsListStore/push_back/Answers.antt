@@ -76,9 +76,11 @@ returns-clause-pushed c =
     record {
       same_nodes = ap (λ w. w.nodes) c.self.view_is;
       same_lists = ap (λ w. w.lists) c.self.view_is;
-      same_list = push-shown _ _ _ _ _ _ _ _ _ c.self.view_is c.self.invariant c.args.to c.args.node _ _ c.requires.to_in c.requires.node_in c.requires.free last refl _ _ _ (nexts-are done) (firsts-are done) (lens-are done);
+      same_list = push-shown _ _ _ _ _ _ _ _ _ c.self.view_is c.self.invariant c.args.to c.args.node _ _ c.requires.to_in
+          c.requires.node_in c.requires.free last refl _ _ _ (nexts-are done) (firsts-are done) (lens-are done);
     }
 
 pub returns-clause-kept : goal.returns-clause-kept
 returns-clause-kept c =
-    pushed-are _ (lists-kept _ _ _ _ _ _ _ _ _ c.self.view_is c.self.invariant) _ c.args.to c.args.node c.requires.to_in c.requires.node_in c.requires.free (returns-clause-pushed c)
+    pushed-are _ (lists-kept _ _ _ _ _ _ _ _ _ c.self.view_is c.self.invariant) _ c.args.to c.args.node c.requires.to_in
+    c.requires.node_in c.requires.free (returns-clause-pushed c)

@@ -161,9 +161,11 @@ returns-clause-unlinked c =
     record {
       same_nodes = ap (λ w. w.nodes) c.self.view_is;
       same_lists = ap (λ w. w.lists) c.self.view_is;
-      same_list = unlink-shown _ _ _ _ _ _ _ _ _ c.self.view_is c.self.invariant c.args.node _ _ _ c.requires.node_in c.requires.stands (home-is read) (prev-is read) (next-is read) _ refl _ _ _ _
+      same_list = unlink-shown _ _ _ _ _ _ _ _ _ c.self.view_is c.self.invariant c.args.node _ _ _ c.requires.node_in c.requires.stands
+          (home-is read) (prev-is read) (next-is read) _ refl _ _ _ _
           (nexts-are done) (firsts-are done) (lasts-are done) (lens-are done);
     }
 
 pub returns-clause-kept : goal.returns-clause-kept
-returns-clause-kept c = unlinked-are _ (lists-kept _ _ _ _ _ _ _ _ _ c.self.view_is c.self.invariant) _ c.args.node (returns-clause-unlinked c)
+returns-clause-kept c = unlinked-are _ (lists-kept _ _ _ _ _ _ _ _ _ c.self.view_is c.self.invariant) _ c.args.node
+    (returns-clause-unlinked c)

@@ -14,12 +14,15 @@ walk w = record { list = w.list; left = w.left; runs = drop w.begun w.runs.now; 
 -- the first of the runs that are left
 first : (w : Inside) (v : Walk) → walk w ≡ v → IsWalk (walk w) → w.left ≤ 0 → 0 < length v.nodes
     → (w.begun < length w.runs.now) × ((walk w).runs ≡ get_or w.runs.now w.begun none ∷ drop (w.begun + 1) w.runs.now)
-first w v view is left some = begun-walk (walk w) w.begun w.runs.now none refl is left (subst (λ (u : Walk). 0 < length u.nodes) (sym view) some)
+first w v view is left some = begun-walk (walk w) w.begun w.runs.now none refl is left
+    (subst (λ (u : Walk). 0 < length u.nodes) (sym view) some)
 
 pub invariant_of-self : goal.invariant_of-self
 invariant_of-self c =
-    begun-is (walk c.self.inside) _ _ (first c.self.inside _ c.self.view_is c.self.invariant c.if-self-gt0.false c.requires).1 c.if-self-gt0.false c.self.invariant
+    begun-is (walk c.self.inside) _ _ (first c.self.inside _ c.self.view_is c.self.invariant c.if-self-gt0.false c.requires).1
+    c.if-self-gt0.false c.self.invariant
 
 pub returns-clause-begun : goal.returns-clause-begun
 returns-clause-begun c =
-    begun-some (walk c.self.inside) _ _ (first c.self.inside _ c.self.view_is c.self.invariant c.if-self-gt0.false c.requires).1 c.self.invariant
+    begun-some (walk c.self.inside) _ _ (first c.self.inside _ c.self.view_is c.self.invariant c.if-self-gt0.false c.requires).1
+    c.self.invariant

@@ -15,7 +15,8 @@ returns-in-Some c =
     let shows = c.next_of.ensures ∙ ap (λ es. after c.args.node (nodes_of es c.in-Some.home)) c.pairs-in-Some.ensures.entries in
     record {
       behind = λ l place stands.
-          shows ∙ ap (λ h. after c.args.node (nodes_of entries h)) (only-home _ plain c.args.node c.in-Some.home l found (stands-at place c.args.node _ stands))
+          shows ∙ ap (λ h. after c.args.node (nodes_of entries h)) (only-home _ plain c.args.node c.in-Some.home l found
+          (stands-at place c.args.node _ stands))
           ∙ after-place place c.args.node (nodes_of entries l) (kept.once l c.args.node) stands;
       free = λ free. absurd (not-free _ plain c.args.node c.in-Some.home found free);
       below = after-below _ c.in-Some.home c.args.node _ kept shows;

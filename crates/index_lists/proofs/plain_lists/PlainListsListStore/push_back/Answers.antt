@@ -23,26 +23,31 @@ module _ (c : After-add_place-arg-1) where
       omega arith
 
 pub add_place-requires-clause-few : goal.add_place-requires-clause-few
-add_place-requires-clause-few c = let room = room (goal.at.add_place-requires-clause-few c).After-add_place-arg-1 in omega (arith, room, c.self.invariant.1.fits, c.self.ranges)
+add_place-requires-clause-few c = let room = room (goal.at.add_place-requires-clause-few c).After-add_place-arg-1 in omega
+    (arith, room, c.self.invariant.1.fits, c.self.ranges)
 
 pub add_place-requires-clause-room : goal.add_place-requires-clause-room
 add_place-requires-clause-room c =
-    let room = room (goal.at.add_place-requires-clause-room c).After-add_place-arg-1 in omega (arith, room, c.self.invariant.1.fits, c.self.invariant.1.for_runs)
+    let room = room (goal.at.add_place-requires-clause-room c).After-add_place-arg-1 in omega
+    (arith, room, c.self.invariant.1.fits, c.self.invariant.1.for_runs)
 
 pub push_reserved-requires : goal.push_reserved-requires
-push_reserved-requires c = let room = room (goal.at.push_reserved-requires c).After-add_place-arg-1 in omega (arith, room, c.self.invariant.1.for_nodes)
+push_reserved-requires c = let room = room (goal.at.push_reserved-requires c).After-add_place-arg-1 in omega
+    (arith, room, c.self.invariant.1.for_nodes)
 
 entries-are : (c : After-push_reserved) → entries_of c.add_place.new.runs.items c.push_reserved.new.self.items
     ≡ entries_of c.self.inside.runs.items c.self.inside.nodes.items ++ (c.args.to, c.args.node) ∷ []
 entries-are c = ap (entries_of c.add_place.new.runs.items) c.push_reserved.ensures.items
-    ∙ entries-push c.self.inside.runs.items c.add_place.new.runs.items c.self.inside.nodes.items c.args.to c.args.node c.self.invariant.1.fits c.add_place.ensures.places
+    ∙ entries-push c.self.inside.runs.items c.add_place.new.runs.items c.self.inside.nodes.items c.args.to c.args.node
+    c.self.invariant.1.fits c.add_place.ensures.places
 
 pub invariant_of-self : goal.invariant_of-self
 invariant_of-self c =
     let before = (goal.at.invariant_of-self c).After-add_place-arg-1 in
     let to_in : c.args.to < c.self.inside.list_count = rw (ap (λ (p : Pairs). p.lists) c.self.view_is) c.requires.to_in in
     let runs = c.self.invariant.1 in (
-      rw (entries-are (goal.at.invariant_of-self c).After-push_reserved) (plain-push _ c.self.invariant.0 c.args.to c.args.node to_in (node-in before) (free before)),
+      rw (entries-are (goal.at.invariant_of-self c).After-push_reserved)
+          (plain-push _ c.self.invariant.0 c.args.to c.args.node to_in (node-in before) (free before)),
       record {
         filled = c.add_place.ensures.filled;
         fits = ap length c.add_place.ensures.places ∙ length_push _ c.args.to ∙ ap (λ n. n + 1) runs.fits

@@ -25,10 +25,12 @@ stands-here c = subst (λ xs. slice_get xs c.place_of-place.result ≡ Some c.ar
 
 pub take_place-requires-clause-place : goal.take_place-requires-clause-place
 take_place-requires-clause-place c =
-    let low = place-below c.place_of-place.result c.args.node c.self.inside.nodes.items (stands-here (goal.at.take_place-requires-clause-place c).After-take_place-arg-1) in omega (arith, low, c.self.invariant.1.fits)
+    let low = place-below c.place_of-place.result c.args.node c.self.inside.nodes.items
+    (stands-here (goal.at.take_place-requires-clause-place c).After-take_place-arg-1) in omega (arith, low, c.self.invariant.1.fits)
 
 pub remove-requires : goal.remove-requires
-remove-requires c = let low = place-below c.place_of-place.result c.args.node c.self.inside.nodes.items (stands-here (goal.at.remove-requires c).After-take_place-arg-1) in omega (arith, low)
+remove-requires c = let low = place-below c.place_of-place.result c.args.node c.self.inside.nodes.items
+    (stands-here (goal.at.remove-requires c).After-take_place-arg-1) in omega (arith, low)
 
 entries-are : (c : After-remove) → slice_get c.self.inside.nodes.items c.place_of-place.result ≡ Some c.args.node
     → entries_of c.take_place.new.runs.items c.remove.new.self.items
@@ -37,7 +39,8 @@ entries-are c stands =
     let runs = c.self.inside.runs.items in
     let nodes = c.self.inside.nodes.items in
     let fits = c.self.invariant.1.fits in
-    let once : times c.args.node nodes ≤ 1 = subst (λ xs. times c.args.node xs ≤ 1) (entries-nodes runs nodes fits) (c.self.invariant.0.once c.args.node) in
+    let once : times c.args.node nodes ≤ 1 = subst (λ xs. times c.args.node xs ≤ 1) (entries-nodes runs nodes fits)
+    (c.self.invariant.0.once c.args.node) in
     ap (entries_of c.take_place.new.runs.items) c.remove.ensures.items
     ∙ entries-without runs c.take_place.new.runs.items nodes c.args.node _ fits stands once c.take_place.ensures.places
 

@@ -41,7 +41,8 @@ push_reserved-requires g c =
     let s = c.self.inside in
     let e = c.push_back.ensures in
     let less = longer _ _ _ c.args.rank (push-here _ _ s.value c.args.rank e.pushed) (fits _ e.kept s.value) in
-    let short = few-filtered (dominated (arena_of s.space)) ((g.S.ListStore.state s.buckets).list s.value) s.next.items c.self.invariant.4.next_are in
+    let short = few-filtered (dominated (arena_of s.space)) ((g.S.ListStore.state s.buckets).list s.value) s.next.items
+    c.self.invariant.4.next_are in
     let room = c.self.invariant.5.for_next in
     omega (arith, less, short, room, e.pushed.same_nodes, c.self.invariant.3.nodes_is)
 
@@ -89,10 +90,12 @@ invariant_of-self-else-index g c =
 
 pub returns-then-index : goal.returns-then-index
 returns-then-index g c =
-    let inside : c.self.inside.value < (g.S.ListStore.state c.self.inside.buckets).lists = omega (arith, c.self.invariant.0.low, c.self.invariant.3.lists_is) in
+    let inside : c.self.inside.value < (g.S.ListStore.state c.self.inside.buckets).lists = omega
+    (arith, c.self.invariant.0.low, c.self.invariant.3.lists_is) in
     push-shown _ _ c.self.inside.value c.args.rank c.push_back.ensures.pushed _ _ _ _ _ _ refl inside c.self.view_is
 
 pub returns-else-index : goal.returns-else-index
 returns-else-index g c =
-    let inside : c.self.inside.value < (g.S.ListStore.state c.self.inside.buckets).lists = omega (arith, c.self.invariant.0.low, c.self.invariant.3.lists_is) in
+    let inside : c.self.inside.value < (g.S.ListStore.state c.self.inside.buckets).lists = omega
+    (arith, c.self.invariant.0.low, c.self.invariant.3.lists_is) in
     push-shown _ _ c.self.inside.value c.args.rank c.push_back.ensures.pushed _ _ _ _ _ _ refl inside c.self.view_is

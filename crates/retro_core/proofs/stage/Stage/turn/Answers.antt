@@ -38,5 +38,6 @@ returns-clause-turned g c =
     let strikes : c.swap.new.x.items ≡ filter (dominated (arena_of s.space)) (filed_at was s.value) =
     ap (λ v. v.items) c.swap.ensures.x_after ∙ c.self.invariant.4.next_are
     ∙ sym (ap (filter (dominated (arena_of s.space))) (list-shown stored c.self.invariant.3.are_lists s.value)) in
-    subst (λ (v : PlainStage). stage_of s.space (s.value + 1) s.values.items s.counts.items stored c.swap.new.x.items ≡ turned v) c.self.view_is
+    subst (λ (v : PlainStage). stage_of s.space (s.value + 1) s.values.items s.counts.items stored c.swap.new.x.items ≡ turned v)
+    c.self.view_is
     (ap (stage_of s.space (s.value + 1) s.values.items s.counts.items stored) strikes)
