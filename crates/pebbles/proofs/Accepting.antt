@@ -49,9 +49,11 @@ module _ (text written : List ℕ) (value : Value) (solution : IsSolution text v
   same_board board is spelled = one_board solution.0 board solution.1.is_board is (sym solution.1.spelled ∙ spelled)
 
   pub no_fault_of_board : (fault : RunFault) → BringsNoBoard text fault → IsMemory fault
-  no_fault_of_board (Board fault) wrong = absurd (wrong.1 (faultless_board text fault.line fault.kind solution.0 solution.1.is_board solution.1.spelled wrong.0))
+  no_fault_of_board (Board fault) wrong =
+      absurd (wrong.1 (faultless_board text fault.line fault.kind solution.0 solution.1.is_board solution.1.spelled wrong.0))
   no_fault_of_board TooLarge (board, is, spelled, many) =
-      let few : configurations board ≤ most_configurations = subst (λ b. configurations b ≤ most_configurations) (same_board board is spelled) solution.1.few in
+      let few : configurations board ≤ most_configurations =
+      subst (λ b. configurations b ≤ most_configurations) (same_board board is spelled) solution.1.few in
       absurd (omega (arith, few, many))
   no_fault_of_board Memory wrong = refl
   no_fault_of_board (Proof fault) wrong = absurd wrong
@@ -64,8 +66,10 @@ module _ (text written : List ℕ) (value : Value) (solution : IsSolution text v
     solved : IsSolved board value written
     solved = subst (λ b. IsSolved b value written) (same_board board small.is_board small.spelled) solution.2
 
-    pub accepts_text : (verdict : Verdict) (line : List ℕ) → IsChecked board written verdict line → verdict ≡ Accepted (record { claim = claim_of value })
-    accepts_text verdict line is = accepts board value written small.is_board small.few solved is.proof verdict is.is_proof is.text_is is.verdict_is
+    pub accepts_text : (verdict : Verdict) (line : List ℕ) → IsChecked board written verdict line
+        → verdict ≡ Accepted (record { claim = claim_of value })
+    accepts_text verdict line is =
+        accepts board value written small.is_board small.few solved is.proof verdict is.is_proof is.text_is is.verdict_is
 
     pub no_fault_of_document : (fault : RunFault) → BringsNoProof board written fault → IsMemory fault
     no_fault_of_document (Proof fault) wrong =
@@ -87,7 +91,8 @@ known_all bytes text (Some rest) gave = gave.0 ∙ ap (λ r. text ++ r) gave.1 �
 pub runs_agree : (bytes text : List ℕ) (solve_left board_left proof_left taken_old taken_new : Option (List ℕ)) (value : Value) (verdict : Verdict)
     → RanSolve (Some bytes) solve_left (Some []) (Some text) value → RanCheck (Some bytes) board_left (Some text) proof_left taken_old taken_new verdict
     → verdict ≡ Accepted (record { claim = claim_of value })
-runs_agree bytes text solve_left board_left proof_left taken_old taken_new value verdict (read, printed, gave, solution, written) (board, (other, gave_too, small), (read_proof, line, gave_proof, checked, wrote)) =
+runs_agree bytes text solve_left board_left proof_left taken_old taken_new value verdict
+    (read, printed, gave, solution, written) (board, (other, gave_too, small), (read_proof, line, gave_proof, checked, wrote)) =
     let same : other ≡ read = sym (known_all bytes other board_left gave_too) ∙ known_all bytes read solve_left gave in
     let spelled : read_proof ≡ printed = sym (known_all text read_proof proof_left gave_proof) ∙ written in
     accepts_text read printed value solution board (subst (λ t. IsSmallBoard t board) same small) verdict line

@@ -19,7 +19,8 @@ GaveNoBoard old new limit fault = IsUnread old new limit fault ⊎ ((text : List
 
 -- why a reader gave no document for the board
 abbrev pub GaveNoProof : PlainBoard → Option (List ℕ) → Option (List ℕ) → ℕ → RunFault → Type 0
-GaveNoProof board old new limit fault = IsUnread old new limit fault ⊎ ((text : List ℕ) × GaveAll old new text × BringsNoProof board text fault)
+GaveNoProof board old new limit fault =
+    IsUnread old new limit fault ⊎ ((text : List ℕ) × GaveAll old new text × BringsNoProof board text fault)
 
 -- both were read, and the verdict's line was written
 abbrev pub RanCheck : Option (List ℕ) → Option (List ℕ) → Option (List ℕ) → Option (List ℕ) → Option (List ℕ) → Option (List ℕ) → Verdict → Type 0

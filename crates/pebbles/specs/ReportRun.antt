@@ -17,4 +17,5 @@ RanReport left_old left_new taken_old taken_new = WroteAll IsReportOfText left_o
 
 -- why a run ended without a report
 abbrev pub ReportFails : ℕ → Option (List ℕ) → Option (List ℕ) → ℕ → Option (List ℕ) → Option (List ℕ) → RunFault → Type 0
-ReportFails workers left_old left_new limit taken_old taken_new fault = RunStops IsReportOfText (CannotSolve workers) left_old left_new limit taken_old taken_new fault
+ReportFails workers left_old left_new limit taken_old taken_new fault =
+    RunStops IsReportOfText (CannotSolve workers) left_old left_new limit taken_old taken_new fault

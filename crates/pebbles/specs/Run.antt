@@ -27,7 +27,8 @@ WroteFront Brings left_old left_new taken_old taken_new =
     (text written : List ℕ) × GaveAll left_old left_new text × Brings text written × AppendsFront taken_old taken_new written
 
 -- why not all was written: not all was read, or the text brings nothing to write, or the writer took a front of it alone
-abbrev pub RunStops : (List ℕ → List ℕ → Type 0) → (List ℕ → RunFault → Type 0) → Option (List ℕ) → Option (List ℕ) → ℕ → Option (List ℕ) → Option (List ℕ) → RunFault → Type 0
+abbrev pub RunStops : (List ℕ → List ℕ → Type 0) → (List ℕ → RunFault → Type 0)
+    → Option (List ℕ) → Option (List ℕ) → ℕ → Option (List ℕ) → Option (List ℕ) → RunFault → Type 0
 RunStops Brings BringsNothing left_old left_new limit taken_old taken_new Write = WroteFront Brings left_old left_new taken_old taken_new
 RunStops Brings BringsNothing left_old left_new limit taken_old taken_new fault =
     IsUnread left_old left_new limit fault ⊎ ((text : List ℕ) × GaveAll left_old left_new text × BringsNothing text fault)
@@ -36,9 +37,11 @@ RunStops Brings BringsNothing left_old left_new limit taken_old taken_new fault 
 
 -- all was read, and the verdict's line was written
 abbrev pub RanWell : Option (List ℕ) → Option (List ℕ) → Option (List ℕ) → Option (List ℕ) → Verdict → Type 0
-RanWell left_old left_new taken_old taken_new verdict = WroteAll (λ text line. IsAnswered text verdict line) left_old left_new taken_old taken_new
+RanWell left_old left_new taken_old taken_new verdict =
+    WroteAll (λ text line. IsAnswered text verdict line) left_old left_new taken_old taken_new
 
 -- when each fault comes, and what it leaves
 abbrev pub RunFails : Option (List ℕ) → Option (List ℕ) → Option (List ℕ) → Option (List ℕ) → ℕ → RunFault → Type 0
 RunFails left_old left_new taken_old taken_new limit fault =
-    RunStops (λ text line. (verdict : Verdict) × IsAnswered text verdict line) CannotAnswer left_old left_new limit taken_old taken_new fault
+    RunStops (λ text line. (verdict : Verdict) × IsAnswered text verdict line) CannotAnswer
+    left_old left_new limit taken_old taken_new fault

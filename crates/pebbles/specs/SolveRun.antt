@@ -37,9 +37,11 @@ CannotSolve workers text fault = IsWrongBoard text fault
 
 -- a small board's text was read, and the text of its document was written
 abbrev pub RanSolve : Option (List ℕ) → Option (List ℕ) → Option (List ℕ) → Option (List ℕ) → Value → Type 0
-RanSolve left_old left_new taken_old taken_new value = WroteAll (λ text written. IsSolution text value written) left_old left_new taken_old taken_new
+RanSolve left_old left_new taken_old taken_new value =
+    WroteAll (λ text written. IsSolution text value written) left_old left_new taken_old taken_new
 
 -- why a run ended without solving
 abbrev pub SolveFails : ℕ → Option (List ℕ) → Option (List ℕ) → ℕ → Option (List ℕ) → Option (List ℕ) → RunFault → Type 0
 SolveFails workers left_old left_new limit taken_old taken_new fault =
-    RunStops (λ text written. (value : Value) × IsSolution text value written) (CannotSolve workers) left_old left_new limit taken_old taken_new fault
+    RunStops (λ text written. (value : Value) × IsSolution text value written) (CannotSolve workers)
+    left_old left_new limit taken_old taken_new fault

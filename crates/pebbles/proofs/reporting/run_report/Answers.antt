@@ -9,5 +9,5 @@ pub returns-in_err-report-clause-fault : goal.returns-in_err-report-clause-fault
 returns-in_err-report-clause-fault g c =
     let p = err_from_is_err_and c.from_residual-in_err-report.result c.from_residual-in_err-report.ensures.1 in
     let taken = g.W.Sink.taken c.args.writer.now in
-    rw (p.1, p.2) (nothing_to_write IsReportOfText (CannotSolve c.args.workers) _ _ MAX_BOARD_BYTES taken taken c.in_ok-text.text.items c.in_err-report.field-0.0
-    c.in_ok-text.ensures.ok (λ none. none) (rw c.as_slice.ensures.value at c.in_err-report.ensures.fault))
+    rw (p.1, p.2) (nothing_to_write IsReportOfText (CannotSolve c.args.workers) _ _ MAX_BOARD_BYTES taken taken
+    c.in_ok-text.text.items c.in_err-report.field-0.0 c.in_ok-text.ensures.ok (λ none. none) (rw c.as_slice.ensures.value at c.in_err-report.ensures.fault))

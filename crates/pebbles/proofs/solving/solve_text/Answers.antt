@@ -6,4 +6,5 @@ use Rattle.pebbles.proofs.solving.solve_text.Goals as goal
 pub returns-clause-shows : goal.returns-clause-shows
 returns-clause-shows g c =
     IfOk-weaker c.solve.result _ _
-    (λ solved is. shows_value c.args.text.now solved.value (string_bytes solved.text) (c.in_ok-board.board, c.in_ok-board.ensures.found.0, is)) c.solve.ensures.solved
+    (λ solved is. shows_value c.args.text.now solved.value (string_bytes solved.text) (c.in_ok-board.board, c.in_ok-board.ensures.found.0, is))
+    c.solve.ensures.solved
