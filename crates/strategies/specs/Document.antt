@@ -59,8 +59,8 @@ pub record IsLabellerRow (board : PlainBoard) (start : Value) (row : AnswerRow) 
   pub one_each : length row.answers ≡ board.pebbles
   pub best : (pebble : ℕ) → pebble < board.pebbles → IsBestAnswer board row.at pebble (slice_index row.answers pebble)
 
--- a row that the document of a start with a finite value has for the adversary: a configuration that answers to best requests lead to from the start,
--- its value, and the best request
+-- a row that the document of a start with a finite value has for the adversary: a configuration that answers to best requests
+-- lead to from the start, its value, and the best request
 pub record IsAdversaryRow (board : PlainBoard) (row : RequestRow) : Type 0 where
   pub moves : List (ℕ × ℕ)
   pub reached : LeadsBy (IsRequestMove board) board.start moves row.at
