@@ -29,7 +29,8 @@ impl<'a> Model for PairWalk<'a> {
 
     ghost view = { λ w. record { list = w.list; left = w.left; runs = drop w.begun w.runs.now; nodes = drop w.place w.nodes.now } };
 
-    ghost invariant = { λ w. IsWalk (record { list = w.list; left = w.left; runs = drop w.begun w.runs.now; nodes = drop w.place w.nodes.now }) };
+    ghost invariant = { λ w.
+        IsWalk (record { list = w.list; left = w.left; runs = drop w.begun w.runs.now; nodes = drop w.place w.nodes.now }) };
 }
 
 impl<'a> PairWalk<'a> {

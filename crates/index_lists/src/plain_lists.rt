@@ -33,7 +33,8 @@ impl Model for PlainLists {
 
     ghost view = { λ s. record { nodes = s.node_count; lists = s.list_count; entries = entries_of s.runs.items s.nodes.items } };
 
-    ghost invariant = { λ s. ArePlain (record { nodes = s.node_count; lists = s.list_count; entries = entries_of s.runs.items s.nodes.items })
+    ghost invariant = { λ s.
+        ArePlain (record { nodes = s.node_count; lists = s.list_count; entries = entries_of s.runs.items s.nodes.items })
         × AreRuns s.node_count (vec_capacity s.runs) (vec_capacity s.nodes) s.runs.items s.nodes.items };
 }
 

@@ -24,7 +24,14 @@ pub record PlainStage : Type 0 where
 -- the stage of these parts, of which the buckets stand in a store
 abbrev pub stage_of : PlainBoard → ℕ → List ℕ → List ℕ → Lists → List ℕ → PlainStage
 stage_of board value values counts stored strikes =
-    record { board = board; value = value; values = values; counts = counts; buckets = first_lists stored.lists stored.list; strikes = strikes }
+    record {
+      board = board;
+      value = value;
+      values = values;
+      counts = counts;
+      buckets = first_lists stored.lists stored.list;
+      strikes = strikes;
+    }
 
 -- what is filed at a value, in order of filing
 abbrev pub filed_at : PlainStage → ℕ → List ℕ
