@@ -3,7 +3,7 @@
 ghost use Rattle.board_text.specs.Ranges.{InRange};
 
 use board_text::{Sink, Source};
-use fakes::{Drip, Failing, Trickle};
+use fakes::{Drip, Failing, Outcome, Trickle, comes_right};
 use player::{PlayEnd, PlayFault, play_nested};
 use std::alloc::Global;
 
@@ -42,8 +42,14 @@ const TWO_LEVELS: Climb = Climb {
     ..THREE_LEVELS
 };
 
-/// How a play ends, where it has this written and its ends failed where it says so; or it was refused memory and has a front of that written.
-fn answer_to(alloc: Global, climb: Climb, written: &[u8]) -> Option<Result<PlayEnd, PlayFault>>
+/// Whether a play answers and writes what it should, or was refused memory and wrote a front of that; and whether its ends failed where
+/// it says so.
+fn outcome(
+    alloc: Global,
+    climb: Climb,
+    wanted: Result<PlayEnd, PlayFault>,
+    written: &[u8],
+) -> Outcome
     requires { InRange 1 24 climb.levels }
 {
     let mut lines = Drip::new(climb.lines, climb.reads);
@@ -51,21 +57,24 @@ fn answer_to(alloc: Global, climb: Climb, written: &[u8]) -> Option<Result<PlayE
     let answer = play_nested(alloc, climb.levels, &mut lines, &mut writer);
     let told = lines.failed() == (answer == Err(PlayFault::Read))
         && writer.failed() == (answer == Err(PlayFault::Write));
-    let right = match answer {
-        Err(PlayFault::Memory) => written.starts_with(writer.taken()),
-        _ => writer.taken() == written,
+    let is_refused = answer == Err(PlayFault::Memory);
+    let is_right = if is_refused {
+        written.starts_with(writer.taken())
+    } else {
+        answer == wanted && writer.taken() == written
     };
-    if told && right { Some(answer) } else { None }
+    Outcome::of(is_refused, told && is_right)
 }
 
-/// Whether a play answers and writes what it should, or is refused memory and does so when it is asked once more.
+/// Whether a play answers and writes what it should, when it is asked once more where it was refused memory.
 fn serves(alloc: Global, climb: Climb, wanted: Result<PlayEnd, PlayFault>, written: &[u8]) -> bool
     requires { InRange 1 24 climb.levels }
 {
-    match answer_to(alloc, climb, written) {
-        Some(Err(PlayFault::Memory)) => answer_to(alloc, climb, written) == Some(wanted),
-        answer => answer == Some(wanted),
-    }
+    comes_right(
+        || -> Outcome
+            requires { InRange 1 24 climb.levels }
+        { outcome(alloc, climb, wanted, written) },
+    )
 }
 
 /// Whether the lines at the second level are answered so.

@@ -1,10 +1,14 @@
 //! Plays on worked boards, by the player's two calls.
 
+ghost use Rattle.std.specs.Prelude.{◌≡◌};
+
 use crate::assertions::assert_same;
 use crate::strategy_documents::values_of;
 use crate::texts::{CHAIN_OF_THREE, THREE_CYCLE, board_of};
-use fakes::{Drip, Failing, Trickle};
+use board_text::Board;
+use fakes::{Drip, Failing, Outcome, Trickle, comes_right};
 use player::{PlayEnd, PlayFault, play_adversary_side, play_labeller_side};
+use retro_core::Values;
 use std::alloc::Global;
 use std::process::Abort;
 
@@ -15,7 +19,34 @@ enum Person {
     Labeller,
 }
 
-/// Asserts how a play on a board ends, and what it writes, unless it was refused memory: then that is a front of it.
+/// Whether a play on a board ends so and writes this, or was refused memory and wrote a front of it.
+fn outcome(
+    alloc: Global,
+    board: &Board,
+    values: &Values,
+    person: Person,
+    lines: &[u8],
+    wanted: PlayEnd,
+    written: &[u8],
+) -> Outcome
+    requires { values.now ≡ board.now }
+{
+    let mut reader = Drip::new(lines, 1000);
+    let mut writer = Trickle::<200>::new(1000, Failing::Refuses);
+    let end = match person {
+        Person::Adversary => play_adversary_side(alloc, board, values, &mut reader, &mut writer),
+        Person::Labeller => play_labeller_side(alloc, board, values, &mut reader, &mut writer),
+    };
+    let is_refused = end == Err(PlayFault::Memory);
+    let is_right = if is_refused {
+        written.starts_with(writer.taken())
+    } else {
+        end == Ok(wanted) && writer.taken() == written
+    };
+    Outcome::of(is_refused, is_right)
+}
+
+/// Asserts how a play on a board ends, and what it writes. A play that was refused memory is played once more.
 fn assert_play(
     rt: &impl Abort,
     alloc: Global,
@@ -27,20 +58,12 @@ fn assert_play(
 ) {
     let board = board_of(rt, alloc, board);
     let values = values_of(alloc, &board).expect(rt, "values");
-    let mut reader = Drip::new(lines, 1000);
-    let mut writer = Trickle::<200>::new(1000, Failing::Refuses);
-    let end = match person {
-        Person::Adversary => {
-            play_adversary_side(alloc, &board, &values, &mut reader, &mut writer)
-        }
-        Person::Labeller => play_labeller_side(alloc, &board, &values, &mut reader, &mut writer),
-    };
-    if end == Err(PlayFault::Memory) {
-        assert_same(rt, "a front", written.starts_with(writer.taken()), true);
-    } else {
-        assert_same(rt, "the end", end, Ok(wanted));
-        assert_same(rt, "the text", writer.taken() == written, true);
-    }
+    let is_right = comes_right(
+        || -> Outcome
+            requires { values ≡ board }
+        { outcome(alloc, &board, &values, person, lines, wanted, written) },
+    );
+    assert_same(rt, wanted, is_right, true);
 }
 
 #[test]

@@ -116,11 +116,11 @@ fn chain_of_three(rt: HostRuntime) {
     chain::<LinkLists>(&rt, rt.alloc());
 }
 
-/// The number of rounds of a solver that isn't done.
-fn unfinished_rounds<S: ListStore + Drop>(solver: Solver<S>) -> Option<u32> {
+/// The solver that `finish` gives back where the rounds aren't done.
+fn given_back<S: ListStore + Drop>(solver: Solver<S>) -> Option<Solver<S>> {
     match solver.finish() {
         Ok(_) => None,
-        Err(unfinished) => Some(unfinished.solver.round_number()),
+        Err(unfinished) => Some(unfinished.solver),
     }
 }
 
@@ -128,7 +128,26 @@ fn unfinished_rounds<S: ListStore + Drop>(solver: Solver<S>) -> Option<u32> {
 fn unfinished(rt: HostRuntime) {
     let board = board_of(&rt, rt.alloc(), ONE_PAIR);
     let solver: Solver<LinkLists> = open(&rt, rt.alloc(), &board);
-    assert_eq!(&rt; unfinished_rounds(solver), Some(0));
+    let again = given_back(solver).expect(&rt, "a solver");
+    assert_same(&rt, "rounds", again.round_number(), 0);
+}
+
+/// Three pebbles on the cycle, round by round, with a solver that is to finish too early twice.
+fn three_pebbles<S: ListStore + Drop>(rt: &impl Abort, alloc: Global) {
+    let board = board_of(rt, alloc, THREE_PEBBLES);
+    let solver: Solver<S> = open(rt, alloc, &board);
+    let mut solver = given_back(solver).expect(rt, "a solver without a round");
+    assert_same(rt, "the first round", solver.round(), Progress::Filed(3));
+    let mut solver = given_back(solver).expect(rt, "a solver with a round");
+    let last = (solver.round(), solver.done(), solver.round_number());
+    assert_same(rt, "the last round", last, (Progress::Done, true, 1));
+    assert_same(rt, "values", given_back(solver).is_none(), true);
+}
+
+#[test]
+fn three_pebbles_on_the_cycle(rt: HostRuntime) {
+    three_pebbles::<PlainLists>(&rt, rt.alloc());
+    three_pebbles::<LinkLists>(&rt, rt.alloc());
 }
 
 /// The value of the first configuration of the board with this text, and the safe answer of the first gap.
@@ -136,6 +155,36 @@ fn first_value(rt: &impl Abort, alloc: Global, text: &str) -> (Option<Value>, Op
     let board = board_of(rt, alloc, text);
     let values = solve::<LinkLists>(rt, alloc, &board);
     (value(&values, 0), safe(&values, 0))
+}
+
+/// What a solver has for the first configuration of a board before its first round, and what that round answers.
+fn first_round<S: ListStore + Drop>(
+    rt: &impl Abort,
+    alloc: Global,
+    text: &str,
+) -> (Option<u32>, Progress) {
+    let board = board_of(rt, alloc, text);
+    let mut solver: Solver<S> = open(rt, alloc, &board);
+    (known(&solver, 0), solver.round())
+}
+
+/// Asserts that a board of one label has nothing to file, and whether its one configuration has the value 0 before.
+fn assert_first_round<S: ListStore + Drop>(
+    rt: &impl Abort,
+    alloc: Global,
+    text: &str,
+    known: Option<u32>,
+) {
+    let found = first_round::<S>(rt, alloc, text);
+    assert_same(rt, text, found, (known, Progress::Done));
+}
+
+#[test]
+fn rounds_of_one_label(rt: HostRuntime) {
+    for (text, known) in [(LONE_LABEL, None), (SHARED_LABEL, Some(0))] {
+        assert_first_round::<PlainLists>(&rt, rt.alloc(), text, known);
+        assert_first_round::<LinkLists>(&rt, rt.alloc(), text, known);
+    }
 }
 
 #[test]

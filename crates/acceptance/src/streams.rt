@@ -89,17 +89,17 @@ fn reads_of_many_bytes(rt: HostRuntime) -> Result<(), AllocError> {
     Ok(())
 }
 
-/// Asserts that no read follows the first error of a reader of std, whatever that error is.
+/// Asserts that no read follows the first error of a reader of std, whatever that error is. Where memory is refused nothing was read yet.
 fn assert_first_error_fails<R: Read + Drop>(rt: &impl Abort, alloc: Global, inner: R) {
     let mut reader = Through::new(inner);
     assert!(rt; !Source::failed(&reader));
-    match is_read(alloc, &mut reader, PLENTY, TEXT) {
-        Err(ReadFault::Memory) => assert!(rt; !Source::failed(&reader)),
-        answer => {
-            assert_eq!(rt; answer, Err(ReadFault::Read));
-            assert!(rt; Source::failed(&reader));
-        }
+    let mut answer = is_read(alloc, &mut reader, PLENTY, TEXT);
+    if answer == Err(ReadFault::Memory) {
+        assert!(rt; !Source::failed(&reader));
+        answer = is_read(alloc, &mut reader, PLENTY, TEXT);
     }
+    assert_eq!(rt; answer, Err(ReadFault::Read));
+    assert!(rt; Source::failed(&reader));
 }
 
 #[test]
