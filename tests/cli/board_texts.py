@@ -1,0 +1,46 @@
+"""The texts of boards that are made here."""
+
+
+def text(version, labels, start, pairs):
+    """A board with as many pebbles as its start has places."""
+    lines = [f'board {version}', f'labels {labels}', f'pebbles {len(start)}', ' '.join(['start', *map(str, start)])]
+    lines += [f'beats {x} {y}' for x, y in sorted(pairs)]
+    return '\n'.join([*lines, 'end', '']).encode()
+
+
+def chain(labels):
+    """Labels in a transitive order, with two pebbles."""
+    return text(1, labels, [0, 0], [(x, y) for x in range(labels) for y in range(x)])
+
+
+def empty(labels):
+    """Labels of which none dominates another, with four pebbles."""
+    return text(1, labels, [0, 0, 0, 0], [])
+
+
+class Numbers:
+    """Numbers that are the same everywhere."""
+    state = 20
+
+    def below(self, bound):
+        """The next one."""
+        self.state = self.state * 16807 % 2147483647
+        return self.state // 65536 % bound
+
+
+def drawn_board(draw):
+    """A small board of either version."""
+    version, labels, pebbles = 1 + draw.below(2), 1 + draw.below(5), 1 + draw.below(4)
+    blank, start, pairs = draw.below(pebbles), [], []
+    for pebble in range(pebbles):
+        label = draw.below(labels + version - 1)
+        start.append('-' if label == labels or version == 2 and pebble == blank else label)
+    for x, y in ((x, y) for x in range(labels) for y in range(x)):
+        pairs += [[], [(x, y)], [(y, x)]][draw.below(3)]
+    return text(version, labels, start, pairs)
+
+
+def drawn(count):
+    """So many small boards."""
+    draw = Numbers()
+    return [drawn_board(draw) for _ in range(count)]

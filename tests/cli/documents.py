@@ -1,0 +1,124 @@
+"""What solve, check, report and nested write of stored boards, and of boards that are too long to be stored."""
+import hashlib
+import os
+import re
+from functools import partial
+
+import board_texts
+from program import Check, Ran, board, check, fault, leaves, run, shown, stored, strategy, text_of, written
+
+# the claims of stored boards
+CLAIMS = {
+    'three-cycle': 'forever',
+    'three-pebbles-on-the-cycle': 'value 1',
+    'one-pair': 'value 1',
+    'chain-of-three': 'value 2',
+    'chain-of-eight': 'value 7',
+    'empty-of-four': 'value 0',
+    'one-label': 'forever',
+    'one-label-two-pebbles': 'value 0',
+    'cycle-with-a-way-in': 'value 1',
+    'one-pair-without-labels': 'value 2',
+    'three-cycle-without-labels': 'forever',
+    'residues-modulo-seven': 'forever',
+}
+# the digest of the nested board of level 6 with six pebbles, whose text was made by other means
+NESTED_SIX = '99e3d4fd93bc36598f8d3ffb62b223fb984699a8e9c5a4f0f51b5b23fbf76a55'
+EMPTY_REPORT = b'report 1\nlabels 32\npebbles 4\nconfigurations 1048576\nstart value 0\nvalue 0: 1048576\nforever: 0\nend\n'
+NESTED_REPORT = b'report 1\nlabels 9\npebbles 3\nconfigurations 729\nstart forever\nforever: 729\nend\n'
+TOO_LARGE = fault(1, 'board too large')
+
+
+# ---- what a check asks of a board
+
+def is_accepted(path, document, claim):
+    """None where what solve writes of the board claims this, and is accepted."""
+    with open(document, 'wb') as file:
+        file.write(run(['solve', path]).output)
+    return leaves(Ran(output=f'accepted {claim}\n'.encode()), ['check', path, document])
+
+
+def is_equal_by_sixteen(path):
+    """None where sixteen workers write the same document."""
+    return leaves(Ran(output=run(['solve', path]).output), ['solve', '--workers', '16', path])
+
+
+def adds_up(path):
+    """None where the counts of the board's report add up to the number of its configurations."""
+    got = run(['report', path])
+    total = re.search(rb'(?m)^configurations (\d+)$', got.output)
+    counts = [int(count) for count in re.findall(rb'(?m)^(?:value \d+|forever): (\d+)$', got.output)]
+    if (got.status, got.errors) == (0, b'') and total and int(total[1]) == sum(counts):
+        return None
+    return f'{shown(got)}; and not counts that add up, but {sum(counts)}'
+
+
+def has_lines(level, lines):
+    """None where the nested board of this level has so many lines."""
+    got = run(['nested', level, level])
+    found = got.output.count(b'\n')
+    return None if (got.status, got.errors, found) == (0, b'', lines) else f'{shown(got)}, {found} lines; and not {lines} lines'
+
+
+def has_digest(level, digest):
+    """None where the nested board of this level has this digest."""
+    found = hashlib.sha256(run(['nested', level, level]).output).hexdigest()
+    return None if found == digest else f'the digest {found}; and not {digest}'
+
+
+# ---- checks
+
+def solved(work, name, path, claim):
+    """The board's document claims this and is accepted, and is the same by sixteen workers."""
+    yield Check(f'the document of {name}', partial(is_accepted, path, os.path.join(work, f'{name}.document'), claim))
+    yield Check(f'solve {name} with sixteen workers', partial(is_equal_by_sixteen, path))
+
+
+def counted(name, path):
+    """The counts of the board add up."""
+    return Check(f'the counts of {name}', partial(adds_up, path))
+
+
+def stored_documents():
+    """Each stored document is accepted with its claim, and is what solve writes."""
+    for name in stored('.strategy'):
+        text = text_of(strategy(name))
+        claim = text.split(b'\n')[1]
+        yield check(f'the stored {name}', Ran(output=b'accepted %s\n' % claim), ['check', board(name), strategy(name)])
+        yield check(f'solve {name}', Ran(output=text), ['solve', board(name)])
+
+
+def stored_boards(work):
+    """The claims and counts of stored boards."""
+    for name, claim in CLAIMS.items():
+        yield from solved(work, name, board(name), claim)
+    for name in stored('.board'):
+        yield counted(name, board(name))
+
+
+def made_boards(work):
+    """A chain of 256 labels, nested boards, and boards without pairs: the largest, and one that is too large."""
+    chain = written(work, 'chain.board', board_texts.chain(256))
+    yield from solved(work, 'the chain of 256 labels', chain, 'value 255')
+    yield counted('the chain of 256 labels', chain)
+    three, four, five = (written(work, f'nested-{level}.board', run(['nested', level, level]).output) for level in '345')
+    yield from solved(work, 'the nested board of level 4', four, 'forever')
+    yield counted('the nested board of level 4', four)
+    empty = written(work, 'empty.board', board_texts.empty(32))
+    yield from solved(work, 'the largest empty board', empty, 'value 0')
+    yield check('the report of the largest empty board', Ran(output=EMPTY_REPORT), ['report', empty])
+    yield check('the report of the nested board of level 3', Ran(output=NESTED_REPORT), ['report', three])
+    large = written(work, 'large.board', board_texts.empty(33))
+    for command in ('solve', 'report'):
+        yield check(f'{command} of a board that is too large (large)', TOO_LARGE, [command, large])
+        yield check(f'{command} of a board that is too large (five)', TOO_LARGE, [command, five])
+
+
+def checks(work):
+    """Those of stored documents and boards, of boards that are made, and of the texts of large nested boards."""
+    yield from stored_documents()
+    yield from stored_boards(work)
+    yield from made_boards(work)
+    yield Check('nested 5 5', partial(has_lines, '5', 3245))
+    yield Check('nested 6 6', partial(has_lines, '6', 29408))
+    yield Check('the digest of nested 6 6', partial(has_digest, '6', NESTED_SIX))

@@ -1,0 +1,79 @@
+"""Inputs that are as long as they may be, longer, or without an end; and paths that are too long."""
+from functools import partial
+
+from program import Check, Ran, board, check, differs, fault, fed, run, strategy, written, zeros
+
+# the bytes of a board, and of a document or of both together; the bytes of a line of a play, and the number of its lines
+LONGEST_BOARD = 1048576
+LONGEST_INPUT = 134217728
+LONGEST_LINE = 64
+MOST_LINES = 1000000
+
+NO_VERSION = fault(1, 'board fault line 1 Version')
+TOO_LONG = fault(5, 'input too long')
+PAIR, PAIR_STRATEGY = board('one-pair'), strategy('one-pair')
+# each kind of play, its words, and what it writes before it reads a line
+PLAYS = (
+    ('play', ['play', '--side', 'adversary', board('chain-of-three')], b'value 2\nat 0 0\n'),
+    ('climb', ['climb', '2'], b'levels 2\nat 0 0\n'),
+)
+
+
+def long_boards(work):
+    """Boards, documents and both together, at the limit and beyond."""
+    yield fed('the longest input', NO_VERSION, zeros(LONGEST_INPUT), [])
+    yield fed('an input that is too long', TOO_LONG, zeros(LONGEST_INPUT + 1), [])
+    longest = written(work, 'longest', bytes(LONGEST_BOARD))
+    too_long = written(work, 'too-long', bytes(LONGEST_BOARD + 1))
+    yield check('the longest board', NO_VERSION, ['check', longest, PAIR_STRATEGY])
+    yield check('a board that is too long', TOO_LONG, ['check', too_long, longest])
+    yield fed('a document that is too long', TOO_LONG, zeros(LONGEST_INPUT + 1), ['check', PAIR, '/dev/stdin'])
+    for command in ('solve', 'report'):
+        yield check(f'{command} of a board that is too long', TOO_LONG, [command, too_long])
+    yield fed('a board of two thousand million bytes', TOO_LONG, zeros(2000000000), ['solve', '/dev/stdin'])
+
+
+def endless_inputs():
+    """A pipe without an end, as each text that a command reads."""
+    for name, words in (
+        ('joined', []),
+        ('solve', ['solve', '/dev/stdin']),
+        ('report', ['report', '/dev/stdin']),
+        ('play', ['play', '--side', 'labeller', '/dev/stdin']),
+        ('the board of check', ['check', '/dev/stdin', PAIR_STRATEGY]),
+        ('the document of check', ['check', PAIR, '/dev/stdin']),
+    ):
+        yield fed(f'an input that never ends ({name})', TOO_LONG, ['cat', '/dev/zero'], words)
+
+
+def leaves_on_zeros(wanted, words):
+    """None where a run that reads a file without an end leaves what is wanted."""
+    with open('/dev/zero', 'rb') as file:
+        return differs(run(words, stdin=file), wanted)
+
+
+def long_plays():
+    """Lines of as many bytes as are read of one, of one more, and without an end; and as many lines as are read."""
+    for name, words, opening in PLAYS:
+        refused = Ran(output=opening + b'not a request\nstopped after 0 requests\n')
+        too_long = fault(5, 'input too long', opening)
+        too_many = fault(5, 'input too long', opening + b'not a request\n' * MOST_LINES)
+        yield check(f'a line of 64 bytes ({name})', refused, words, input=b'0' * LONGEST_LINE + b'\nquit')
+        yield check(f'a line of 65 bytes ({name})', too_long, words, input=b'0' * (LONGEST_LINE + 1) + b'\nquit')
+        yield Check(f'a line that never ends ({name})', partial(leaves_on_zeros, too_long, words))
+        yield check(f'a {name} of a million lines', too_many, words, input=b'x\n' * MOST_LINES)
+
+
+def long_paths():
+    """Paths that no file can have."""
+    path = '0' * 5000
+    for words in (['solve', path], ['report', path], ['play', '--side', 'labeller', path], ['check', path, path]):
+        yield check(f'a path of 5000 bytes ({words[0]})', fault(5, 'read fault'), words)
+
+
+def checks(work):
+    """Those of boards and documents, of plays, and of paths."""
+    yield from long_boards(work)
+    yield from endless_inputs()
+    yield from long_plays()
+    yield from long_paths()
