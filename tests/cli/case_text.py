@@ -1,4 +1,5 @@
-r"""The cases: each file of cases/ is a run of the program. It has these sections in any order, each of which may be left out.
+r"""The cases: each file of cases/ is a run of the program. Its name begins with the command (`joined` where there is none), `help` or
+`usage`, which is wrong use, and says what it shows. It has these sections in any order, each of which may be left out.
 
     -- words           the words of the command line, one a line
     -- file NAME       a file that the run finds under this name

@@ -5,7 +5,8 @@ from dataclasses import dataclass
 from functools import partial
 
 TOP = os.path.dirname(os.path.dirname(os.path.dirname(os.path.abspath(__file__))))
-PROGRAM = os.path.join(TOP, 'crates', 'pebbles', 'out', 'pebbles')
+CRATE = os.path.join(TOP, 'crates', 'pebbles')
+PROGRAM = os.path.join(CRATE, 'out', 'pebbles')
 BOARDS = os.path.join(TOP, 'boards')
 # the seconds after which a run is taken for one without an end
 LONGEST = 300
