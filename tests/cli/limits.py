@@ -23,6 +23,7 @@ WORKERS = (1, 4, 16)
 class Limit:
     """A limit of the system, the sizes to which it is set, in `unit`, and what a refused run of one worker or of several may leave."""
     name: str
+    counted: str
     kind: int
     unit: int
     sizes: tuple
@@ -30,9 +31,9 @@ class Limit:
     several_workers: tuple
 
 
-MEMORY = Limit('KiB of memory', resource.RLIMIT_AS, KIBIBYTE,
+MEMORY = Limit('memory', 'KiB of memory', resource.RLIMIT_AS, KIBIBYTE,
                (5120, 6144, 8192, 10240, 12288, 16384, 24576, 32768, 65536, 131072, 262144, 1048576), (NO_MEMORY,), (NO_MEMORY, NO_WORKER))
-THREADS = Limit('threads', resource.RLIMIT_NPROC, 1, (1, 2, 3, 4, 5, 6, 8, 10, 12, 14, 16, 20), (), (NO_WORKER,))
+THREADS = Limit('threads', 'threads', resource.RLIMIT_NPROC, 1, (1, 2, 3, 4, 5, 6, 8, 10, 12, 14, 16, 20), (), (NO_WORKER,))
 
 
 @dataclass
@@ -121,8 +122,8 @@ def limited(limit, jobs):
     for job in jobs:
         for size in limit.sizes:
             for workers in WORKERS:
-                yield Check(f'{job.name} by {workers} workers within {size} {limit.name}', partial(has_end, limit, size, workers, job))
-    yield Check(f'the limit in {limit.name}', partial(binds, limit, jobs[-1]))
+                yield Check(f'{job.name} by {workers} workers within {size} {limit.counted}', partial(has_end, limit, size, workers, job))
+    yield Check(f'the limit on {limit.name}', partial(binds, limit, jobs[-1]))
 
 
 def locked_board(work, program):
