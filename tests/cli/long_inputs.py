@@ -27,6 +27,7 @@ def long_boards(work):
     too_long = written(work, 'too-long', bytes(LONGEST_BOARD + 1))
     yield check('the longest board', NO_VERSION, ['check', longest, PAIR_STRATEGY])
     yield check('a board that is too long', TOO_LONG, ['check', too_long, longest])
+    yield fed('the longest document', fault(1, 'proof fault line 1 Version'), zeros(LONGEST_INPUT), ['check', PAIR, '/dev/stdin'])
     yield fed('a document that is too long', TOO_LONG, zeros(LONGEST_INPUT + 1), ['check', PAIR, '/dev/stdin'])
     for command in ('solve', 'report'):
         yield check(f'{command} of a board that is too long', TOO_LONG, [command, too_long])
