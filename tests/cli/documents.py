@@ -2,10 +2,11 @@
 import hashlib
 import os
 import re
+import subprocess
 from functools import partial
 
 import board_texts
-from program import Check, Ran, board, check, fault, leaves, run, shown, stored, strategy, text_of, written
+from program import BOARDS, Check, Ran, board, check, fault, leaves, run, shown, stored, strategy, text_of, written
 
 # the claims of stored boards
 CLAIMS = {
@@ -21,6 +22,20 @@ CLAIMS = {
     'one-pair-without-labels': 'value 2',
     'three-cycle-without-labels': 'forever',
     'residues-modulo-seven': 'forever',
+    'three-pebbles-on-the-chain-of-eight': 'value 7',
+    'four-cycle': 'forever',
+    'three-pebbles-on-the-four-cycle': 'value 1',
+    'numbers-modulo-five': 'value 2',
+    'numbers-modulo-five-without-labels': 'value 3',
+    'numbers-modulo-seven': 'value 3',
+    'four-pebbles-on-residues-modulo-seven': 'value 2',
+    'residues-modulo-nineteen': 'forever',
+    'nested-of-level-three': 'forever',
+    'four-pebbles-on-level-three': 'value 3',
+    'product-of-cycle-and-pair': 'value 3',
+    'product-of-pair-and-cycle': 'value 3',
+    'product-of-four-cycle-and-cycle': 'forever',
+    'product-of-cycle-and-residues-modulo-seven': 'forever',
 }
 # the digest of the nested board of level 6 with six pebbles, whose text was made by other means
 NESTED_SIX = '99e3d4fd93bc36598f8d3ffb62b223fb984699a8e9c5a4f0f51b5b23fbf76a55'
@@ -88,8 +103,19 @@ def stored_documents():
         yield check(f'solve {name}', Ran(output=text), ['solve', board(name)])
 
 
+def are_made(work):
+    """None where boards/make writes the stored boards, and no others."""
+    folder = os.path.join(work, 'made')
+    os.mkdir(folder)
+    subprocess.run([os.path.join(BOARDS, 'make'), folder], check=True)
+    made = {name: text_of(os.path.join(folder, f'{name}.board')) for name in CLAIMS}
+    others = {name for name in CLAIMS if made[name] != text_of(board(name))} | set(os.listdir(folder)) ^ {f'{name}.board' for name in stored('.board')}
+    return None if not others else f'others are made: {sorted(others)}'
+
+
 def stored_boards(work):
     """The claims and counts of stored boards."""
+    yield Check('the stored boards are made', partial(are_made, work))
     for name, claim in CLAIMS.items():
         yield from solved(work, name, board(name), claim)
     for name in stored('.board'):
