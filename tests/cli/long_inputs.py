@@ -62,7 +62,11 @@ def long_plays():
         yield check(f'a line of 64 bytes ({name})', refused, words, input=b'0' * LONGEST_LINE + b'\nquit')
         yield check(f'a line of 65 bytes ({name})', too_long, words, input=b'0' * (LONGEST_LINE + 1) + b'\nquit')
         yield Check(f'a line that never ends ({name})', partial(leaves_on_zeros, too_long, words))
+        all_but_one = b'not a request\n' * (MOST_LINES - 1)
+        in_time = Ran(output=opening + all_but_one + b'stopped after 0 requests\n')
+        yield check(f'a {name} that ends with the millionth line', in_time, words, input=b'x\n' * (MOST_LINES - 1) + b'quit\n')
         yield check(f'a {name} of a million lines', too_many, words, input=b'x\n' * MOST_LINES)
+        yield check(f'a {name} that would end a line later', too_many, words, input=b'x\n' * MOST_LINES + b'quit\n')
 
 
 def long_paths():
