@@ -7,6 +7,7 @@ use Rattle.std.proofs.lemmas.List.Elements.{recursion_from_All, All-cons, All-ni
 use Rattle.board_text.specs.Ranges.{AreNumbers}
 use Rattle.board_text.specs.PlainBoard.{ArePairs, AreLabels, Precedes, IsNext}
 use Rattle.board_text.specs.BoardText.{beats_line, end_line}
+use Rattle.board_text.specs.declared.board.TheConstants.{MAX_LABELS}
 use Rattle.board_text.proofs.Lines.{numbers_line_unique}
 
 are_two : (labels : ℕ) (p : ℕ × ℕ) → AreLabels labels p → AreNumbers 2 labels (p.0 ∷ p.1 ∷ [])
@@ -54,7 +55,7 @@ aligned_all labels (p ∷ ps) (q ∷ qs) x y bound are_ps are_qs e =
     let s = same_line labels p q (flat_map beats_line ps ++ x) (flat_map beats_line qs ++ y) bound are_ps.0 are_qs.0 (sym (cons_assoc p ps x) ∙ e ∙ cons_assoc q qs y) in
     one_before p q ps qs x y s.0 (aligned_all labels ps qs x y bound are_ps.1 are_qs.1 s.1)
 
-pub aligned : (labels : ℕ) (ps qs : List (ℕ × ℕ)) (x y : List ℕ) → labels ≤ 256 → ArePairs labels ps → ArePairs labels qs
+pub aligned : (labels : ℕ) (ps qs : List (ℕ × ℕ)) (x y : List ℕ) → labels ≤ MAX_LABELS → ArePairs labels ps → ArePairs labels qs
     → flat_map beats_line ps ++ x ≡ flat_map beats_line qs ++ y → Aligned ps qs x y
 aligned labels ps qs x y bound are_ps are_qs e =
     aligned_all labels ps qs x y (omega arith) (recursion_from_All (AreLabels labels) ps are_ps.of_labels) (recursion_from_All (AreLabels labels) qs are_qs.of_labels) e

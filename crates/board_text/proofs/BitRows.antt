@@ -9,7 +9,9 @@ use Rattle.std.proofs.Math.Nat.{mul-le-mul_right}
 use Rattle.std.proofs.lemmas.Nat.Bits.{bit_at_set_same, bit_at_set_other, bit_at-zero}
 use Rattle.board_text.specs.Ranges.{InRange}
 use Rattle.board_text.specs.PlainBoard.{AreLabels, IsNext}
-use Rattle.board_text.specs.Domination.{has_bit, beats_in, mark_of, pairs_of, pair_at, ClearFrom, AreRows, SetsPair}
+use Rattle.board_text.specs.Domination.{has_bit}
+use Rattle.board_text.specs.Inside.Domination.{beats_in, mark_of, pairs_of, pair_at, ClearFrom, AreRows, SetsPair}
+use Rattle.board_text.specs.declared.board.TheConstants.{MAX_LABELS}
 use Rattle.board_text.proofs.DominationPairs.{NoMarks, pairs_more, pairs_none, has_mark, is_marked, place_grows, precedes_from_place}
 
 -- the mark of a pair's place is the pair's bit
@@ -51,7 +53,7 @@ pub written : (n : ℕ) (old new : List ℕ) → length new ≡ n → take n (ne
 written n old new len = take_at new (drop (length new) old) n len
 
 -- where the rows are clear there are no marks
-pub clear_marks : (labels : ℕ) (rows : List ℕ) (next : ℕ) → InRange 1 256 labels → ClearFrom labels rows next → NoMarks (mark_of labels rows) next (labels * labels)
+pub clear_marks : (labels : ℕ) (rows : List ℕ) (next : ℕ) → InRange 1 MAX_LABELS labels → ClearFrom labels rows next → NoMarks (mark_of labels rows) next (labels * labels)
 clear_marks labels rows next in_range clear place low high =
     let p = pair_of_place labels place in_range.0 high in
     let first : place / labels < labels = p.first in
@@ -78,7 +80,7 @@ place_from_next labels rows next x y is above =
 
 -- ---- one pair more
 
-same_mark : (labels : ℕ) (old new : List ℕ) (x y place : ℕ) → InRange 1 256 labels → AreLabels labels (x, y) → SetsPair labels old new x y → place < labels * labels → place ≢ x * labels + y
+same_mark : (labels : ℕ) (old new : List ℕ) (x y place : ℕ) → InRange 1 MAX_LABELS labels → AreLabels labels (x, y) → SetsPair labels old new x y → place < labels * labels → place ≢ x * labels + y
     → mark_of labels new place ≡ mark_of labels old place
 same_mark labels old new x y place in_range are sets lt other =
     let p = pair_of_place labels place in_range.0 lt in
@@ -115,7 +117,7 @@ no_bit n x y =
     ] in
     ap (λ (w : ℕ). nat_eq (bit_at w (x % 64)) 1) word ∙ ap (λ (b : ℕ). nat_eq b 1) (bit_at-zero (x % 64))
 
-pub rows_new : (labels : ℕ) → InRange 1 256 labels → AreRows labels (replicate (4 * labels) 0) 0
+pub rows_new : (labels : ℕ) → InRange 1 MAX_LABELS labels → AreRows labels (replicate (4 * labels) 0) 0
 rows_new labels in_range = record {
   in_range = in_range;
   sized = length-replicate {A = ℕ} (4 * labels) 0;
@@ -124,7 +126,7 @@ rows_new labels in_range = record {
 }
 
 -- a word with one bit more
-pub sets_pair : (labels : ℕ) (rows : List ℕ) (x y : ℕ) → labels ≤ 256 → length rows ≡ 4 * labels → AreLabels labels (x, y)
+pub sets_pair : (labels : ℕ) (rows : List ℕ) (x y : ℕ) → labels ≤ MAX_LABELS → length rows ≡ 4 * labels → AreLabels labels (x, y)
     → SetsPair labels rows (set rows (4 * y + x / 64) (bit_or (get_or rows (4 * y + x / 64) 0) (1 * 2 ^ (x % 64) % 2 ^ 64))) x y
 sets_pair labels rows x y few sized are =
     let place : ℕ = 4 * y + x / 64 in
@@ -158,13 +160,13 @@ next_within labels rows next is =
     ]
 
 -- a bit of the row of a label is a bit of the rows
-pub row_bit : (rows : List ℕ) (x y : ℕ) → x < 256 → 4 * y + 4 ≤ length rows → has_bit (take 4 (drop (4 * y) rows)) x ≡ beats_in rows x y
+pub row_bit : (rows : List ℕ) (x y : ℕ) → x < MAX_LABELS → 4 * y + 4 ≤ length rows → has_bit (take 4 (drop (4 * y) rows)) x ≡ beats_in rows x y
 row_bit rows x y small inside =
     let low : x / 64 < 4 = omega arith in
     ap (λ (w : ℕ). nat_eq (bit_at w (x % 64)) 1) (get_or-take 4 (drop (4 * y) rows) (x / 64) 0 low ∙ get_or-drop (4 * y) rows (x / 64) 0)
 
 -- the row of a label has the bits of those that beat it, and no others
-pub row_is : (labels : ℕ) (rows : List ℕ) (next x y : ℕ) → AreRows labels rows next → x < 256 → y < labels → has_bit (take 4 (drop (4 * y) rows)) x ≡ true ↔ Contains (pairs_of labels rows) (x, y)
+pub row_is : (labels : ℕ) (rows : List ℕ) (next x y : ℕ) → AreRows labels rows next → x < MAX_LABELS → y < labels → has_bit (take 4 (drop (4 * y) rows)) x ≡ true ↔ Contains (pairs_of labels rows) (x, y)
 row_is labels rows next x y is small low =
     let inside : 4 * y + 4 ≤ length rows = omega (arith, is.sized, low) in
     let same = row_bit rows x y small inside in (

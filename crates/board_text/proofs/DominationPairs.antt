@@ -5,7 +5,7 @@ use Rattle.std.proofs.lemmas.List.{append-nil, length-append}
 use Rattle.std.proofs.lemmas.List.Elements.{Contains-push, Contains-append_left, Contains-push_cases}
 use Rattle.std.proofs.lemmas.Nat.{div-mul-add, mod-mul-add, mod_below, row_fits, div-add-mod'}
 use Rattle.board_text.specs.PlainBoard.{Precedes}
-use Rattle.board_text.specs.Domination.{pairs_below, pair_at}
+use Rattle.board_text.specs.Inside.Domination.{pairs_below, pair_at}
 
 -- no place from `low` to below `high` is marked
 abbrev pub NoMarks : (ℕ → Bool) → ℕ → ℕ → Type 0

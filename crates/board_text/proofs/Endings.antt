@@ -8,6 +8,7 @@ use Rattle.board_text.specs.BoardText.{beats_line, end_line}
 use Rattle.board_text.specs.BoardFaults.{NotEnd, IsCut, PairFault}
 use Rattle.board_text.specs.declared.fault.BoardKind.{BoardKind}
 use Rattle.board_text.specs.declared.fault.BoardKind.TheVariants.{Version, Labels, Pebbles, Start, Beats, SelfBeat, TwoWay, Order, End, Trailing, Memory}
+use Rattle.board_text.specs.declared.board.TheConstants.{MAX_LABELS}
 use Rattle.board_text.proofs.BeatsLines.{same_line, not_end, not_cut, not_nothing, next_contained, is_next}
 
 -- what is found of a text: a board, or a fault at a line
@@ -56,7 +57,7 @@ pub is_cut_pair : (p : ℕ × ℕ) (rest more : List ℕ) → rest ≡ beats_lin
 is_cut_pair p rest more e (inl none) = not_nothing p more (sym e ∙ none)
 is_cut_pair p rest more e (inr letter) = not_cut p more letter.0 (sym e ∙ letter.1)
 
-pub one_ending : (b : PlainBoard) (rest : List ℕ) (v w : Finding) → b.labels ≤ 256 → Ending b rest v → Ending b rest w → v ≡ w
+pub one_ending : (b : PlainBoard) (rest : List ℕ) (v w : Finding) → b.labels ≤ MAX_LABELS → Ending b rest v → Ending b rest w → v ≡ w
 one_ending b rest v w few (at_end more e h) (at_end other f g) = same_behind b more other v w (append_cancel_left end_line more other (sym e ∙ f)) h g
 one_ending b rest v w few (at_end more e h) (at_cut not c g) = absurd (not tt more tt e)
 one_ending b rest v w few (at_end more e h) (at_other whole not l g) = absurd (not tt more tt e)
@@ -85,7 +86,7 @@ fits labels pairs more p kind are (itself e f) =
 fits labels pairs more p kind are (back e h f) = are.one_way p.0 p.1 (next_contained pairs more p) (Contains-append_left pairs (p ∷ more) (p.1, p.0) h)
 fits labels pairs more p kind are (low e h g f) = g (is_next pairs more p are.ascending)
 
-pub no_more : (b : PlainBoard) (rest : List ℕ) (found : Finding) (p : ℕ × ℕ) (pairs : List (ℕ × ℕ)) (more : List ℕ) → b.labels ≤ 256 → ArePairs b.labels (b.pairs ++ p ∷ pairs) → rest ≡ beats_line p ++ more → Ending b rest found → ⊥
+pub no_more : (b : PlainBoard) (rest : List ℕ) (found : Finding) (p : ℕ × ℕ) (pairs : List (ℕ × ℕ)) (more : List ℕ) → b.labels ≤ MAX_LABELS → ArePairs b.labels (b.pairs ++ p ∷ pairs) → rest ≡ beats_line p ++ more → Ending b rest found → ⊥
 no_more b rest found p pairs more few are e (at_end behind f h) = not_end p more behind (sym e ∙ f)
 no_more b rest found p pairs more few are e (at_cut not c h) = is_cut_pair p rest more e c
 no_more b rest found p pairs more few are e (at_other whole not l h) = l p more (All-contains (AreLabels b.labels) (b.pairs ++ p ∷ pairs) p are.of_labels (next_contained b.pairs pairs p)) e

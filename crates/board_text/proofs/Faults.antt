@@ -5,7 +5,8 @@ use Rattle.std.proofs.lemmas.List.{append-nil, take_at}
 use Rattle.board_text.specs.declared.fault.BoardKind.{BoardKind}
 use Rattle.board_text.specs.declared.fault.BoardKind.TheVariants.{Version, Labels, Pebbles, Start, Beats, SelfBeat, TwoWay, Order, End, Trailing, Memory}
 use Rattle.board_text.specs.PlainBoard.{plain_board, PlainBoard, IsBoard, version_of}
-use Rattle.board_text.specs.BoardText.{version_line, labels_line, pebbles_line, start_line, beats_line, end_line, head, front, board_text}
+use Rattle.board_text.specs.BoardText.{version_line, labels_line, pebbles_line, start_line, beats_line, end_line, front, board_text}
+use Rattle.board_text.specs.Inside.BoardText.{head}
 use Rattle.board_text.specs.BoardFaults.{PairFault, HasFault}
 
 regroup_head : (a b c d x : List ℕ) → a ++ (b ++ (c ++ (d ++ x))) ≡ (a ++ (b ++ (c ++ d))) ++ x

@@ -1,4 +1,5 @@
 pub mod Numbers
+pub mod Spelling
 pub mod Lines
 pub mod NumeralLemmas
 pub mod PlaceLemmas
@@ -15,3 +16,4 @@ pub mod Misfitting
 pub mod OneReading
 pub mod Moves
 pub mod Places
+pub mod Cited

@@ -6,12 +6,14 @@ use Rattle.std.proofs.lemmas.List.Concat.{flat_map-append}
 use Rattle.std.proofs.lemmas.List.Elements.{recursion_from_All}
 use Rattle.board_text.specs.Ranges.{InRange, AreNumbers}
 use Rattle.board_text.specs.PlainBoard.{PlainBoard, plain_board, IsBoard, ArePairs, AreLabels, version_of}
-use Rattle.board_text.specs.BoardText.{version_line, labels_line, pebbles_line, start_line, beats_line, end_line, head, board_text}
+use Rattle.board_text.specs.BoardText.{version_line, labels_line, pebbles_line, start_line, beats_line, end_line, board_text}
+use Rattle.board_text.specs.Inside.BoardText.{head}
 use Rattle.board_text.specs.BoardFaults.{PairFault, HasFault}
-use Rattle.board_text.specs.Misfits.{Misfits, HasMisfit}
+use Rattle.board_text.specs.Inside.Misfits.{Misfits, HasMisfit}
 use Rattle.board_text.specs.declared.fault.BoardFault.{BoardFault}
 use Rattle.board_text.specs.declared.fault.BoardKind.{BoardKind}
 use Rattle.board_text.specs.declared.fault.BoardKind.TheVariants.{Version, Labels, Pebbles, Start, Beats, SelfBeat, TwoWay, Order, End, Trailing, Memory}
+use Rattle.board_text.specs.declared.board.TheConstants.{MAX_LABELS, MAX_PEBBLES}
 use Rattle.board_text.proofs.Lines.{number_line_unique}
 use Rattle.board_text.proofs.PlaceLemmas.{places_line_unique}
 use Rattle.board_text.proofs.BeatsLines.{same_line, not_end}
@@ -41,7 +43,7 @@ regroup a b c d e f = simp append_assoc
 spread : (b : PlainBoard) → board_text b ≡ version_line (version_of b.labels b.start) ++ (labels_line b.labels ++ (pebbles_line b.pebbles ++ (start_line b.labels b.start ++ (flat_map beats_line b.pairs ++ end_line))))
 spread b = regroup (version_line (version_of b.labels b.start)) (labels_line b.labels) (pebbles_line b.pebbles) (start_line b.labels b.start) (flat_map beats_line b.pairs) end_line
 
-pub labels_fault : (b : PlainBoard) → b.labels < 2 ^ 16 → (InRange 1 256 b.labels → ⊥) → HasFault (board_text b) 2 Labels
+pub labels_fault : (b : PlainBoard) → b.labels < 2 ^ 16 → (InRange 1 MAX_LABELS b.labels → ⊥) → HasFault (board_text b) 2 Labels
 labels_fault b small outside = (
   refl,
   version_of b.labels b.start,
@@ -53,7 +55,7 @@ labels_fault b small outside = (
       outside (rw s.0 in_range),
 )
 
-pub pebbles_fault : (b : PlainBoard) → InRange 1 256 b.labels → b.pebbles < 2 ^ 16 → (InRange 1 6 b.pebbles → ⊥) → HasFault (board_text b) 3 Pebbles
+pub pebbles_fault : (b : PlainBoard) → InRange 1 MAX_LABELS b.labels → b.pebbles < 2 ^ 16 → (InRange 1 MAX_PEBBLES b.pebbles → ⊥) → HasFault (board_text b) 3 Pebbles
 pebbles_fault b in_labels small outside = (
   refl,
   version_of b.labels b.start,
@@ -67,13 +69,13 @@ pebbles_fault b in_labels small outside = (
       outside (rw s.0 in_range),
 )
 
-pub memory_fault : (b : PlainBoard) → InRange 1 256 b.labels → InRange 1 6 b.pebbles → HasFault (board_text b) 0 Memory
+pub memory_fault : (b : PlainBoard) → InRange 1 MAX_LABELS b.labels → InRange 1 MAX_PEBBLES b.pebbles → HasFault (board_text b) 0 Memory
 memory_fault b in_labels in_pebbles = (refl, version_of b.labels b.start, b.labels, b.pebbles, _, version_in_range b.labels b.start, in_labels, in_pebbles, spread b)
 
 few_bits : (ns : List ℕ) → All (λ n. n < 2 ^ 16) ns → AllByRecursion (λ n. n < 2 ^ 32) ns
 few_bits ns small = recursion_from_All (λ n. n < 2 ^ 32) ns (λ k d lt. let h : get_or ns k d < 2 ^ 16 = small k d lt in omega arith)
 
-pub start_fault : (b : PlainBoard) → InRange 1 256 b.labels → InRange 1 6 b.pebbles → All (λ n. n < 2 ^ 16) b.start → (AreNumbers b.pebbles (b.labels + 1) b.start → ⊥) → HasFault (board_text b) 4 Start
+pub start_fault : (b : PlainBoard) → InRange 1 MAX_LABELS b.labels → InRange 1 MAX_PEBBLES b.pebbles → All (λ n. n < 2 ^ 16) b.start → (AreNumbers b.pebbles (b.labels + 1) b.start → ⊥) → HasFault (board_text b) 4 Start
 start_fault b in_labels in_pebbles small outside = (
   refl,
   version_of b.labels b.start,
@@ -91,7 +93,7 @@ start_fault b in_labels in_pebbles small outside = (
 
 -- ---- the pairs
 
-no_pair_line : (labels : ℕ) (pairs : List (ℕ × ℕ)) (p : ℕ × ℕ) (rest more : List ℕ) → labels ≤ 256 → rest ≡ beats_line p ++ more → AreLabels (2 ^ 16) p → (AreLabels labels p → ⊥) → PairFault labels pairs rest Beats
+no_pair_line : (labels : ℕ) (pairs : List (ℕ × ℕ)) (p : ℕ × ℕ) (rest more : List ℕ) → labels ≤ MAX_LABELS → rest ≡ beats_line p ++ more → AreLabels (2 ^ 16) p → (AreLabels labels p → ⊥) → PairFault labels pairs rest Beats
 no_pair_line labels pairs p rest more few e small outside = (
   λ u x all f. not_end p more x (sym e ∙ f),
   λ cut. is_cut_pair p rest more e cut,
@@ -100,7 +102,7 @@ no_pair_line labels pairs p rest more few e small outside = (
       outside (rw s.0 are),
 )
 
-misfit_found : (labels : ℕ) (pairs : List (ℕ × ℕ)) (p : ℕ × ℕ) (rest more : List ℕ) (kind : BoardKind) → labels ≤ 256 → rest ≡ beats_line p ++ more → Misfits labels pairs p kind → PairFault labels pairs rest kind
+misfit_found : (labels : ℕ) (pairs : List (ℕ × ℕ)) (p : ℕ × ℕ) (rest more : List ℕ) (kind : BoardKind) → labels ≤ MAX_LABELS → rest ≡ beats_line p ++ more → Misfits labels pairs p kind → PairFault labels pairs rest kind
 misfit_found labels pairs p rest more Beats few e h = no_pair_line labels pairs p rest more few e h.0 h.1
 misfit_found labels pairs p rest more SelfBeat few e h = misfit_fault labels pairs p rest more SelfBeat h.0 e h
 misfit_found labels pairs p rest more TwoWay few e h = misfit_fault labels pairs p rest more TwoWay h.0 e h
@@ -120,7 +122,7 @@ cut_at : (a : List ℕ) (before : List (ℕ × ℕ)) (p : ℕ × ℕ) (after : L
 cut_at a before p after z = rw (flat_map-append beats_line before (p ∷ after)) (five a (flat_map beats_line before) (beats_line p) (flat_map beats_line after) z)
 
 -- a misfit among the parts of a board is a fault of their text
-pub parts_fault : (b : PlainBoard) (f : BoardFault) → InRange 1 256 b.labels → InRange 1 6 b.pebbles → AreNumbers b.pebbles (b.labels + 1) b.start → HasMisfit b.labels b.pairs f → HasFault (board_text b) f.line f.kind
+pub parts_fault : (b : PlainBoard) (f : BoardFault) → InRange 1 MAX_LABELS b.labels → InRange 1 MAX_PEBBLES b.pebbles → AreNumbers b.pebbles (b.labels + 1) b.start → HasMisfit b.labels b.pairs f → HasFault (board_text b) f.line f.kind
 parts_fault b f in_labels in_pebbles are (before, p, after, are_before, parts, number, h) =
     let front_board = plain_board b.labels b.pebbles b.start before in
     let rest = beats_line p ++ (flat_map beats_line after ++ end_line) in

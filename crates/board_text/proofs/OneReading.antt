@@ -10,6 +10,7 @@ use Rattle.board_text.specs.BoardFaults.{InPairs, HasFault}
 use Rattle.board_text.specs.declared.fault.BoardFault.{BoardFault}
 use Rattle.board_text.specs.declared.fault.BoardKind.{BoardKind}
 use Rattle.board_text.specs.declared.fault.BoardKind.TheVariants.{Version, Labels, Pebbles, Start, Beats, SelfBeat, TwoWay, Order, End, Trailing, Memory}
+use Rattle.board_text.specs.declared.board.TheConstants.{MAX_LABELS, MAX_PEBBLES}
 use Rattle.board_text.proofs.Lines.{number_line_unique, small_numbers}
 use Rattle.board_text.proofs.PlaceLemmas.{places_line_unique}
 use Rattle.board_text.proofs.Places.{numbers_from_start, version_in_range}
@@ -28,13 +29,13 @@ AfterPebbles version labels pebbles rest found =
 
 abbrev AfterLabels : ℕ → ℕ → List ℕ → Finding → Type 0
 AfterLabels version labels rest found =
-    (Lacks (InRange 1 6) pebbles_line rest × (found ≡ fault 3 Pebbles))
-    ⊎ ((pebbles : ℕ) × (more : List ℕ) × InRange 1 6 pebbles × (rest ≡ pebbles_line pebbles ++ more) × AfterPebbles version labels pebbles more found)
+    (Lacks (InRange 1 MAX_PEBBLES) pebbles_line rest × (found ≡ fault 3 Pebbles))
+    ⊎ ((pebbles : ℕ) × (more : List ℕ) × InRange 1 MAX_PEBBLES pebbles × (rest ≡ pebbles_line pebbles ++ more) × AfterPebbles version labels pebbles more found)
 
 abbrev AfterVersion : ℕ → List ℕ → Finding → Type 0
 AfterVersion version rest found =
-    (Lacks (InRange 1 256) labels_line rest × (found ≡ fault 2 Labels))
-    ⊎ ((labels : ℕ) × (more : List ℕ) × InRange 1 256 labels × (rest ≡ labels_line labels ++ more) × AfterLabels version labels more found)
+    (Lacks (InRange 1 MAX_LABELS) labels_line rest × (found ≡ fault 2 Labels))
+    ⊎ ((labels : ℕ) × (more : List ℕ) × InRange 1 MAX_LABELS labels × (rest ≡ labels_line labels ++ more) × AfterLabels version labels more found)
 
 abbrev Reading : List ℕ → Finding → Type 0
 Reading text found =
@@ -43,7 +44,7 @@ Reading text found =
 
 -- ---- one reading
 
-one_after_start : (labels pebbles : ℕ) (start rest : List ℕ) (v w : Finding) → labels ≤ 256 → AfterStart labels pebbles start rest v → AfterStart labels pebbles start rest w → v ≡ w
+one_after_start : (labels pebbles : ℕ) (start rest : List ℕ) (v w : Finding) → labels ≤ MAX_LABELS → AfterStart labels pebbles start rest v → AfterStart labels pebbles start rest w → v ≡ w
 one_after_start labels pebbles start rest v w few (ps, x, are_ps, e, h) (qs, y, are_qs, f, g) =
     elim (aligned labels ps qs x y few are_ps are_qs (sym e ∙ f)) [
       | same same_pairs same_rest ↦ one_ending (plain_board labels pebbles start qs) y v w few (rw (← same_pairs, ← same_rest) h) g
@@ -51,7 +52,7 @@ one_after_start labels pebbles start rest v w few (ps, x, are_ps, e, h) (qs, y, 
       | more_left p more longer begins ↦ absurd (no_more (plain_board labels pebbles start qs) y w p more _ few (rw longer at are_ps) begins g)
     ]
 
-one_after_pebbles : (version labels pebbles : ℕ) (rest : List ℕ) (v w : Finding) → labels ≤ 256 → AfterPebbles version labels pebbles rest v → AfterPebbles version labels pebbles rest w → v ≡ w
+one_after_pebbles : (version labels pebbles : ℕ) (rest : List ℕ) (v w : Finding) → labels ≤ MAX_LABELS → AfterPebbles version labels pebbles rest v → AfterPebbles version labels pebbles rest w → v ≡ w
 one_after_pebbles version labels pebbles rest v w few (inl a) (inl b) = a.1 ∙ sym b.1
 one_after_pebbles version labels pebbles rest v w few (inl a) (inr b) = absurd (a.0 b.0 b.1 b.2 b.3)
 one_after_pebbles version labels pebbles rest v w few (inr a) (inl b) = absurd (b.0 a.0 a.1 a.2 a.3)
@@ -59,7 +60,7 @@ one_after_pebbles version labels pebbles rest v w few (inr a) (inr b) =
     let s = places_line_unique labels (codes "start") a.0 b.0 a.1 b.1 (small_numbers (labels + 1) a.0 (omega (arith, few)) a.2.0.1) (small_numbers (labels + 1) b.0 (omega (arith, few)) b.2.0.1) (sym a.3 ∙ b.3) in
     one_after_start labels pebbles b.0 b.1 v w few (rw (← s.0, ← s.1) a.4) b.4
 
-one_after_labels : (version labels : ℕ) (rest : List ℕ) (v w : Finding) → labels ≤ 256 → AfterLabels version labels rest v → AfterLabels version labels rest w → v ≡ w
+one_after_labels : (version labels : ℕ) (rest : List ℕ) (v w : Finding) → labels ≤ MAX_LABELS → AfterLabels version labels rest v → AfterLabels version labels rest w → v ≡ w
 one_after_labels version labels rest v w few (inl a) (inl b) = a.1 ∙ sym b.1
 one_after_labels version labels rest v w few (inl a) (inr b) = absurd (a.0 b.0 b.1 b.2 b.3)
 one_after_labels version labels rest v w few (inr a) (inl b) = absurd (b.0 a.0 a.1 a.2 a.3)

@@ -7,7 +7,7 @@ use Rattle.std.proofs.lemmas.List.Elements.{All-push, Contains-push_cases}
 use Rattle.std.proofs.lemmas.List.Quantifiers.{all_pairs_push}
 use Rattle.board_text.specs.PlainBoard.{Precedes, ArePairs, AreLabels, IsNext}
 use Rattle.board_text.specs.BoardText.{beats_line}
-use Rattle.board_text.specs.Parsing.{CanFollow}
+use Rattle.board_text.specs.Inside.Parsing.{CanFollow}
 
 below_trans : (p q r : ℕ × ℕ) → Precedes p q → Precedes q r → Precedes p r
 below_trans p q r (inl a) (inl b) = inl (omega arith)

@@ -5,7 +5,7 @@ use Rattle.std.specs.Fmt.{decimal}
 use Rattle.std.specs.List.{flat_map}
 use Rattle.std.proofs.lemmas.List.{append-nil, flat_map_more}
 use Rattle.board_text.specs.BoardText.{beats_line}
-use Rattle.board_text.specs.Domination.{pairs_below, pair_at}
+use Rattle.board_text.specs.Inside.Domination.{pairs_below, pair_at}
 
 -- the lines so far, after an old text
 abbrev pub Lines : ℕ → (ℕ → Bool) → ℕ → List ℕ → List ℕ

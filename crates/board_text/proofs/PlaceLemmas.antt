@@ -15,6 +15,7 @@ use Rattle.board_text.specs.Numerals.{spaced_texts, Says}
 use Rattle.board_text.specs.PlaceForms.{place_word, spaced_places, places_line, IsPlaceText, ArePlaceTexts, SpellsPlace, SpellPlaces}
 use Rattle.board_text.specs.declared.line_reader.Numeral.{Numeral}
 use Rattle.board_text.specs.declared.line_reader.Numeral.TheVariants.{Number}
+use Rattle.board_text.specs.declared.board.TheConstants.{MAX_LABELS}
 use Rattle.board_text.proofs.Numbers.{digits_split}
 use Rattle.board_text.proofs.NumeralLemmas.{spells_none, spells_number}
 
@@ -197,7 +198,7 @@ pub places_line_places : (labels : ℕ) (word places old rest more : List ℕ) �
 places_line_places labels word places old rest more p e = append_cancel_left word rest (spaced_places labels places ++ 10 ∷ more) (sym p ∙ e ∙ places_line_parts labels word places more)
 
 -- what was taken of a line of places is all of them
-pub places_line_end : (count labels : ℕ) (word places : List ℕ) (texts : List (List ℕ)) (old rest new more : List ℕ) → labels ≤ 256 → old ≡ word ++ rest → rest ≡ spaced_texts texts ++ new → ArePlaceTexts count labels (labels + 1) texts → NoDigit new
+pub places_line_end : (count labels : ℕ) (word places : List ℕ) (texts : List (List ℕ)) (old rest new more : List ℕ) → labels ≤ MAX_LABELS → old ≡ word ++ rest → rest ≡ spaced_texts texts ++ new → ArePlaceTexts count labels (labels + 1) texts → NoDigit new
     → AreNumbers count (labels + 1) places → old ≡ places_line labels word places ++ more → (texts ≡ map (place_word labels) places) × (new ≡ 10 ∷ more)
 places_line_end count labels word places texts old rest new more few p q are_texts no_digit are e =
     texts_unique count labels (labels + 1) texts (map (place_word labels) places) new (10 ∷ more) are_texts (words_are_texts count labels (labels + 1) places (omega arith) are) no_digit (no_digit_lf more)

@@ -4,6 +4,7 @@ use Rattle.std.proofs.lemmas.Bool.{cases_eq, cond_both, both_ways, eq-eqb}
 use Rattle.std.proofs.lemmas.List.Folds.{list_any_at}
 use Rattle.board_text.specs.Ranges.{InRange, AreNumbers}
 use Rattle.board_text.specs.PlainBoard.{PlainBoard, plain_board, IsBoard, IsConfiguration, ArePairs, some_blank, version_of, places}
+use Rattle.board_text.specs.declared.board.TheConstants.{MAX_LABELS, MAX_PEBBLES}
 
 -- a board has a place for each label, and at most one more
 pub labels_and_places : (board : PlainBoard) → (board.labels ≤ places board) × (places board ≤ board.labels + 1)
@@ -19,7 +20,7 @@ label_is_place board label below = let most = (labels_and_places board).0 in ome
 pub some_places : (board : PlainBoard) → IsBoard board → 1 ≤ places board
 some_places board is = label_is_place board 0 is.labels.0
 
-pub few_places : (board : PlainBoard) → IsBoard board → places board ≤ 257
+pub few_places : (board : PlainBoard) → IsBoard board → places board ≤ MAX_LABELS + 1
 few_places board is = let most = (labels_and_places board).1 in omega (arith, most, is.labels.1)
 
 -- the places of the start are those of the board
@@ -47,7 +48,7 @@ numbers_from_start board is = (
 )
 
 -- parts within the limits are those of a board
-pub board_from_parts : (labels pebbles : ℕ) (start : List ℕ) (pairs : List (ℕ × ℕ)) → InRange 1 256 labels → InRange 1 6 pebbles → AreNumbers pebbles (labels + 1) start → ArePairs labels pairs
+pub board_from_parts : (labels pebbles : ℕ) (start : List ℕ) (pairs : List (ℕ × ℕ)) → InRange 1 MAX_LABELS labels → InRange 1 MAX_PEBBLES pebbles → AreNumbers pebbles (labels + 1) start → ArePairs labels pairs
     → IsBoard (plain_board labels pebbles start pairs)
 board_from_parts labels pebbles start pairs in_labels in_pebbles are_places are_pairs = record {
   labels = in_labels;

@@ -6,12 +6,14 @@ use Rattle.std.proofs.lemmas.List.Elements.{All-nil}
 use Rattle.std.specs.List.{flat_map}
 use Rattle.board_text.specs.Ranges.{InRange, AreNumbers}
 use Rattle.board_text.specs.PlainBoard.{PlainBoard, plain_board, IsBoard, ArePairs, AreLabels}
-use Rattle.board_text.specs.BoardText.{version_line, labels_line, pebbles_line, beats_line, end_line, head, front, board_text}
+use Rattle.board_text.specs.BoardText.{version_line, labels_line, pebbles_line, beats_line, end_line, front, board_text}
+use Rattle.board_text.specs.Inside.BoardText.{head}
 use Rattle.board_text.specs.BoardFaults.{NotEnd, IsCut, PairFault}
-use Rattle.board_text.specs.Parsing.{CanFollow}
+use Rattle.board_text.specs.Inside.Parsing.{CanFollow}
 use Rattle.board_text.specs.Readings.{IsBoardText, IsFaulty}
 use Rattle.board_text.specs.declared.fault.BoardKind.{BoardKind}
 use Rattle.board_text.specs.declared.fault.BoardKind.TheVariants.{Version, Labels, Pebbles, Start, Beats, SelfBeat, TwoWay, Order, End, Trailing}
+use Rattle.board_text.specs.declared.board.TheConstants.{MAX_LABELS, MAX_PEBBLES}
 use Rattle.board_text.proofs.Deciding.{Decided, begins, number_stands, start_stands, pair_stands, contained, next}
 use Rattle.board_text.proofs.PairLemmas.{pairs_push, line_push}
 use Rattle.board_text.proofs.Faults.{head_taken, front_taken, has_pair_fault}
@@ -95,13 +97,13 @@ no_pairs labels = record {
   one_way = λ x y h g. omega (arith, h.1);
 }
 
-after_start : (text : List ℕ) (labels pebbles : ℕ) (start rest : List ℕ) → InRange 1 256 labels → InRange 1 6 pebbles → AreNumbers pebbles (labels + 1) start → text ≡ head labels pebbles start ++ rest → IsBoardText text ⊎ IsFaulty text
+after_start : (text : List ℕ) (labels pebbles : ℕ) (start rest : List ℕ) → InRange 1 MAX_LABELS labels → InRange 1 MAX_PEBBLES pebbles → AreNumbers pebbles (labels + 1) start → text ≡ head labels pebbles start ++ rest → IsBoardText text ⊎ IsFaulty text
 after_start text labels pebbles start rest in_labels in_pebbles are e =
     let b = plain_board labels pebbles start [] in
     let is : IsBoard b = record { labels = in_labels; pebbles = in_pebbles; start = start_from_numbers b are; pairs = no_pairs labels } in
     from_line (length rest) text b rest (omega arith) is (front_taken b text rest rest e refl) (next_line labels [] rest)
 
-after_pebbles : (text : List ℕ) (version labels pebbles : ℕ) (rest : List ℕ) → InRange 1 2 version → InRange 1 256 labels → InRange 1 6 pebbles → text ≡ version_line version ++ (labels_line labels ++ (pebbles_line pebbles ++ rest))
+after_pebbles : (text : List ℕ) (version labels pebbles : ℕ) (rest : List ℕ) → InRange 1 2 version → InRange 1 MAX_LABELS labels → InRange 1 MAX_PEBBLES pebbles → text ≡ version_line version ++ (labels_line labels ++ (pebbles_line pebbles ++ rest))
     → IsBoardText text ⊎ IsFaulty text
 after_pebbles text version labels pebbles rest in_versions in_labels in_pebbles e =
     elim (start_stands version labels pebbles rest) [
@@ -109,16 +111,16 @@ after_pebbles text version labels pebbles rest in_versions in_labels in_pebbles 
       | inr lacks ↦ inr (4, Start, λ f. cc, (refl, version, labels, pebbles, rest, in_versions, in_labels, in_pebbles, e, lacks))
     ]
 
-after_labels : (text : List ℕ) (version labels : ℕ) (rest : List ℕ) → InRange 1 2 version → InRange 1 256 labels → text ≡ version_line version ++ (labels_line labels ++ rest) → IsBoardText text ⊎ IsFaulty text
+after_labels : (text : List ℕ) (version labels : ℕ) (rest : List ℕ) → InRange 1 2 version → InRange 1 MAX_LABELS labels → text ≡ version_line version ++ (labels_line labels ++ rest) → IsBoardText text ⊎ IsFaulty text
 after_labels text version labels rest in_versions in_labels e =
-    elim (number_stands 1 6 pebbles_line rest) [
+    elim (number_stands 1 MAX_PEBBLES pebbles_line rest) [
       | inl s ↦ after_pebbles text version labels s.value s.more in_versions in_labels s.is (e ∙ ap (λ (t : List ℕ). version_line version ++ (labels_line labels ++ t)) s.spelled)
       | inr lacks ↦ inr (3, Pebbles, λ f. cc, (refl, version, labels, rest, in_versions, in_labels, e, lacks))
     ]
 
 after_version : (text : List ℕ) (version : ℕ) (rest : List ℕ) → InRange 1 2 version → text ≡ version_line version ++ rest → IsBoardText text ⊎ IsFaulty text
 after_version text version rest in_versions e =
-    elim (number_stands 1 256 labels_line rest) [
+    elim (number_stands 1 MAX_LABELS labels_line rest) [
       | inl s ↦ after_labels text version s.value s.more in_versions s.is (e ∙ ap (λ (t : List ℕ). version_line version ++ t) s.spelled)
       | inr lacks ↦ inr (2, Labels, λ f. cc, (refl, version, rest, in_versions, e, lacks))
     ]

@@ -23,13 +23,11 @@ beats_line pair = numbers_line (codes "beats") (pair.0 ∷ pair.1 ∷ [])
 abbrev pub end_line : List ℕ
 end_line = closed (codes "end")
 
--- the first four lines
-abbrev pub head : ℕ → ℕ → List ℕ → List ℕ
-head labels pebbles start = version_line (version_of labels start) ++ (labels_line labels ++ (pebbles_line pebbles ++ start_line labels start))
-
 -- the text up to its last pair
 abbrev pub front : PlainBoard → List ℕ
-front board = head board.labels board.pebbles board.start ++ flat_map beats_line board.pairs
+front board =
+    (version_line (version_of board.labels board.start) ++ (labels_line board.labels
+    ++ (pebbles_line board.pebbles ++ start_line board.labels board.start))) ++ flat_map beats_line board.pairs
 
 -- the text of a board
 abbrev pub board_text : PlainBoard → List ℕ

@@ -1,57 +1,12 @@
 -- Which pairs the bit rows of a board stand for: four words of 64 bits for each label, with a bit for each label that beats it.
-use Rattle.std.specs.Prelude.{◌≡◌, ℕ, zero, suc, ◌+◌, ◌*◌, ◌/◌, ◌%◌, ◌<◌, ◌≤◌, ◌==◌, ◌⊎◌, List, [], ◌∷◌, ◌++◌, Bool, true, false, if◌then◌else◌, length, slice_index}
+use Rattle.std.specs.Prelude.{ℕ, ◌/◌, ◌%◌, ◌==◌, List, Bool, slice_index}
 use Rattle.std.specs.Int.{bit_at}
-use Rattle.board_text.specs.Ranges.{InRange}
-use Rattle.board_text.specs.PlainBoard.{AreLabels}
 
 -- whether the bit of a label is set in the words of a row
 abbrev pub has_bit : List ℕ → ℕ → Bool
 has_bit row label = bit_at (slice_index row (label / 64)) (label % 64) == 1
 
--- whether the rows say that x beats y: the bit x of the row of y is set
-abbrev pub beats_in : List ℕ → ℕ → ℕ → Bool
-beats_in rows x y = bit_at (slice_index rows (4 * y + x / 64)) (x % 64) == 1
-
 -- what a set of pairs of labels is, as plain data
 pub record Pairs : Type 0 where
   pub labels : ℕ
   pub pairs : List (ℕ × ℕ)
-
--- the pair at a place, where the pairs of labels are counted in ascending order
-abbrev pub pair_at : ℕ → ℕ → ℕ × ℕ
-pair_at labels place = (place / labels, place % labels)
-
--- whether the rows have the pair at a place
-abbrev pub mark_of : ℕ → List ℕ → ℕ → Bool
-mark_of labels rows place = beats_in rows (place / labels) (place % labels)
-
--- the pairs at the marked places below n
-unfoldable pub pairs_below : ℕ → (ℕ → Bool) → ℕ → List (ℕ × ℕ)
-pairs_below labels marks zero = []
-pairs_below labels marks (suc place) = pairs_below labels marks place ++ (if marks place then pair_at labels place ∷ [] else [])
-
--- the pairs that the rows have
-abbrev pub pairs_of : ℕ → List ℕ → List (ℕ × ℕ)
-pairs_of labels rows = pairs_below labels (mark_of labels rows) (labels * labels)
-
--- the place after that of the last pair
-abbrev pub EndsAt : ℕ → List (ℕ × ℕ) → ℕ → Type 0
-EndsAt labels pairs next = ((pairs ≡ []) × (next ≡ 0))
-    ⊎ ((before : List (ℕ × ℕ)) × (last : ℕ × ℕ) × (pairs ≡ before ++ last ∷ []) × AreLabels labels last × (next ≡ last.0 * labels + last.1 + 1))
-
--- no pair from a place on is in the rows, and no bit that stands for no label is set
-abbrev pub ClearFrom : ℕ → List ℕ → ℕ → Type 0
-ClearFrom labels rows next = (x y : ℕ) → x < 256 → y < labels → next ≤ x * labels + y → beats_in rows x y ≡ false
-
--- four words for each label, and the place where the next pair may stand
-pub record AreRows (labels : ℕ) (rows : List ℕ) (next : ℕ) : Type 0 where
-  pub in_range : InRange 1 256 labels
-  pub sized : length rows ≡ 4 * labels
-  pub clear : ClearFrom labels rows next
-  pub ends : EndsAt labels (pairs_of labels rows) next
-
--- the new rows say of one pair more that it is there
-pub record SetsPair (labels : ℕ) (old new : List ℕ) (x y : ℕ) : Type 0 where
-  pub size : length new ≡ length old
-  pub here : beats_in new x y ≡ true
-  pub others : (i j : ℕ) → i < 256 → ¬ ((i ≡ x) × (j ≡ y)) → beats_in new i j ≡ beats_in old i j

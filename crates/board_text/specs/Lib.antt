@@ -9,5 +9,4 @@ pub mod BoardFaults
 pub mod Readings
 pub mod Ends
 pub mod Whole
-pub mod Misfits
-pub mod Parsing
+pub mod Inside

@@ -3,7 +3,7 @@ use Rattle.std.specs.Prelude.{◌≡◌, ◌≢◌, ℕ, List, [], ◌∷◌, �
 use Rattle.std.specs.Char.{IsAsciiDigit}
 use Rattle.std.specs.List.{flat_map}
 use Rattle.std.specs.Fmt.{decimal}
-use Rattle.board_text.specs.Ranges.{InRange, AreNumbers}
+use Rattle.board_text.specs.Ranges.{InRange}
 
 -- The line feed that closes each line.
 abbrev pub closed : List ℕ → List ℕ
@@ -38,8 +38,3 @@ NoDigit bytes = IsAsciiDigit (slice_index bytes 0) → ⊥
 abbrev pub TakesNumber : ℕ → ℕ → Option ℕ → List ℕ → List ℕ → Type 0
 TakesNumber low high None old new = (n : ℕ) (more : List ℕ) → InRange low high n → NoDigit more → old ≢ decimal n ++ more
 TakesNumber low high (Some n) old new = InRange low high n × (old ≡ decimal n ++ new) × NoDigit new
-
--- The same for numbers, each with a space before it.
-abbrev pub TakesNumbers : ℕ → ℕ → Option (List ℕ) → List ℕ → List ℕ → Type 0
-TakesNumbers count bound None old new = (ns : List ℕ) (more : List ℕ) → AreNumbers count bound ns → NoDigit more → old ≢ spaced ns ++ more
-TakesNumbers count bound (Some ns) old new = AreNumbers count bound ns × (old ≡ spaced ns ++ new) × NoDigit new

@@ -1,5 +1,6 @@
 -- The texts of places: of each its label, or a hyphen where it holds none.
-use Rattle.std.specs.Prelude.{◌≡◌, ◌≢◌, ℕ, ◌<◌, ◌==◌, ◌⊎◌, if◌then◌else◌, Bool, true, false, List, ◌++◌, length, map, All, Option, Some, None, MatchOption, codes}
+use Rattle.std.specs.Prelude.{◌≡◌, ◌≢◌, ℕ, ◌<◌, ◌==◌, ◌⊎◌, if◌then◌else◌, Bool, true, false, List, ◌++◌, length, map, All, Option, Some}
+use Rattle.std.specs.Prelude.{None, codes}
 use Rattle.std.specs.Fmt.{decimal}
 use Rattle.std.specs.Str.Parse.{IsNumeral}
 use Rattle.board_text.specs.LineForms.{closed, NoDigit}
@@ -33,15 +34,10 @@ abbrev pub SpellPlaces : ℕ → ℕ → List (List ℕ) → Bool → List ℕ �
 SpellPlaces labels bound texts true places = All (λ place. place < bound) places × (texts ≡ map (place_word labels) places)
 SpellPlaces labels bound texts false places = All (SpellsPlace labels bound) texts → ⊥
 
--- A text of this form was taken, with the place that it spells, if it does; nothing only where there is none.
-abbrev pub TakesPlace : ℕ → ℕ → Option (Option ℕ) → List ℕ → List ℕ → Type 0
-TakesPlace labels bound None old new = (text more : List ℕ) → IsPlaceText labels bound text → NoDigit more → old ≢ text ++ more
-TakesPlace labels bound (Some place) old new =
-    (text : List ℕ) × IsPlaceText labels bound text × (old ≡ text ++ new) × NoDigit new
-    × MatchOption place (SpellsPlace labels bound text → ⊥) (λ p. (p < bound) × (text ≡ place_word labels p))
-
 -- The same for texts with a space before each.
 abbrev pub TakesPlaces : ℕ → ℕ → ℕ → Option (Bool × List ℕ) → List ℕ → List ℕ → Type 0
-TakesPlaces count labels bound None old new = (texts : List (List ℕ)) (more : List ℕ) → ArePlaceTexts count labels bound texts → NoDigit more → old ≢ spaced_texts texts ++ more
+TakesPlaces count labels bound None old new = (texts : List (List ℕ)) (more : List ℕ) → ArePlaceTexts count labels bound texts
+    → NoDigit more → old ≢ spaced_texts texts ++ more
 TakesPlaces count labels bound (Some (are, places)) old new =
-    (texts : List (List ℕ)) × ArePlaceTexts count labels bound texts × (old ≡ spaced_texts texts ++ new) × NoDigit new × SpellPlaces labels bound texts are places
+    (texts : List (List ℕ)) × ArePlaceTexts count labels bound texts × (old ≡ spaced_texts texts ++ new) × NoDigit new
+    × SpellPlaces labels bound texts are places

@@ -2,6 +2,7 @@
 use Rattle.std.specs.Prelude.{◌≡◌, ℕ, ◌+◌, ◌<◌, ◌==◌, ◌⊎◌, if◌then◌else◌, Bool, List, [], ◌∷◌, ◌++◌, length, All, AllPairs, Contains}
 use Rattle.std.specs.List.{list_any}
 use Rattle.board_text.specs.Ranges.{InRange, AreNumbers}
+use Rattle.board_text.specs.declared.board.TheConstants.{MAX_LABELS, MAX_PEBBLES}
 
 -- a board as plain data: numbers of labels and pebbles, the pairs (x, y) with x beating y, and a place for each pebble:
 -- its label, or the number of labels where it holds none
@@ -54,7 +55,7 @@ IsNext pairs pair = (before : List (ℕ × ℕ)) (last : ℕ × ℕ) → pairs �
 
 -- pairs of labels in ascending order, of which no two go both ways, so that none is of one label twice
 pub record ArePairs (labels : ℕ) (pairs : List (ℕ × ℕ)) : Type 0 where
-  pub of_labels : All (AreLabels labels) pairs
+  pub of_labels : All (λ pair. (pair.0 < labels) × (pair.1 < labels)) pairs
   pub ascending : AllPairs Precedes pairs
   pub one_way : (x y : ℕ) → Contains pairs (x, y) → Contains pairs (y, x) → ⊥
 
@@ -68,7 +69,7 @@ IsStart version labels pebbles start = AreNumbers pebbles (labels + 1) start × 
 
 -- a board within the limits
 pub record IsBoard (board : PlainBoard) : Type 0 where
-  pub labels : InRange 1 256 board.labels
-  pub pebbles : InRange 1 6 board.pebbles
+  pub labels : InRange 1 MAX_LABELS board.labels
+  pub pebbles : InRange 1 MAX_PEBBLES board.pebbles
   pub start : IsConfiguration board board.start
   pub pairs : ArePairs board.labels board.pairs

@@ -5,10 +5,10 @@ ghost use Rattle.board_text.specs.Ranges.{AreNumbers};
 ghost use Rattle.board_text.specs.PlainBoard.{plain_board, IsBoard, ArePairs};
 ghost use Rattle.board_text.specs.BoardText.{board_text};
 ghost use Rattle.board_text.specs.BoardFaults.{HasFault};
-ghost use Rattle.board_text.specs.Misfits.{HasMisfit};
+ghost use Rattle.board_text.specs.Inside.Misfits.{HasMisfit};
 ghost use Rattle.board_text.specs.declared.fault.BoardKind.TheVariants.{Memory as OutOfMemory};
 
-use crate::board::Board;
+use crate::board::{Board, MAX_LABELS, MAX_PEBBLES};
 use crate::domination::Domination;
 use crate::fault::{BoardFault, BoardKind};
 use crate::pairs::pair_fault;
@@ -30,7 +30,8 @@ impl Board {
         ensures only { IsBoard (plain_board labels pebbles start.now pairs.now)
             → MatchResult result (λ board. board ≡ plain_board labels pebbles start.now pairs.now) (λ fault. fault.kind ≡ OutOfMemory) }
         // Which fault it is.
-        ensures fault { IfErr result (λ fault. HasFault (board_text (plain_board labels pebbles start.now pairs.now)) fault.line fault.kind) }
+        ensures fault { IfErr result (λ fault. HasFault (board_text (plain_board labels pebbles start.now pairs.now))
+            fault.line fault.kind) }
     {
         build_parts(alloc, labels, pebbles, start, pairs)
     }
@@ -47,10 +48,10 @@ fn build_parts(
     ensures found { IfOk result (λ board. IsBoard board × (board ≡ plain_board labels pebbles start.now pairs.now)) }
     ensures fault { IfErr result (λ fault. HasFault (board_text (plain_board labels pebbles start.now pairs.now)) fault.line fault.kind) }
 {
-    if labels == 0 || labels > 256 {
+    if labels == 0 || labels as usize > MAX_LABELS {
         return Err(BoardFault::at(2, BoardKind::Labels));
     }
-    if pebbles == 0 || pebbles > 6 {
+    if pebbles == 0 || pebbles as usize > MAX_PEBBLES {
         return Err(BoardFault::at(3, BoardKind::Pebbles));
     }
     let mut beats = Domination::new(alloc, labels)?;

@@ -1,12 +1,14 @@
 //! Which labels dominate which, as bits.
 
-ghost use Rattle.std.specs.Prelude.{◌≡◌, ℕ, ◌+◌, ◌*◌, ◌/◌, ◌≤◌, ◌<◌, ◌++◌, ◌∷◌, [], List, length, true, IfOk, OnOk, string_bytes, IsTrue, ◌↔◌, Contains};
+ghost use Rattle.std.specs.Prelude.{◌≡◌, ℕ, ◌+◌, ◌*◌, ◌/◌, ◌≤◌, ◌<◌, ◌++◌, ◌∷◌, [], List, length, true, IfOk, OnOk, string_bytes};
+ghost use Rattle.std.specs.Prelude.{IsTrue, ◌↔◌, Contains};
 ghost use Rattle.board_text.specs.Ranges.{InRange};
 ghost use Rattle.board_text.specs.PlainBoard.{AreLabels};
-ghost use Rattle.board_text.specs.Domination.{SetsPair, beats_in, pairs_of};
+ghost use Rattle.board_text.specs.Inside.Domination.{SetsPair, beats_in, pairs_of};
 ghost use Rattle.std.specs.List.{flat_map};
 ghost use Rattle.board_text.specs.BoardText.{beats_line};
 
+use crate::board::MAX_LABELS;
 use std::alloc::{AllocError, Global};
 use std::fmt::Write;
 use std::marker::Model;
@@ -27,7 +29,8 @@ pub struct Domination {
 }
 
 impl Model for Domination {
-    ghost use Rattle.board_text.specs.Domination.{Pairs, pairs_of, AreRows};
+    ghost use Rattle.board_text.specs.Domination.{Pairs};
+    ghost use Rattle.board_text.specs.Inside.Domination.{pairs_of, AreRows};
 
     ghost Value = { Pairs };
 
@@ -42,7 +45,7 @@ impl Domination {
 
     /// No label beats another.
     pub fn new(alloc: Global, labels: u16) -> Result<Domination, AllocError>
-        requires { InRange 1 256 labels }
+        requires { InRange 1 MAX_LABELS labels }
         ensures { IfOk result (λ d. (d.labels ≡ labels) × (d.pairs ≡ [])) }
     {
         let words = ROW_WORDS * labels as usize;
@@ -56,7 +59,7 @@ impl Domination {
     /// How many labels there are.
     pub fn labels(&self) -> u16
         ensures value { result ≡ self.now.labels }
-        ensures in_range { InRange 1 256 result }
+        ensures in_range { InRange 1 MAX_LABELS result }
     {
         self.labels
     }
@@ -73,7 +76,7 @@ impl Domination {
     pub fn row(&self, label: u16) -> &[u64]
         requires { label < self.now.labels }
         ensures words { length result.now ≡ ROW_WORDS }
-        ensures bits { (x : ℕ) → x < 256 → (has_bit result.now x ≡ true) ↔ Contains self.now.pairs (x, label) }
+        ensures bits { (x : ℕ) → x < MAX_LABELS → (has_bit result.now x ≡ true) ↔ Contains self.now.pairs (x, label) }
     {
         let from = ROW_WORDS * label as usize;
         &self.rows[from..from + ROW_WORDS]
@@ -124,7 +127,7 @@ impl Domination {
 
 /// Writes a line for each pair that the rows have.
 fn write_pairs(labels: u16, rows: &[u64], text: &mut String) -> Result<(), AllocError>
-    requires in_range { InRange 1 256 labels }
+    requires in_range { InRange 1 MAX_LABELS labels }
     requires sized { length rows.now ≡ 4 * labels }
     ensures { OnOk result (string_bytes text.new ≡ string_bytes text.old ++ flat_map beats_line (pairs_of labels rows.now)) }
 {
@@ -141,7 +144,7 @@ fn write_pairs(labels: u16, rows: &[u64], text: &mut String) -> Result<(), Alloc
 
 /// Whether the rows say that x beats y.
 fn has_pair(rows: &[u64], x: u32, y: u32) -> bool
-    requires label { x < 256 }
+    requires label { x < MAX_LABELS }
     requires row { 4 * y + 4 ≤ length rows.now }
     ensures { result ≡ beats_in rows.now x y }
 {
@@ -151,7 +154,7 @@ fn has_pair(rows: &[u64], x: u32, y: u32) -> bool
 
 /// Sets the bit of a pair.
 fn set_pair(labels: u16, rows: &mut [u64], x: u16, y: u16)
-    requires few { labels ≤ 256 }
+    requires few { labels ≤ MAX_LABELS }
     requires sized { length rows.old ≡ 4 * labels }
     requires pair { AreLabels labels (x, y) }
     ensures { SetsPair labels rows.old rows.new x y }
@@ -161,7 +164,7 @@ fn set_pair(labels: u16, rows: &mut [u64], x: u16, y: u16)
 
 /// Which place the pair has, where the pairs of labels are counted in ascending order.
 fn place(labels: u16, x: u16, y: u16) -> u32
-    requires few { labels ≤ 256 }
+    requires few { labels ≤ MAX_LABELS }
     requires pair { AreLabels labels (x, y) }
     ensures place { result ≡ x * labels + y }
     ensures below { result < labels * labels }

@@ -10,12 +10,14 @@ ghost use Rattle.board_text.specs.declared.fault.BoardKind.TheVariants.{Memory a
 
 /// A text is that of one board at most.
 pub fn one_board()
-    ensures { (first : PlainBoard) → (second : PlainBoard) → IsBoard first → IsBoard second → board_text first ≡ board_text second → first ≡ second }
+    ensures { (first : PlainBoard) → (second : PlainBoard) → IsBoard first → IsBoard second → board_text first ≡ board_text second
+        → first ≡ second }
 {}
 
 /// A text has one fault at most, want of memory aside.
 pub fn one_fault()
-    ensures { (text : List ℕ) → (line : ℕ) → (kind : Kind) → (other_line : ℕ) → (other_kind : Kind) → kind ≢ OutOfMemory → other_kind ≢ OutOfMemory
+    ensures { (text : List ℕ) → (line : ℕ) → (kind : Kind) → (other_line : ℕ) → (other_kind : Kind) → kind ≢ OutOfMemory
+        → other_kind ≢ OutOfMemory
         → HasFault text line kind → HasFault text other_line other_kind → (line ≡ other_line) × (kind ≡ other_kind) }
 {}
 

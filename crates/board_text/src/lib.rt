@@ -17,7 +17,7 @@ mod through;
 mod whole;
 mod writing;
 
-pub use board::Board;
+pub use board::{Board, MAX_LABELS, MAX_PEBBLES};
 pub use domination::{Domination, ROW_WORDS};
 pub use fault::{BoardFault, BoardKind};
 pub use laws::{board_or_fault, one_board, one_fault};

@@ -1,14 +1,17 @@
 //! Reading lines, words and numbers from the front of a text.
 
-ghost use Rattle.std.specs.Prelude.{◌≡◌, ◌≢◌, ℕ, ◌+◌, ◌≤◌, ◌<◌, ◌^◌, ◌++◌, ◌∷◌, [], List, length, slice_index, IsTrue, ◌↔◌, MatchOption, option_map};
+ghost use Rattle.std.specs.Prelude.{◌≡◌, ◌≢◌, ℕ, ◌+◌, ◌≤◌, ◌<◌, ◌^◌, ◌++◌, ◌∷◌, [], List, length, slice_index, IsTrue, ◌↔◌};
+ghost use Rattle.std.specs.Prelude.{MatchOption, option_map};
 ghost use Rattle.std.specs.Char.{is_ascii_digit};
 ghost use Rattle.std.specs.Str.Parse.{AllDigits, digits_value};
 ghost use Rattle.std.specs.Fmt.{decimal};
 ghost use Rattle.std.specs.List.{prefix_len};
-ghost use Rattle.board_text.specs.LineForms.{Takes, TakesNumber, NoDigit, number_line, numbers_line, TakesNumbers};
+ghost use Rattle.board_text.specs.LineForms.{Takes, TakesNumber, NoDigit, number_line, numbers_line};
+ghost use Rattle.board_text.specs.Inside.LineForms.{TakesNumbers};
 ghost use Rattle.board_text.specs.Ranges.{InRange, AreNumbers};
 ghost use Rattle.board_text.specs.declared.line_reader.Numeral.TheVariants.{Number};
 
+use crate::board::MAX_LABELS;
 use std::marker::Model;
 
 /// What a text of digits says.
@@ -62,7 +65,8 @@ impl<'a> Model for LineReader<'a> {
 
 impl<'a> LineReader<'a> {
     ghost use Rattle.board_text.specs.Numerals.{TakesNumeral};
-    ghost use Rattle.board_text.specs.PlaceForms.{places_line, TakesPlace, TakesPlaces};
+    ghost use Rattle.board_text.specs.PlaceForms.{places_line, TakesPlaces};
+    ghost use Rattle.board_text.specs.Inside.PlaceForms.{TakesPlace};
 
     /// A reader of all these bytes.
     pub fn new(bytes: &'a [u8]) -> Self
@@ -134,7 +138,8 @@ impl<'a> LineReader<'a> {
         }
     }
 
-    /// Takes as many texts of places as there is room for, each with a space before it, and says whether each spells a place below the bound. If so, these are written.
+    /// Takes as many texts of places as there is room for, each with a space before it, and says whether each spells a place below
+    /// the bound. If so, these are written.
     pub fn places(&mut self, places: &mut [u16], labels: u16, bound: u16) -> Option<bool>
         requires some { 0 < length places.old }
         requires bound { (labels ≤ bound) × (bound ≤ labels + 1) }
@@ -151,7 +156,8 @@ impl<'a> LineReader<'a> {
         Some(are_places)
     }
 
-    /// Takes the text of a place: digits, or a hyphen if the number of labels is below the bound. Gives the place that it spells, if that is below the bound.
+    /// Takes the text of a place: digits, or a hyphen if the number of labels is below the bound. Gives the place that it spells,
+    /// if that is below the bound.
     fn place(&mut self, labels: u16, bound: u16) -> Option<Option<u16>>
         requires { (labels ≤ bound) × (bound ≤ labels + 1) }
         ensures { TakesPlace labels bound result self.old self.new }
@@ -180,7 +186,8 @@ impl<'a> LineReader<'a> {
     pub fn numbers_line(&mut self, word: &[u8], numbers: &mut [u16], bound: u16) -> Option<()>
         requires some { 0 < length numbers.old }
         requires bound { 0 < bound }
-        ensures { Takes (AreNumbers (length numbers.old) bound) (numbers_line word.now) (option_map (λ _. numbers.new) result) self.old self.new }
+        ensures { Takes (AreNumbers (length numbers.old) bound) (numbers_line word.now)
+            (option_map (λ _. numbers.new) result) self.old self.new }
     {
         self.take(word)?;
         self.numbers(numbers, bound)?;
@@ -191,8 +198,9 @@ impl<'a> LineReader<'a> {
     /// Takes a line of this word and as many places as there is room for, each with a space before it.
     pub fn places_line(&mut self, word: &[u8], places: &mut [u16], labels: u16) -> Option<()>
         requires some { 0 < length places.old }
-        requires few { labels ≤ 256 }
-        ensures { Takes (AreNumbers (length places.old) (labels + 1)) (places_line labels word.now) (option_map (λ _. places.new) result) self.old self.new }
+        requires few { labels ≤ MAX_LABELS }
+        ensures { Takes (AreNumbers (length places.old) (labels + 1)) (places_line labels word.now)
+            (option_map (λ _. places.new) result) self.old self.new }
     {
         self.take(word)?;
         if !self.places(places, labels, labels + 1)? {

@@ -2,8 +2,8 @@
 
 ghost use Rattle.std.specs.Prelude.{◌≡◌, MatchOption};
 ghost use Rattle.board_text.specs.PlainBoard.{AreLabels};
-ghost use Rattle.board_text.specs.Parsing.{CanFollow};
-ghost use Rattle.board_text.specs.Misfits.{Misfits};
+ghost use Rattle.board_text.specs.Inside.Parsing.{CanFollow};
+ghost use Rattle.board_text.specs.Inside.Misfits.{Misfits};
 
 use crate::domination::Domination;
 use crate::fault::BoardKind;
@@ -11,7 +11,8 @@ use crate::fault::BoardKind;
 /// What is wrong with a pair that is to follow those so far.
 pub(crate) fn pair_fault(beats: &Domination, x: u16, y: u16) -> Option<BoardKind>
     requires { AreLabels beats.now.labels (x, y) }
-    ensures { MatchOption result (CanFollow beats.now.labels beats.now.pairs (x, y)) (λ kind. Misfits beats.now.labels beats.now.pairs (x, y) kind) }
+    ensures { MatchOption result (CanFollow beats.now.labels beats.now.pairs (x, y))
+        (λ kind. Misfits beats.now.labels beats.now.pairs (x, y) kind) }
 {
     if x == y {
         return Some(BoardKind::SelfBeat);

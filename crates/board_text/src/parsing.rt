@@ -1,14 +1,15 @@
 //! Reading a board's text.
 
-ghost use Rattle.std.specs.Prelude.{◌≡◌, ◌≢◌, ℕ, ◌+◌, ◌-◌, ◌*◌, ◌≤◌, ◌<◌, ◌++◌, ◌∷◌, [], List, length, option_map, MatchOption, MatchResult, IfOk, IfErr};
+ghost use Rattle.std.specs.Prelude.{◌≡◌, ◌≢◌, ℕ, ◌+◌, ◌-◌, ◌*◌, ◌≤◌, ◌<◌, ◌++◌, ◌∷◌, [], List, length, option_map, MatchOption};
+ghost use Rattle.std.specs.Prelude.{MatchResult, IfOk, IfErr};
 ghost use Rattle.board_text.specs.LineForms.{Takes};
 ghost use Rattle.board_text.specs.PlainBoard.{PlainBoard, AreLabels, IsBoard, IsStart, ArePairs};
 ghost use Rattle.board_text.specs.BoardText.{start_line, beats_line, board_text};
 ghost use Rattle.board_text.specs.declared.fault.BoardKind.TheVariants.{Memory as OutOfMemory};
 ghost use Rattle.board_text.specs.BoardFaults.{HasFault};
-ghost use Rattle.board_text.specs.Parsing.{NextPair, PairsRead, PairsFault, HeadRead};
+ghost use Rattle.board_text.specs.Inside.Parsing.{NextPair, PairsRead, PairsFault, HeadRead};
 
-use crate::board::{Board, version_of};
+use crate::board::{Board, MAX_LABELS, MAX_PEBBLES, version_of};
 use crate::domination::Domination;
 use crate::fault::{BoardFault, BoardKind};
 use crate::line_reader::LineReader;
@@ -70,10 +71,10 @@ fn read_head(text: &mut LineReader<'_>) -> Result<(u8, u16, u8), BoardFault>
     let Some(version) = text.number_line(b"board", 1, 2) else {
         return Err(BoardFault::at(1, BoardKind::Version));
     };
-    let Some(labels) = text.number_line(b"labels", 1, 256) else {
+    let Some(labels) = text.number_line(b"labels", 1, MAX_LABELS as u32) else {
         return Err(BoardFault::at(2, BoardKind::Labels));
     };
-    let Some(pebbles) = text.number_line(b"pebbles", 1, 6) else {
+    let Some(pebbles) = text.number_line(b"pebbles", 1, MAX_PEBBLES as u32) else {
         return Err(BoardFault::at(3, BoardKind::Pebbles));
     };
     Ok((version as u8, labels as u16, pebbles as u8))
@@ -82,7 +83,7 @@ fn read_head(text: &mut LineReader<'_>) -> Result<(u8, u16, u8), BoardFault>
 /// Takes the line of the start.
 fn take_start(text: &mut LineReader<'_>, version: u8, labels: u16, start: &mut [u16]) -> Option<()>
     requires some { 0 < length start.old }
-    requires few { labels ≤ 256 }
+    requires few { labels ≤ MAX_LABELS }
     ensures { Takes (IsStart version labels (length start.old)) (start_line labels) (option_map (λ _. start.new) result) text.old text.new }
 {
     text.places_line(b"start", start, labels)?;
@@ -98,7 +99,8 @@ pub fn parse(alloc: Global, bytes: &[u8]) -> Result<Board, BoardFault>
     // What is read is a board's text.
     ensures found { IfOk result (λ board. IsBoard board × (bytes.now ≡ board_text board)) }
     // A board's text is read, unless memory runs out.
-    ensures only { (b : PlainBoard) → IsBoard b → bytes.now ≡ board_text b → MatchResult result (λ board. board ≡ b) (λ fault. fault.kind ≡ OutOfMemory) }
+    ensures only { (b : PlainBoard) → IsBoard b → bytes.now ≡ board_text b
+        → MatchResult result (λ board. board ≡ b) (λ fault. fault.kind ≡ OutOfMemory) }
     // Which fault it is.
     ensures fault { IfErr result (λ fault. HasFault bytes.now fault.line fault.kind) }
 {

@@ -1,7 +1,8 @@
 //! Writing a board's text.
 
 ghost use Rattle.std.specs.Prelude.{◌≡◌, ◌++◌, IfOk, OnOk, string_bytes};
-ghost use Rattle.board_text.specs.BoardText.{head, board_text};
+ghost use Rattle.board_text.specs.BoardText.{board_text};
+ghost use Rattle.board_text.specs.Inside.BoardText.{head};
 
 use crate::board::Board;
 use crate::memory::Memory;

@@ -1,37 +1,11 @@
 //! Writing numbers and places.
 
-ghost use Rattle.std.specs.Prelude.{◌≡◌, ◌++◌, ◌∷◌, map, OnOk, string_bytes};
+ghost use Rattle.std.specs.Prelude.{◌≡◌, ◌+◌, ◌<◌, ◌++◌, ◌∷◌, [], OnOk, string_bytes};
 ghost use Rattle.std.specs.Fmt.{decimal};
-ghost use Rattle.std.specs.List.{range_with_len};
 ghost use Rattle.board_text.specs.PlaceForms.{place_word, spaced_places};
 
 use std::alloc::AllocError;
 use std::fmt::Write;
-
-/// The texts of the first numbers, each with a space before it.
-static FIRST_NUMBERS: [&str; 256] = [
-    " 0", " 1", " 2", " 3", " 4", " 5", " 6", " 7", " 8", " 9", " 10", " 11", " 12", " 13", " 14",
-    " 15", " 16", " 17", " 18", " 19", " 20", " 21", " 22", " 23", " 24", " 25", " 26", " 27",
-    " 28", " 29", " 30", " 31", " 32", " 33", " 34", " 35", " 36", " 37", " 38", " 39", " 40",
-    " 41", " 42", " 43", " 44", " 45", " 46", " 47", " 48", " 49", " 50", " 51", " 52", " 53",
-    " 54", " 55", " 56", " 57", " 58", " 59", " 60", " 61", " 62", " 63", " 64", " 65", " 66",
-    " 67", " 68", " 69", " 70", " 71", " 72", " 73", " 74", " 75", " 76", " 77", " 78", " 79",
-    " 80", " 81", " 82", " 83", " 84", " 85", " 86", " 87", " 88", " 89", " 90", " 91", " 92",
-    " 93", " 94", " 95", " 96", " 97", " 98", " 99", " 100", " 101", " 102", " 103", " 104",
-    " 105", " 106", " 107", " 108", " 109", " 110", " 111", " 112", " 113", " 114", " 115", " 116",
-    " 117", " 118", " 119", " 120", " 121", " 122", " 123", " 124", " 125", " 126", " 127", " 128",
-    " 129", " 130", " 131", " 132", " 133", " 134", " 135", " 136", " 137", " 138", " 139", " 140",
-    " 141", " 142", " 143", " 144", " 145", " 146", " 147", " 148", " 149", " 150", " 151", " 152",
-    " 153", " 154", " 155", " 156", " 157", " 158", " 159", " 160", " 161", " 162", " 163", " 164",
-    " 165", " 166", " 167", " 168", " 169", " 170", " 171", " 172", " 173", " 174", " 175", " 176",
-    " 177", " 178", " 179", " 180", " 181", " 182", " 183", " 184", " 185", " 186", " 187", " 188",
-    " 189", " 190", " 191", " 192", " 193", " 194", " 195", " 196", " 197", " 198", " 199", " 200",
-    " 201", " 202", " 203", " 204", " 205", " 206", " 207", " 208", " 209", " 210", " 211", " 212",
-    " 213", " 214", " 215", " 216", " 217", " 218", " 219", " 220", " 221", " 222", " 223", " 224",
-    " 225", " 226", " 227", " 228", " 229", " 230", " 231", " 232", " 233", " 234", " 235", " 236",
-    " 237", " 238", " 239", " 240", " 241", " 242", " 243", " 244", " 245", " 246", " 247", " 248",
-    " 249", " 250", " 251", " 252", " 253", " 254", " 255",
-];
 
 /// Writes places, each with a space before it.
 pub fn write_places(text: &mut String, labels: u16, places: &[u16]) -> Result<(), AllocError>
@@ -58,23 +32,24 @@ pub fn write_place(text: &mut String, labels: u16, place: u16) -> Result<(), All
 pub fn write_number(text: &mut String, number: u32) -> Result<(), AllocError>
     ensures { OnOk result (string_bytes text.new ≡ string_bytes text.old ++ 32 ∷ decimal number) }
 {
-    if number < 256 {
-        text.push_str(first_number(number as u8))
-    } else {
-        write!(text, " {number}")
+    if number >= 1000 {
+        return write!(text, " {number}");
     }
+    // Labels have up to three digits: they are pushed one by one, without a call.
+    text.push(' ')?;
+    if number >= 100 {
+        push_digit(text, number / 100)?;
+    }
+    if number >= 10 {
+        push_digit(text, number / 10 % 10)?;
+    }
+    push_digit(text, number % 10)
 }
 
-/// The text of a number below 256, with a space before it.
-fn first_number(number: u8) -> &'static str
-    ensures { result.now ≡ 32 ∷ decimal number }
+/// Pushes the digit of a number below 10.
+fn push_digit(text: &mut String, number: u32) -> Result<(), AllocError>
+    requires { number < 10 }
+    ensures { OnOk result (string_bytes text.new ≡ string_bytes text.old ++ (48 + number) ∷ []) }
 {
-    first_numbers()[number as usize]
-}
-
-/// The texts of the first numbers.
-fn first_numbers() -> &'static [&'static str; 256]
-    ensures { map (λ text. text.now) result.now ≡ map (λ n. 32 ∷ decimal n) (range_with_len 0 256) }
-{
-    &FIRST_NUMBERS
+    text.push((b'0' + number as u8) as char)
 }

@@ -1,6 +1,7 @@
 -- When one seat has the whole width and nothing left to do, the round is finished.
-use Rattle.std.proofs.Common.{◌≡◌, ◌≢◌, ◌⊎◌, ℕ, zero, suc, ◌+◌, ◌<◌, ◌≤◌, ◌↔◌, List, [], ◌∷◌, map, length, take, drop, get_or, refl, sym, ap, ◌∙◌, subst, inl, inr, arith, Some, None}
+use Rattle.std.proofs.Common.{◌≡◌, ◌≢◌, ◌⊎◌, ℕ, zero, suc, ◌+◌, ◌^◌, ◌<◌, ◌≤◌, ◌↔◌, List, [], ◌∷◌, map, length, take, drop, get_or, refl, sym, ap, ◌∙◌, subst, inl, inr, arith, Some, None}
 use Rattle.std.specs.Prelude.{slice_index}
+use Rattle.board_text.specs.declared.board.TheConstants.{MAX_LABELS}
 use Rattle.std.proofs.lemmas.Bool.{cases_lt}
 use Rattle.std.proofs.lemmas.List.{get_or-map, length-map}
 use mathlib.Core.Option.{some}
@@ -8,24 +9,25 @@ use lib.ListN.{get_elem?}
 use Rattle.atomic_table.specs.Seated.{TableId}
 use Rattle.atomic_table.specs.Table.{State, Final, Seen}
 use Rattle.index_lists.specs.Lists.{times}
-use Rattle.index_lists.proofs.Times.{cond_other}
+use Rattle.index_lists.proofs.Cited.{cond_other}
 use Rattle.positions.specs.declared.value.Value.TheVariants.{Finite}
 use Rattle.positions.specs.Value.{HasValue}
 use Rattle.positions.specs.Ranks.{configurations, rank_of, configuration_at}
 use Rattle.positions.specs.Gaps.{gaps, member_of, IsAnswer}
 use Rattle.positions.specs.Counts.{HasSize}
-use Rattle.positions.proofs.Sizes.{same_size, size_zero, size_at_most}
+use Rattle.positions.specs.declared.space.TheConstants.{MAX_CONFIGURATIONS}
+use Rattle.positions.proofs.Cited.{same_size, size_zero, size_at_most}
 use Rattle.retro_core.specs.Solving.{Solving, IsSolving, AnswerLasts}
-use Rattle.retro_core.specs.Round.{PlainSeat, Round, IsLawful, IsWorkedOff, spent as spent_seat, seat_at, total_width, together, all_todo, all_won}
-use Rattle.retro_core.specs.Rules.{total as seat_total}
-use Rattle.retro_core.specs.Words.{open_word, value_of_word, round_of_words}
+use Rattle.retro_core.specs.Round.{PlainSeat, Round, IsLawful, IsWorkedOff, spent as spent_seat, seat_at, total_width, together, all_todo}
+use Rattle.retro_core.specs.Round.{all_won}
+use Rattle.retro_core.specs.Inside.Rules.{total as seat_total}
+use Rattle.retro_core.specs.Inside.Words.{open_word, value_of_word, round_of_words}
 use Rattle.retro_core.specs.Ending.{IsRoundEnd}
-use Rattle.retro_core.proofs.Lasting.{same_or_not}
-use Rattle.retro_core.proofs.Sums.{times-together}
-use Rattle.retro_core.proofs.RoundSteps.{worked-off}
-use Rattle.claim_round.specs.Shared.{Key, View, Unit0, Kept, Ended, Finishes, seats_of}
-use Rattle.claim_round.specs.Seats.{IsSeated}
-use Rattle.claim_round.specs.Rounds.{IsRound}
+use Rattle.retro_core.proofs.Cited.{same_or_not, times-together, worked-off}
+use Rattle.claim_round.specs.Shared.{Key, View, Ended, Finishes}
+use Rattle.claim_round.specs.Inside.Shared.{Unit0, Kept, seats_of}
+use Rattle.claim_round.specs.Inside.Seats.{IsSeated}
+use Rattle.claim_round.specs.Inside.Rounds.{IsRound}
 use Rattle.claim_round.specs.declared.seat.RoundSeat.TheInside.{Inside}
 use Rattle.claim_round.proofs.Totals.{seat_read, total_at}
 use Rattle.claim_round.proofs.Moves.{words_length}
@@ -172,15 +174,15 @@ closed_fields k given width table s words slots round seated whole todo owed las
 
 -- ---- the words fit
 
-pub small_counts : (s : Solving) (e : Ended) → IsSolving s → Finishes s e → (g : ℕ) → g < gaps s.board → slice_index e.counts g < 4294967296
+pub small_counts : (s : Solving) (e : Ended) → IsSolving s → Finishes s e → (g : ℕ) → g < gaps s.board → slice_index e.counts g < 2 ^ 32
 small_counts s e sol done g i =
-    let few = size_at_most (AnswerLasts s.board g (suc s.rounds)) (slice_index e.counts g) 257 (done.end.above g i)
+    let few = size_at_most (AnswerLasts s.board g (suc s.rounds)) (slice_index e.counts g) (MAX_LABELS + 1) (done.end.above g i)
     (λ label answer. let low : label < s.board.labels = answer.0.is_label in let top = sol.is_board.labels.1 in omega arith) in
     omega arith
 
-pub small_value : (s : Solving) (words : List ℕ) (counts won : List ℕ) → s.rounds < configurations s.board → configurations s.board ≤ 1048576
+pub small_value : (s : Solving) (words : List ℕ) (counts won : List ℕ) → s.rounds < configurations s.board → configurations s.board ≤ MAX_CONFIGURATIONS
     → Finishes s (record { counts = counts; values = map value_of_word words; won = won }) → (rank : ℕ) → rank < length words
-    → (slice_index words rank ≡ open_word) ⊎ (slice_index words rank < 4294967296)
+    → (slice_index words rank ≡ open_word) ⊎ (slice_index words rank < 2 ^ 32)
 small_value s words counts won below few done rank i =
     let word : ℕ = slice_index words rank in
     let long = length-map words value_of_word in

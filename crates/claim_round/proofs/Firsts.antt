@@ -5,9 +5,10 @@ use Rattle.board_text.specs.PlainBoard.{PlainBoard}
 use Rattle.positions.specs.Gaps.{gaps}
 use Rattle.retro_core.specs.Solving.{Solving}
 use Rattle.retro_core.specs.Round.{IsDue, first_of}
-use Rattle.claim_round.specs.Shared.{Key, IsOf, RoundId, Place, size}
-use Rattle.claim_round.specs.Seats.{IsSeated, place_of}
-use Rattle.claim_round.specs.Rounds.{IsRound, round_id}
+use Rattle.claim_round.specs.Shared.{Key, IsOf, RoundId, Place}
+use Rattle.claim_round.specs.Inside.Shared.{size}
+use Rattle.claim_round.specs.Inside.Seats.{IsSeated, place_of}
+use Rattle.claim_round.specs.Inside.Rounds.{IsRound, round_id}
 use Rattle.claim_round.specs.declared.seat.RoundSeat.TheInside.{Inside}
 use Rattle.claim_round.proofs.Seats.{first_due, times_first}
 

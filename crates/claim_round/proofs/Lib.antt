@@ -8,3 +8,4 @@ pub mod Ends
 pub mod Lookup
 pub mod Openings
 pub mod Sharing
+pub mod Cited

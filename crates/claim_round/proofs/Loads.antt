@@ -1,18 +1,20 @@
 -- What a seat may still owe, after each step, and how many members a gap has.
-use Rattle.std.proofs.Common.{◌≡◌, ℕ, zero, suc, ◌+◌, ◌-◌, ◌*◌, ◌/◌, ◌<◌, ◌≤◌, List, [], ◌∷◌, ◌++◌, length, take, drop, refl, ap, ◌∙◌, arith, inl, inr, length-append, length-take, length-drop, mul-le-mul_left}
+use Rattle.std.proofs.Common.{◌≡◌, ℕ, zero, suc, ◌+◌, ◌-◌, ◌*◌, ◌/◌, ◌^◌, ◌<◌, ◌≤◌, List, [], ◌∷◌, ◌++◌, length, take, drop, refl, ap, ◌∙◌, arith, inl, inr, length-append, length-take, length-drop, mul-le-mul_left}
 use mathlib.Core.Logic.{dite}
 use native.Mathlib.Decide.{ℕ_discrete}
 use Rattle.board_text.specs.PlainBoard.{places}
-use Rattle.board_text.proofs.Places.{some_places, few_places}
+use Rattle.board_text.specs.declared.board.TheConstants.{MAX_LABELS}
+use Rattle.board_text.proofs.Cited.{some_places, few_places}
 use Rattle.index_lists.specs.Lists.{times, without_node}
-use Rattle.index_lists.proofs.Times.{cond_same, cond_other, times-without_same, times-without_other, length-without, times-here}
+use Rattle.index_lists.proofs.Cited.{cond_same, cond_other, times-without_same, times-without_other, length-without, times-here}
 use Rattle.positions.specs.Ranks.{configurations, rank_of}
 use Rattle.positions.specs.Gaps.{gaps, member_of}
+use Rattle.positions.specs.declared.space.TheConstants.{MAX_CONFIGURATIONS}
 use Rattle.retro_core.specs.Solving.{Solving, IsSolving, source}
 use Rattle.retro_core.specs.Round.{rest_of}
-use Rattle.retro_core.proofs.Lasting.{same_or_not}
-use Rattle.retro_core.proofs.RoundLaws.{source-once}
-use Rattle.claim_round.specs.Shared.{Key, View, most, size, load, struck, claimed, kept_part, new_part, joined}
+use Rattle.retro_core.proofs.Cited.{same_or_not, source-once}
+use Rattle.claim_round.specs.Shared.{Key, View, kept_part, new_part, joined}
+use Rattle.claim_round.specs.Inside.Shared.{most, size, load, struck, claimed}
 
 -- ---- how many members a gap has
 
@@ -50,10 +52,10 @@ few_members s sol gap i = covered (places s.board) (λ v. rank_of s.board (membe
 pub some_most : (k : Key) → IsSolving k.solving → 0 < most k
 some_most k sol = let some = some_places k.solving.board sol.is_board in omega arith
 
-pub narrow : (k : Key) → IsSolving k.solving → most k * size k < 4294967296
+pub narrow : (k : Key) → IsSolving k.solving → most k * size k < 2 ^ 32
 narrow k sol =
-    let a : most k * size k ≤ most k * 1048576 = mul-le-mul_left (most k) sol.few in
-    let p : most k ≤ 257 = few_places k.solving.board sol.is_board in
+    let a : most k * size k ≤ most k * MAX_CONFIGURATIONS = mul-le-mul_left (most k) sol.few in
+    let p : most k ≤ MAX_LABELS + 1 = few_places k.solving.board sol.is_board in
     omega arith
 
 -- ---- loads

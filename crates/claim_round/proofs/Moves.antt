@@ -8,16 +8,17 @@ use lib.ListN.{get_elem?}
 use Rattle.atomic_table.specs.Table.{Me, step, stepped, keeps, Allows, Splits, Joins}
 use Rattle.atomic_table.proofs.Lists.{exchanged, set_again}
 use Rattle.index_lists.specs.Lists.{times}
-use Rattle.index_lists.proofs.Times.{cond_same, cond_other, distinct-length, same_is, differ_is}
+use Rattle.index_lists.proofs.Cited.{cond_same, cond_other, distinct-length, same_is, differ_is}
 use Rattle.positions.specs.Ranks.{configuration_at, configurations}
 use Rattle.positions.specs.Gaps.{gaps, gap_of, IsDominator}
 use Rattle.retro_core.specs.Solving.{Solving}
-use Rattle.retro_core.specs.Round.{PlainSeat, IsLawful, spent as spent_seat, first_of, seat_struck, seat_tried, seat_kept, seat_new, seat_joined, together, total_width}
-use Rattle.retro_core.specs.Words.{open_word, value_of_word, round_of_words}
-use Rattle.retro_core.proofs.Lasting.{same_or_not}
-use Rattle.retro_core.proofs.RoundSteps.{split-lawful, join-lawful}
-use Rattle.retro_core.proofs.SharedSteps.{IsWordStruck, word-strike, word-try}
-use Rattle.claim_round.specs.Shared.{Key, View, Unit0, Kept, IsTraced, Strikes, Claims, Reads, Looks, IsBounded, seats_of, total, most, size, load, struck, claimed, kept_part, new_part, joined, spent}
+use Rattle.retro_core.specs.Round.{PlainSeat, IsLawful, spent as spent_seat, first_of, seat_struck, seat_tried, seat_kept, seat_new}
+use Rattle.retro_core.specs.Round.{seat_joined, together, total_width}
+use Rattle.retro_core.specs.Inside.Words.{open_word, value_of_word, round_of_words}
+use Rattle.retro_core.proofs.Cited.{same_or_not, split-lawful, join-lawful, IsWordStruck, word-strike, word-try}
+use Rattle.claim_round.specs.Shared.{Key, View, kept_part, new_part, joined}
+use Rattle.claim_round.specs.Inside.Shared.{Unit0, Kept, IsTraced, Strikes, Claims, Reads, Looks, IsBounded, seats_of, total, most, size}
+use Rattle.claim_round.specs.Inside.Shared.{load, struck, claimed, spent}
 use Rattle.claim_round.proofs.Totals.{total_at, won_total, seat_read, get_elsewhere}
 use Rattle.claim_round.proofs.Tracing.{traced_strike, traced_try, lost_of_win, lost_of_loss, traced_split, traced_join}
 

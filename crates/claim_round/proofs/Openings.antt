@@ -1,5 +1,5 @@
 -- What is read before the first step: the words.
-use Rattle.std.proofs.Common.{◌≡◌, ℕ, ◌+◌, ◌*◌, ◌<◌, ◌≤◌, ◌↔◌, List, [], ◌∷◌, ◌++◌, map, length, take, drop, get_or, refl, mul-le-mul_left, sym, ap, ◌∙◌, subst, inl, inr, arith, length-append, length-take, length-drop, get_or-take, get_or-drop, Option, Some, None}
+use Rattle.std.proofs.Common.{◌≡◌, ℕ, ◌+◌, ◌*◌, ◌^◌, ◌<◌, ◌≤◌, ◌↔◌, List, [], ◌∷◌, ◌++◌, map, length, take, drop, get_or, refl, mul-le-mul_left, sym, ap, ◌∙◌, subst, inl, inr, arith, length-append, length-take, length-drop, get_or-take, get_or-drop, Option, Some, None}
 use Rattle.std.specs.Prelude.{slice_index}
 use Rattle.std.specs.List.{filter}
 use Rattle.std.proofs.Math.ListN.{get_or-append}
@@ -7,24 +7,22 @@ use Rattle.std.proofs.Math.Seq.{get_or-append_seam}
 use Rattle.std.proofs.lemmas.List.{get_or-map, length-map}
 use mathlib.Core.Option.{some-ne-none}
 use Rattle.index_lists.specs.Lists.{times}
-use Rattle.index_lists.proofs.Times.{cond_same, cond_other, distinct-length}
+use Rattle.index_lists.proofs.Cited.{cond_same, cond_other, distinct-length}
 use Rattle.positions.specs.declared.value.Value.TheVariants.{Finite}
 use Rattle.positions.specs.Value.{HasValue}
 use Rattle.positions.specs.Ranks.{configurations, configuration_at}
 use Rattle.positions.specs.Gaps.{gaps}
 use Rattle.positions.specs.Counts.{HasSize}
-use Rattle.positions.proofs.Sizes.{size_zero}
+use Rattle.positions.proofs.Cited.{size_zero}
 use Rattle.retro_core.specs.Solving.{Solving, IsSolving, AnswerLasts, bucket}
 use Rattle.retro_core.specs.Round.{AreToStrike, AreFirstCounts, AreFirstValues, IsDue}
-use Rattle.retro_core.specs.Rules.{has_home}
-use Rattle.retro_core.specs.Words.{open_word, value_of_word}
-use Rattle.retro_core.proofs.Lasting.{same_or_not}
-use Rattle.retro_core.proofs.RoundStart.{has-home-tells}
-use Rattle.retro_core.proofs.Homes.{times-filter-true, times-filter-le}
-use Rattle.retro_core.proofs.RoundSteps.{opening-lawful}
-use Rattle.claim_round.specs.Shared.{Key, Kept, opening, most}
+use Rattle.retro_core.specs.Inside.Rules.{has_home}
+use Rattle.retro_core.specs.Inside.Words.{open_word, value_of_word}
+use Rattle.retro_core.proofs.Cited.{same_or_not, has-home-tells, times-filter-true, times-filter-le, opening-lawful}
+use Rattle.claim_round.specs.Shared.{Key}
+use Rattle.claim_round.specs.Inside.Shared.{Kept, opening, most}
 use Rattle.claim_round.proofs.Totals.{knows_push}
-use Rattle.claim_round.specs.Openings.{HasCounts, AreFirstWords}
+use Rattle.claim_round.specs.Inside.Openings.{HasCounts, AreFirstWords}
 
 -- ---- words that are read one after the other
 
@@ -62,7 +60,7 @@ words_more s words words' word n are e here =
     }
 
 -- the word of a value that is small, and of none
-pub word_some : (s : Solving) (rank word : ℕ) (found : Option ℕ) → found ≡ Some word → s.rounds < 4294967296
+pub word_some : (s : Solving) (rank word : ℕ) (found : Option ℕ) → found ≡ Some word → s.rounds < 2 ^ 32
     → ((value : ℕ) → (found ≡ Some value) ↔ ((value ≤ s.rounds) × HasValue s.board (configuration_at s.board rank) (Finite value)))
     → (value : ℕ) → (value_of_word word ≡ Some value) ↔ ((value ≤ s.rounds) × HasValue s.board (configuration_at s.board rank) (Finite value))
 word_some s rank word found is small means value =

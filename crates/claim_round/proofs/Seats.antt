@@ -5,16 +5,15 @@ use Rattle.std.specs.VecDeque.{deque_capacity}
 use mathlib.Core.Logic.{dite}
 use native.Mathlib.Decide.{ℕ_discrete}
 use Rattle.index_lists.specs.Lists.{times}
-use Rattle.index_lists.proofs.Times.{cond_same, cond_other, times-append}
+use Rattle.index_lists.proofs.Cited.{cond_same, cond_other, times-append}
 use Rattle.positions.specs.Gaps.{gaps}
 use Rattle.retro_core.specs.Solving.{Solving, IsSolving, source}
 use Rattle.retro_core.specs.Round.{AreToStrike, IsDue, first_of, rest_of}
-use Rattle.retro_core.specs.Words.{open_word}
-use Rattle.retro_core.proofs.Sums.{times-cut}
-use Rattle.retro_core.proofs.Steps.{times_here, split_first}
-use Rattle.retro_core.proofs.RoundLaws.{source-rank}
-use Rattle.claim_round.specs.Shared.{Key, View, IsDueIn, most, size, load, opening, struck, claimed, kept_part, new_part, joined, IsBounded}
-use Rattle.claim_round.specs.Seats.{IsSeated, HasRoom}
+use Rattle.retro_core.specs.Inside.Words.{open_word}
+use Rattle.retro_core.proofs.Cited.{times-cut, times_here, split_first, source-rank}
+use Rattle.claim_round.specs.Shared.{Key, View, kept_part, new_part, joined}
+use Rattle.claim_round.specs.Inside.Shared.{IsDueIn, most, size, load, opening, struck, claimed, IsBounded}
+use Rattle.claim_round.specs.Inside.Seats.{IsSeated, HasRoom}
 use Rattle.claim_round.specs.declared.seat.RoundSeat.TheInside.{Inside}
 use Rattle.claim_round.proofs.Loads.{length_rest, few_members, narrow, some_most}
 use Rattle.claim_round.proofs.Openings.{ranks_due}

@@ -3,9 +3,10 @@ use Rattle.std.proofs.Common.{◌≡◌, ◌≢◌, ℕ, zero, suc, ◌+◌, ◌
 use mathlib.Core.Option.{some, some-ne-none, some-injective}
 use lib.ListN.{get_elem?}
 use Rattle.index_lists.specs.Lists.{times}
-use Rattle.index_lists.proofs.Times.{times-append}
+use Rattle.index_lists.proofs.Cited.{times-append}
 use Rattle.retro_core.specs.Round.{spent as spent_seat, together}
-use Rattle.claim_round.specs.Shared.{Key, View, total, seats_of}
+use Rattle.claim_round.specs.Shared.{Key, View}
+use Rattle.claim_round.specs.Inside.Shared.{total, seats_of}
 
 pub total_set : (f : View → ℕ) (views : List View) (i : ℕ) (v w : View) → get_elem? views i ≡ some v → total f (set views i w) + f v ≡ total f views + f w
 total_set f [] i v w e = absurd (some-ne-none v (sym e))

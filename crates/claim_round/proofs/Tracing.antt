@@ -4,14 +4,14 @@ use Rattle.std.specs.Prelude.{slice_index}
 use mathlib.Core.Option.{some}
 use lib.ListN.{get_elem?}
 use Rattle.index_lists.specs.Lists.{times}
-use Rattle.index_lists.proofs.Times.{cond_same, cond_other, times-append, times-later}
+use Rattle.index_lists.proofs.Cited.{cond_same, cond_other, times-append, times-later}
 use Rattle.positions.specs.Gaps.{gaps}
 use Rattle.retro_core.specs.Solving.{IsSolving, source}
 use Rattle.retro_core.specs.Round.{first_of}
-use Rattle.retro_core.specs.Words.{open_word}
-use Rattle.retro_core.proofs.Lasting.{same_or_not}
-use Rattle.retro_core.proofs.Steps.{times_here}
-use Rattle.claim_round.specs.Shared.{Key, View, total, most, size, load, IsTraced, struck, claimed, kept_part, new_part, joined, spent}
+use Rattle.retro_core.specs.Inside.Words.{open_word}
+use Rattle.retro_core.proofs.Cited.{same_or_not, times_here}
+use Rattle.claim_round.specs.Shared.{Key, View, kept_part, new_part, joined}
+use Rattle.claim_round.specs.Inside.Shared.{total, most, size, load, IsTraced, struck, claimed, spent}
 use Rattle.claim_round.proofs.Totals.{total_set, total_at, total_cut, total_glue, won_total, knows_set, knows_push}
 use Rattle.claim_round.proofs.Loads.{few_members, load_struck, load_claimed, load_cut, load_glue}
 

@@ -1,20 +1,14 @@
 -- The rule of a round's table, and what its steps tell.
-use Rattle.std.specs.Prelude.{◌≡◌, ℕ, suc, ◌+◌, ◌*◌, ◌<◌, ◌≤◌, ◌↔◌, ◌==◌, Bool, cond, List, [], ◌∷◌, ◌++◌, length, map, filter, slice_index, slice_index_or, Option, Some, None}
-use Rattle.atomic_table.specs.Table.{State, Me, Step}
+use Rattle.std.specs.Prelude.{◌≡◌, ℕ, suc, ◌+◌, ◌<◌, ◌≤◌, ◌↔◌, List, [], ◌++◌, length}
+use Rattle.std.specs.Prelude.{slice_index_or, Option, Some, None}
 use Rattle.atomic_table.specs.Seated.{TableId}
-use mathlib.Core.Option.{some}
-use lib.ListN.{get_elem?}
-use Rattle.board_text.specs.PlainBoard.{places}
-use Rattle.index_lists.specs.Lists.{times}
 use Rattle.positions.specs.declared.value.Value.TheVariants.{Finite}
 use Rattle.positions.specs.Value.{HasValue}
 use Rattle.positions.specs.Ranks.{configurations, configuration_at}
-use Rattle.positions.specs.Gaps.{gaps}
-use Rattle.retro_core.specs.Solving.{Solving, IsSolving, AnswerLasts, bucket}
-use Rattle.retro_core.specs.Round.{PlainSeat, IsDue, IsLawful, spent as spent_seat, together, first_of, seat_struck, seat_tried, seat_kept, seat_new, seat_joined}
-use Rattle.retro_core.specs.Words.{open_word, round_of_words}
+use Rattle.retro_core.specs.Solving.{Solving}
+use Rattle.retro_core.specs.Round.{PlainSeat}
+use Rattle.retro_core.specs.Round.{seat_kept, seat_new, seat_joined}
 use Rattle.retro_core.specs.Ending.{IsRoundEnd}
-use Rattle.retro_core.specs.Rules.{has_home}
 
 -- what a table is told: the solver whose round it is, and the round's width
 pub record Key : Type 0 where
@@ -38,82 +32,6 @@ pub record Place : Type 0 where
   pub table : TableId
   pub view : View
 
-abbrev pub Unit0 : Type 0
-Unit0 = Unit {0}
-
--- ---- the rule
-
--- what all seats have
-abbrev pub seats_of : List View → List PlainSeat
-seats_of views = map (λ view. view.has) views
-
--- f of each view, added up
-abbrev pub total : (View → ℕ) → List View → ℕ
-total f [] = 0
-total f (v ∷ vs) = f v + total f vs
-
--- no gap has more members, and no more configurations are without a value
-abbrev pub most : Key → ℕ
-most k = places k.solving.board
-
-abbrev pub size : Key → ℕ
-size k = configurations k.solving.board
-
--- it has the round's value and a dominating pebble
-abbrev pub IsDueIn : Key → ℕ → Type 0
-IsDueIn k rank = IsDue k.solving.board rank k.solving.rounds
-
--- what a seat may still owe: what it owes, and so many for each that it has to strike
-abbrev pub load : ℕ → View → ℕ
-load most v = length v.has.owed + most * length v.has.todo
-
--- what the table knows beside the words and the seats' lists
-pub record IsTraced (k : Key) (words : List ℕ) (views : List View) : Type 0 where
-  -- who has a width knows the round
-  pub knows : (id : ℕ) (v : View) → get_elem? views id ≡ some v → 0 < v.has.width → v.key ≡ k
-  -- what was claimed and not won stands in a won list
-  pub lost : (rank : ℕ) → 0 < total (λ v. times rank v.lost) views → 0 < times rank (together (λ seat. seat.won) (seats_of views))
-  -- a gap is closed at most once, never while it has a count, and always where it had one
-  pub shut_once : (gap : ℕ) → gap < gaps k.solving.board → total (λ v. times gap v.shut) views ≤ 1
-  pub shut_none : (gap : ℕ) → gap < gaps k.solving.board → 0 < slice_index words gap → total (λ v. times gap v.shut) views ≡ 0
-  pub shut_all : (gap label : ℕ) → gap < gaps k.solving.board → slice_index words gap ≡ 0
-      → AnswerLasts k.solving.board gap k.solving.rounds label → total (λ v. times gap v.shut) views ≡ 1
-  -- no more is owed, or may be, than for each configuration that could be struck
-  pub few : total (load (most k)) views ≤ most k * size k
-
--- the words and the seats are a lawful round of the solver
-abbrev pub Kept : Key → State Unit0 View → Type 0
-Kept k s = IsSolving k.solving × IsLawful (round_of_words k.solving k.width s.words (seats_of s.views)) × IsTraced k s.words s.views
-
--- the first seat's view
-abbrev pub opening : Key → View
-opening k = record {
-  key = k;
-  has = record { width = k.width; todo = filter (has_home k.solving.board) (bucket k.solving k.solving.rounds); owed = []; won = [] };
-  lost = [];
-  shut = [];
-}
-
--- ---- what the steps do to a view
-
--- the seat after a strike in a gap whose count was n
-abbrev pub struck : View → ℕ → ℕ → View
-struck v gap n = record {
-  key = v.key;
-  has = seat_struck v.key.solving gap n v.has;
-  lost = v.lost;
-  shut = cond (n == 1) (v.shut ++ gap ∷ []) v.shut;
-}
-
--- the seat after a claim that found the word n
-abbrev pub claimed : View → ℕ → View
-claimed v n = record {
-  key = v.key;
-  has = seat_tried (n == open_word) v.has;
-  lost = cond (n == open_word) v.lost (v.lost ++ first_of v.has.owed ∷ []);
-  shut = v.shut;
-}
-
 -- the two seats after a split
 abbrev pub kept_part : View → View
 kept_part v = record { key = v.key; has = seat_kept v.has; lost = v.lost; shut = v.shut }
@@ -124,44 +42,6 @@ new_part v = record { key = v.key; has = seat_new v.has; lost = []; shut = [] }
 -- the seat after a join
 abbrev pub joined : View → View → View
 joined v u = record { key = v.key; has = seat_joined v.has u.has; lost = v.lost ++ u.lost; shut = v.shut ++ u.shut }
-
-abbrev pub no_key : Key
-no_key = record {
-  solving = record {
-    board = record { labels = 0; pebbles = 0; start = []; pairs = [] };
-    rounds = 0;
-    is_done = Bool.false;
-    buckets = [];
-    sources = [];
-  };
-  width = 0;
-}
-
-abbrev pub spent : View
-spent = record { key = no_key; has = spent_seat; lost = []; shut = [] }
-
--- ---- what the steps tell
-
-abbrev pub Strikes : Step Unit0 → Me Unit0 View → ℕ → Me Unit0 View → Type 0
-Strikes s m n m' = (m'.0 ≡ struck m.0 s.word n) × (m'.1 ≡ m.1) × (0 < n)
-
-abbrev pub Claims : Step Unit0 → Me Unit0 View → ℕ → Me Unit0 View → Type 0
-Claims s m n m' = (m'.0 ≡ claimed m.0 n) × (m'.1 ≡ m.1) × (length m'.0.has.won ≤ size m'.0.key)
-
--- a look at the value of the first that is owed: it is claimed where it has one, and else nothing changes
-abbrev pub Reads : Step Unit0 → Me Unit0 View → ℕ → Me Unit0 View → Type 0
-Reads s m n m' = (m'.0 ≡ cond (n == open_word) m.0 (claimed m.0 n)) × (m'.1 ≡ m.1)
-
--- what any state of the round says of one seat: its width is at most the round's, and its lists are no longer than they can be
-pub record IsBounded (v : View) : Type 0 where
-  pub width : v.has.width ≤ v.key.width
-  pub once : (x : ℕ) → times x v.has.won ≤ 1
-  pub won : length v.has.won ≤ size v.key
-  pub load : load (most v.key) v ≤ most v.key * size v.key
-
--- a look: nothing changes
-abbrev pub Looks : Step Unit0 → Me Unit0 View → ℕ → Me Unit0 View → Type 0
-Looks s m n m' = (m' ≡ m) × IsBounded m.0
 
 -- ---- what clauses say
 

@@ -36,7 +36,7 @@ impl<'a, S: ListStore> Model for SharedRound<'a, S> {
 
     ghost Value = { RoundId };
 
-    ghost use Rattle.claim_round.specs.Rounds.{IsRound};
+    ghost use Rattle.claim_round.specs.Inside.Rounds.{IsRound};
 
     ghost view = { λ s. record { table = s.table.shared.table_id; key = s.table.shared.key } };
 

@@ -24,7 +24,7 @@ impl Model for RoundSeat {
 
     ghost Value = { Place };
 
-    ghost use Rattle.claim_round.specs.Seats.{place_of, IsSeated};
+    ghost use Rattle.claim_round.specs.Inside.Seats.{place_of, IsSeated};
 
     ghost view = { place_of };
 

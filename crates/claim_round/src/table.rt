@@ -11,7 +11,8 @@ pub struct Hand {
 }
 
 impl Model for Hand {
-    ghost use Rattle.claim_round.specs.Shared.{View, spent};
+    ghost use Rattle.claim_round.specs.Shared.{View};
+    ghost use Rattle.claim_round.specs.Inside.Shared.{spent};
 
     ghost Value = { View };
 
@@ -36,7 +37,7 @@ impl<'a, S: ListStore> Model for Plan<'a, S> {
 pub struct Rule;
 
 impl<'a, S: ListStore> TableRule<(), Hand, Plan<'a, S>> for Rule {
-    ghost use Rattle.claim_round.specs.Shared.{Kept, opening};
+    ghost use Rattle.claim_round.specs.Inside.Shared.{Kept, opening};
 
     ghost holds = { Kept };
 
@@ -46,7 +47,7 @@ impl<'a, S: ListStore> TableRule<(), Hand, Plan<'a, S>> for Rule {
 pub struct Strike;
 
 impl Play<(), Hand> for Strike {
-    ghost use Rattle.claim_round.specs.Shared.{Strikes};
+    ghost use Rattle.claim_round.specs.Inside.Shared.{Strikes};
 
     ghost then = { Strikes };
 }
@@ -54,7 +55,7 @@ impl Play<(), Hand> for Strike {
 pub struct Try;
 
 impl Play<(), Hand> for Try {
-    ghost use Rattle.claim_round.specs.Shared.{Claims};
+    ghost use Rattle.claim_round.specs.Inside.Shared.{Claims};
 
     ghost then = { Claims };
 }
@@ -70,7 +71,8 @@ impl Split<Hand> for Halves {
 }
 
 impl Join<Hand> for Halves {
-    ghost use Rattle.claim_round.specs.Shared.{joined, spent};
+    ghost use Rattle.claim_round.specs.Shared.{joined};
+    ghost use Rattle.claim_round.specs.Inside.Shared.{spent};
 
     ghost both = { joined };
 
@@ -80,7 +82,7 @@ impl Join<Hand> for Halves {
 pub struct Read;
 
 impl Play<(), Hand> for Read {
-    ghost use Rattle.claim_round.specs.Shared.{Reads};
+    ghost use Rattle.claim_round.specs.Inside.Shared.{Reads};
 
     ghost then = { Reads };
 }
@@ -88,7 +90,7 @@ impl Play<(), Hand> for Read {
 pub struct Look;
 
 impl Play<(), Hand> for Look {
-    ghost use Rattle.claim_round.specs.Shared.{Looks};
+    ghost use Rattle.claim_round.specs.Inside.Shared.{Looks};
 
     ghost then = { Looks };
 }

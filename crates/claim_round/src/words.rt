@@ -3,7 +3,7 @@
 ghost use Rattle.std.specs.Prelude.{◌≡◌, ◌+◌, ◌<◌, ◌≤◌, false, length, vec_capacity, IfOk};
 ghost use Rattle.positions.specs.Ranks.{configurations};
 ghost use Rattle.positions.specs.Gaps.{gaps};
-ghost use Rattle.claim_round.specs.Openings.{AreFirstWords, HasCounts};
+ghost use Rattle.claim_round.specs.Inside.Openings.{AreFirstWords, HasCounts};
 
 use board_text::Memory;
 use index_lists::ListStore;

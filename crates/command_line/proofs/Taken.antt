@@ -11,10 +11,13 @@ use Rattle.clap.specs.Lexer.{long_of}
 use Rattle.clap.specs.Simple.{Shape, built, built_leaf, entered, filled, with_index, help_shape, inherited, is_simple, label_of, names_of, rows_at, subcommand_of}
 use Rattle.clap.specs.Faults.{is_simple_and_free}
 use Rattle.clap.specs.Takes.{built_takes, default_passes, entered_passes, is_given, is_valid, level_passes, other_passes, settle_passes, step_passes, takes, turn_passes, walk_passes, word_passes}
+use Rattle.board_text.specs.declared.board.TheConstants.{MAX_PEBBLES}
+use Rattle.nested_cycles.specs.declared.making.TheConstants.{MAX_BOARD_LEVELS}
+use Rattle.nested_cycles.specs.declared.game.TheConstants.{MAX_LEVELS}
 use Rattle.clap.proofs.OnLiterals.{clap_on_literals}
 use Rattle.clap.proofs.WalkLemmas.{both}
 use Rattle.command_line.specs.Commands.{check, climb, nested, play_among, program, program_among, side_words, solving, somewhere, workers}
-use Rattle.command_line.specs.Reading.{can_solve, is_read}
+use Rattle.command_line.specs.Inside.Reading.{can_solve, is_read}
 use Rattle.command_line.proofs.RowFacts.{either}
 use Rattle.command_line.proofs.Defaults.{default_row, given_row}
 use Rattle.command_line.proofs.WalkFits.{Good, IsNoCommand, long_no_command}
@@ -97,8 +100,8 @@ nested_read words pass =
     let parts = both (is_given (codes "levels") rows) (is_given (codes "pebbles") rows && true) level.1 in
     let levels = parts.0 in
     let pebbles = (both (is_given (codes "pebbles") rows) true parts.1).0 in
-    let has_levels = number_there built_nested.rules _ (codes "levels") 6 rows level.0 refl refl (λ t e. e) (given_row (codes "levels") rows levels) in
-    let has_pebbles = number_there built_nested.rules _ (codes "pebbles") 6 rows level.0 refl refl (λ t e. e) (given_row (codes "pebbles") rows pebbles) in
+    let has_levels = number_there built_nested.rules _ (codes "levels") MAX_BOARD_LEVELS rows level.0 refl refl (λ t e. e) (given_row (codes "levels") rows levels) in
+    let has_pebbles = number_there built_nested.rules _ (codes "pebbles") MAX_PEBBLES rows level.0 refl refl (λ t e. e) (given_row (codes "pebbles") rows pebbles) in
     rw (has_levels, has_pebbles) refl
 
 play_good : Good built_play.rules
@@ -126,7 +129,7 @@ climb_read words pass =
     let rows = rows_after built_climb.rules [] words in
     let level = level_fits built_climb words climb_good pass in
     let levels = (both (is_given (codes "levels") rows) true level.1).0 in
-    let has_levels = number_there built_climb.rules _ (codes "levels") 24 rows level.0 refl refl (λ t e. e) (given_row (codes "levels") rows levels) in
+    let has_levels = number_there built_climb.rules _ (codes "levels") MAX_LEVELS rows level.0 refl refl (λ t e. e) (given_row (codes "levels") rows levels) in
     rw has_levels refl
 
 -- ---- a walk that passes stops at no `help`

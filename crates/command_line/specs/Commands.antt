@@ -4,6 +4,9 @@ use Rattle.std.specs.Borrow.{Bor}
 use Rattle.clap.specs.Walk.{Rule, Text}
 use Rattle.clap.specs.Simple.{App, Shape, new_rule, new_shape}
 use Rattle.clap.specs.declared.builder.value_parser.ValueParser.TheVariants as vp
+use Rattle.board_text.specs.declared.board.TheConstants.{MAX_PEBBLES}
+use Rattle.nested_cycles.specs.declared.making.TheConstants.{MAX_BOARD_LEVELS}
+use Rattle.nested_cycles.specs.declared.game.TheConstants.{MAX_LEVELS}
 
 -- a word that has to be there, and one that has to be a number from 1 to `most`
 abbrev pub path : Text → Rule
@@ -42,7 +45,7 @@ abbrev pub report : Shape
 report = solving (codes "report")
 
 abbrev pub nested : Shape
-nested = command (codes "nested") (number (codes "levels") 6 ∷ number (codes "pebbles") 6 ∷ [])
+nested = command (codes "nested") (number (codes "levels") MAX_BOARD_LEVELS ∷ number (codes "pebbles") MAX_PEBBLES ∷ [])
 
 -- the words for the two sides of a play
 abbrev pub side_words : List Text
@@ -61,7 +64,7 @@ abbrev pub play_among : Bor (List (Bor Text)) → Shape
 play_among words = command (codes "play") (side_among words ∷ path (codes "board") ∷ [])
 
 abbrev pub climb : Shape
-climb = command (codes "climb") (number (codes "levels") 24 ∷ [])
+climb = command (codes "climb") (number (codes "levels") MAX_LEVELS ∷ [])
 
 -- the program: one of its commands has to be named
 abbrev pub program_among : Bor (List (Bor Text)) → App

@@ -1,17 +1,15 @@
 -- The job that a command line asks for.
-use Rattle.std.specs.Prelude.{◌≡◌, ◌≤◌, ℕ, Bool, ◌&&◌, ◌||◌, false, List, Option, Some, None, is_some}
+use Rattle.std.specs.Prelude.{◌≡◌, ◌≤◌, ℕ, List, Option, Some, None}
 use Rattle.std.specs.Prelude.{codes, option_map}
-use Rattle.std.specs.Str.{bytes_eq}
-use Rattle.std.specs.List.{list_any}
-use Rattle.std.specs.Option.{option_map_or}
 use Rattle.std.specs.Str.Parse.{digits_value, without_leading_plus}
-use Rattle.clap.specs.ValueTests.{is_unsigned_in}
 use Rattle.clap.specs.Walk.{Row, Text, first_of, one_of}
+use Rattle.board_text.specs.declared.board.TheConstants.{MAX_PEBBLES}
+use Rattle.nested_cycles.specs.declared.making.TheConstants.{MAX_BOARD_LEVELS}
+use Rattle.nested_cycles.specs.declared.game.TheConstants.{MAX_LEVELS}
 use Rattle.command_line.specs.declared.asked.Job.{Job}
 use Rattle.command_line.specs.declared.asked.Job.TheVariants.{Joined, Check, Nested, Solve, Report, Play, Climb}
 use Rattle.command_line.specs.declared.asked.Player.{Player}
 use Rattle.command_line.specs.declared.asked.Player.TheVariants.{Labeller, Adversary}
-use Rattle.command_line.specs.Commands.{side_words}
 
 -- the matches of the command that was named give n for the id, from 1 to `most`
 abbrev pub HasNumber : List Row → Text → ℕ → ℕ → Type 0
@@ -31,7 +29,7 @@ AsksFor name rows (Check board proof) = (name ≡ codes "check")
     × (first_of (codes "board") rows ≡ Some board.now)
     × (first_of (codes "proof") rows ≡ Some proof.now)
 AsksFor name rows (Nested levels pebbles) = (name ≡ codes "nested")
-    × HasNumber rows (codes "levels") 6 levels × HasNumber rows (codes "pebbles") 6 pebbles
+    × HasNumber rows (codes "levels") MAX_BOARD_LEVELS levels × HasNumber rows (codes "pebbles") MAX_PEBBLES pebbles
 AsksFor name rows (Solve workers board) = (name ≡ codes "solve")
     × HasNumber rows (codes "workers") 16 workers
     × (first_of (codes "board") rows ≡ Some board.now)
@@ -41,7 +39,7 @@ AsksFor name rows (Report workers board) = (name ≡ codes "report")
 AsksFor name rows (Play side board) = (name ≡ codes "play")
     × (first_of (codes "side") rows ≡ Some (word_of side))
     × (first_of (codes "board") rows ≡ Some board.now)
-AsksFor name rows (Climb levels) = (name ≡ codes "climb") × HasNumber rows (codes "levels") 24 levels
+AsksFor name rows (Climb levels) = (name ≡ codes "climb") × HasNumber rows (codes "levels") MAX_LEVELS levels
 
 -- what `clap` finds on the words asks for the job
 abbrev pub IsReadAs : Option (Text × List Row) → Job → Type 0
@@ -52,36 +50,8 @@ IsReadAs (Some found) job = AsksFor found.0 found.1 job
 abbrev pub IsInRange : Job → Type 0
 IsInRange Joined = Unit {0}
 IsInRange (Check board proof) = Unit {0}
-IsInRange (Nested levels pebbles) = (1 ≤ levels) × (levels ≤ 6) × (1 ≤ pebbles) × (pebbles ≤ 6)
+IsInRange (Nested levels pebbles) = (1 ≤ levels) × (levels ≤ MAX_BOARD_LEVELS) × (1 ≤ pebbles) × (pebbles ≤ MAX_PEBBLES)
 IsInRange (Solve workers board) = (1 ≤ workers) × (workers ≤ 16)
 IsInRange (Report workers board) = (1 ≤ workers) × (workers ≤ 16)
 IsInRange (Play side board) = Unit {0}
-IsInRange (Climb levels) = (1 ≤ levels) × (levels ≤ 24)
-
--- the same as a test, of some job
-abbrev pub has_number : List Row → Text → ℕ → Bool
-has_number rows id most = option_map_or (is_unsigned_in 1 most) (one_of id rows) false
-
--- there is a board, and a number of workers to solve it
-abbrev pub can_solve : List Row → Bool
-can_solve rows = has_number rows (codes "workers") 16 && is_some (first_of (codes "board") rows)
-
-abbrev pub has_side : List Row → Bool
-has_side rows = option_map_or (λ t. list_any (λ word. bytes_eq word t) side_words)
-    (first_of (codes "side") rows) false
-
-abbrev pub asks : Text → List Row → Bool
-asks name rows =
-    (bytes_eq name (codes "check")
-    && (is_some (first_of (codes "board") rows) && is_some (first_of (codes "proof") rows)))
-    || ((bytes_eq name (codes "nested")
-    && (has_number rows (codes "levels") 6 && has_number rows (codes "pebbles") 6))
-    || ((bytes_eq name (codes "solve") && can_solve rows)
-    || ((bytes_eq name (codes "report") && can_solve rows)
-    || ((bytes_eq name (codes "play")
-    && (has_side rows && is_some (first_of (codes "board") rows)))
-    || (bytes_eq name (codes "climb") && has_number rows (codes "levels") 24)))))
-
-abbrev pub is_read : Option (Text × List Row) → Bool
-is_read None = false
-is_read (Some found) = asks found.0 found.1
+IsInRange (Climb levels) = (1 ≤ levels) × (levels ≤ MAX_LEVELS)

@@ -5,7 +5,9 @@ ghost use Rattle.clap.specs.Words.{Text, app_of, fault_of, is_simple, is_simple_
 ghost use Rattle.clap.specs.declared.builder.command.Command.TheViews.{out-Command};
 ghost use Rattle.command_line.specs.Commands as commands;
 
+use board_text::MAX_PEBBLES;
 use clap::{Arg, Command, value_parser};
+use nested_cycles::{MAX_BOARD_LEVELS, MAX_LEVELS};
 use std::alloc::{AllocError, Global};
 
 /// What the program is for.
@@ -113,8 +115,20 @@ fn nested<'a>(alloc: Global) -> Result<Command<'a>, AllocError>
     ensures shape { IfOk result (λ c. shape_of c ≡ commands.nested) }
     ensures local { IfOk result (λ c. (out-Command c).has_globals ≡ false) }
 {
-    let levels = count(alloc, "levels", "LEVELS", 6, "How many levels, 1 to 6");
-    let pebbles = count(alloc, "pebbles", "PEBBLES", 6, "How many pebbles, 1 to 6");
+    let levels = count(
+        alloc,
+        "levels",
+        "LEVELS",
+        MAX_BOARD_LEVELS,
+        "How many levels, 1 to 6",
+    );
+    let pebbles = count(
+        alloc,
+        "pebbles",
+        "PEBBLES",
+        MAX_PEBBLES as u8,
+        "How many pebbles, 1 to 6",
+    );
     Command::new(alloc, "nested")
         .about("Writes the board of the nested three-cycle, with all pebbles on label 0")
         .after_help(
@@ -149,7 +163,7 @@ fn climb<'a>(alloc: Global) -> Result<Command<'a>, AllocError>
         alloc,
         "levels",
         "LEVELS",
-        24,
+        MAX_LEVELS as u8,
         "How many levels and pebbles, 1 to 24",
     );
     Command::new(alloc, "climb")

@@ -1,20 +1,25 @@
 //! The job that the words of the command line ask for.
 
-ghost use Rattle.std.specs.Prelude.{◌≡◌, ◌≤◌, ◌↔◌, ◌⊎◌, [], IfOk, OnOk, IfErr, IfSome, MatchOption, Ok, None, Some, true, false, length, codes, option_map};
+ghost use Rattle.std.specs.Prelude.{◌≡◌, ◌≤◌, ◌↔◌, ◌⊎◌, [], IfOk, OnOk, IfErr, IfSome, MatchOption, Ok, None, Some, true, false};
+ghost use Rattle.std.specs.Prelude.{length, codes, option_map};
 ghost use Rattle.clap.specs.Words.{fault_of, first_of, found_of, kind_of, rows_of, subcommand_of, subcommand_rows_of, takes};
 ghost use Rattle.clap.specs.Walk.{texts};
 ghost use Rattle.command_line.specs.Commands as commands;
-ghost use Rattle.command_line.specs.Reading.{AsksFor, HasNumber, IsInRange, IsReadAs, asks, has_number, has_side, is_read, word_of};
+ghost use Rattle.command_line.specs.Reading.{AsksFor, HasNumber, IsInRange, IsReadAs, word_of};
+ghost use Rattle.command_line.specs.Inside.Reading.{asks, has_number, has_side, is_read};
 
 use crate::asked::{Job, JobFault, Player};
 use crate::commands::program;
+use board_text::MAX_PEBBLES;
 use clap::error::ErrorKind;
 use clap::{ArgMatches, Error};
+use nested_cycles::{MAX_BOARD_LEVELS, MAX_LEVELS};
 use std::alloc::Global;
 
 /// The job that the words ask for, the program's name first.
 ///
-/// Without a word behind the name it is `Job::Joined`. All other words are read by `clap`, exactly: there is a job only where it finds no fault in them, and what it takes is refused for want of memory alone.
+/// Without a word behind the name it is `Job::Joined`. All other words are read by `clap`, exactly: there is a job only where it
+/// finds no fault in them, and what it takes is refused for want of memory alone.
 pub fn job<'a, 'w>(alloc: Global, words: &'a [&'w str]) -> Result<Job<'a>, JobFault>
     ensures joined { (result ≡ Ok Job.Joined) ↔ (length words.now ≤ 1) }
     ensures job { IfOk result (λ j. (j ≡ Job.Joined)
@@ -128,8 +133,8 @@ fn nested_job<'a>(values: &ArgMatches<'a>) -> Option<Job<'a>>
         (AsksFor (codes "nested") (rows_of (found_of values.now))) }
     ensures numbers { IfSome result IsInRange }
 {
-    let levels = number(values, "levels", 6)?;
-    let pebbles = number(values, "pebbles", 6)?;
+    let levels = number(values, "levels", MAX_BOARD_LEVELS)?;
+    let pebbles = number(values, "pebbles", MAX_PEBBLES as u8)?;
     Some(Job::Nested { levels, pebbles })
 }
 
@@ -148,7 +153,7 @@ fn climb_job<'a>(values: &ArgMatches<'a>) -> Option<Job<'a>>
         (AsksFor (codes "climb") (rows_of (found_of values.now))) }
     ensures numbers { IfSome result IsInRange }
 {
-    let levels = number(values, "levels", 24)?;
+    let levels = number(values, "levels", MAX_LEVELS as u8)?;
     Some(Job::Climb { levels })
 }
 

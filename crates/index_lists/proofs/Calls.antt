@@ -3,7 +3,8 @@ use Rattle.std.proofs.Common.{◌≡◌, ℕ, ◌+◌, ◌-◌, ◌<◌, ◌≤�
 use Rattle.std.proofs.lemmas.List.{get_or-replicate, length-replicate}
 use Rattle.std.proofs.lemmas.Bool.{cases_eq, cases_lt}
 use Rattle.index_lists.specs.Lists.{times, without_node, IsFree, IsIn, IsHome, AreLists}
-use Rattle.index_lists.specs.Links.{follow, IsLinked, IsStore, IsLinks, Chains, listed, chained, unless_none}
+use Rattle.index_lists.specs.Links.{Chains}
+use Rattle.index_lists.specs.Inside.Links.{follow, IsLinked, IsStore, IsLinks, listed, chained, unless_none}
 use Rattle.index_lists.proofs.Times.{same_is, differ_is, cond_same, cond_other, length-without}
 use Rattle.index_lists.proofs.Together.{store-are, home-of_free, room, at-home, seen, settle, push-store, unlink-store, from_back, from_forth, at-home-once}
 use Rattle.index_lists.proofs.Links.{tail}

@@ -5,7 +5,8 @@ use Rattle.std.specs.List.{filter, count_by}
 use Rattle.std.proofs.lemmas.List.{length-map}
 use Rattle.std.proofs.lemmas.List.Sums.{length-filter}
 use Rattle.index_lists.specs.Lists.{times, without_node, IsFree, IsHome, AreLists, lists_of}
-use Rattle.index_lists.specs.Pairs.{Pairs, nodes_of, paired, all_nodes, home_in, ArePlain}
+use Rattle.index_lists.specs.Pairs.{Pairs}
+use Rattle.index_lists.specs.Inside.Pairs.{nodes_of, paired, all_nodes, home_in, ArePlain}
 use Rattle.index_lists.proofs.Times.{same_is, differ_is, cond_same, cond_other, times-here, times-later, times-append, times-without_same, times-without_other, distinct-length}
 
 -- the first entry is of the list

@@ -10,3 +10,4 @@ pub mod Scans
 pub mod Spread
 pub mod Entries
 pub mod Fields
+pub mod Cited

@@ -2,7 +2,7 @@
 use Rattle.std.proofs.Common.{◌≡◌, ◌≢◌, ℕ, ◌<◌, ◌==◌, ◌⊎◌, inl, inr, cond, zero, suc, List, [], ◌∷◌, ◌++◌, length, refl, sym, ap, subst, ◌∙◌, arith}
 use Rattle.std.proofs.lemmas.Bool.{cases_eq}
 use Rattle.index_lists.specs.Lists.{times, without_node}
-use Rattle.index_lists.specs.Links.{follow, IsLinked, skip}
+use Rattle.index_lists.specs.Inside.Links.{follow, IsLinked, skip}
 use Rattle.index_lists.proofs.Times.{same_is, differ_is, cond_same, cond_other, times-here, times-more, times-rest}
 
 -- a list through which the links lead is what following them gives

@@ -2,7 +2,7 @@
 use Rattle.std.proofs.Common.{◌≡◌, ℕ, ◌+◌, ◌-◌, ◌<◌, ◌≤◌, ◌⊎◌, inl, inr, zero, suc, List, [], ◌∷◌, length, refl, sym, ◌∙◌, arith, add-one, Option, Some, None, IfSome, slice_get}
 use Rattle.std.proofs.lemmas.Bool.{cases_eq}
 use Rattle.index_lists.specs.Lists.{Lists, times, AreLists}
-use Rattle.index_lists.specs.Pairs.{after, before_from, last_from}
+use Rattle.index_lists.specs.Inside.Pairs.{after, before_from, last_from}
 use Rattle.index_lists.proofs.Times.{same_is, differ_is, times-more, times-here}
 use Rattle.index_lists.proofs.Places.{some_is, stands-at}
 

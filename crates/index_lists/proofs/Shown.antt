@@ -1,7 +1,7 @@
 -- What the links answer.
 use Rattle.std.proofs.Common.{◌≡◌, ℕ, ◌+◌, ◌-◌, ◌<◌, ◌≤◌, inl, inr, zero, suc, List, [], ◌∷◌, length, Some, None, IfSome, sym, ap, ◌∙◌, arith, add-one, slice_get}
 use Rattle.std.proofs.lemmas.Bool.{cases_eq}
-use Rattle.index_lists.specs.Links.{IsLinked, unless_none}
+use Rattle.index_lists.specs.Inside.Links.{IsLinked, unless_none}
 use Rattle.index_lists.proofs.Times.{same_is, differ_is, cond_same, cond_other}
 use Rattle.index_lists.proofs.Places.{some_is}
 

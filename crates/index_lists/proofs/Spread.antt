@@ -7,11 +7,11 @@ use Rattle.std.proofs.Math.Seq.{drop-cons}
 use Rattle.std.proofs.lemmas.Bool.{cases_eq, cases_lt}
 use Rattle.std.proofs.lemmas.Slice.Zip.{length-zip, seconds-zip}
 use Rattle.index_lists.specs.Lists.{times}
-use Rattle.index_lists.specs.Pairs.{all_nodes}
+use Rattle.index_lists.specs.Inside.Pairs.{all_nodes}
 use Rattle.index_lists.proofs.Times.{same_is, differ_is, times-here}
 use Rattle.index_lists.proofs.Places.{some_is, stands-at}
 use Rattle.index_lists.specs.declared.runs.Run.{Run}
-use Rattle.index_lists.specs.Runs.{spread, entries_of, AreFilled, IsRunOf, Walk, pairs_left, IsWalk}
+use Rattle.index_lists.specs.Inside.Runs.{spread, entries_of, AreFilled, IsRunOf, Walk, pairs_left, IsWalk}
 
 pub spread-append : (runs more : List Run) → spread (runs ++ more) ≡ spread runs ++ spread more
 spread-append [] more = refl

@@ -2,7 +2,7 @@
 use Rattle.std.proofs.Common.{◌≡◌, ◌≢◌, ℕ, ◌+◌, ◌-◌, ◌<◌, ◌≤◌, ◌==◌, ◌⊎◌, inl, inr, cond, List, [], ◌∷◌, ◌++◌, length, refl, sym, ap, ◌∙◌, arith, length-append}
 use Rattle.std.proofs.lemmas.Bool.{cases_eq, cases_lt}
 use Rattle.index_lists.specs.Lists.{times, without_node, AreLists, lists_of}
-use Rattle.index_lists.specs.Links.{follow, IsLinked, IsStore, skip}
+use Rattle.index_lists.specs.Inside.Links.{follow, IsLinked, IsStore, skip}
 use Rattle.index_lists.proofs.Times.{same_is, differ_is, cond_same, cond_other, times-append, times-without_same, times-without_other, length-without, distinct-length, times-later}
 use Rattle.index_lists.proofs.Links.{linked-follow, length-follow, back, forth, head, tail, frame, linked-push, linked-unlink}
 

@@ -1,7 +1,8 @@
 //! Lists linked both ways by index.
 
 ghost use Rattle.std.specs.Prelude.{◌≡◌, ℕ, ◌+◌, ◌-◌, ◌<◌, ◌≤◌, ◌==◌, ◌++◌, ◌∷◌, [], List, length, slice_get, slice_index, slice_set, cond, map};
-ghost use Rattle.index_lists.specs.Links.{Chains, chained, unless_none};
+ghost use Rattle.index_lists.specs.Links.{Chains};
+ghost use Rattle.index_lists.specs.Inside.Links.{chained, unless_none};
 
 use crate::store::ListStore;
 use board_text::Memory;
@@ -20,7 +21,8 @@ pub struct LinkLists {
 
 impl Model for LinkLists {
     ghost use Rattle.std.specs.Prelude.{map};
-    ghost use Rattle.index_lists.specs.Links.{Chains, IsLinks};
+    ghost use Rattle.index_lists.specs.Links.{Chains};
+    ghost use Rattle.index_lists.specs.Inside.Links.{IsLinks};
 
     ghost Value = { Chains };
 
@@ -199,7 +201,7 @@ impl Links {
     /// Notes that a list has one node more, which is its last.
     fn append(&mut self, list: u32, node: u32)
         requires list_in { list < length self.old.ends.items }
-        requires room { slice_index (map (λ e. e.len) self.old.ends.items) list < 4294967295 }
+        requires room { slice_index (map (λ e. e.len) self.old.ends.items) list < u32.MAX }
         ensures nodes { self.new.nodes ≡ self.old.nodes }
         ensures first { map (λ e. e.first) self.new.ends.items ≡ map (λ e. e.first) self.old.ends.items }
         ensures last { map (λ e. e.last) self.new.ends.items ≡ slice_set (map (λ e. e.last) self.old.ends.items) list node }

@@ -1,7 +1,7 @@
 //! A walk over the pairs of lists and nodes.
 
 ghost use Rattle.std.specs.Prelude.{◌≡◌, ◌<◌, ◌∷◌, [], length, MatchOption};
-ghost use Rattle.index_lists.specs.Runs.{spread, entries_of, AreFilled, pairs_left};
+ghost use Rattle.index_lists.specs.Inside.Runs.{spread, entries_of, AreFilled, pairs_left};
 
 use crate::runs::Run;
 use std::marker::Model;
@@ -23,7 +23,7 @@ pub(crate) struct PairWalk<'a> {
 
 impl<'a> Model for PairWalk<'a> {
     ghost use Rattle.std.specs.Prelude.{◌≤◌, length, drop};
-    ghost use Rattle.index_lists.specs.Runs.{Walk, IsWalk};
+    ghost use Rattle.index_lists.specs.Inside.Runs.{Walk, IsWalk};
 
     ghost Value = { Walk };
 

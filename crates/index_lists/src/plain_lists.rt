@@ -1,9 +1,9 @@
 //! Lists as one vector of nodes.
 
-ghost use Rattle.std.specs.Prelude.{◌≡◌, ℕ, ◌+◌, ◌<◌, ◌≤◌, ◌==◌, [], List, length, slice_get, Some};
+ghost use Rattle.std.specs.Prelude.{◌≡◌, ℕ, ◌+◌, ◌^◌, ◌<◌, ◌≤◌, ◌==◌, [], List, length, slice_get, Some};
 ghost use Rattle.index_lists.specs.Lists.{times};
-ghost use Rattle.index_lists.specs.Pairs.{ArePlain, nodes_of, paired, home_in, after, before_from, last_from};
-ghost use Rattle.index_lists.specs.Runs.{pairs_left};
+ghost use Rattle.index_lists.specs.Inside.Pairs.{ArePlain, nodes_of, paired, home_in, after, before_from, last_from};
+ghost use Rattle.index_lists.specs.Inside.Runs.{pairs_left};
 
 use crate::pair_walk::PairWalk;
 use crate::runs::{Run, add_place, take_place};
@@ -26,8 +26,9 @@ pub struct PlainLists {
 
 impl Model for PlainLists {
     ghost use Rattle.std.specs.Prelude.{vec_capacity};
-    ghost use Rattle.index_lists.specs.Pairs.{Pairs, ArePlain};
-    ghost use Rattle.index_lists.specs.Runs.{entries_of, AreRuns};
+    ghost use Rattle.index_lists.specs.Pairs.{Pairs};
+    ghost use Rattle.index_lists.specs.Inside.Pairs.{ArePlain};
+    ghost use Rattle.index_lists.specs.Inside.Runs.{entries_of, AreRuns};
 
     ghost Value = { Pairs };
 
@@ -188,7 +189,7 @@ fn home_of(mut pairs: PairWalk<'_>, node: u32) -> Option<u32>
 
 /// How many pairs are of a list.
 fn count_of(mut pairs: PairWalk<'_>, of: u32) -> u32
-    requires { length (pairs_left pairs) < 4294967296 }
+    requires { length (pairs_left pairs) < 2 ^ 32 }
     ensures { result ≡ length (nodes_of (pairs_left pairs.entry) of) }
 {
     let mut count = 0;

@@ -2,7 +2,7 @@
 
 ghost use Rattle.std.specs.Prelude.{◌≡◌, ◌<◌, ◌++◌, ◌∷◌, [], length, vec_capacity};
 ghost use Rattle.std.specs.List.{remove};
-ghost use Rattle.index_lists.specs.Runs.{spread, AreFilled, IsRunOf};
+ghost use Rattle.index_lists.specs.Inside.Runs.{spread, AreFilled, IsRunOf};
 
 /// Places of one list, next to each other.
 #[derive(Clone, Copy)]
@@ -15,7 +15,7 @@ pub(crate) struct Run {
 /// Adds a place of a list behind all others.
 pub(crate) fn add_place(runs: &mut Vec<Run>, list: u32)
     requires filled { AreFilled runs.old.items }
-    requires few { length (spread runs.old.items) < 4294967295 }
+    requires few { length (spread runs.old.items) < u32.MAX }
     requires room { length (spread runs.old.items) < vec_capacity runs.old }
     ensures places { spread runs.new.items ≡ spread runs.old.items ++ list ∷ [] }
     ensures filled { AreFilled runs.new.items }

@@ -10,6 +10,7 @@ use Rattle.nested_cycles.specs.Words.{word_of}
 use Rattle.nested_cycles.specs.Domination.{labels_of, NestedBeats}
 use Rattle.nested_cycles.specs.GoodWords.{AreGood, label_words, NestedGood}
 use Rattle.nested_cycles.specs.NestedGame.{plain_game, IsGood, other_words}
+use Rattle.nested_cycles.specs.declared.game.TheConstants.{MAX_LEVELS}
 use Rattle.nested_cycles.proofs.GoodReplies.{good_without}
 
 -- ---- the words of the others
@@ -68,7 +69,7 @@ same_words_are_good (suc count) number pebbles =
 
 -- ---- games
 
-pub start_is_good : (levels : ℕ) (words : List ℕ) → InRange 1 24 levels → words ≡ replicate levels 0 → IsGood (plain_game levels words)
+pub start_is_good : (levels : ℕ) (words : List ℕ) → InRange 1 MAX_LEVELS levels → words ≡ replicate levels 0 → IsGood (plain_game levels words)
 start_is_good levels words level is = record {
   level = level;
   each_pebble = rw is (length-replicate levels 0);

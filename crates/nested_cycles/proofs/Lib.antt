@@ -10,3 +10,4 @@ pub mod WordLists
 pub mod Levels
 pub mod Games
 pub mod OneReply
+pub mod Cited

@@ -5,30 +5,32 @@ use Rattle.std.proofs.lemmas.List.{length-replicate, take-replicate}
 use Rattle.std.proofs.lemmas.List.Elements.{All-replicate, All-contains}
 use Rattle.board_text.specs.Ranges.{InRange}
 use Rattle.board_text.specs.PlainBoard.{PlainBoard, plain_board, IsBoard, AreLabels, Precedes}
-use Rattle.board_text.proofs.Places.{board_from_parts}
+use Rattle.board_text.specs.declared.board.TheConstants.{MAX_PEBBLES}
+use Rattle.board_text.proofs.Cited.{board_from_parts}
 use Rattle.nested_cycles.specs.Domination.{labels_of}
-use Rattle.nested_cycles.specs.Pairs.{AreNestedPairs}
+use Rattle.nested_cycles.specs.Inside.Pairs.{AreNestedPairs}
 use Rattle.nested_cycles.specs.NestedBoard.{IsNestedBoard}
+use Rattle.nested_cycles.specs.declared.making.TheConstants.{MAX_BOARD_LEVELS}
 use Rattle.nested_cycles.proofs.NestedPairs.{are_pairs, beats_exactly}
 
 -- the words of so few digits have numbers of 16 bits
 pub few_words : (count : ℕ) → count ≤ 6 → 3 ^ count < 65536
 few_words count few = let most : 3 ^ count ≤ 3 ^ 6 = pow-le-pow_right {n = 3} (omega arith) {i = count} {j = 6} few in omega arith
 
-pub few_labels : (levels : ℕ) → levels ≤ 6 → labels_of levels ≤ 243
+pub few_labels : (levels : ℕ) → levels ≤ MAX_BOARD_LEVELS → labels_of levels ≤ 243
 few_labels levels few = pow-le-pow_right {n = 3} (omega arith) {i = levels - 1} {j = 5} (omega arith)
 
 pub some_labels : (levels : ℕ) → 1 ≤ labels_of levels
 some_labels levels = one-le-pow (levels - 1) 3 (omega arith)
 
 -- as many zeros as there are pebbles
-pub zeros : (pebbles : ℕ) → pebbles ≤ 6 → take {A = ℕ} pebbles (0 ∷ 0 ∷ 0 ∷ 0 ∷ 0 ∷ 0 ∷ []) ≡ replicate pebbles 0
+pub zeros : (pebbles : ℕ) → pebbles ≤ MAX_PEBBLES → take {A = ℕ} pebbles (0 ∷ 0 ∷ 0 ∷ 0 ∷ 0 ∷ 0 ∷ []) ≡ replicate pebbles 0
 zeros pebbles few = take-replicate {X = ℕ} pebbles 6 0 few
 
 -- of which the board is made
 pub record Parts (levels pebbles labels : ℕ) (start : List ℕ) (pairs : List (ℕ × ℕ)) : Type 0 where
-  pub level : InRange 1 6 levels
-  pub pebbles_in_range : InRange 1 6 pebbles
+  pub level : InRange 1 MAX_BOARD_LEVELS levels
+  pub pebbles_in_range : InRange 1 MAX_PEBBLES pebbles
   pub labels_are : labels ≡ labels_of levels
   pub start_is : start ≡ replicate pebbles 0
   pub pairs_are : AreNestedPairs levels (labels * labels) pairs
@@ -37,7 +39,7 @@ abbrev pub six_zeros : List ℕ
 six_zeros = 0 ∷ 0 ∷ 0 ∷ 0 ∷ 0 ∷ 0 ∷ []
 
 -- what the calls of others gave are such parts
-pub parts_from : (levels pebbles wide count labels : ℕ) (pairs made : List (ℕ × ℕ)) → InRange 1 6 levels → InRange 1 6 pebbles → wide ≡ levels → labels ≡ 3 ^ (wide - 1) → count ≡ pebbles
+pub parts_from : (levels pebbles wide count labels : ℕ) (pairs made : List (ℕ × ℕ)) → InRange 1 MAX_BOARD_LEVELS levels → InRange 1 MAX_PEBBLES pebbles → wide ≡ levels → labels ≡ 3 ^ (wide - 1) → count ≡ pebbles
     → AreNestedPairs levels (labels * labels) made → pairs ≡ made → Parts levels pebbles labels (take count six_zeros) pairs
 parts_from levels pebbles wide count labels pairs made level in_range is_wide is_labels is_count are is_pairs = record {
   level = level;

@@ -6,7 +6,7 @@ use Rattle.std.proofs.lemmas.List.Quantifiers.{all_pairs_push}
 use Rattle.std.proofs.lemmas.Nat.{row_fits, same_from_place, div_below, mod_below, div-add-mod'}
 use Rattle.board_text.specs.PlainBoard.{AreLabels, Precedes, ArePairs}
 use Rattle.nested_cycles.specs.Domination.{labels_of, label_word, NestedBeats}
-use Rattle.nested_cycles.specs.Pairs.{IsAmong, AreNestedPairs}
+use Rattle.nested_cycles.specs.Inside.Pairs.{IsAmong, AreNestedPairs}
 use Rattle.nested_cycles.proofs.Dominations.{each_other}
 
 precedes_from_place : (labels : ℕ) (p q : ℕ × ℕ) → q.1 < labels → p.0 * labels + p.1 < q.0 * labels + q.1 → Precedes p q

@@ -1,8 +1,8 @@
 pub mod Words
 pub mod Domination
-pub mod Pairs
 pub mod NestedBoard
 pub mod GoodWords
 pub mod Reply
 pub mod Copies
 pub mod NestedGame
+pub mod Inside

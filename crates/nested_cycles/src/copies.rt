@@ -1,12 +1,15 @@
 //! In which copies of the board of one level less words are, and their rests there.
 
-ghost use Rattle.std.specs.Prelude.{◌≡◌, ◌+◌, ◌-◌, ◌/◌, ◌%◌, ◌<◌, ◌≤◌, ◌↔◌, ◌==◌, ℕ, List, [], ◌∷◌, ◌++◌, length, map, take, All, Contains, IsTrue};
+ghost use Rattle.std.specs.Prelude.{◌≡◌, ◌+◌, ◌-◌, ◌/◌, ◌%◌, ◌<◌, ◌≤◌, ◌↔◌, ◌==◌, ℕ, List, [], ◌∷◌, ◌++◌, length, map, take, All};
+ghost use Rattle.std.specs.Prelude.{Contains, IsTrue};
 ghost use Rattle.std.specs.List.{filter};
 ghost use Rattle.board_text.specs.Ranges.{InRange};
 ghost use Rattle.nested_cycles.specs.Domination.{labels_of};
 ghost use Rattle.nested_cycles.specs.Copies.{AreCopies};
 ghost use Rattle.nested_cycles.specs.GoodWords.{next_digit};
+ghost use Rattle.nested_cycles.specs.declared.game.TheConstants.{MAX_LEVELS};
 
+use crate::game::MAX_LEVELS;
 use std::marker::Model;
 
 /// The copies that words are in. Of two copies the other comes next after the one that is named.
@@ -49,7 +52,7 @@ fn has_word_in(words: &[u64], size: u64, digit: u64) -> bool
 
 /// How many labels each copy in the nested board of this level has.
 pub fn copy_size(levels: u8) -> u64
-    requires { InRange 2 24 levels }
+    requires { InRange 2 MAX_LEVELS levels }
     ensures { result ≡ labels_of (levels - 1) }
 {
     3_u64.pow(u32::from(levels) - 2)
@@ -66,7 +69,7 @@ pub fn next_after(digit: u64) -> u64
 /// The words of a copy, without their first digit.
 pub fn rests_of(words: &[u64], size: u64, digit: u64) -> Words
     requires size { 0 < size }
-    requires room { length words.now ≤ 24 }
+    requires room { length words.now ≤ MAX_LEVELS }
     ensures { result ≡ map (λ word. word % size) (filter (λ word. word / size == digit) words.now) }
 {
     let mut rests = Words::new();
@@ -81,7 +84,7 @@ pub fn rests_of(words: &[u64], size: u64, digit: u64) -> Words
 /// Up to 24 words, each a number.
 #[derive(Drop)]
 pub struct Words {
-    words: [u64; 24],
+    words: [u64; MAX_LEVELS],
     count: usize,
 }
 
@@ -90,7 +93,7 @@ impl Model for Words {
 
     ghost view = { λ w. take w.count w.words };
 
-    ghost invariant = { λ w. w.count ≤ 24 };
+    ghost invariant = { λ w. w.count ≤ MAX_LEVELS };
 }
 
 impl Words {
@@ -99,14 +102,14 @@ impl Words {
         ensures { result ≡ [] }
     {
         Words {
-            words: [0; 24],
+            words: [0; MAX_LEVELS],
             count: 0,
         }
     }
 
     /// One more word.
     pub fn push(&mut self, word: u64)
-        requires { length self.old < 24 }
+        requires { length self.old < MAX_LEVELS }
         ensures { self.new ≡ self.old ++ word ∷ [] }
     {
         self.words[self.count] = word;
@@ -115,7 +118,7 @@ impl Words {
 
     /// More words, in their order.
     pub fn append(&mut self, more: &[u64])
-        requires { length self.old + length more.now ≤ 24 }
+        requires { length self.old + length more.now ≤ MAX_LEVELS }
         ensures { self.new ≡ self.old ++ more.now }
     {
         for word in more {

@@ -12,6 +12,9 @@ use board_text::Memory;
 use std::alloc::Global;
 use std::marker::Model;
 
+/// The highest level of a game, at which labels are numbers below 3^23.
+pub const MAX_LEVELS: usize = 24;
+
 /// A game on the nested board of a level, 1 to 24, with as many pebbles as levels. It is answered for ever.
 #[derive(Drop)]
 pub struct NestedGame {
@@ -30,7 +33,7 @@ impl Model for NestedGame {
 impl NestedGame {
     /// The game in which all pebbles are on the label 0.
     pub fn new(alloc: Global, levels: u8) -> Result<Self, Memory>
-        requires { InRange 1 24 levels }
+        requires { InRange 1 MAX_LEVELS levels }
         ensures { IfOk result (λ game. game ≡ plain_game levels (replicate levels 0)) }
     {
         let words = vec![in alloc; 0; usize::from(levels)]?;

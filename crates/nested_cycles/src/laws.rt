@@ -15,7 +15,8 @@ pub fn words_and_numbers()
     ensures is_word { (count : ℕ) → (number : ℕ) → number < 3 ^ count → IsWord count (word_of count number) }
 {}
 
-/// The first digit of a label is its copy: in one copy the rest of the words decides, and of two copies the one dominates the other as in the three-cycle.
+/// The first digit of a label is its copy: in one copy the rest of the words decides, and of two copies the one dominates the other
+/// as in the three-cycle.
 pub fn copies_in_a_cycle()
     ensures one_copy { (digit : ℕ) → (word : List ℕ) → (other : List ℕ) → Dominates (digit ∷ word) (digit ∷ other) ↔ Dominates word other }
     ensures two_copies { (digit : ℕ) → (other_digit : ℕ) → (word : List ℕ) → (other : List ℕ) → digit ≢ other_digit

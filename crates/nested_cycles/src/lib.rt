@@ -9,10 +9,10 @@ mod making;
 mod replying;
 
 pub use beating::nested_beats;
-pub use game::NestedGame;
+pub use game::{MAX_LEVELS, NestedGame};
 pub use laws::{
     copies_in_a_cycle, half_of_all_pairs, no_two_ways, one_nested_board, one_of_two, one_reply,
     words_and_numbers,
 };
-pub use making::nested_board;
+pub use making::{MAX_BOARD_LEVELS, nested_board};
 pub use replying::{nested_good, nested_reply};

@@ -7,13 +7,14 @@ ghost use Rattle.nested_cycles.specs.GoodWords.{NestedGood};
 ghost use Rattle.nested_cycles.specs.Reply.{NestedReply};
 
 use crate::copies::{Copies, copies_of, copy_size, next_after, rests_of};
+use crate::game::MAX_LEVELS;
 
 /// Whether the words, at most as many as there are levels, are good on the nested board of this level, 1 to 24:
 /// pebbles on them can be moved for ever, in whatever order they are asked for.
 ///
 /// A word is given by its number, as in [`nested_beats`](crate::nested_beats).
 pub fn nested_good(levels: u8, words: &[u64]) -> bool
-    requires level { InRange 1 24 levels }
+    requires level { InRange 1 MAX_LEVELS levels }
     requires few { length words.now ≤ levels }
     requires labels { All (λ word. word < labels_of levels) words.now }
     ensures { IsTrue result ↔ NestedGood levels words.now }
@@ -38,7 +39,7 @@ pub fn nested_good(levels: u8, words: &[u64]) -> bool
 /// Where the others are in one copy, it is the first label of the copy that comes next.
 /// Where they are in two, it is within the one that comes next, and answers the words there.
 pub fn nested_reply(levels: u8, others: &[u64]) -> u64
-    requires level { InRange 1 24 levels }
+    requires level { InRange 1 MAX_LEVELS levels }
     requires few { length others.now < levels }
     requires labels { All (λ other. other < labels_of levels) others.now }
     requires good { NestedGood levels others.now }

@@ -1,5 +1,5 @@
 -- The counts of a report, value by value.
-use Rattle.std.proofs.Common.{◌≡◌, ℕ, suc, ◌+◌, ◌<◌, ◌≤◌, inl, inr, List, [], ◌∷◌, ◌++◌, length, slice_index, Some, None, refl, sym, ap, ◌∙◌, subst, arith}
+use Rattle.std.proofs.Common.{◌≡◌, ℕ, suc, ◌+◌, ◌<◌, ◌≤◌, inl, inr, List, [], ◌∷◌, ◌++◌, length, slice_index, Some, None, sym, ap, ◌∙◌, subst, arith}
 use Rattle.std.proofs.Common.{Fits, w32}
 use Rattle.std.proofs.lemmas.Bool.{cases_lt}
 use Rattle.std.proofs.lemmas.List.{length-append, get_or_append_left, get_or_push, append_assoc, append-nil}
@@ -9,7 +9,8 @@ use Rattle.positions.specs.declared.value.Value.{Value}
 use Rattle.positions.specs.declared.value.Value.TheVariants.{Finite, Forever}
 use Rattle.positions.specs.Laws.{Occurs}
 use Rattle.positions.specs.Ranks.{configurations}
-use Rattle.round_workers.proofs.Rounds.{value_few}
+use Rattle.positions.specs.declared.space.TheConstants.{MAX_CONFIGURATIONS}
+use Rattle.round_workers.proofs.Cited.{value_few}
 use Rattle.retro_core.specs.Sizes.{HasCount, IsGreatest}
 use Rattle.pebbles.specs.Report.{AreCounts, IsCountOfValues, IsReportOf, head_lines, start_line, count_line, count_lines, end_lines}
 
@@ -28,14 +29,6 @@ lines_push value (first ∷ counts) count =
     let same : suc value + length counts ≡ value + suc (length counts) = omega arith in
     ap (λ (rest : List ℕ). count_line value first ++ rest) (lines_push (suc value) counts count ∙ ap (λ (v : ℕ). count_lines (suc value) counts ++ count_line v count) same)
     ∙ sym (append_assoc (count_line value first) (count_lines (suc value) counts) (count_line (value + suc (length counts)) count))
-
-pub none_counted : (board : PlainBoard) (before : List ℕ) → IsCountedTo board 0 before before
-none_counted board before = record {
-  counts = [];
-  so_many = refl;
-  counted = λ value inside. absurd (omega arith);
-  written = sym (append-nil before);
-}
 
 pub counted_more : (board : PlainBoard) (bound count : ℕ) (before text more : List ℕ) → IsCountedTo board bound before text → HasCount board (Finite bound) count
     → more ≡ text ++ count_line bound count → IsCountedTo board (bound + 1) before more
@@ -73,7 +66,7 @@ values_to board greatest is value = (
 pub no_values : (board : PlainBoard) → IsGreatest (Occurs board) None → IsCountOfValues board 0
 no_values board none value = (λ inside. absurd (omega arith), λ above. absurd (none above.0 above.2))
 
-pub value_fits : (board : PlainBoard) (greatest : ℕ) → IsGreatest (Occurs board) (Some greatest) → configurations board ≤ 1048576 → Fits w32 (greatest + 1)
+pub value_fits : (board : PlainBoard) (greatest : ℕ) → IsGreatest (Occurs board) (Some greatest) → configurations board ≤ MAX_CONFIGURATIONS → Fits w32 (greatest + 1)
 value_fits board greatest is few = let low = value_few board is.0.0 greatest is.0.1 is.0.2 in omega (arith, low, few)
 
 -- the parts of a report, one behind the other

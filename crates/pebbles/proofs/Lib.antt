@@ -1,9 +1,11 @@
 pub mod EndLines
 pub mod Pushing
+pub mod Failing
 pub mod Unanswered
 pub mod Meanings
-pub mod Unread
 pub mod Headlines
 pub mod Counting
 pub mod Sums
 pub mod Accepting
+pub mod Existing
+pub mod OneOutcome

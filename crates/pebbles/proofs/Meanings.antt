@@ -8,20 +8,20 @@ use Rattle.positions.specs.declared.claim.Claim.{Claim}
 use Rattle.positions.specs.declared.claim.Claim.TheVariants.{Exactly, AtLeast, AtMost, Forever}
 use Rattle.std.proofs.lemmas.Fmt.{decimal_injective}
 use Rattle.std.proofs.lemmas.List.{append_cancel_right, append_cancel_left}
-use Rattle.positions.proofs.Tables.{tree_from_answers}
-use Rattle.positions.proofs.Claims.{claim_holds as shown_holds}
+use Rattle.positions.proofs.Cited.{tree_from_answers, claim_holds as shown_holds}
 use Rattle.proof_text.specs.ProofText.{claim_words, proof_text}
-use Rattle.proof_text.specs.Proof.{PlainProof, IsClaim, greatest_number}
+use Rattle.proof_text.specs.Proof.{PlainProof, IsClaim}
+use Rattle.proof_text.specs.declared.proof.TheConstants.{MOST_TURNS}
 use Rattle.proof_check.specs.declared.checking.Shown.{Shown}
 use Rattle.proof_check.specs.declared.fault.CheckFault.{CheckFault}
 use Rattle.pebbles.specs.Output.{fault_words}
 use Rattle.pebbles.specs.Answer.{IsVerdict, IsAnswered}
 use Rattle.pebbles.specs.Meaning.{AcceptsLeast, CanAnswer}
-use Rattle.pebbles.specs.declared.running.Verdict.{Verdict}
-use Rattle.pebbles.specs.declared.running.Verdict.TheVariants.{Accepted, Refused}
+use Rattle.pebbles.specs.declared.answering.Verdict.{Verdict}
+use Rattle.pebbles.specs.declared.answering.Verdict.TheVariants.{Accepted, Refused}
 
 -- the line says which claim it is
-least_only : (claim : Claim) (number : ℕ) → IsClaim claim → number ≤ greatest_number → closed (codes "accepted " ++ claim_words claim) ≡ closed (codes "accepted least " ++ decimal number) → claim ≡ AtLeast number
+least_only : (claim : Claim) (number : ℕ) → IsClaim claim → number ≤ MOST_TURNS → closed (codes "accepted " ++ claim_words claim) ≡ closed (codes "accepted least " ++ decimal number) → claim ≡ AtLeast number
 least_only (Exactly n) number is few same = absurd (other (ap (λ (l : List ℕ). get_or l 9 0) same))
   where
     other : ◌≡◌ {A = ℕ} 118 108 → ⊥
@@ -45,7 +45,7 @@ refused_differs board fault number same = other (ap (λ (l : List ℕ). get_or l
     other : ◌≡◌ {A = ℕ} 114 97 → ⊥
     other is = absurd (omega (arith, is))
 
-can_answer_by : (text : List ℕ) (number : ℕ) (verdict : Verdict) → number ≤ greatest_number → IsAnswered text verdict (closed (codes "accepted least " ++ decimal number)) → CanAnswer text number
+can_answer_by : (text : List ℕ) (number : ℕ) (verdict : Verdict) → number ≤ MOST_TURNS → IsAnswered text verdict (closed (codes "accepted least " ++ decimal number)) → CanAnswer text number
 can_answer_by text number (Refused fault) few is = absurd (refused_differs is.board fault number (sym is.line_is))
 can_answer_by text number (Accepted shown) few is =
     let claim : shown.claim ≡ is.proof.claim = is.verdict_is.0 in

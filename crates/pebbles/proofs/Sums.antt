@@ -4,19 +4,15 @@ use Rattle.std.specs.List.{sum}
 use Rattle.std.proofs.lemmas.Bool.{cases_lt, cases_eq, eqb-true}
 use Rattle.std.proofs.lemmas.List.Sums.{sum_by-cons}
 use Rattle.board_text.specs.PlainBoard.{PlainBoard}
-use Rattle.index_lists.proofs.Times.{same_is, differ_is}
+use Rattle.index_lists.proofs.Cited.{same_is, differ_is}
 use Rattle.positions.specs.declared.value.Value.{Value}
 use Rattle.positions.specs.declared.value.Value.TheVariants.{Finite, Forever}
 use Rattle.positions.specs.Counts.{HasSize}
 use Rattle.positions.specs.Ranks.{configurations, configuration_at}
 use Rattle.positions.specs.Value.{HasValue}
-use Rattle.positions.proofs.Counting.{size_of}
-use Rattle.retro_core.specs.Arena.{count_below}
-use Rattle.retro_core.proofs.Entered.{count-same}
-use Rattle.positions.proofs.Finiteness.{some_value}
-use Rattle.positions.proofs.Ranks.{configuration_at_is}
-use Rattle.positions.proofs.Sizes.{same_size}
-use Rattle.positions.proofs.Values.{same_value}
+use Rattle.positions.proofs.Cited.{size_of, some_value, configuration_at_is, same_size, same_value}
+use Rattle.retro_core.specs.Inside.Arena.{count_below}
+use Rattle.retro_core.proofs.Cited.{count-same}
 use Rattle.retro_core.specs.Sizes.{HasCount}
 use Rattle.pebbles.specs.Report.{Report, IsReport}
 

@@ -1,12 +1,12 @@
 -- Why a joined text has no answer.
-use Rattle.std.proofs.Common.{◌≡◌, ℕ, ◌≤◌, List, ◌++◌, take, drop, sym, ap, ◌∙◌, take-append-drop}
+use Rattle.std.proofs.Common.{◌≡◌, ℕ, List, ◌++◌, take, drop, sym, ap, ◌∙◌, take-append-drop}
 use Rattle.board_text.specs.PlainBoard.{PlainBoard, IsBoard}
 use Rattle.board_text.specs.BoardText.{board_text}
 use Rattle.pebbles.specs.Answer.{CannotAnswer, BeginsWithBoard}
 use Rattle.pebbles.specs.Joined.{IsFrontLen}
 use Rattle.pebbles.specs.Texts.{BringsNoBoard, BringsNoProof, IsSmallBoard}
-use Rattle.pebbles.specs.declared.running.RunFault.{RunFault}
-use Rattle.pebbles.specs.declared.running.RunFault.TheVariants.{Board, TooLarge, Proof, Memory, Worker, Read, Write, Limit}
+use Rattle.pebbles.specs.declared.fault.RunFault.{RunFault}
+use Rattle.pebbles.specs.declared.fault.RunFault.TheVariants.{Board, TooLarge, Proof, Memory, Worker, Read, Write, Limit}
 
 pub begins_with : (text front rest : List ℕ) (board : PlainBoard) → IsBoard board → text ≡ front ++ rest → front ≡ board_text board
     → BeginsWithBoard text board rest

@@ -18,21 +18,29 @@ use Rattle.proof_text.specs.Rules.{BreaksNoRule}
 -- that it lists, leads to one that it lists, and lists the start.
 abbrev pub Means : PlainBoard → PlainProof → Value → Type 0
 Means board document (Finite number) =
-    (document.claim ≡ claims.Exactly number)
-    × LabellerTree board number board.start × AdversaryTree board (suc number) board.start × (LabellerTree board (suc number) board.start → ⊥)
+    (document.claim ≡ claims.Exactly number) × LabellerTree board number board.start
+    × AdversaryTree board (suc number) board.start × (LabellerTree board (suc number) board.start → ⊥)
     × Answers board document.labeller number board.start × StopsAfter board document.adversary number board.start
 Means board document Forever =
-    (document.claim ≡ claims.Forever)
-    × ((number : ℕ) → LabellerTree board number board.start)
+    (document.claim ≡ claims.Forever) × ((number : ℕ) → LabellerTree board number board.start)
     × IsClosed board document.labeller × IsListed document.labeller board.start
 
--- the text is that of this board, and what is written is the text of this document for it, which a check accepts and which means the value
+-- the text is that of this board, and what is written is the text of this document, which means the value
 pub record ShowsValue (text : List ℕ) (value : Value) (written : List ℕ) : Type 0 where
+  pub board : PlainBoard
+  pub document : PlainProof
+  pub is_board : IsBoard board
+  pub text_is : text ≡ board_text board
+  pub written_is : written ≡ proof_text board document
+  pub means : Means board document value
+
+-- the same, of a document that is as the format has it and breaks no rule, so that a check accepts what is written
+pub record IsAccepted (text : List ℕ) (value : Value) (written : List ℕ) : Type 0 where
   pub board : PlainBoard
   pub document : PlainProof
   pub is_board : IsBoard board
   pub is_proof : IsProof board document
   pub text_is : text ≡ board_text board
   pub written_is : written ≡ proof_text board document
-  pub accepted : BreaksNoRule board document
+  pub rules : BreaksNoRule board document
   pub means : Means board document value

@@ -1,13 +1,15 @@
 pub mod Joined
 pub mod Output
 pub mod Texts
+pub mod Faults
 pub mod Answer
 pub mod Run
 pub mod Meaning
+pub mod BoardRun
 pub mod CheckRun
-pub mod NestedRun
+pub mod NestedText
 pub mod SolveRun
 pub mod Headline
 pub mod Report
-pub mod ReportRun
 pub mod PlayRun
+pub mod Inside

@@ -6,15 +6,17 @@ use Rattle.board_text.specs.PlainBoard.{PlainBoard, IsBoard}
 use Rattle.board_text.specs.BoardText.{board_text}
 use Rattle.positions.specs.Game.{LabellerTree}
 use Rattle.positions.specs.Table.{AnswerRow, Answers}
-use Rattle.proof_text.specs.Proof.{greatest_number}
+use Rattle.proof_text.specs.declared.proof.TheConstants.{MOST_TURNS}
 use Rattle.pebbles.specs.Answer.{IsAnswered}
-use Rattle.pebbles.specs.declared.running.Verdict.{Verdict}
+use Rattle.pebbles.specs.declared.answering.Verdict.{Verdict}
 
 -- the text was answered with the line `accepted least k`, k being a number that documents have
 abbrev pub AcceptsLeast : List ℕ → ℕ → Type 0
-AcceptsLeast text number = (number ≤ greatest_number) × (verdict : Verdict) × IsAnswered text verdict (closed (codes "accepted least " ++ decimal number))
+AcceptsLeast text number =
+    (number ≤ MOST_TURNS) × (verdict : Verdict) × IsAnswered text verdict (closed (codes "accepted least " ++ decimal number))
 
--- the text begins with a board's; a table answers so many requests from its start, whichever they are, and the labeller has a tree of that depth
+-- the text begins with a board's; a table answers so many requests from its start, whichever they are,
+-- and the labeller has a tree of that depth
 pub record CanAnswer (text : List ℕ) (number : ℕ) : Type 0 where
   pub board : PlainBoard
   pub rest : List ℕ

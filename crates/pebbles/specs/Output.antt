@@ -10,8 +10,8 @@ use Rattle.proof_check.specs.declared.fault.Side.{Side}
 use Rattle.proof_check.specs.declared.fault.Side.TheVariants.{Labeller, Adversary}
 use Rattle.proof_check.specs.declared.fault.CheckFault.{CheckFault}
 use Rattle.proof_check.specs.declared.fault.CheckFault.TheVariants as faults
-use Rattle.pebbles.specs.declared.running.Verdict.{Verdict}
-use Rattle.pebbles.specs.declared.running.Verdict.TheVariants.{Accepted, Refused}
+use Rattle.pebbles.specs.declared.answering.Verdict.{Verdict}
+use Rattle.pebbles.specs.declared.answering.Verdict.TheVariants.{Accepted, Refused}
 
 -- a side's name
 abbrev pub side_word : Side → List ℕ
@@ -25,7 +25,8 @@ turn_word Adversary = codes " label "
 
 -- a side's row of this rank, given by its places, and the turn
 abbrev pub row_words : PlainBoard → Side → ℕ → ℕ → List ℕ
-row_words board side at turn = side_word side ++ codes " row" ++ spaced_places board.labels (configuration_at board at) ++ turn_word side ++ decimal turn
+row_words board side at turn =
+    side_word side ++ codes " row" ++ spaced_places board.labels (configuration_at board at) ++ turn_word side ++ decimal turn
 
 -- why a document is refused; want of memory refuses none
 abbrev pub fault_words : PlainBoard → CheckFault → List ℕ

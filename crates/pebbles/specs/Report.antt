@@ -11,6 +11,7 @@ use Rattle.positions.specs.Value.{HasValue}
 use Rattle.proof_text.specs.ProofText.{claim_words}
 use Rattle.retro_core.specs.Sizes.{HasCount}
 use Rattle.strategies.specs.Document.{claim_of}
+use Rattle.pebbles.specs.Texts.{IsSmallBoard}
 
 -- the value of the start, how many configurations have each finite value from 0 on, and how many last forever
 pub record Report : Type 0 where
@@ -39,7 +40,8 @@ size_line word number = closed (word ++ codes " " ++ decimal number)
 -- the first lines, of a board with so many labels, pebbles and configurations
 abbrev pub size_lines : ℕ → ℕ → ℕ → List ℕ
 size_lines labels pebbles configurations =
-    closed (codes "report 1") ++ size_line (codes "labels") labels ++ size_line (codes "pebbles") pebbles ++ size_line (codes "configurations") configurations
+    closed (codes "report 1") ++ size_line (codes "labels") labels ++ size_line (codes "pebbles") pebbles
+    ++ size_line (codes "configurations") configurations
 
 abbrev pub head_lines : PlainBoard → List ℕ
 head_lines board = size_lines board.labels board.pebbles (configurations board)
@@ -70,3 +72,13 @@ pub record IsReportOf (board : PlainBoard) (text : List ℕ) : Type 0 where
   pub report : Report
   pub is_report : IsReport board report
   pub text_is : text ≡ report_text board report
+
+-- ---- the report of a text
+
+-- the text is that of a small board, and what is written is its report
+abbrev pub IsReportOfText : List ℕ → List ℕ → Type 0
+IsReportOfText text written = (board : PlainBoard) × IsSmallBoard text board × IsReportOf board written
+
+-- the same, of a run: it answers nothing beside what it writes
+abbrev pub Reports : List ℕ → Unit {0} → List ℕ → Type 0
+Reports text answer written = IsReportOfText text written

@@ -2,46 +2,48 @@
 use Rattle.std.specs.Prelude.{◌≡◌, ℕ, ◌<◌, ◌≤◌, ◌⊎◌, List, Option, length}
 use Rattle.std.specs.Io.KnownBytes.{Consumes, Appends}
 use Rattle.board_text.specs.Ends.{GaveAll, AppendsFront}
-use Rattle.pebbles.specs.Answer.{IsAnswered, CannotAnswer}
-use Rattle.pebbles.specs.declared.running.Verdict.{Verdict}
-use Rattle.pebbles.specs.declared.running.RunFault.{RunFault}
-use Rattle.pebbles.specs.declared.running.RunFault.TheVariants.{Memory, Read, Write, Limit}
+use Rattle.pebbles.specs.declared.fault.RunFault.{RunFault}
+use Rattle.pebbles.specs.declared.fault.RunFault.TheVariants.{Memory, Read, Write, Limit}
+
+-- the bytes of a stream before a run and after it, where they are known: what a reader has left, or what a writer has taken
+pub record Bytes : Type 0 where
+  pub old : Option (List ℕ)
+  pub new : Option (List ℕ)
+
+-- the bytes of a stream, by what is known of it before and after
+abbrev pub bytes_of : {Stream : Type 0} → (Stream → Option (List ℕ)) → Stream → Stream → Bytes
+bytes_of known before after = record { old = known before; new = known after }
+
+-- the reader gave this text, which was all that it had left
+abbrev pub Gave : Bytes → List ℕ → Type 0
+Gave read text = GaveAll read.old read.new text
 
 -- how far a reader was read that wasn't read to its end; memory may be wanting behind the end too
-abbrev pub IsUnread : Option (List ℕ) → Option (List ℕ) → ℕ → RunFault → Type 0
-IsUnread old new limit Memory = (bytes : List ℕ) × Consumes old new bytes
-IsUnread old new limit Read = (bytes : List ℕ) × (length bytes ≤ limit) × Consumes old new bytes
-IsUnread old new limit Limit = (bytes : List ℕ) × (limit < length bytes) × Consumes old new bytes
-IsUnread old new limit fault = ⊥
+abbrev pub IsUnread : ℕ → Bytes → RunFault → Type 0
+IsUnread limit read Memory = (bytes : List ℕ) × Consumes read.old read.new bytes
+IsUnread limit read Read = (bytes : List ℕ) × (length bytes ≤ limit) × Consumes read.old read.new bytes
+IsUnread limit read Limit = (bytes : List ℕ) × (limit < length bytes) × Consumes read.old read.new bytes
+IsUnread limit read fault = ⊥
 
--- ---- a run over one reader, whose text brings what is written
+-- such a text was written
+abbrev pub Wrote : (List ℕ → Type 0) → Bytes → Type 0
+Wrote IsIt written = (text : List ℕ) × IsIt text × Appends written.old written.new text
 
--- all was read, and what the text brings was written
-abbrev pub WroteAll : (List ℕ → List ℕ → Type 0) → Option (List ℕ) → Option (List ℕ) → Option (List ℕ) → Option (List ℕ) → Type 0
-WroteAll Brings left_old left_new taken_old taken_new =
-    (text written : List ℕ) × GaveAll left_old left_new text × Brings text written × Appends taken_old taken_new written
+-- a front of such a text was written
+abbrev pub WroteFront : (List ℕ → Type 0) → Bytes → Type 0
+WroteFront IsIt written = (text : List ℕ) × IsIt text × AppendsFront written.old written.new text
 
--- all was read, and a front of what the text brings was written
-abbrev pub WroteFront : (List ℕ → List ℕ → Type 0) → Option (List ℕ) → Option (List ℕ) → Option (List ℕ) → Option (List ℕ) → Type 0
-WroteFront Brings left_old left_new taken_old taken_new =
-    (text written : List ℕ) × GaveAll left_old left_new text × Brings text written × AppendsFront taken_old taken_new written
+-- ---- a run over one reader, whose text says what is answered and what is written
 
--- why not all was written: not all was read, or the text brings nothing to write, or the writer took a front of it alone
-abbrev pub RunStops : (List ℕ → List ℕ → Type 0) → (List ℕ → RunFault → Type 0)
-    → Option (List ℕ) → Option (List ℕ) → ℕ → Option (List ℕ) → Option (List ℕ) → RunFault → Type 0
-RunStops Brings BringsNothing left_old left_new limit taken_old taken_new Write = WroteFront Brings left_old left_new taken_old taken_new
-RunStops Brings BringsNothing left_old left_new limit taken_old taken_new fault =
-    IsUnread left_old left_new limit fault ⊎ ((text : List ℕ) × GaveAll left_old left_new text × BringsNothing text fault)
+module _ {Answer : Type 0} (Says : List ℕ → Answer → List ℕ → Type 0) where
+  -- all was read, and what the text says with this answer was written
+  abbrev pub Ran : Bytes → Bytes → Answer → Type 0
+  Ran read written answer = (text : List ℕ) × Gave read text × Wrote (Says text answer) written
 
--- ---- a run over a joined input
-
--- all was read, and the verdict's line was written
-abbrev pub RanWell : Option (List ℕ) → Option (List ℕ) → Option (List ℕ) → Option (List ℕ) → Verdict → Type 0
-RanWell left_old left_new taken_old taken_new verdict =
-    WroteAll (λ text line. IsAnswered text verdict line) left_old left_new taken_old taken_new
-
--- when each fault comes, and what it leaves
-abbrev pub RunFails : Option (List ℕ) → Option (List ℕ) → Option (List ℕ) → Option (List ℕ) → ℕ → RunFault → Type 0
-RunFails left_old left_new taken_old taken_new limit fault =
-    RunStops (λ text line. (verdict : Verdict) × IsAnswered text verdict line) CannotAnswer
-    left_old left_new limit taken_old taken_new fault
+  -- why a run gave no answer: not all was read; or all was, and the text says nothing;
+  -- or the writer failed, and a front of what the text says was written
+  abbrev pub Fails : (List ℕ → RunFault → Type 0) → ℕ → Bytes → Bytes → RunFault → Type 0
+  Fails SaysNothing limit read written fault =
+      IsUnread limit read fault
+      ⊎ ((text : List ℕ) × Gave read text × SaysNothing text fault)
+      ⊎ ((text : List ℕ) × (answer : Answer) × Gave read text × WroteFront (Says text answer) written × (fault ≡ Write))

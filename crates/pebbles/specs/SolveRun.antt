@@ -1,15 +1,14 @@
--- What solving a text finds, and what a run that solves a board reads, answers and writes.
-use Rattle.std.specs.Prelude.{◌≡◌, ℕ, ◌<◌, List, Option}
+-- What solving a text finds, and why it finds nothing.
+use Rattle.std.specs.Prelude.{◌≡◌, ℕ, ◌<◌, List}
 use Rattle.board_text.specs.PlainBoard.{PlainBoard}
 use Rattle.positions.specs.declared.value.Value.{Value}
 use Rattle.positions.specs.Value.{HasValue}
 use Rattle.proof_text.specs.Proof.{PlainProof}
 use Rattle.proof_text.specs.ProofText.{proof_text}
 use Rattle.strategies.specs.Document.{IsDocumentOf}
-use Rattle.pebbles.specs.Run.{WroteAll, RunStops}
 use Rattle.pebbles.specs.Texts.{IsSmallBoard, IsWrongBoard}
-use Rattle.pebbles.specs.declared.running.RunFault.{RunFault}
-use Rattle.pebbles.specs.declared.running.RunFault.TheVariants.{Memory, Worker}
+use Rattle.pebbles.specs.declared.fault.RunFault.{RunFault}
+use Rattle.pebbles.specs.declared.fault.RunFault.TheVariants.{Memory, Worker}
 
 -- the value of the board's start, and the text of the board's document
 pub record IsSolved (board : PlainBoard) (value : Value) (text : List ℕ) : Type 0 where
@@ -22,26 +21,9 @@ pub record IsSolved (board : PlainBoard) (value : Value) (text : List ℕ) : Typ
 abbrev pub IsSolution : List ℕ → Value → List ℕ → Type 0
 IsSolution text value written = (board : PlainBoard) × IsSmallBoard text board × IsSolved board value written
 
--- memory was wanting, or a thread wasn't started, which there is with several workers alone
-abbrev pub IsRefused : ℕ → RunFault → Type 0
-IsRefused workers Memory = Unit {0}
-IsRefused workers Worker = 1 < workers
-IsRefused workers fault = ⊥
-
 -- why a text isn't solved: memory was wanting; or it's the text of a small board, and a thread wasn't started, which there is with several
 -- workers alone; or it isn't the text of a small board
 abbrev pub CannotSolve : ℕ → List ℕ → RunFault → Type 0
 CannotSolve workers text Memory = Unit {0}
 CannotSolve workers text Worker = (1 < workers) × ((board : PlainBoard) × IsSmallBoard text board)
 CannotSolve workers text fault = IsWrongBoard text fault
-
--- a small board's text was read, and the text of its document was written
-abbrev pub RanSolve : Option (List ℕ) → Option (List ℕ) → Option (List ℕ) → Option (List ℕ) → Value → Type 0
-RanSolve left_old left_new taken_old taken_new value =
-    WroteAll (λ text written. IsSolution text value written) left_old left_new taken_old taken_new
-
--- why a run ended without solving
-abbrev pub SolveFails : ℕ → Option (List ℕ) → Option (List ℕ) → ℕ → Option (List ℕ) → Option (List ℕ) → RunFault → Type 0
-SolveFails workers left_old left_new limit taken_old taken_new fault =
-    RunStops (λ text written. (value : Value) × IsSolution text value written) (CannotSolve workers)
-    left_old left_new limit taken_old taken_new fault

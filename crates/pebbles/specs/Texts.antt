@@ -5,25 +5,22 @@ use Rattle.board_text.specs.BoardText.{board_text}
 use Rattle.board_text.specs.BoardFaults as board_faults
 use Rattle.board_text.specs.declared.fault.BoardKind.TheVariants as board_kinds
 use Rattle.positions.specs.Ranks.{configurations}
+use Rattle.positions.specs.declared.space.TheConstants.{MAX_CONFIGURATIONS}
 use Rattle.proof_text.specs.ProofFaults as proof_faults
 use Rattle.proof_text.specs.declared.fault.ProofKind.TheVariants as proof_kinds
-use Rattle.pebbles.specs.declared.running.RunFault.{RunFault}
-use Rattle.pebbles.specs.declared.running.RunFault.TheVariants.{Board, TooLarge, Proof, Memory}
-
--- the greatest number of configurations of a board that is solved, or whose documents are checked
-abbrev pub most_configurations : ℕ
-most_configurations = 1048576
+use Rattle.pebbles.specs.declared.fault.RunFault.{RunFault}
+use Rattle.pebbles.specs.declared.fault.RunFault.TheVariants.{Board, TooLarge, Proof, Memory}
 
 -- the text is that of this board, which is small enough
 pub record IsSmallBoard (text : List ℕ) (board : PlainBoard) : Type 0 where
   pub is_board : IsBoard board
-  pub few : configurations board ≤ most_configurations
+  pub few : configurations board ≤ MAX_CONFIGURATIONS
   pub spelled : text ≡ board_text board
 
 -- what is wrong with the text of a board
 abbrev pub IsWrongBoard : List ℕ → RunFault → Type 0
 IsWrongBoard text (Board fault) = board_faults.HasFault text fault.line fault.kind × (fault.kind ≢ board_kinds.Memory)
-IsWrongBoard text TooLarge = (board : PlainBoard) × IsBoard board × (text ≡ board_text board) × (most_configurations < configurations board)
+IsWrongBoard text TooLarge = (board : PlainBoard) × IsBoard board × (text ≡ board_text board) × (MAX_CONFIGURATIONS < configurations board)
 IsWrongBoard text fault = ⊥
 
 -- what is wrong with the text of a document for the board

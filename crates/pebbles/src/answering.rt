@@ -2,23 +2,32 @@
 
 ghost use Rattle.std.specs.Prelude.{◌≡◌, ◌≤◌, IfOk, IfErr, string_bytes};
 ghost use Rattle.proof_text.specs.Proof.{IsDocument, plain_proof};
-ghost use Rattle.proof_text.specs.ProofText.{proof_text as text_of_proof};
 ghost use Rattle.positions.specs.Ranks.{configurations};
 ghost use Rattle.proof_check.specs.CheckFaults.{NamesRanks};
-ghost use Rattle.pebbles.specs.Answer.{IsAnswered, IsChecked, IsVerdict, CannotAnswer, NamesRanksOf};
+ghost use Rattle.pebbles.specs.Answer.{IsAnswered, IsChecked, IsVerdict, CannotAnswer};
+ghost use Rattle.pebbles.specs.Inside.Answer.{NamesRanksOf};
 ghost use Rattle.pebbles.specs.Output.{line_of};
-ghost use Rattle.pebbles.specs.Texts.{BringsNoProof, IsMemory, most_configurations};
+ghost use Rattle.pebbles.specs.Texts.{BringsNoProof, IsMemory};
 
 use crate::boards::small_board;
+use crate::fault::RunFault;
 use crate::joined::front_len;
 use crate::output::line;
-use crate::running::{RunFault, Verdict};
-use board_text::{Board, Memory};
-use positions::Space;
-use proof_check::{CheckFault, check};
-use proof_text::{Proof, ProofKind};
+use board_text::Board;
+use positions::{MAX_CONFIGURATIONS, Space};
+use proof_check::{CheckFault, Shown, check};
+use proof_text::{Proof, parse};
 use std::alloc::Global;
 use std::thread::Threads;
+
+/// What a check says of a document.
+#[derive(Clone, Copy, Debug, PartialEq, Eq)]
+pub enum Verdict {
+    /// The document shows its claim.
+    Accepted(Shown),
+    /// The document breaks a rule; the first fault. It is never want of memory.
+    Refused(CheckFault),
+}
 
 /// A verdict, and the line that says it.
 #[derive(Drop)]
@@ -53,24 +62,10 @@ pub fn check_text(
     ensures checked { IfOk result (λ answer. IsChecked board.now text.now answer.verdict (string_bytes answer.line)) }
     ensures fault { IfErr result (BringsNoProof board.now text.now) }
 {
-    let proof = proof_of(alloc, space, text)?;
+    let proof = parse(alloc, space, text)?;
     let verdict = verdict_on(rt, alloc, board, space, &proof)?;
-    match line(alloc, space, verdict) {
-        Ok(line) => Ok(Answer { verdict, line }),
-        Err(Memory) => Err(RunFault::Memory),
-    }
-}
-
-/// The document for the board that the bytes are the text of.
-fn proof_of(alloc: Global, space: &Space, text: &[u8]) -> Result<Proof, RunFault>
-    ensures found { IfOk result (λ proof. IsDocument space.now proof × (text.now ≡ text_of_proof space.now (plain_proof space.now proof))) }
-    ensures fault { IfErr result (BringsNoProof space.now text.now) }
-{
-    match proof_text::parse(alloc, space, text) {
-        Ok(proof) => Ok(proof),
-        Err(fault) if fault.kind == ProofKind::Memory => Err(RunFault::Memory),
-        Err(fault) => Err(RunFault::Proof(fault)),
-    }
+    let line = line(alloc, space, verdict)?;
+    Ok(Answer { verdict, line })
 }
 
 /// The verdict on the document.
@@ -87,7 +82,7 @@ fn verdict_on(
     ensures named { IfOk result (NamesRanksOf board.now) }
     ensures memory { IfErr result IsMemory }
 {
-    let _ = space.configurations();
+    prove!(space.configurations() <= MAX_CONFIGURATIONS);
     match check(rt, alloc, board, proof) {
         Ok(shown) => Ok(Verdict::Accepted(shown)),
         Err(CheckFault::Memory) => Err(RunFault::Memory),

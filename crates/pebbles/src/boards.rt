@@ -3,8 +3,8 @@
 ghost use Rattle.std.specs.Prelude.{◌≡◌, IfOk, IfErr};
 ghost use Rattle.pebbles.specs.Texts.{IsSmallBoard, BringsNoBoard};
 
-use crate::running::RunFault;
-use board_text::{Board, BoardKind, parse};
+use crate::fault::RunFault;
+use board_text::{Board, parse};
 use positions::Space;
 use std::alloc::Global;
 
@@ -13,13 +13,7 @@ pub fn small_board(alloc: Global, text: &[u8]) -> Result<(Board, Space), RunFaul
     ensures found { IfOk result (λ p. IsSmallBoard text.now p.0 × (p.1 ≡ p.0)) }
     ensures fault { IfErr result (BringsNoBoard text.now) }
 {
-    let board = match parse(alloc, text) {
-        Ok(board) => board,
-        Err(fault) if fault.kind == BoardKind::Memory => return Err(RunFault::Memory),
-        Err(fault) => return Err(RunFault::Board(fault)),
-    };
-    match Space::of(&board) {
-        Ok(space) => Ok((board, space)),
-        Err(_) => Err(RunFault::TooLarge),
-    }
+    let board = parse(alloc, text)?;
+    let space = Space::of(&board)?;
+    Ok((board, space))
 }

@@ -1,18 +1,48 @@
-//! A check of a board and a document in two texts.
+//! Checks, over readers and writers: of a board and a document one behind the other, and of two texts.
 
 ghost use Rattle.std.specs.Prelude.{◌≡◌, ◌≢◌, ◌↔◌, ◌⊎◌, true, false, Err, IfOk, IfErr};
+ghost use Rattle.pebbles.specs.Answer.{CannotAnswer, IsAnswered};
 ghost use Rattle.pebbles.specs.CheckRun.{RanCheck, CheckFails};
-ghost use Rattle.pebbles.specs.declared.running.RunFault.TheVariants.{Read, Write};
+ghost use Rattle.pebbles.specs.Run.{Ran, Fails, bytes_of};
+ghost use Rattle.pebbles.specs.declared.fault.RunFault.TheVariants.{Read, Write};
 
-use crate::answering::check_text;
+use crate::answering::{Verdict, check_joined_text, check_text};
+use crate::fault::RunFault;
 use crate::reading::{MAX_BOARD_BYTES, read_board, read_text};
-use crate::running::{RunFault, Verdict};
-use board_text::{Failed, Sink, Source, write_all};
+use board_text::{Sink, Source, write_all};
 use std::alloc::Global;
 use std::thread::Threads;
 
+/// The most bytes of a joined input.
+pub const MAX_JOINED_BYTES: usize = 134_217_728;
+
 /// The most bytes of a strategy document.
 pub const MAX_PROOF_BYTES: usize = 134_217_728;
+
+/// Reads a board and a document for it, one behind the other, checks the document and writes one line.
+///
+/// The reader and the writer must not have failed before.
+/// After a fault nothing was written, but for `Write`, after which a front of the line was.
+pub fn run_joined<R: Source, W: Sink>(
+    rt: &(impl Threads + Sync),
+    alloc: Global,
+    reader: &mut R,
+    writer: &mut W,
+) -> Result<Verdict, RunFault>
+    requires reader_ready { R.has_failed reader.old ≡ false }
+    requires writer_ready { W.has_failed writer.old ≡ false }
+    ensures ok { IfOk result (Ran IsAnswered (bytes_of R.left reader.old reader.new) (bytes_of W.taken writer.old writer.new)) }
+    ensures fault { IfErr result (Fails IsAnswered CannotAnswer MAX_JOINED_BYTES
+        (bytes_of R.left reader.old reader.new) (bytes_of W.taken writer.old writer.new)) }
+    ensures read { (R.has_failed reader.new ≡ true) ↔ (result ≡ Err Read) }
+    ensures write { (W.has_failed writer.new ≡ true) ↔ (result ≡ Err Write) }
+    ensures unwritten { IfErr result (λ fault. fault ≢ Write → writer.new ≡ writer.old) }
+{
+    let text = read_text(alloc, reader, MAX_JOINED_BYTES)?;
+    let answer = check_joined_text(rt, alloc, text.as_slice())?;
+    write_all(writer, answer.line.as_bytes())?;
+    Ok(answer.verdict)
+}
 
 /// Reads a board and then a strategy document for it, checks the document and writes one line.
 ///
@@ -28,9 +58,10 @@ pub fn run_check<B: Source, P: Source, W: Sink>(
     requires board_ready { B.has_failed board.old ≡ false }
     requires proof_ready { P.has_failed proof.old ≡ false }
     requires writer_ready { W.has_failed writer.old ≡ false }
-    ensures ok { IfOk result (RanCheck (B.left board.old) (B.left board.new) (P.left proof.old) (P.left proof.new) (W.taken writer.old) (W.taken writer.new)) }
-    ensures fault { IfErr result (CheckFails (B.left board.old) (B.left board.new) MAX_BOARD_BYTES (proof.new ≡ proof.old)
-        (P.left proof.old) (P.left proof.new) MAX_PROOF_BYTES (W.taken writer.old) (W.taken writer.new)) }
+    ensures ok { IfOk result (RanCheck (bytes_of B.left board.old board.new) (bytes_of P.left proof.old proof.new)
+        (bytes_of W.taken writer.old writer.new)) }
+    ensures fault { IfErr result (CheckFails MAX_BOARD_BYTES MAX_PROOF_BYTES (proof.new ≡ proof.old) (bytes_of B.left board.old board.new)
+        (bytes_of P.left proof.old proof.new) (bytes_of W.taken writer.old writer.new)) }
     ensures read { ((B.has_failed board.new ≡ true) ⊎ (P.has_failed proof.new ≡ true)) ↔ (result ≡ Err Read) }
     ensures write { (W.has_failed writer.new ≡ true) ↔ (result ≡ Err Write) }
     ensures unwritten { IfErr result (λ fault. fault ≢ Write → writer.new ≡ writer.old) }
@@ -38,8 +69,6 @@ pub fn run_check<B: Source, P: Source, W: Sink>(
     let (board, space) = read_board(alloc, board)?;
     let text = read_text(alloc, proof, MAX_PROOF_BYTES)?;
     let answer = check_text(rt, alloc, &board, &space, text.as_slice())?;
-    match write_all(writer, answer.line.as_bytes()) {
-        Ok(()) => Ok(answer.verdict),
-        Err(Failed) => Err(RunFault::Write),
-    }
+    write_all(writer, answer.line.as_bytes())?;
+    Ok(answer.verdict)
 }

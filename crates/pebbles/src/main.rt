@@ -1,4 +1,5 @@
-//! Solves boards of the pebble game, checks strategies for them, counts values, plays with a person, and writes nested boards and plays on them.
+//! Solves boards of the pebble game, checks strategies for them, counts values, plays with a person,
+//! and writes nested boards and plays on them.
 //!
 //! Without a command a board and a strategy document behind it are read from standard input, and one
 //! line is written to standard output. `pebbles --help` lists the commands.
@@ -10,6 +11,7 @@
 mod answering;
 mod boards;
 mod checking;
+mod fault;
 mod joined;
 mod laws;
 mod nesting;
@@ -19,27 +21,31 @@ mod playing;
 mod playing_tests;
 mod reading;
 mod reporting;
-mod running;
 mod solving;
 #[cfg(test)]
 mod solving_tests;
 #[cfg(test)]
 mod tests;
 
-ghost use Rattle.std.specs.Prelude.{◌≡◌};
+ghost use Rattle.std.specs.Prelude.{◌≡◌, false};
+ghost use Rattle.command_line.specs.Reading.{IsInRange};
 
-use board_text::Through;
-use checking::run_check;
+use answering::Verdict;
+use board_text::{Sink, Source, Through};
+use checking::{run_check, run_joined};
 use command_line::{Job, JobFault, Player, job};
+use fault::RunFault;
 use nesting::run_nested;
-use player::{PlayEnd, PlayFault, play_nested};
-use playing::{fault_of, run_play};
-use positions::Value;
+use player::play_nested;
+use playing::run_play;
 use proof_check::Side;
 use reporting::run_report;
-use running::{RunFault, Verdict, run_joined};
 use solving::run_solve;
+use std::alloc::Global;
+use std::fs::Files;
 use std::process::ExitCode;
+use std::sync::Wait;
+use std::thread::Threads;
 use std::{env, fs, io};
 
 fn main(rt: HostRuntime) -> ExitCode {
@@ -58,56 +64,14 @@ fn main(rt: HostRuntime) -> ExitCode {
     else {
         return failed(&rt, RunFault::Memory);
     };
-    let mut writer = Through::new(rt.stdout());
     match job(alloc, words.as_slice()) {
-        Ok(Job::Joined) => {
-            let mut reader = Through::new(rt.stdin());
-            answered(&rt, run_joined(&rt, alloc, &mut reader, &mut writer))
-        }
-        Ok(Job::Check { board, proof }) => match (fs::open(&rt, board), fs::open(&rt, proof)) {
-            (Ok(board), Ok(proof)) => {
-                let mut board = Through::new(board);
-                let mut proof = Through::new(proof);
-                let answer = run_check(&rt, alloc, &mut board, &mut proof, &mut writer);
-                answered(&rt, answer)
+        Ok(job) => {
+            let mut input = Through::new(rt.stdin());
+            let mut output = Through::new(rt.stdout());
+            match carry_out(&rt, alloc, job, &mut input, &mut output) {
+                Ok(status) => status,
+                Err(fault) => failed(&rt, fault),
             }
-            _ => failed(&rt, RunFault::Read),
-        },
-        Ok(Job::Solve { workers, board }) => match fs::open(&rt, board) {
-            Ok(board) => {
-                let mut board = Through::new(board);
-                solved(&rt, run_solve(&rt, alloc, workers, &mut board, &mut writer))
-            }
-            Err(_) => failed(&rt, RunFault::Read),
-        },
-        Ok(Job::Report { workers, board }) => match fs::open(&rt, board) {
-            Ok(board) => {
-                let mut board = Through::new(board);
-                done(
-                    &rt,
-                    run_report(&rt, alloc, workers, &mut board, &mut writer),
-                )
-            }
-            Err(_) => failed(&rt, RunFault::Read),
-        },
-        Ok(Job::Play { side, board }) => match fs::open(&rt, board) {
-            Ok(board) => {
-                let mut board = Through::new(board);
-                let mut lines = Through::new(rt.stdin());
-                let side = side_of(side);
-                played(
-                    &rt,
-                    run_play(&rt, alloc, side, &mut board, &mut lines, &mut writer),
-                )
-            }
-            Err(_) => failed(&rt, RunFault::Read),
-        },
-        Ok(Job::Climb { levels }) => {
-            let mut lines = Through::new(rt.stdin());
-            climbed(&rt, play_nested(alloc, levels, &mut lines, &mut writer))
-        }
-        Ok(Job::Nested { levels, pebbles }) => {
-            done(&rt, run_nested(alloc, levels, pebbles, &mut writer))
         }
         Err(JobFault::Help { text }) => helped(&rt, &text),
         Err(JobFault::Usage { text }) => {
@@ -118,36 +82,59 @@ fn main(rt: HostRuntime) -> ExitCode {
     }
 }
 
+/// Does what is asked for, and gives the status that tells how it went.
+fn carry_out<R: Files + Threads + Wait + Sync, I: Source, O: Sink>(
+    rt: &R,
+    alloc: Global,
+    job: Job<'_>,
+    input: &mut I,
+    output: &mut O,
+) -> Result<ExitCode, RunFault>
+    requires numbers { IsInRange job }
+    requires input_ready { I.has_failed input.old ≡ false }
+    requires output_ready { O.has_failed output.old ≡ false }
+{
+    match job {
+        Job::Joined => return Ok(status_of(run_joined(rt, alloc, input, output)?)),
+        Job::Check { board, proof } => {
+            let mut board = Through::new(open(rt, board)?);
+            let mut proof = Through::new(open(rt, proof)?);
+            let verdict = run_check(rt, alloc, &mut board, &mut proof, output)?;
+            return Ok(status_of(verdict));
+        }
+        Job::Solve { workers, board } => {
+            let mut board = Through::new(open(rt, board)?);
+            run_solve(rt, alloc, workers, &mut board, output)?;
+        }
+        Job::Report { workers, board } => {
+            let mut board = Through::new(open(rt, board)?);
+            run_report(rt, alloc, workers, &mut board, output)?;
+        }
+        Job::Play { side, board } => {
+            let mut board = Through::new(open(rt, board)?);
+            run_play(rt, alloc, side_of(side), &mut board, input, output)?;
+        }
+        Job::Climb { levels } => {
+            play_nested(alloc, levels, input, output)?;
+        }
+        Job::Nested { levels, pebbles } => run_nested(alloc, levels, pebbles, output)?,
+    }
+    Ok(ExitCode::SUCCESS)
+}
+
+/// The file with this path, for reading.
+fn open<R: Files>(rt: &R, path: &str) -> Result<R::File, RunFault> {
+    match fs::open(rt, path) {
+        Ok(file) => Ok(file),
+        Err(_) => Err(RunFault::Read),
+    }
+}
+
 /// The status of a check.
-fn answered(rt: &HostRuntime, answer: Result<Verdict, RunFault>) -> ExitCode {
-    match answer {
-        Ok(Verdict::Accepted(_)) => ExitCode::SUCCESS,
-        Ok(Verdict::Refused(_)) => ExitCode::from(3),
-        Err(fault) => failed(rt, fault),
-    }
-}
-
-/// The status of a board that was to be solved.
-fn solved(rt: &HostRuntime, answer: Result<Value, RunFault>) -> ExitCode {
-    match answer {
-        Ok(_) => ExitCode::SUCCESS,
-        Err(fault) => failed(rt, fault),
-    }
-}
-
-/// The status of a play, however it ended.
-fn played(rt: &HostRuntime, answer: Result<PlayEnd, RunFault>) -> ExitCode {
-    match answer {
-        Ok(_) => ExitCode::SUCCESS,
-        Err(fault) => failed(rt, fault),
-    }
-}
-
-/// The status of a play on a nested board, however it ended.
-fn climbed(rt: &HostRuntime, answer: Result<PlayEnd, PlayFault>) -> ExitCode {
-    match answer {
-        Ok(_) => ExitCode::SUCCESS,
-        Err(fault) => failed(rt, fault_of(fault)),
+fn status_of(verdict: Verdict) -> ExitCode {
+    match verdict {
+        Verdict::Accepted(_) => ExitCode::SUCCESS,
+        Verdict::Refused(_) => ExitCode::from(3),
     }
 }
 
@@ -162,18 +149,14 @@ fn side_of(player: Player) -> Side
     }
 }
 
-/// The status of a run that has nothing to say but what it wrote.
-fn done(rt: &HostRuntime, answer: Result<(), RunFault>) -> ExitCode {
-    match answer {
-        Ok(()) => ExitCode::SUCCESS,
-        Err(fault) => failed(rt, fault),
-    }
-}
-
 /// The status of a fault, whose line is written to standard error.
 fn failed(rt: &HostRuntime, fault: RunFault) -> ExitCode {
     let _ = eprintln!(rt; "{fault}");
-    ExitCode::from(status_of(fault))
+    match fault {
+        RunFault::Board(_) | RunFault::TooLarge | RunFault::Proof(_) => ExitCode::from(1),
+        RunFault::Memory | RunFault::Worker => ExitCode::from(4),
+        RunFault::Read | RunFault::Write | RunFault::Limit => ExitCode::from(5),
+    }
 }
 
 /// The status of help, which is written to standard output.
@@ -191,13 +174,4 @@ fn without_words(rt: &HostRuntime, kind: io::ErrorKind) -> ExitCode {
     }
     let _ = eprintln!(rt; "error: a word on the command line is not text");
     ExitCode::from(2)
-}
-
-/// The exit status of a fault.
-fn status_of(fault: RunFault) -> u8 {
-    match fault {
-        RunFault::Board(_) | RunFault::TooLarge | RunFault::Proof(_) => 1,
-        RunFault::Memory | RunFault::Worker => 4,
-        RunFault::Read | RunFault::Write | RunFault::Limit => 5,
-    }
 }

@@ -5,11 +5,12 @@ ghost use Rattle.player.specs.Laws.{KeepsToValue};
 ghost use Rattle.player.specs.Play.{HasEnded, BreaksOff};
 ghost use Rattle.player.specs.Transcript.{IsPlayed};
 ghost use Rattle.player.specs.declared.end.PlayFault.TheVariants as play_faults;
-ghost use Rattle.pebbles.specs.PlayRun.{RanPlay, PlayFails, game_of, run_fault_of};
-ghost use Rattle.pebbles.specs.declared.running.RunFault.TheVariants.{Read, Write};
+ghost use Rattle.pebbles.specs.PlayRun.{RanPlay, PlayFails, game_of};
+ghost use Rattle.pebbles.specs.Run.{bytes_of};
+ghost use Rattle.pebbles.specs.declared.fault.RunFault.TheVariants.{Read, Write};
 
+use crate::fault::RunFault;
 use crate::reading::{MAX_BOARD_BYTES, read_board};
-use crate::running::RunFault;
 use crate::solving::values_of;
 use board_text::{Board, Sink, Source};
 use player::{PlayEnd, PlayFault, play_adversary_side, play_labeller_side};
@@ -33,18 +34,16 @@ pub fn run_play<B: Source, L: Source, W: Sink>(
     requires board_ready { B.has_failed board.old ≡ false }
     requires lines_ready { L.has_failed lines.old ≡ false }
     requires writer_ready { W.has_failed writer.old ≡ false }
-    ensures ok { IfOk result (RanPlay side (B.left board.old) (B.left board.new) (L.left lines.old) (L.left lines.new) (W.taken writer.old) (W.taken writer.new)) }
-    ensures fault { IfErr result (PlayFails side (B.left board.old) (B.left board.new) MAX_BOARD_BYTES ((lines.new ≡ lines.old) × (writer.new ≡ writer.old))
-        (L.left lines.old) (L.left lines.new) (W.taken writer.old) (W.taken writer.new)) }
+    ensures ok { IfOk result (RanPlay side (bytes_of B.left board.old board.new) (bytes_of L.left lines.old lines.new)
+        (bytes_of W.taken writer.old writer.new)) }
+    ensures fault { IfErr result (PlayFails side MAX_BOARD_BYTES ((lines.new ≡ lines.old) × (writer.new ≡ writer.old))
+        (bytes_of B.left board.old board.new) (bytes_of L.left lines.old lines.new) (bytes_of W.taken writer.old writer.new)) }
     ensures read { ((B.has_failed board.new ≡ true) ⊎ (L.has_failed lines.new ≡ true)) ↔ (result ≡ Err Read) }
     ensures write { (W.has_failed writer.new ≡ true) ↔ (result ≡ Err Write) }
 {
     let (board, _) = read_board(alloc, board)?;
     let values = values_of(alloc, &board)?;
-    match play(alloc, side, &board, &values, lines, writer) {
-        Ok(end) => Ok(end),
-        Err(fault) => Err(fault_of(fault)),
-    }
+    Ok(play(alloc, side, &board, &values, lines, writer)?)
 }
 
 /// Plays on a board with a person who is this side.
@@ -59,8 +58,10 @@ fn play<L: Source, W: Sink>(
     requires same_board { values.now ≡ board.now }
     requires lines_ready { L.has_failed lines.old ≡ false }
     requires writer_ready { W.has_failed writer.old ≡ false }
-    ensures ok { IfOk result (HasEnded (IsPlayed (game_of side board.now)) (L.left lines.old) (L.left lines.new) (W.taken writer.old) (W.taken writer.new)) }
-    ensures fault { IfErr result (BreaksOff (IsPlayed (game_of side board.now)) (L.left lines.old) (L.left lines.new) (W.taken writer.old) (W.taken writer.new)) }
+    ensures ok { IfOk result (HasEnded (IsPlayed (game_of side board.now)) (L.left lines.old) (L.left lines.new)
+        (W.taken writer.old) (W.taken writer.new)) }
+    ensures fault { IfErr result (BreaksOff (IsPlayed (game_of side board.now)) (L.left lines.old) (L.left lines.new)
+        (W.taken writer.old) (W.taken writer.new)) }
     ensures value { IfOk result (KeepsToValue (game_of side board.now)) }
     ensures read { (L.has_failed lines.new ≡ true) ↔ (result ≡ Err play_faults.Read) }
     ensures write { (W.has_failed writer.new ≡ true) ↔ (result ≡ Err play_faults.Write) }
@@ -68,17 +69,5 @@ fn play<L: Source, W: Sink>(
     match side {
         Side::Adversary => play_adversary_side(alloc, board, values, lines, writer),
         Side::Labeller => play_labeller_side(alloc, board, values, lines, writer),
-    }
-}
-
-/// The fault of a run whose play was broken off.
-pub(crate) fn fault_of(fault: PlayFault) -> RunFault
-    ensures { result ≡ run_fault_of fault }
-{
-    match fault {
-        PlayFault::Read => RunFault::Read,
-        PlayFault::Write => RunFault::Write,
-        PlayFault::Memory => RunFault::Memory,
-        PlayFault::Limit => RunFault::Limit,
     }
 }

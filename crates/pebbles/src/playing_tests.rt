@@ -2,8 +2,8 @@
 
 ghost use Rattle.std.specs.Prelude.{false};
 
+use crate::fault::RunFault;
 use crate::playing::run_play;
-use crate::running::RunFault;
 use board_text::{BoardFault, BoardKind, Failed, Sink, Source};
 use fakes::{Drip, Failing, Outcome, Trickle, comes_right};
 use player::PlayEnd;
@@ -81,7 +81,8 @@ fn serves(
     comes_right(|| outcome(rt, alloc, play, wanted, written))
 }
 
-/// Whether a play answers and writes what it should, or was refused memory and wrote a front of that; and whether the ends failed where it says so.
+/// Whether a play answers and writes what it should, or was refused memory and wrote a front of that;
+/// and whether the ends failed where it says so.
 fn outcome(
     rt: &(impl Threads + Sync),
     alloc: Global,

@@ -1,14 +1,13 @@
 //! Reading a text to its end, and the board that it is.
 
-ghost use Rattle.std.specs.Prelude.{◌≡◌, ◌≢◌, ◌<◌, ◌↔◌, ◌^◌, true, false, Err, IfOk, IfErr};
-ghost use Rattle.board_text.specs.Ends.{GaveAll};
-ghost use Rattle.pebbles.specs.CheckRun.{GaveBoard, GaveNoBoard};
-ghost use Rattle.pebbles.specs.Run.{IsUnread};
-ghost use Rattle.pebbles.specs.declared.running.RunFault.TheVariants.{Read, Write};
+ghost use Rattle.std.specs.Prelude.{◌≡◌, ◌≢◌, ◌<◌, ◌↔◌, true, false, Err, IfOk, IfErr};
+ghost use Rattle.pebbles.specs.BoardRun.{GaveBoard, GaveNoBoard};
+ghost use Rattle.pebbles.specs.Run.{Gave, IsUnread, bytes_of};
+ghost use Rattle.pebbles.specs.declared.fault.RunFault.TheVariants.{Read, Write};
 
 use crate::boards::small_board;
-use crate::running::RunFault;
-use board_text::{Board, ReadFault, Source, read_all};
+use crate::fault::RunFault;
+use board_text::{Board, Source, read_all};
 use positions::Space;
 use std::alloc::Global;
 
@@ -23,16 +22,11 @@ pub(crate) fn read_text<R: Source>(
 ) -> Result<Vec<u8>, RunFault>
     requires ready { R.has_failed reader.old ≡ false }
     requires countable { limit < usize.MAX }
-    ensures ok { IfOk result (λ text. GaveAll (R.left reader.old) (R.left reader.new) text.items) }
-    ensures fault { IfErr result (IsUnread (R.left reader.old) (R.left reader.new) limit) }
+    ensures ok { IfOk result (λ text. Gave (bytes_of R.left reader.old reader.new) text.items) }
+    ensures fault { IfErr result (IsUnread limit (bytes_of R.left reader.old reader.new)) }
     ensures read { (R.has_failed reader.new ≡ true) ↔ (result ≡ Err Read) }
 {
-    match read_all(alloc, reader, limit) {
-        Ok(text) => Ok(text),
-        Err(ReadFault::Memory) => Err(RunFault::Memory),
-        Err(ReadFault::Read) => Err(RunFault::Read),
-        Err(ReadFault::Limit) => Err(RunFault::Limit),
-    }
+    Ok(read_all(alloc, reader, limit)?)
 }
 
 /// The small board whose text the reader gives, with its space.
@@ -41,8 +35,8 @@ pub(crate) fn read_board<R: Source>(
     reader: &mut R,
 ) -> Result<(Board, Space), RunFault>
     requires { R.has_failed reader.old ≡ false }
-    ensures found { IfOk result (λ p. GaveBoard (R.left reader.old) (R.left reader.new) p.0 × (p.1 ≡ p.0)) }
-    ensures fault { IfErr result (GaveNoBoard (R.left reader.old) (R.left reader.new) MAX_BOARD_BYTES) }
+    ensures found { IfOk result (λ p. GaveBoard (bytes_of R.left reader.old reader.new) p.0 × (p.1 ≡ p.0)) }
+    ensures fault { IfErr result (GaveNoBoard MAX_BOARD_BYTES (bytes_of R.left reader.old reader.new)) }
     ensures read { (R.has_failed reader.new ≡ true) ↔ (result ≡ Err Read) }
     ensures unwritten { result ≢ Err Write }
 {

@@ -3,18 +3,19 @@
 ghost use Rattle.std.specs.Prelude.{◌≡◌, ◌≢◌, ◌↔◌, ◌≤◌, ℕ, List, ◌++◌, true, false, Err, IfOk, IfErr, OnOk, string_bytes};
 ghost use Rattle.board_text.specs.Ranges.{InRange};
 ghost use Rattle.positions.specs.Ranks.{configurations};
-ghost use Rattle.pebbles.specs.Report.{AreCounts, IsCountOfValues, IsReportOf, count_line, count_lines, end_lines, head_lines, size_line, size_lines, start_line};
-ghost use Rattle.pebbles.specs.ReportRun.{IsReportOfText, RanReport, ReportFails};
-ghost use Rattle.pebbles.specs.SolveRun.{CannotSolve, IsRefused};
-ghost use Rattle.pebbles.specs.Texts.{most_configurations};
-ghost use Rattle.pebbles.specs.declared.running.RunFault.TheVariants.{Read, Write};
+ghost use Rattle.pebbles.specs.Report.{AreCounts, IsCountOfValues, IsReportOf, IsReportOfText, Reports};
+ghost use Rattle.pebbles.specs.Report.{count_line, count_lines, end_lines, head_lines, size_line, size_lines, start_line};
+ghost use Rattle.pebbles.specs.Run.{Ran, Fails, bytes_of};
+ghost use Rattle.pebbles.specs.SolveRun.{CannotSolve};
+ghost use Rattle.pebbles.specs.Inside.SolveRun.{IsRefused};
+ghost use Rattle.pebbles.specs.declared.fault.RunFault.TheVariants.{Read, Write};
 
 use crate::boards::small_board;
+use crate::fault::RunFault;
 use crate::reading::{MAX_BOARD_BYTES, read_text};
-use crate::running::RunFault;
 use crate::solving::values_by;
-use board_text::{Board, Failed, Sink, Source, write_all};
-use positions::{Space, Value};
+use board_text::{Board, Sink, Source, write_all};
+use positions::{MAX_CONFIGURATIONS, Space, Value};
 use proof_text::write_claim;
 use retro_core::Values;
 use std::alloc::{AllocError, Global};
@@ -26,8 +27,8 @@ use strategies::claim;
 /// Reads a board and writes how many of its configurations have each value.
 ///
 /// The number of workers is 1 to 16, and they find the values as in `run_solve`. It may wait for them.
-/// The reader and the writer must not have failed before. Nothing is written before the whole text is built: after a fault nothing was written,
-/// but for `Write`, after which a front of the text was.
+/// The reader and the writer must not have failed before. Nothing is written before the whole text is built:
+/// after a fault nothing was written, but for `Write`, after which a front of the text was.
 pub fn run_report<R: Source, W: Sink>(
     rt: &(impl Threads + Wait + Sync),
     alloc: Global,
@@ -38,18 +39,16 @@ pub fn run_report<R: Source, W: Sink>(
     requires workers { InRange 1 16 workers }
     requires reader_ready { R.has_failed reader.old ≡ false }
     requires writer_ready { W.has_failed writer.old ≡ false }
-    ensures ok { OnOk result (RanReport (R.left reader.old) (R.left reader.new) (W.taken writer.old) (W.taken writer.new)) }
-    ensures fault { IfErr result (ReportFails workers (R.left reader.old) (R.left reader.new) MAX_BOARD_BYTES (W.taken writer.old) (W.taken writer.new)) }
+    ensures ok { IfOk result (Ran Reports (bytes_of R.left reader.old reader.new) (bytes_of W.taken writer.old writer.new)) }
+    ensures fault { IfErr result (Fails Reports (CannotSolve workers) MAX_BOARD_BYTES
+        (bytes_of R.left reader.old reader.new) (bytes_of W.taken writer.old writer.new)) }
     ensures read { (R.has_failed reader.new ≡ true) ↔ (result ≡ Err Read) }
     ensures write { (W.has_failed writer.new ≡ true) ↔ (result ≡ Err Write) }
     ensures unwritten { IfErr result (λ fault. fault ≢ Write → writer.new ≡ writer.old) }
 {
     let text = read_text(alloc, reader, MAX_BOARD_BYTES)?;
     let report = report_text(rt, alloc, workers, text.as_slice())?;
-    match write_all(writer, report.as_bytes()) {
-        Ok(()) => Ok(()),
-        Err(Failed) => Err(RunFault::Write),
-    }
+    Ok(write_all(writer, report.as_bytes())?)
 }
 
 /// The report of the board that the bytes are the text of. The number of workers is 1 to 16.
@@ -74,20 +73,18 @@ fn report_on(
     board: &Board,
     workers: u8,
 ) -> Result<String, RunFault>
-    requires few { configurations board.now ≤ most_configurations }
+    requires few { configurations board.now ≤ MAX_CONFIGURATIONS }
     requires workers { InRange 1 16 workers }
     ensures text { IfOk result (λ text. IsReportOf board.now (string_bytes text)) }
     ensures refused { IfErr result (IsRefused workers) }
 {
     let values = values_by(rt, alloc, board, workers)?;
-    match report_of(alloc, board, &values) {
-        Ok(text) => Ok(text),
-        Err(AllocError) => Err(RunFault::Memory),
-    }
+    Ok(report_of(alloc, board, &values)?)
 }
 
-/// The report of a board with these values.
+/// The report of a small board with these values.
 fn report_of(alloc: Global, board: &Board, values: &Values) -> Result<String, AllocError>
+    requires few { configurations board.now ≤ MAX_CONFIGURATIONS }
     requires same_board { values.now ≡ board.now }
     ensures { IfOk result (λ text. IsReportOf board.now (string_bytes text)) }
 {
@@ -148,7 +145,9 @@ fn write_start(text: &mut String, start: Value) -> Result<(), AllocError>
 
 /// Writes a line for each finite value from 0 to the greatest that occurs.
 fn write_counts(text: &mut String, values: &Values) -> Result<(), AllocError>
-    ensures { OnOk result ((counts : List ℕ) × AreCounts values.now counts × (string_bytes text.new ≡ string_bytes text.old ++ count_lines 0 counts)) }
+    requires few { configurations values.now ≤ MAX_CONFIGURATIONS }
+    ensures { OnOk result ((counts : List ℕ) × AreCounts values.now counts
+        × (string_bytes text.new ≡ string_bytes text.old ++ count_lines 0 counts)) }
 {
     for value in 0..count_of_values(values) {
         let count = values.count(Value::Finite(value));
@@ -173,9 +172,9 @@ fn write_end(text: &mut String, forever: u32) -> Result<(), AllocError>
 
 /// How many values there are from 0 to the greatest that occurs.
 fn count_of_values(values: &Values) -> u32
+    requires { configurations values.now ≤ MAX_CONFIGURATIONS }
     ensures { IsCountOfValues values.now result }
 {
-    let _ = values.space().configurations();
     match values.greatest_finite() {
         Some(greatest) => greatest + 1,
         None => 0,

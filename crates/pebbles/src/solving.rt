@@ -3,20 +3,21 @@
 ghost use Rattle.std.specs.Prelude.{◌≡◌, ◌≢◌, ◌↔◌, ◌≤◌, true, false, Err, IfOk, IfErr, string_bytes};
 ghost use Rattle.board_text.specs.Ranges.{InRange};
 ghost use Rattle.positions.specs.Ranks.{configurations};
-ghost use Rattle.pebbles.specs.Headline.{ShowsValue};
-ghost use Rattle.pebbles.specs.Run.{WroteAll};
-ghost use Rattle.pebbles.specs.SolveRun.{CannotSolve, IsRefused, IsSolution, IsSolved, RanSolve, SolveFails};
-ghost use Rattle.pebbles.specs.Texts.{IsMemory, most_configurations};
-ghost use Rattle.pebbles.specs.declared.running.RunFault.TheVariants.{Read, Write};
+ghost use Rattle.pebbles.specs.Headline.{ShowsValue, IsAccepted};
+ghost use Rattle.pebbles.specs.Run.{Ran, Fails, bytes_of};
+ghost use Rattle.pebbles.specs.SolveRun.{CannotSolve, IsSolution, IsSolved};
+ghost use Rattle.pebbles.specs.Inside.SolveRun.{IsRefused};
+ghost use Rattle.pebbles.specs.Texts.{IsMemory};
+ghost use Rattle.pebbles.specs.declared.fault.RunFault.TheVariants.{Read, Write};
 
 use crate::boards::small_board;
+use crate::fault::RunFault;
 use crate::reading::{MAX_BOARD_BYTES, read_text};
-use crate::running::RunFault;
-use board_text::{Board, Failed, Memory, Sink, Source, write_all};
+use board_text::{Board, Sink, Source, write_all};
 use index_lists::PlainLists;
-use positions::Value;
+use positions::{MAX_CONFIGURATIONS, Value};
 use proof_text::print;
-use retro_core::{SolveFault, Solver, Values};
+use retro_core::{Solver, Values};
 use round_workers::{NoGate, solve_values};
 use std::alloc::Global;
 use std::sync::Wait;
@@ -27,8 +28,8 @@ use strategies::document;
 ///
 /// The number of workers is 1 to 16. One finds the values on this thread, and several share each round, each on a thread
 /// of its own but the first; what is answered and written is the same for every number of them. It may wait for workers.
-/// The reader and the writer must not have failed before. Nothing is written before the whole text is built: after a fault nothing was written,
-/// but for `Write`, after which a front of the text was.
+/// The reader and the writer must not have failed before. Nothing is written before the whole text is built:
+/// after a fault nothing was written, but for `Write`, after which a front of the text was.
 pub fn run_solve<R: Source, W: Sink>(
     rt: &(impl Threads + Wait + Sync),
     alloc: Global,
@@ -39,20 +40,19 @@ pub fn run_solve<R: Source, W: Sink>(
     requires workers { InRange 1 16 workers }
     requires reader_ready { R.has_failed reader.old ≡ false }
     requires writer_ready { W.has_failed writer.old ≡ false }
-    ensures ok { IfOk result (RanSolve (R.left reader.old) (R.left reader.new) (W.taken writer.old) (W.taken writer.new)) }
-    ensures shows { IfOk result (λ value. WroteAll (λ text written. ShowsValue text value written)
-        (R.left reader.old) (R.left reader.new) (W.taken writer.old) (W.taken writer.new)) }
-    ensures fault { IfErr result (SolveFails workers (R.left reader.old) (R.left reader.new) MAX_BOARD_BYTES (W.taken writer.old) (W.taken writer.new)) }
+    ensures ok { IfOk result (Ran IsSolution (bytes_of R.left reader.old reader.new) (bytes_of W.taken writer.old writer.new)) }
+    ensures shows { IfOk result (Ran ShowsValue (bytes_of R.left reader.old reader.new) (bytes_of W.taken writer.old writer.new)) }
+    ensures accepted { IfOk result (Ran IsAccepted (bytes_of R.left reader.old reader.new) (bytes_of W.taken writer.old writer.new)) }
+    ensures fault { IfErr result (Fails IsSolution (CannotSolve workers) MAX_BOARD_BYTES
+        (bytes_of R.left reader.old reader.new) (bytes_of W.taken writer.old writer.new)) }
     ensures read { (R.has_failed reader.new ≡ true) ↔ (result ≡ Err Read) }
     ensures write { (W.has_failed writer.new ≡ true) ↔ (result ≡ Err Write) }
     ensures unwritten { IfErr result (λ fault. fault ≢ Write → writer.new ≡ writer.old) }
 {
     let text = read_text(alloc, reader, MAX_BOARD_BYTES)?;
     let solved = solve_text(rt, alloc, workers, text.as_slice())?;
-    match write_all(writer, solved.text.as_bytes()) {
-        Ok(()) => Ok(solved.value),
-        Err(Failed) => Err(RunFault::Write),
-    }
+    write_all(writer, solved.text.as_bytes())?;
+    Ok(solved.value)
 }
 
 /// The value of a board's start, and the text of the board's document.
@@ -74,6 +74,7 @@ pub fn solve_text(
     requires workers { InRange 1 16 workers }
     ensures solved { IfOk result (λ solved. IsSolution text.now solved.value (string_bytes solved.text)) }
     ensures shows { IfOk result (λ solved. ShowsValue text.now solved.value (string_bytes solved.text)) }
+    ensures accepted { IfOk result (λ solved. IsAccepted text.now solved.value (string_bytes solved.text)) }
     ensures fault { IfErr result (CannotSolve workers text.now) }
 {
     let (board, _) = small_board(alloc, text)?;
@@ -87,7 +88,7 @@ fn solve(
     board: &Board,
     workers: u8,
 ) -> Result<Solved, RunFault>
-    requires few { configurations board.now ≤ most_configurations }
+    requires few { configurations board.now ≤ MAX_CONFIGURATIONS }
     requires workers { InRange 1 16 workers }
     ensures solved { IfOk result (λ solved. IsSolved board.now solved.value (string_bytes solved.text)) }
     ensures refused { IfErr result (IsRefused workers) }
@@ -95,13 +96,9 @@ fn solve(
     let values = values_by(rt, alloc, board, workers)?;
     let space = values.space();
     let value = values.of(space.rank(board.start()));
-    let Ok(document) = document(alloc, board, &values) else {
-        return Err(RunFault::Memory);
-    };
-    match print(alloc, space, &document) {
-        Ok(text) => Ok(Solved { value, text }),
-        Err(Memory) => Err(RunFault::Memory),
-    }
+    let document = document(alloc, board, &values)?;
+    let text = print(alloc, space, &document)?;
+    Ok(Solved { value, text })
 }
 
 /// The values of a small board, by so many workers. One is this thread, and shares nothing.
@@ -111,7 +108,7 @@ pub(crate) fn values_by(
     board: &Board,
     workers: u8,
 ) -> Result<Values, RunFault>
-    requires few { configurations board.now ≤ most_configurations }
+    requires few { configurations board.now ≤ MAX_CONFIGURATIONS }
     requires workers { InRange 1 16 workers }
     ensures values { IfOk result (λ values. values ≡ board.now) }
     ensures refused { IfErr result (IsRefused workers) }
@@ -119,26 +116,16 @@ pub(crate) fn values_by(
     if workers == 1 {
         return values_of(alloc, board);
     }
-    match solve_values(rt, alloc, board, workers as u32, &NoGate) {
-        Ok(values) => Ok(values),
-        Err(SolveFault::TooLarge) => Err(RunFault::TooLarge),
-        Err(SolveFault::Memory) => Err(RunFault::Memory),
-        Err(SolveFault::Worker) => Err(RunFault::Worker),
-    }
+    Ok(solve_values(rt, alloc, board, workers as u32, &NoGate)?)
 }
 
 /// The values of a small board, by as many rounds as it takes.
 pub(crate) fn values_of(alloc: Global, board: &Board) -> Result<Values, RunFault>
-    requires { configurations board.now ≤ most_configurations }
+    requires { configurations board.now ≤ MAX_CONFIGURATIONS }
     ensures values { IfOk result (λ values. values ≡ board.now) }
     ensures memory { IfErr result IsMemory }
 {
-    let mut solver: Solver<PlainLists> = match Solver::open(alloc, board) {
-        Ok(solver) => solver,
-        Err(SolveFault::TooLarge) => return Err(RunFault::TooLarge),
-        Err(SolveFault::Memory) => return Err(RunFault::Memory),
-        Err(SolveFault::Worker) => return Err(RunFault::Worker),
-    };
+    let mut solver = Solver::<PlainLists>::open(alloc, board)?;
     loop {
         match solver.finish() {
             Ok(values) => return Ok(values),

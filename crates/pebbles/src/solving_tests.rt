@@ -2,8 +2,8 @@
 
 ghost use Rattle.board_text.specs.Ranges.{InRange};
 
+use crate::fault::RunFault;
 use crate::reporting::{report_text, run_report};
-use crate::running::RunFault;
 use crate::solving::{run_solve, solve_text};
 use board_text::{BoardFault, BoardKind, Sink, Source};
 use fakes::{Drip, Failing, Outcome, Trickle, comes_right};

@@ -1,11 +1,11 @@
 //! Runs over readers and writers that are slow, that fail, and that are refused memory.
 
-use crate::answering::{Answer as Answered, check_joined_text, check_text};
+use crate::answering::{Answer as Answered, Verdict, check_joined_text, check_text};
 use crate::boards::small_board;
-use crate::checking::run_check;
+use crate::checking::{run_check, run_joined};
+use crate::fault::RunFault;
 use crate::joined::front_len;
 use crate::nesting::{nested_text, run_nested};
-use crate::running::{RunFault, Verdict, run_joined};
 use board_text::{BoardFault, BoardKind, Sink, Source};
 use fakes::{Drip, Failing, Outcome, Trickle, comes_right};
 use proof_check::{CheckFault, Shown, Side};
@@ -39,33 +39,43 @@ const SHOWN: Answer = Ok(Verdict::Accepted(Shown {
     claim: Claim::AtLeast(2),
 }));
 
+/// A joined text, and how many calls of each end go well.
+#[derive(Clone, Copy)]
+struct Joined {
+    text: &'static [u8],
+    reads: usize,
+    writes: usize,
+    failing: Failing,
+}
+
+const JOINED: Joined = Joined {
+    text: LEAST_TWO,
+    reads: PLENTY,
+    writes: PLENTY,
+    failing: Failing::Refuses,
+};
+
 /// Whether a run answers and writes what it should, when it is asked once more where it was refused memory.
 fn serves(
     rt: &(impl Threads + Sync),
     alloc: Global,
-    text: &[u8],
-    reads: usize,
-    writes: usize,
-    failing: Failing,
+    joined: Joined,
     wanted: Answer,
     written: &[u8],
 ) -> bool {
-    comes_right(|| { joined_outcome(rt, alloc, text, reads, writes, failing, wanted, written) })
+    comes_right(|| joined_outcome(rt, alloc, joined, wanted, written))
 }
 
 /// Whether a run answers and writes what it should, or was refused memory and wrote nothing; and whether the ends failed where it says so.
 fn joined_outcome(
     rt: &(impl Threads + Sync),
     alloc: Global,
-    text: &[u8],
-    reads: usize,
-    writes: usize,
-    failing: Failing,
+    joined: Joined,
     wanted: Answer,
     written: &[u8],
 ) -> Outcome {
-    let mut reader = Drip::new(text, reads);
-    let mut writer = Trickle::<ROOM>::new(writes, failing);
+    let mut reader = Drip::new(joined.text, joined.reads);
+    let mut writer = Trickle::<ROOM>::new(joined.writes, joined.failing);
     let answer = run_joined(rt, alloc, &mut reader, &mut writer);
     let told = reader.failed() == (answer == Err(RunFault::Read))
         && writer.failed() == (answer == Err(RunFault::Write));
@@ -90,101 +100,52 @@ fn fronts(rt: HostRuntime) {
 #[test]
 fn one_byte_a_call(rt: HostRuntime) {
     let alloc = rt.alloc();
-    assert!(rt;
-        serves(
-            &rt,
-            alloc,
-            LEAST_TWO,
-            PLENTY,
-            PLENTY,
-            Failing::Refuses,
-            SHOWN,
-            ACCEPTED
-        )
-    );
+    assert!(rt; serves(&rt, alloc, JOINED, SHOWN, ACCEPTED));
+    let unlisted = Joined {
+        text: MISSING,
+        ..JOINED
+    };
     let missing = Ok(Verdict::Refused(CheckFault::StartMissing {
         side: Side::Labeller,
     }));
-    assert!(rt;
-        serves(
-            &rt,
-            alloc,
-            MISSING,
-            PLENTY,
-            PLENTY,
-            Failing::Refuses,
-            missing,
-            REFUSED
-        )
-    );
+    assert!(rt; serves(&rt, alloc, unlisted, missing, REFUSED));
 }
 
 #[test]
 fn faults_write_nothing(rt: HostRuntime) {
     let alloc = rt.alloc();
+    let empty = Joined {
+        text: NOTHING,
+        ..JOINED
+    };
     let board = Err(RunFault::Board(BoardFault {
         line: 1,
         kind: BoardKind::Version,
     }));
-    assert!(rt;
-        serves(
-            &rt,
-            alloc,
-            NOTHING,
-            PLENTY,
-            PLENTY,
-            Failing::Refuses,
-            board,
-            NOTHING
-        )
-    );
-    let front = front_len(LEAST_TWO);
+    assert!(rt; serves(&rt, alloc, empty, board, NOTHING));
+    let board_alone = Joined {
+        text: LEAST_TWO.get(..front_len(LEAST_TWO)).unwrap_or(NOTHING),
+        ..JOINED
+    };
     let proof = Err(RunFault::Proof(ProofFault {
         line: 1,
         kind: ProofKind::Version,
     }));
-    assert!(rt;
-        serves(
-            &rt,
-            alloc,
-            LEAST_TWO.get(..front).unwrap_or(NOTHING),
-            PLENTY,
-            PLENTY,
-            Failing::Refuses,
-            proof,
-            NOTHING
-        )
-    );
-    let large: &[u8] = b"board 1\nlabels 33\npebbles 4\nstart 0 0 0 0\nend\n";
-    assert!(rt;
-        serves(
-            &rt,
-            alloc,
-            large,
-            PLENTY,
-            PLENTY,
-            Failing::Refuses,
-            Err(RunFault::TooLarge),
-            NOTHING
-        )
-    );
+    assert!(rt; serves(&rt, alloc, board_alone, proof, NOTHING));
+    let large = Joined {
+        text: b"board 1\nlabels 33\npebbles 4\nstart 0 0 0 0\nend\n",
+        ..JOINED
+    };
+    assert!(rt; serves(&rt, alloc, large, Err(RunFault::TooLarge), NOTHING));
 }
 
 #[test]
 fn a_read_fails_at_each_call(rt: HostRuntime) {
-    for calls in 0..LEAST_TWO.len() + 1 {
+    for reads in 0..LEAST_TWO.len() + 1 {
+        let joined = Joined { reads, ..JOINED };
         assert!(rt;
-            serves(
-                &rt,
-                rt.alloc(),
-                LEAST_TWO,
-                calls,
-                PLENTY,
-                Failing::Refuses,
-                Err(RunFault::Read),
-                NOTHING
-            ),
-            "at call {calls}"
+            serves(&rt, rt.alloc(), joined, Err(RunFault::Read), NOTHING),
+            "at call {reads}"
         );
     }
 }
@@ -192,20 +153,16 @@ fn a_read_fails_at_each_call(rt: HostRuntime) {
 #[test]
 fn a_write_fails_at_each_call(rt: HostRuntime) {
     for failing in [Failing::Refuses, Failing::TakesNothing] {
-        for calls in 0..ACCEPTED.len() {
-            let written = ACCEPTED.get(..calls).unwrap_or(NOTHING);
+        for writes in 0..ACCEPTED.len() {
+            let joined = Joined {
+                writes,
+                failing,
+                ..JOINED
+            };
+            let written = ACCEPTED.get(..writes).unwrap_or(NOTHING);
             assert!(rt;
-                serves(
-                    &rt,
-                    rt.alloc(),
-                    LEAST_TWO,
-                    PLENTY,
-                    calls,
-                    failing,
-                    Err(RunFault::Write),
-                    written
-                ),
-                "at call {calls}"
+                serves(&rt, rt.alloc(), joined, Err(RunFault::Write), written),
+                "at call {writes}"
             );
         }
     }
@@ -215,7 +172,9 @@ fn a_write_fails_at_each_call(rt: HostRuntime) {
 fn inputs_and_their_lines(rt: HostRuntime) {
     for (text, wanted, written) in [
         (
-            b"board 1\nlabels 3\npebbles 2\nstart 0 0\nbeats 1 0\nbeats 2 0\nbeats 2 1\nend\nproof 1\nleast 2\nlabeller 2\nat 0 0 for 2 take 1 1\nat 0 1 for 1 take 2 1\nend\n".as_slice(),
+            b"board 1\nlabels 3\npebbles 2\nstart 0 0\nbeats 1 0\nbeats 2 0\nbeats 2 1\nend\n\
+                proof 1\nleast 2\nlabeller 2\nat 0 0 for 2 take 1 1\nat 0 1 for 1 take 2 1\nend\n"
+                .as_slice(),
             Ok(Verdict::Refused(CheckFault::Unlisted {
                 side: Side::Labeller,
                 at: 0,
@@ -224,31 +183,41 @@ fn inputs_and_their_lines(rt: HostRuntime) {
             b"refused labeller row 0 0 pebble 0 unlisted\n".as_slice(),
         ),
         (
-            b"board 1\nlabels 3\npebbles 2\nstart 0 0\nbeats 1 0\nbeats 2 0\nbeats 2 1\nend\nproof 1\nleast 2\nlabeller 3\nat 0 0 for 2 take 0 1\nat 0 1 for 1 take 2 1\nat 1 0 for 1 take 1 2\nend\n".as_slice(),
+            b"board 1\nlabels 3\npebbles 2\nstart 0 0\nbeats 1 0\nbeats 2 0\nbeats 2 1\nend\n\
+                proof 1\nleast 2\nlabeller 3\nat 0 0 for 2 take 0 1\nat 0 1 for 1 take 2 1\nat 1 0 for 1 take 1 2\nend\n"
+                .as_slice(),
             Ok(Verdict::Refused(CheckFault::IllegalAnswer { at: 0, pebble: 0 })),
             b"refused labeller row 0 0 pebble 0 illegal answer\n".as_slice(),
         ),
         (
-            b"board 1\nlabels 3\npebbles 2\nstart 0 0\nbeats 1 0\nbeats 2 0\nbeats 2 1\nend\nproof 1\nleast 3\nlabeller 3\nat 0 0 for 2 take 1 1\nat 0 1 for 1 take 2 1\nat 1 0 for 1 take 1 2\nend\n".as_slice(),
+            b"board 1\nlabels 3\npebbles 2\nstart 0 0\nbeats 1 0\nbeats 2 0\nbeats 2 1\nend\n\
+                proof 1\nleast 3\nlabeller 3\nat 0 0 for 2 take 1 1\nat 0 1 for 1 take 2 1\nat 1 0 for 1 take 1 2\nend\n"
+                .as_slice(),
             Ok(Verdict::Refused(CheckFault::StartNumber {
                 side: Side::Labeller,
             })),
             b"refused labeller start number\n".as_slice(),
         ),
         (
-            b"board 1\nlabels 3\npebbles 2\nstart 0 0\nbeats 1 0\nbeats 2 0\nbeats 2 1\nend\nproof 1\nleast 3\nlabeller 3\nat 0 0 for 3 take 1 1\nat 0 1 for 1 take 2 1\nat 1 0 for 1 take 1 2\nend\n".as_slice(),
+            b"board 1\nlabels 3\npebbles 2\nstart 0 0\nbeats 1 0\nbeats 2 0\nbeats 2 1\nend\n\
+                proof 1\nleast 3\nlabeller 3\nat 0 0 for 3 take 1 1\nat 0 1 for 1 take 2 1\nat 1 0 for 1 take 1 2\nend\n"
+                .as_slice(),
             Ok(Verdict::Refused(CheckFault::TooSmall { at: 0, pebble: 0 })),
             b"refused labeller row 0 0 pebble 0 too small\n".as_slice(),
         ),
         (
-            b"board 1\nlabels 3\npebbles 2\nstart 0 0\nbeats 1 0\nbeats 2 0\nbeats 2 1\nend\nproof 1\nleast 0\nlabeller 0\nend\n".as_slice(),
+            b"board 1\nlabels 3\npebbles 2\nstart 0 0\nbeats 1 0\nbeats 2 0\nbeats 2 1\nend\n\
+                proof 1\nleast 0\nlabeller 0\nend\n"
+                .as_slice(),
             Ok(Verdict::Accepted(Shown {
                 claim: Claim::AtLeast(0),
             })),
             b"accepted least 0\n".as_slice(),
         ),
         (
-            b"board 1\nlabels 3\npebbles 2\nstart 0 0\nbeats 1 0\nbeats 2 0\nbeats 2 1\nend\nproof 1\nvalue 2\nlabeller 3\nat 0 0 for 2 take 1 1\nat 0 1 for 1 take 2 1\nat 1 0 for 1 take 1 2\nend\n".as_slice(),
+            b"board 1\nlabels 3\npebbles 2\nstart 0 0\nbeats 1 0\nbeats 2 0\nbeats 2 1\nend\n\
+                proof 1\nvalue 2\nlabeller 3\nat 0 0 for 2 take 1 1\nat 0 1 for 1 take 2 1\nat 1 0 for 1 take 1 2\nend\n"
+                .as_slice(),
             Err(RunFault::Proof(ProofFault {
                 line: 7,
                 kind: ProofKind::Section,
@@ -312,17 +281,9 @@ fn inputs_and_their_lines(rt: HostRuntime) {
             b"".as_slice(),
         ),
     ] {
+        let joined = Joined { text, ..JOINED };
         assert!(rt;
-            serves(
-                &rt,
-                rt.alloc(),
-                text,
-                PLENTY,
-                PLENTY,
-                Failing::Refuses,
-                wanted,
-                written
-            ),
+            serves(&rt, rt.alloc(), joined, wanted, written),
             "{wanted:?}"
         );
     }

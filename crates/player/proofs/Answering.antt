@@ -5,20 +5,20 @@ use Rattle.std.specs.Option.{is_some}
 use Rattle.std.specs.Fmt.{decimal}
 use Rattle.std.proofs.lemmas.Fmt.{decimal_injective}
 use Rattle.board_text.specs.PlainBoard.{PlainBoard, IsConfiguration}
+use Rattle.board_text.specs.declared.board.TheConstants.{MAX_LABELS}
 use Rattle.positions.specs.Counts.{IsSmallest}
 use Rattle.positions.specs.Game.{Legal, moved}
 use Rattle.positions.specs.Ranks.{configurations, configuration_at, rank_of}
 use Rattle.positions.specs.Value.{HasValue}
 use Rattle.positions.specs.declared.value.Value.{Value}
 use Rattle.positions.specs.declared.value.Value.TheVariants.{Finite, Forever}
-use Rattle.positions.proofs.BoundedSearch.{each_or_some, dominates_or_not}
-use Rattle.positions.proofs.Ranks.{configuration_at-rank_of}
-use Rattle.positions.proofs.Values.{same_value}
+use Rattle.positions.proofs.Cited.{each_or_some, dominates_or_not, configuration_at-rank_of, same_value}
 use Rattle.strategies.specs.Best.{HasGreatestResult, HasSmallerValue, IsLess, IsBestRequest}
-use Rattle.strategies.proofs.Requests.{best_request, same_request}
-use Rattle.player.specs.Transcript.{Standing, Going, Over, PersonAnswers, Opens, Asks, AsksAfterLine, opening_lines, at_line, ask_line, stuck_line, no_strategy_line, no_answer_line, stopped_line}
-use Rattle.player.specs.Turns.{BringsAll, Says}
-use Rattle.player.specs.Seats.{Seat, at, IsLegalAt, IsRequestAt, HasAsked, NextStands}
+use Rattle.strategies.proofs.Cited.{best_request, same_request}
+use Rattle.player.specs.Transcript.{Standing, Going, Over, PersonAnswers, Opens, Asks, AsksAfterLine, opening_lines, at_line, ask_line}
+use Rattle.player.specs.Transcript.{stuck_line, no_strategy_line, no_answer_line, stopped_line}
+use Rattle.player.specs.Inside.Turns.{BringsAll, Says}
+use Rattle.player.specs.Inside.Seats.{Seat, at, IsLegalAt, IsRequestAt, HasAsked, NextStands}
 use Rattle.player.specs.declared.word.Word.TheVariants.{Number, Quit, Other}
 use Rattle.player.specs.declared.end.PlayEnd.{PlayEnd}
 use Rattle.player.specs.declared.end.PlayEnd.TheVariants.{Stuck, Stopped, NoStrategy}
@@ -133,7 +133,7 @@ module _ (seat : Seat) where
   pub stop_asked : BringsAll (PersonAnswers seat.board) (Going (at seat) seat.requests) Quit (stopped_line seat.requests) (Over (Stopped seat.requests))
   stop_asked line spells = inr (inl (spells, refl, refl))
 
-  pub no_legal_number : (number : ℕ) → seat.board.labels ≤ 256 → ((IsLegalAt seat number → ⊥) ⊎ (seat.board.labels ≤ number))
+  pub no_legal_number : (number : ℕ) → seat.board.labels ≤ MAX_LABELS → ((IsLegalAt seat number → ⊥) ⊎ (seat.board.labels ≤ number))
       → BringsAll (PersonAnswers seat.board) (Going (at seat) seat.requests) (Number number) no_answer_line (Going (at seat) seat.requests)
   no_legal_number number few none line spells =
       inr (inr (
@@ -150,7 +150,7 @@ module _ (seat : Seat) where
         refl,
       ))
 
-  pub no_label : seat.board.labels ≤ 256 → BringsAll (PersonAnswers seat.board) (Going (at seat) seat.requests) Other no_answer_line (Going (at seat) seat.requests)
+  pub no_label : seat.board.labels ≤ MAX_LABELS → BringsAll (PersonAnswers seat.board) (Going (at seat) seat.requests) Other no_answer_line (Going (at seat) seat.requests)
   no_label few line spells = inr (inr ((spells.0, λ pebble label legal. spells.1 label (omega (arith, legal.1.is_label, few)) legal.2), refl, refl))
 
 -- what is said of one line is said of a word

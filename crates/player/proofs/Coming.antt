@@ -6,13 +6,15 @@ use Rattle.std.specs.Io.KnownBytes.{Consumes, IsAtEnd}
 use Rattle.std.proofs.lemmas.List.{flat_map_more}
 use Rattle.std.proofs.lemmas.List.Elements.{All-push}
 use Rattle.board_text.specs.LineForms.{closed}
-use Rattle.board_text.proofs.Moves.{Consumes-trans}
-use Rattle.player.specs.Words.{IsLine, BeginsTooLong, Spells, most_lines}
+use Rattle.board_text.proofs.Cited.{Consumes-trans}
+use Rattle.player.specs.Words.{IsLine, BeginsTooLong}
+use Rattle.player.specs.Inside.Words.{Spells}
 use Rattle.player.specs.declared.lines.LineFault.{LineFault}
 use Rattle.player.specs.declared.lines.LineFault.TheVariants.{Read, Limit}
-use Rattle.player.specs.Reading.{Unread, IsEmptyAtEnd, GivesLine, GivesNoLine}
+use Rattle.player.specs.Inside.Reading.{Unread, IsEmptyAtEnd, GivesLine, GivesNoLine}
 use Rattle.player.specs.Play.{Came, CameClosed, CameWhole}
 use Rattle.player.specs.declared.word.Word.{Word}
+use Rattle.player.specs.declared.play.TheConstants.{MOST_LINES}
 
 pub record HasCome (left_old left_now : Option (List ℕ)) (lines : List (List ℕ)) (unread : Unread) : Type 0 where
   pub came : ((unread.has_ended ≡ false) × CameClosed left_old left_now lines unread.bytes)
@@ -58,7 +60,7 @@ read_on left_old left_now left_new lines unread more come goes_on read =
     (Consumes-trans left_old left_now left_new _ more (closed_so_far left_old left_now lines unread come goes_on) read)
 
 -- the lines came
-pub came_of : (left_old left_now : Option (List ℕ)) (lines : List (List ℕ)) (unread : Unread) → length lines ≤ most_lines → HasCome left_old left_now lines unread
+pub came_of : (left_old left_now : Option (List ℕ)) (lines : List (List ℕ)) (unread : Unread) → length lines ≤ MOST_LINES → HasCome left_old left_now lines unread
     → Came left_old left_now lines unread.bytes
 came_of left_old left_now lines unread few come = record {
   came = elim come.came [ inl so ↦ inl so.1 | inr over ↦ inr (over.1, over.2) ];
@@ -67,7 +69,7 @@ came_of left_old left_now lines unread few come = record {
 }
 
 -- and what was read then is behind them
-pub came_with : (left_old left_now left_new : Option (List ℕ)) (lines : List (List ℕ)) (unread : Unread) (more : List ℕ) → length lines ≤ most_lines → HasCome left_old left_now lines unread
+pub came_with : (left_old left_now left_new : Option (List ℕ)) (lines : List (List ℕ)) (unread : Unread) (more : List ℕ) → length lines ≤ MOST_LINES → HasCome left_old left_now lines unread
     → unread.has_ended ≡ false → Consumes left_now left_new more → Came left_old left_new lines (unread.bytes ++ more)
 came_with left_old left_now left_new lines unread more few come goes_on read = record {
   came = inl (read_on left_old left_now left_new lines unread more come goes_on read);
@@ -80,7 +82,7 @@ pub record ComesNext (left_old left_new : Option (List ℕ)) (lines : List (List
   pub spells : Spells line word
   pub come : HasCome left_old left_new (lines ++ line ∷ []) unread
   pub rest : List ℕ
-  pub before : length lines ≤ most_lines → Came left_old left_new lines rest
+  pub before : length lines ≤ MOST_LINES → Came left_old left_new lines rest
 
 -- one more line came
 pub line_came : (left_old left_now left_new : Option (List ℕ)) (lines : List (List ℕ)) (old new : Unread) (word : Word) → HasCome left_old left_now lines old
@@ -128,7 +130,7 @@ both_empty [] ys e = (refl, e)
 both_empty (x ∷ xs) ys e = absurd (omega (arith, ap length e))
 
 -- why no line came, where the reader failed or a line is too long
-pub none_came : (left_old left_now left_new : Option (List ℕ)) (lines : List (List ℕ)) (old : Unread) (fault : LineFault) → length lines ≤ most_lines → HasCome left_old left_now lines old
+pub none_came : (left_old left_now left_new : Option (List ℕ)) (lines : List (List ℕ)) (old : Unread) (fault : LineFault) → length lines ≤ MOST_LINES → HasCome left_old left_now lines old
     → GivesNoLine old left_now left_new fault → (rest : List ℕ) × Came left_old left_new lines rest × Breaks fault rest
 none_came left_old left_now left_new lines old Read few come gives =
     (old.bytes ++ gives.0, came_with left_old left_now left_new lines old gives.0 few come gives.1 gives.2, gives.3)
@@ -136,7 +138,7 @@ none_came left_old left_now left_new lines old Limit few come gives =
     (old.bytes ++ gives.0, came_with left_old left_now left_new lines old gives.0 few come gives.1 gives.2, gives.3)
 
 -- no more lines came
-pub all_came : (left_old left_now left_new : Option (List ℕ)) (lines : List (List ℕ)) (old new : Unread) → length lines ≤ most_lines → HasCome left_old left_now lines old
+pub all_came : (left_old left_now left_new : Option (List ℕ)) (lines : List (List ℕ)) (old new : Unread) → length lines ≤ MOST_LINES → HasCome left_old left_now lines old
     → GivesLine old new left_now left_new None → Came left_old left_new lines [] × IsAtEnd left_new
 all_came left_old left_now left_new lines old new few come gives =
     let parts = both_empty old.bytes gives.more gives.taken in

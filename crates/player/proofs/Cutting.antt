@@ -7,20 +7,22 @@ use Rattle.std.proofs.lemmas.List.Elements.{All-take}
 use lib.Seq.{take-take}
 use Rattle.board_text.specs.Ends.{GaveAll}
 use Rattle.board_text.specs.LineForms.{closed}
-use Rattle.board_text.proofs.Moves.{Consumes-trans}
-use Rattle.player.specs.Words.{HasNoFeed, IsLine, BeginsTooLong, Spells, most_bytes}
-use Rattle.player.specs.Reading.{Unread, GivesLine}
+use Rattle.board_text.proofs.Cited.{Consumes-trans}
+use Rattle.player.specs.Words.{HasNoFeed, IsLine, BeginsTooLong}
+use Rattle.player.specs.Inside.Words.{Spells}
+use Rattle.player.specs.Inside.Reading.{Unread, GivesLine}
 use Rattle.player.specs.declared.word.Word.{Word}
+use Rattle.player.specs.declared.lines.TheConstants.{MOST_BYTES}
 
 -- a front without a line feed is longer than a line
-pub too_long : (bytes : List ℕ) (size : ℕ) → most_bytes < size → size ≤ length bytes → HasNoFeed (take size bytes) → BeginsTooLong bytes
+pub too_long : (bytes : List ℕ) (size : ℕ) → MOST_BYTES < size → size ≤ length bytes → HasNoFeed (take size bytes) → BeginsTooLong bytes
 too_long bytes size long within no_feed = record {
   long = omega (arith, long, within);
-  no_feed = subst HasNoFeed (take-take (suc most_bytes) size bytes long) (All-take (λ byte. byte ≢ 10) (suc most_bytes) (take size bytes) no_feed);
+  no_feed = subst HasNoFeed (take-take (suc MOST_BYTES) size bytes long) (All-take (λ byte. byte ≢ 10) (suc MOST_BYTES) (take size bytes) no_feed);
 }
 
 -- all that is left has no line feed and is no longer than a line
-pub whole_line : (bytes : List ℕ) (size : ℕ) → size ≤ most_bytes → length bytes ≤ size → HasNoFeed (take size bytes) → IsLine bytes
+pub whole_line : (bytes : List ℕ) (size : ℕ) → size ≤ MOST_BYTES → length bytes ≤ size → HasNoFeed (take size bytes) → IsLine bytes
 whole_line bytes size short all no_feed = record {
   no_feed = subst HasNoFeed (take_all size bytes all) no_feed;
   short = omega (arith, short, all);
@@ -35,7 +37,7 @@ cut bytes size inside feed =
 -- a line with its line feed was taken
 pub closed_line : (old now new : Unread) (left_old left_new : Option (List ℕ)) (more : List ℕ) (size : ℕ) (word : Word)
     → old.has_ended ≡ false → now.bytes ≡ old.bytes ++ more → Consumes left_old left_new more → now.has_ended ≡ false
-    → size ≤ most_bytes → size < length now.bytes → HasNoFeed (take size now.bytes) → slice_index now.bytes size ≡ 10
+    → size ≤ MOST_BYTES → size < length now.bytes → HasNoFeed (take size now.bytes) → slice_index now.bytes size ≡ 10
     → Spells (take size now.bytes) word → new.bytes ≡ drop (size + 1) now.bytes → new.has_ended ≡ now.has_ended
     → GivesLine old new left_old left_new (Some word)
 closed_line old now new left_old left_new more size word began grown read goes_on short inside no_feed feed spells rest same = (

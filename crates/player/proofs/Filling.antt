@@ -5,7 +5,7 @@ use Rattle.std.proofs.lemmas.List.{drop-take}
 use Rattle.std.proofs.lemmas.Slice.{take-put_mid_below}
 use lib.Seq.{take-append-le, take-take}
 use borrow.Rule.Slice.PartMut.{put_mid, post_of}
-use Rattle.board_text.proofs.Moves.{take_more}
+use Rattle.board_text.proofs.Cited.{take_more}
 
 -- a front of a list that was cut there
 take_front : (size : ℕ) (xs ys : List ℕ) → size ≤ length xs → take size (take size xs ++ ys) ≡ take size xs

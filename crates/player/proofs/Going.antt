@@ -4,18 +4,18 @@ use Rattle.std.specs.Prelude.{Option, None, Some, Result, Ok, Err, IfOk, IfErr, 
 use Rattle.std.specs.Io.KnownBytes.{Appends, Keeps, IsAtEnd}
 use Rattle.std.proofs.lemmas.List.{length_push}
 use Rattle.board_text.specs.Ends.{AppendsFront}
-use Rattle.board_text.proofs.Moves.{Appends-trans, Appends-kept, front_taken}
+use Rattle.board_text.proofs.Cited.{Appends-trans, Appends-kept, front_taken}
 use Rattle.player.specs.Transcript.{Game, Standing, Going, Over, Brings, BringInTurn, stopped_line}
-use Rattle.player.specs.Words.{most_lines}
-use Rattle.player.specs.Turns.{BringsAll, FailsToWrite}
+use Rattle.player.specs.Inside.Turns.{BringsAll, FailsToWrite}
 use Rattle.player.specs.Play.{Came, GoesOnOrEnds, HasEnded, BreaksOff}
-use Rattle.player.specs.Reading.{Unread}
+use Rattle.player.specs.Inside.Reading.{Unread}
 use Rattle.player.specs.declared.word.Word.{Word}
 use Rattle.player.specs.declared.end.PlayFault.{PlayFault}
 use Rattle.player.specs.declared.end.PlayFault.TheVariants.{Read, Write, Memory, Limit}
 use Rattle.player.proofs.Coming.{ComesNext, came_of}
 use Rattle.player.specs.declared.end.PlayEnd.{PlayEnd}
 use Rattle.player.specs.declared.end.PlayEnd.TheVariants.{Stopped}
+use Rattle.player.specs.declared.play.TheConstants.{MOST_LINES}
 
 -- one line more
 pub brings_more : (game : Game) (from : Standing) (lines : List (List ℕ)) (line text said : List ℕ) (to next : Standing)
@@ -83,8 +83,8 @@ module _ (game : Game) (from : Standing) (left_old left_new taken_old taken_now 
   not_stopped (Err Read) came fails = absurd fails
   not_stopped (Err Limit) came fails = absurd fails
 
-  module _ (word : Word) (unread : Unread) (next : ComesNext left_old left_new lines unread word) (few : length lines < most_lines) where
-    all_few : length (lines ++ next.line ∷ []) ≤ most_lines
+  module _ (word : Word) (unread : Unread) (next : ComesNext left_old left_new lines unread word) (few : length lines < MOST_LINES) where
+    all_few : length (lines ++ next.line ∷ []) ≤ MOST_LINES
     all_few = omega (arith, length_push lines next.line, few)
 
     -- a line ended the play

@@ -6,16 +6,14 @@ use Rattle.positions.specs.declared.value.Value.{Value}
 use Rattle.positions.specs.declared.value.Value.TheVariants.{Finite, Forever}
 use Rattle.positions.specs.Game.{Legal, LabellerTree, moved}
 use Rattle.positions.specs.Value.{HasValue}
-use Rattle.positions.proofs.Configurations.{moved_is_configuration}
-use Rattle.positions.proofs.Trees.{lasts_at_most, not_both_trees}
+use Rattle.positions.proofs.Cited.{moved_is_configuration, lasts_at_most, not_both_trees}
 use Rattle.strategies.specs.Best.{IsBestAnswer, IsBestRequest}
-use Rattle.strategies.proofs.Answers.{lasts_after, best_answer}
-use Rattle.strategies.proofs.Requests.{best_request}
-use Rattle.strategies.proofs.Comparing.{less_than_finite}
+use Rattle.strategies.proofs.Cited.{lasts_after, best_answer, best_request, less_than_finite}
 use Rattle.std.specs.Prelude.{Option}
 use Rattle.player.specs.Play.{Ends, HasEnded}
 use Rattle.player.specs.Laws.{KeepsToValue, HasReached, IsWithin, IsNoSooner, IsNoLater, IsStopped, EndsBestPlay}
-use Rattle.player.specs.Transcript.{Game, Standing, Going, Over, PersonAsks, PersonAnswers, PersonClimbs, Opens, Asks, Brings, BringInTurn, IsPlayed, IsTranscript}
+use Rattle.player.specs.Transcript.{Game, Standing, Going, Over, PersonAsks, PersonAnswers, PersonClimbs, Opens, Asks, Brings, BringInTurn}
+use Rattle.player.specs.Transcript.{IsPlayed, IsTranscript}
 use Rattle.player.specs.declared.end.PlayEnd.{PlayEnd}
 use Rattle.player.specs.declared.end.PlayEnd.TheVariants.{Stuck, Stopped, NoStrategy}
 

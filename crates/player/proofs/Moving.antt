@@ -4,11 +4,10 @@ use Rattle.std.specs.Prelude.{Option, Result, Ok, Err, IfOk}
 use Rattle.board_text.specs.PlainBoard.{PlainBoard}
 use Rattle.positions.specs.Ranks.{configurations, configuration_at, rank_of}
 use Rattle.positions.specs.Game.{moved}
-use Rattle.positions.proofs.Configurations.{moved_is_configuration}
-use Rattle.positions.proofs.Ranks.{configuration_at_is, configuration_at-rank_of}
+use Rattle.positions.proofs.Cited.{moved_is_configuration, configuration_at_is, configuration_at-rank_of}
 use Rattle.positions.specs.declared.value.Value.{Value}
 use Rattle.player.specs.Transcript.{opening_lines}
-use Rattle.player.specs.Turns.{Says}
+use Rattle.player.specs.Inside.Turns.{Says}
 use Rattle.player.specs.declared.end.PlayEnd.{PlayEnd}
 
 -- the configuration of the rank after a move

@@ -8,17 +8,14 @@ use Rattle.board_text.specs.PlainBoard.{PlainBoard, plain_board, AreLabels}
 use Rattle.positions.specs.Game.{Legal, LabellerTree, moved}
 use Rattle.nested_cycles.specs.Words.{number_of}
 use Rattle.nested_cycles.specs.Domination.{labels_of, label_word, NestedBeats}
-use Rattle.nested_cycles.specs.Pairs.{AreNestedPairs}
+use Rattle.nested_cycles.specs.Inside.Pairs.{AreNestedPairs}
 use Rattle.nested_cycles.specs.NestedBoard.{IsNestedBoard}
 use Rattle.nested_cycles.specs.GoodWords.{NestedGood, label_words}
 use Rattle.nested_cycles.specs.Reply.{IsReply, NestedReply}
 use Rattle.nested_cycles.specs.NestedGame.{other_words}
-use Rattle.nested_cycles.proofs.WordNumbers.{number_of_word, word_of-number_of}
-use Rattle.nested_cycles.proofs.Dominations.{one_of_two_labels, each_other}
-use Rattle.nested_cycles.proofs.NestedPairs.{pair_at, pairs_none, next_pair, no_pair, beats_exactly}
-use Rattle.nested_cycles.proofs.GoodReplies.{good_have_reply}
-use Rattle.nested_cycles.proofs.Levels.{reply_beats, good_with}
-use Rattle.nested_cycles.proofs.Games.{parts_after, fewer_others, others_are_good, others_are_labels, in_others, same_words_are_good}
+use Rattle.nested_cycles.proofs.Cited.{number_of_word, word_of-number_of, one_of_two_labels, each_other, pair_at, pairs_none, next_pair}
+use Rattle.nested_cycles.proofs.Cited.{no_pair, beats_exactly, good_have_reply, reply_beats, good_with, parts_after, fewer_others}
+use Rattle.nested_cycles.proofs.Cited.{others_are_good, others_are_labels, in_others, same_words_are_good}
 use Rattle.player.specs.NestedPlay.{IsNestedPlay, IsGoodConfiguration}
 use Rattle.player.specs.Transcript.{Standing, Going, Over, PersonClimbs, Brings, BringInTurn, IsPlayed}
 

@@ -3,7 +3,7 @@ use Rattle.std.proofs.Common.{◌≡◌, ℕ, List, [], ◌++◌, inl, inr, refl
 use Rattle.std.specs.Prelude.{Option, None, Some}
 use Rattle.std.specs.Io.KnownBytes.{Appends, Keeps}
 use Rattle.board_text.specs.Ends.{AppendsFront}
-use Rattle.board_text.proofs.Moves.{Appends-trans}
+use Rattle.board_text.proofs.Cited.{Appends-trans}
 use Rattle.player.specs.Transcript.{Game, Standing, Going, Over, Opens, BringInTurn, IsPlayed, Stops}
 use Rattle.player.specs.Play.{Ends, GoesOnOrEnds, HasEnded, HasWritten, BreaksOff}
 use Rattle.player.specs.declared.end.PlayEnd.{PlayEnd}

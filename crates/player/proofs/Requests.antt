@@ -9,13 +9,15 @@ use Rattle.board_text.specs.PlainBoard.{PlainBoard, IsConfiguration}
 use Rattle.positions.specs.Ranks.{configurations, configuration_at, rank_of}
 use Rattle.positions.specs.Value.{HasValue}
 use Rattle.positions.specs.declared.value.Value.{Value}
-use Rattle.positions.proofs.Ranks.{configuration_at-rank_of}
+use Rattle.positions.proofs.Cited.{configuration_at-rank_of}
 use Rattle.positions.specs.Game.{Legal, moved}
 use Rattle.strategies.specs.Best.{IsBestAnswer}
-use Rattle.player.specs.Words.{quit, Spells}
-use Rattle.player.specs.Transcript.{Standing, Going, Over, PersonAsks, Opens, RepliesToLine, Replies, opening_lines, no_request_line, stuck_line, takes_line, at_line}
-use Rattle.player.specs.Seats.{Seat, at}
-use Rattle.player.specs.Turns.{Says}
+use Rattle.player.specs.Words.{quit}
+use Rattle.player.specs.Inside.Words.{Spells}
+use Rattle.player.specs.Transcript.{Standing, Going, Over, PersonAsks, Opens, RepliesToLine, Replies, opening_lines, no_request_line}
+use Rattle.player.specs.Transcript.{stuck_line, takes_line, at_line}
+use Rattle.player.specs.Inside.Seats.{Seat, at}
+use Rattle.player.specs.Inside.Turns.{Says}
 use Rattle.player.proofs.Moving.{moved_at}
 use Rattle.player.specs.declared.word.Word.TheVariants.{Number}
 use Rattle.player.specs.declared.end.PlayEnd.TheVariants.{Stuck}

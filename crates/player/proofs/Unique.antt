@@ -5,13 +5,15 @@ use Rattle.std.proofs.lemmas.Fmt.{decimal_injective}
 use Rattle.board_text.specs.PlainBoard.{PlainBoard}
 use Rattle.positions.specs.declared.value.Value.TheVariants.{Finite, Forever}
 use Rattle.positions.specs.Game.{Legal, moved}
-use Rattle.positions.proofs.Values.{same_value}
+use Rattle.positions.proofs.Cited.{same_value}
 use Rattle.nested_cycles.specs.NestedGame.{other_words}
-use Rattle.nested_cycles.proofs.OneReply.{one_label}
-use Rattle.strategies.proofs.Answers.{same_answer}
-use Rattle.strategies.proofs.Requests.{same_request}
+use Rattle.nested_cycles.specs.declared.game.TheConstants.{MAX_LEVELS}
+use Rattle.nested_cycles.proofs.Cited.{one_label}
+use Rattle.strategies.proofs.Cited.{same_answer, same_request}
 use Rattle.player.specs.Laws.{IsGame}
-use Rattle.player.specs.Transcript.{Game, PersonAsks, PersonAnswers, PersonClimbs, Standing, Going, Over, RepliesToLine, Replies, NestedReplies, Asks, Opens, Brings, BringInTurn, IsPlayed, IsTranscript, opening_lines, takes_line, at_line, ask_line, stuck_line, stopped_line, word_text, words_line}
+use Rattle.player.specs.Transcript.{Game, PersonAsks, PersonAnswers, PersonClimbs, Standing, Going, Over, RepliesToLine, Replies}
+use Rattle.player.specs.Transcript.{NestedReplies, Asks, Opens, Brings, BringInTurn, IsPlayed, IsTranscript, opening_lines, takes_line}
+use Rattle.player.specs.Transcript.{at_line, ask_line, stuck_line, stopped_line, word_text, words_line}
 use Rattle.player.specs.declared.end.PlayEnd.{PlayEnd}
 use Rattle.player.specs.declared.end.PlayEnd.TheVariants.{Stopped}
 use Rattle.player.proofs.Requests.{no_quit}
@@ -68,7 +70,7 @@ same_nested_replies levels at requests pebble said other to next one two =
     }
 
 -- a line of a person who names a pebble brings one answer, where each request does
-module _ (pebbles : ℕ) (Answers : ℕ → List ℕ → Standing → Type 0) (at : List ℕ) (requests : ℕ) (few : pebbles ≤ 24)
+module _ (pebbles : ℕ) (Answers : ℕ → List ℕ → Standing → Type 0) (at : List ℕ) (requests : ℕ) (few : pebbles ≤ MAX_LEVELS)
     (one_answer : (pebble : ℕ) (said other : List ℕ) (to next : Standing) → Answers pebble said to → Answers pebble other next → AreSame said other to next) where
   same_replies_to_line : (line said other : List ℕ) (to next : Standing) → RepliesToLine pebbles Answers at requests line said to → RepliesToLine pebbles Answers at requests line other next → AreSame said other to next
   same_replies_to_line line said other to next (inl one) (inl two) =

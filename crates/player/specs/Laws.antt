@@ -2,6 +2,7 @@
 use Rattle.std.specs.Prelude.{◌≡◌, ℕ, zero, suc, ◌≤◌, List}
 use Rattle.board_text.specs.Ranges.{InRange}
 use Rattle.board_text.specs.PlainBoard.{PlainBoard, IsBoard}
+use Rattle.nested_cycles.specs.declared.game.TheConstants.{MAX_LEVELS}
 use Rattle.positions.specs.declared.value.Value.TheVariants.{Finite, Forever}
 use Rattle.positions.specs.Game.{Legal, moved}
 use Rattle.positions.specs.Value.{HasValue}
@@ -38,7 +39,7 @@ IsStopped end = (requests : ℕ) × (end ≡ Stopped requests)
 abbrev pub IsGame : Game → Type 0
 IsGame (PersonAsks board) = IsBoard board
 IsGame (PersonAnswers board) = IsBoard board
-IsGame (PersonClimbs levels) = InRange 1 24 levels
+IsGame (PersonClimbs levels) = InRange 1 MAX_LEVELS levels
 
 -- an end of the play that its value allows, which on a nested board is forever
 abbrev pub KeepsToValue : Game → PlayEnd → Type 0
@@ -48,7 +49,8 @@ KeepsToValue (PersonClimbs levels) end = IsStopped end
 
 -- a play of best requests and best answers ends after so many answers
 abbrev pub EndsBestPlay : PlainBoard → List ℕ → ℕ → Type 0
-EndsBestPlay board configuration zero = (pebble : ℕ) × IsBestRequest board configuration pebble × ((label : ℕ) → Legal board configuration pebble label → ⊥)
+EndsBestPlay board configuration zero = (pebble : ℕ) × IsBestRequest board configuration pebble
+    × ((label : ℕ) → Legal board configuration pebble label → ⊥)
 EndsBestPlay board configuration (suc number) =
     (pebble label : ℕ) × IsBestRequest board configuration pebble × IsBestAnswer board configuration pebble label
     × EndsBestPlay board (moved configuration pebble label) number

@@ -4,11 +4,12 @@ use Rattle.std.specs.List.{flat_map}
 use Rattle.std.specs.Io.KnownBytes.{Appends, Consumes, IsAtEnd}
 use Rattle.board_text.specs.Ends.{GaveAll, AppendsFront}
 use Rattle.board_text.specs.LineForms.{closed}
-use Rattle.player.specs.Words.{IsLine, BeginsTooLong, most_lines}
+use Rattle.player.specs.Words.{IsLine, BeginsTooLong}
 use Rattle.player.specs.Transcript.{Standing, Going, Over, Stops}
 use Rattle.player.specs.declared.end.PlayEnd.{PlayEnd}
 use Rattle.player.specs.declared.end.PlayFault.{PlayFault}
 use Rattle.player.specs.declared.end.PlayFault.TheVariants.{Read, Write, Memory, Limit}
+use Rattle.player.specs.declared.play.TheConstants.{MOST_LINES}
 
 -- these lines and the rest were all that came, each line with its line feed
 abbrev pub CameClosed : Option (List ℕ) → Option (List ℕ) → List (List ℕ) → List ℕ → Type 0
@@ -26,7 +27,7 @@ pub record CameWhole (left_old left_new : Option (List ℕ)) (lines : List (List
 pub record Came (left_old left_new : Option (List ℕ)) (lines : List (List ℕ)) (rest : List ℕ) : Type 0 where
   pub came : CameClosed left_old left_new lines rest ⊎ ((rest ≡ []) × CameWhole left_old left_new lines)
   pub each : All IsLine lines
-  pub few : length lines ≤ most_lines
+  pub few : length lines ≤ MOST_LINES
 
 -- the lines end the play, or the end of the input does
 abbrev pub Ends : (List (List ℕ) → List ℕ → Standing → Type 0) → Option (List ℕ) → List (List ℕ) → List ℕ → List ℕ → PlayEnd → Type 0
@@ -56,6 +57,6 @@ module _ (Played : List (List ℕ) → List ℕ → Standing → Type 0) (left_o
   -- when each fault comes, and what was written before it
   abbrev pub BreaksOff : PlayFault → Type 0
   BreaksOff Read = HasWritten (λ lines rest. IsLine rest)
-  BreaksOff Limit = HasWritten (λ lines rest. (length lines ≡ most_lines) ⊎ BeginsTooLong rest)
+  BreaksOff Limit = HasWritten (λ lines rest. (length lines ≡ MOST_LINES) ⊎ BeginsTooLong rest)
   BreaksOff Write = HasBegun
   BreaksOff Memory = HasBegun

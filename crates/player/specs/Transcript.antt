@@ -1,5 +1,5 @@
 -- What a play writes: a text for each line of the person, by the moves of the pebble game.
-use Rattle.std.specs.Prelude.{◌≡◌, ◌≢◌, ℕ, suc, ◌<◌, ◌⊎◌, List, [], ◌∷◌, ◌++◌, map, replicate, Option, None, Some, codes}
+use Rattle.std.specs.Prelude.{◌≡◌, ◌≢◌, ℕ, suc, ◌<◌, ◌⊎◌, List, [], ◌∷◌, ◌++◌, map, replicate, codes}
 use Rattle.std.specs.Fmt.{decimal}
 use Rattle.std.specs.List.{flat_map}
 use Rattle.board_text.specs.LineForms.{closed, number_line}
@@ -30,11 +30,6 @@ pub data Standing : Type 0 where
   Going : List ℕ → ℕ → Standing
   Over : PlayEnd → Standing
 
--- it is over where there is an end
-abbrev pub standing : Option PlayEnd → List ℕ → ℕ → Standing
-standing None at requests = Going at requests
-standing (Some end) at requests = Over end
-
 -- ---- lines
 
 -- the value of the start
@@ -58,7 +53,8 @@ abbrev pub ask_line : ℕ → List ℕ
 ask_line pebble = number_line (codes "ask") pebble
 
 abbrev pub stuck_line : ℕ → ℕ → List ℕ
-stuck_line pebble requests = closed (codes "no label for pebble " ++ decimal pebble ++ codes " after " ++ decimal requests ++ codes " requests")
+stuck_line pebble requests = closed (codes "no label for pebble " ++ decimal pebble ++ codes " after " ++ decimal requests
+    ++ codes " requests")
 
 abbrev pub stopped_line : ℕ → List ℕ
 stopped_line requests = closed (codes "stopped after " ++ decimal requests ++ codes " requests")
@@ -89,7 +85,8 @@ RepliesToLine pebbles Answers at requests line said to =
 abbrev pub Replies : PlainBoard → List ℕ → ℕ → ℕ → List ℕ → Standing → Type 0
 Replies board at requests pebble said to =
     ((label : ℕ) × IsBestAnswer board at pebble label
-    × (said ≡ takes_line pebble (decimal label) ++ at_line board (moved at pebble label)) × (to ≡ Going (moved at pebble label) (suc requests)))
+    × (said ≡ takes_line pebble (decimal label) ++ at_line board (moved at pebble label))
+    × (to ≡ Going (moved at pebble label) (suc requests)))
     ⊎ (((label : ℕ) → Legal board at pebble label → ⊥) × (said ≡ stuck_line pebble requests) × (to ≡ Over (Stuck requests)))
 
 -- ---- the person asks on a nested board
@@ -115,7 +112,8 @@ nested_opening_lines levels = number_line (codes "levels") levels ++ words_line 
 abbrev pub NestedReplies : ℕ → List ℕ → ℕ → ℕ → List ℕ → Standing → Type 0
 NestedReplies levels at requests pebble said to =
     (label : ℕ) × (label < labels_of levels) × NestedReply levels (other_words pebble at) label
-    × (said ≡ takes_line pebble (word_text levels label) ++ words_line levels (moved at pebble label)) × (to ≡ Going (moved at pebble label) (suc requests))
+    × (said ≡ takes_line pebble (word_text levels label) ++ words_line levels (moved at pebble label))
+    × (to ≡ Going (moved at pebble label) (suc requests))
 
 -- ---- the person answers
 
@@ -123,7 +121,8 @@ NestedReplies levels at requests pebble said to =
 abbrev pub Asks : PlainBoard → List ℕ → ℕ → List ℕ → Standing → Type 0
 Asks board at requests said to = (pebble : ℕ) × IsBestRequest board at pebble
     × ((((label : ℕ) × Legal board at pebble label) × (said ≡ ask_line pebble) × (to ≡ Going at requests))
-    ⊎ (((label : ℕ) → Legal board at pebble label → ⊥) × (said ≡ ask_line pebble ++ stuck_line pebble requests) × (to ≡ Over (Stuck requests))))
+    ⊎ (((label : ℕ) → Legal board at pebble label → ⊥) × (said ≡ ask_line pebble ++ stuck_line pebble requests)
+    × (to ≡ Over (Stuck requests))))
 
 -- the line is a legal label for the pebble that is asked for
 abbrev pub IsLegalLine : PlainBoard → List ℕ → List ℕ → ℕ → ℕ → Type 0
@@ -143,7 +142,8 @@ AsksAfterLine board at requests line said to =
 
 -- ---- the play
 
--- what is written before a line is read: the value or the level, the start, and where the person is the labeller the first request, or that there is no strategy
+-- what is written before a line is read: the value or the level, the start, and where the person is the labeller the first request,
+-- or that there is no strategy
 abbrev pub Opens : Game → List ℕ → Standing → Type 0
 Opens (PersonAsks board) said to =
     (value : Value) × HasValue board board.start value × (said ≡ opening_lines board value board.start) × (to ≡ Going board.start 0)
@@ -156,9 +156,11 @@ Opens (PersonClimbs levels) said to = (said ≡ nested_opening_lines levels) × 
 -- what one line brings; nothing where the play is over
 abbrev pub Brings : Game → Standing → List ℕ → List ℕ → Standing → Type 0
 Brings game (Over end) line said to = (said ≡ []) × (to ≡ Over end)
-Brings (PersonAsks board) (Going at requests) line said to = RepliesToLine board.pebbles (Replies board at requests) at requests line said to
+Brings (PersonAsks board) (Going at requests) line said to = RepliesToLine board.pebbles (Replies board at requests)
+    at requests line said to
 Brings (PersonAnswers board) (Going at requests) line said to = AsksAfterLine board at requests line said to
-Brings (PersonClimbs levels) (Going at requests) line said to = RepliesToLine levels (NestedReplies levels at requests) at requests line said to
+Brings (PersonClimbs levels) (Going at requests) line said to = RepliesToLine levels (NestedReplies levels at requests)
+    at requests line said to
 
 -- what these lines bring, one after the other
 abbrev pub BringInTurn : Game → Standing → List (List ℕ) → List ℕ → Standing → Type 0
@@ -178,7 +180,8 @@ pub record IsPlayed (game : Game) (lines : List (List ℕ)) (text : List ℕ) (t
 -- where the lines end before the play is over, one more line is written
 abbrev pub Stops : (List (List ℕ) → List ℕ → Standing → Type 0) → List (List ℕ) → List ℕ → PlayEnd → Type 0
 Stops Played lines text end =
-    (at front : List ℕ) × (requests : ℕ) × Played lines front (Going at requests) × (text ≡ front ++ stopped_line requests) × (end ≡ Stopped requests)
+    (at front : List ℕ) × (requests : ℕ) × Played lines front (Going at requests) × (text ≡ front ++ stopped_line requests)
+    × (end ≡ Stopped requests)
 
 -- the whole transcript of input lines, and the end that it tells
 abbrev pub Transcribes : (List (List ℕ) → List ℕ → Standing → Type 0) → List (List ℕ) → List ℕ → PlayEnd → Type 0

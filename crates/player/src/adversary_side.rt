@@ -4,9 +4,10 @@ ghost use Rattle.std.specs.Prelude.{◌≡◌, ◌↔◌, ◌+◌, ◌<◌, ◌�
 ghost use Rattle.positions.specs.Ranks.{configurations};
 ghost use Rattle.player.specs.Laws.{KeepsToValue};
 ghost use Rattle.player.specs.Play.{HasEnded, BreaksOff};
-ghost use Rattle.player.specs.Seats.{at};
-ghost use Rattle.player.specs.Transcript.{Going, IsPlayed, PersonAsks, Replies, standing};
-ghost use Rattle.player.specs.Turns.{Says};
+ghost use Rattle.player.specs.Inside.Seats.{at};
+ghost use Rattle.player.specs.Transcript.{Going, IsPlayed, PersonAsks, Replies};
+ghost use Rattle.player.specs.Inside.Transcript.{standing};
+ghost use Rattle.player.specs.Inside.Turns.{Says};
 ghost use Rattle.player.specs.declared.end.PlayFault.TheVariants.{Read, Write};
 
 use crate::end::{PlayEnd, PlayFault};
@@ -36,8 +37,10 @@ pub fn play_adversary_side<R: Source, W: Sink>(
     requires same_board { values.now ≡ board.now }
     requires reader_ready { R.has_failed reader.old ≡ false }
     requires writer_ready { W.has_failed writer.old ≡ false }
-    ensures ok { IfOk result (HasEnded (IsPlayed (PersonAsks board.now)) (R.left reader.old) (R.left reader.new) (W.taken writer.old) (W.taken writer.new)) }
-    ensures fault { IfErr result (BreaksOff (IsPlayed (PersonAsks board.now)) (R.left reader.old) (R.left reader.new) (W.taken writer.old) (W.taken writer.new)) }
+    ensures ok { IfOk result (HasEnded (IsPlayed (PersonAsks board.now)) (R.left reader.old) (R.left reader.new)
+        (W.taken writer.old) (W.taken writer.new)) }
+    ensures fault { IfErr result (BreaksOff (IsPlayed (PersonAsks board.now)) (R.left reader.old) (R.left reader.new)
+        (W.taken writer.old) (W.taken writer.new)) }
     ensures value { IfOk result (KeepsToValue (PersonAsks board.now)) }
     ensures read { (R.has_failed reader.new ≡ true) ↔ (result ≡ Err Read) }
     ensures write { (W.has_failed writer.new ≡ true) ↔ (result ≡ Err Write) }
@@ -67,7 +70,7 @@ struct AdversarySide<'a> {
 impl<'a> Model for AdversarySide<'a> {
     ghost use Rattle.std.specs.Prelude.{◌≡◌, ◌<◌};
     ghost use Rattle.positions.specs.Ranks.{configurations};
-    ghost use Rattle.player.specs.Seats.{Seat};
+    ghost use Rattle.player.specs.Inside.Seats.{Seat};
 
     ghost Value = { Seat };
 

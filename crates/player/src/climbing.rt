@@ -5,8 +5,9 @@ ghost use Rattle.board_text.specs.Ranges.{InRange};
 ghost use Rattle.nested_cycles.specs.NestedGame.{plain_game};
 ghost use Rattle.player.specs.Laws.{KeepsToValue};
 ghost use Rattle.player.specs.Play.{HasEnded, BreaksOff};
-ghost use Rattle.player.specs.Transcript.{IsPlayed, NestedReplies, PersonClimbs, standing};
-ghost use Rattle.player.specs.Turns.{Says};
+ghost use Rattle.player.specs.Transcript.{IsPlayed, NestedReplies, PersonClimbs};
+ghost use Rattle.player.specs.Inside.Transcript.{standing};
+ghost use Rattle.player.specs.Inside.Turns.{Says};
 ghost use Rattle.player.specs.declared.end.PlayFault.TheVariants.{Read, Write};
 
 use crate::end::{PlayEnd, PlayFault};
@@ -16,7 +17,7 @@ use crate::showing::show;
 use crate::word::Word;
 use crate::writing::{refused, stopped};
 use board_text::{Memory, Sink, Source};
-use nested_cycles::NestedGame;
+use nested_cycles::{MAX_LEVELS, NestedGame};
 use std::alloc::{AllocError, Global};
 
 /// Plays on the nested board of a level, 1 to 24, with as many pebbles as levels: each line of the person names a pebble,
@@ -32,11 +33,13 @@ pub fn play_nested<R: Source, W: Sink>(
     reader: &mut R,
     writer: &mut W,
 ) -> Result<PlayEnd, PlayFault>
-    requires level { InRange 1 24 levels }
+    requires level { InRange 1 MAX_LEVELS levels }
     requires reader_ready { R.has_failed reader.old ≡ false }
     requires writer_ready { W.has_failed writer.old ≡ false }
-    ensures ok { IfOk result (HasEnded (IsPlayed (PersonClimbs levels)) (R.left reader.old) (R.left reader.new) (W.taken writer.old) (W.taken writer.new)) }
-    ensures fault { IfErr result (BreaksOff (IsPlayed (PersonClimbs levels)) (R.left reader.old) (R.left reader.new) (W.taken writer.old) (W.taken writer.new)) }
+    ensures ok { IfOk result (HasEnded (IsPlayed (PersonClimbs levels)) (R.left reader.old) (R.left reader.new)
+        (W.taken writer.old) (W.taken writer.new)) }
+    ensures fault { IfErr result (BreaksOff (IsPlayed (PersonClimbs levels)) (R.left reader.old) (R.left reader.new)
+        (W.taken writer.old) (W.taken writer.new)) }
     ensures value { IfOk result (KeepsToValue (PersonClimbs levels)) }
     ensures read { (R.has_failed reader.new ≡ true) ↔ (result ≡ Err Read) }
     ensures write { (W.has_failed writer.new ≡ true) ↔ (result ≡ Err Write) }
@@ -63,7 +66,7 @@ struct Climb {
 impl Climb {
     /// No request was answered yet, and all pebbles are on the label 0.
     fn new(alloc: Global, levels: u8) -> Result<Climb, Memory>
-        requires { InRange 1 24 levels }
+        requires { InRange 1 MAX_LEVELS levels }
         ensures { IfOk result (λ play. (play.nested ≡ plain_game levels (replicate levels 0)) × (play.requests ≡ 0)) }
     {
         let nested = NestedGame::new(alloc, levels)?;

@@ -8,9 +8,10 @@ ghost use Rattle.positions.specs.Value.{HasValue};
 ghost use Rattle.positions.specs.declared.value.Value.TheVariants.{Finite};
 ghost use Rattle.player.specs.Laws.{KeepsToValue};
 ghost use Rattle.player.specs.Play.{HasEnded, BreaksOff};
-ghost use Rattle.player.specs.Seats.{HasAsked, IsRequestAt, NextStands, IsLegalAt, IsSeated, at};
-ghost use Rattle.player.specs.Transcript.{Standing, IsPlayed, Opens, PersonAnswers, AsksAfterLine, no_answer_line, standing};
-ghost use Rattle.player.specs.Turns.{Says};
+ghost use Rattle.player.specs.Inside.Seats.{HasAsked, IsRequestAt, NextStands, IsLegalAt, IsSeated, at};
+ghost use Rattle.player.specs.Transcript.{Standing, IsPlayed, Opens, PersonAnswers, AsksAfterLine, no_answer_line};
+ghost use Rattle.player.specs.Inside.Transcript.{standing};
+ghost use Rattle.player.specs.Inside.Turns.{Says};
 ghost use Rattle.player.specs.declared.end.PlayFault.TheVariants.{Read, Write};
 
 use crate::end::{PlayEnd, PlayFault};
@@ -43,8 +44,10 @@ pub fn play_labeller_side<R: Source, W: Sink>(
     requires same_board { values.now ≡ board.now }
     requires reader_ready { R.has_failed reader.old ≡ false }
     requires writer_ready { W.has_failed writer.old ≡ false }
-    ensures ok { IfOk result (HasEnded (IsPlayed (PersonAnswers board.now)) (R.left reader.old) (R.left reader.new) (W.taken writer.old) (W.taken writer.new)) }
-    ensures fault { IfErr result (BreaksOff (IsPlayed (PersonAnswers board.now)) (R.left reader.old) (R.left reader.new) (W.taken writer.old) (W.taken writer.new)) }
+    ensures ok { IfOk result (HasEnded (IsPlayed (PersonAnswers board.now)) (R.left reader.old) (R.left reader.new)
+        (W.taken writer.old) (W.taken writer.new)) }
+    ensures fault { IfErr result (BreaksOff (IsPlayed (PersonAnswers board.now)) (R.left reader.old) (R.left reader.new)
+        (W.taken writer.old) (W.taken writer.new)) }
     ensures value { IfOk result (KeepsToValue (PersonAnswers board.now)) }
     ensures read { (R.has_failed reader.new ≡ true) ↔ (result ≡ Err Read) }
     ensures write { (W.has_failed writer.new ≡ true) ↔ (result ≡ Err Write) }
@@ -88,7 +91,8 @@ fn open(text: &mut String, board: &Board, values: &Values, start: u32) -> Result
     requires start { start ≡ rank_of board.now board.now.start }
     requires rank { start < configurations board.now }
     ensures { IfOk result (λ next. Says (string_bytes text.old) (string_bytes text.new)
-        (λ said. (to : Standing) × Opens (PersonAnswers board.now) said to × NextStands board.now (configuration_at board.now start) 0 next to)) }
+        (λ said. (to : Standing) × Opens (PersonAnswers board.now) said to
+        × NextStands board.now (configuration_at board.now start) 0 next to)) }
 {
     let value = values.of(start);
     write_opening(text, values.space(), value, start)?;
@@ -139,7 +143,7 @@ struct LabellerSide<'a> {
 }
 
 impl<'a> Model for LabellerSide<'a> {
-    ghost use Rattle.player.specs.Seats.{Seat, IsSeated};
+    ghost use Rattle.player.specs.Inside.Seats.{Seat, IsSeated};
 
     ghost Value = { Seat };
 
@@ -179,7 +183,8 @@ impl<'a> LabellerSide<'a> {
         ensures board { self.new.board ≡ self.old.board }
         ensures count { self.new.requests ≤ self.old.requests + 1 }
         ensures said { IfOk result (λ end. Says (string_bytes text.old) (string_bytes text.new)
-            (λ said. (line : List ℕ) → line ≡ decimal label → AsksAfterLine self.old.board (at self.old) self.old.requests line said (standing end (at self.new) self.new.requests))) }
+            (λ said. (line : List ℕ) → line ≡ decimal label → AsksAfterLine self.old.board (at self.old) self.old.requests line said
+            (standing end (at self.new) self.new.requests))) }
     {
         let space = self.values.space();
         let rank = space.with(self.rank, self.asked, label);

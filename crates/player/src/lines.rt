@@ -1,9 +1,11 @@
 //! The lines of a reader, one by one.
 
-ghost use Rattle.std.specs.Prelude.{◌≡◌, ◌≢◌, ◌+◌, ◌≤◌, ◌<◌, ◌↔◌, [], length, take, drop, slice_index, true, false, Err, IfOk, IfErr, OnOk, OnErr, MatchOption};
+ghost use Rattle.std.specs.Prelude.{◌≡◌, ◌≢◌, ◌+◌, ◌≤◌, ◌<◌, ◌↔◌, [], length, take, drop, slice_index, true, false, Err, IfOk, IfErr};
+ghost use Rattle.std.specs.Prelude.{OnOk, OnErr, MatchOption};
 ghost use Rattle.std.specs.Io.KnownBytes.{Keeps};
-ghost use Rattle.player.specs.Words.{Spells, HasNoFeed, most_bytes};
-ghost use Rattle.player.specs.Reading.{IsEmptyAtEnd, GivesLine, GivesNoLine, IsFilled};
+ghost use Rattle.player.specs.Words.{HasNoFeed};
+ghost use Rattle.player.specs.Inside.Words.{Spells};
+ghost use Rattle.player.specs.Inside.Reading.{IsEmptyAtEnd, GivesLine, GivesNoLine, IsFilled};
 ghost use Rattle.player.specs.declared.lines.LineFault.TheVariants.{Read};
 
 use crate::word::Word;
@@ -38,7 +40,7 @@ pub(crate) struct Lines {
 
 impl Model for Lines {
     ghost use Rattle.std.specs.Prelude.{drop, take, length};
-    ghost use Rattle.player.specs.Reading.{Unread, IsPart};
+    ghost use Rattle.player.specs.Inside.Reading.{Unread, IsPart};
 
     ghost Value = { Unread };
 
@@ -123,7 +125,7 @@ impl Lines {
 
     /// Reads once, behind what isn't taken yet, and says whether anything came.
     fn fill<R: Source>(&mut self, reader: &mut R) -> Result<bool, LineFault>
-        requires short { length self.old.bytes ≤ most_bytes }
+        requires short { length self.old.bytes ≤ MOST_BYTES }
         requires goes_on { self.old.has_ended ≡ false }
         ensures filled { IfOk result (IsFilled self.old self.new (R.left reader.old) (R.left reader.new)) }
         ensures unfailed { OnOk result (R.has_failed reader.new ≡ R.has_failed reader.old) }

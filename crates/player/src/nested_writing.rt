@@ -8,13 +8,15 @@ ghost use Rattle.board_text.specs.Ranges.{InRange};
 ghost use Rattle.nested_cycles.specs.Words.{word_of};
 ghost use Rattle.player.specs.Transcript.{takes_line, word_text, words_line};
 
+use nested_cycles::MAX_LEVELS;
 use std::alloc::AllocError;
 use std::fmt::Write;
 
 /// Writes the level, and the words of the pebbles.
 pub(crate) fn write_levels(text: &mut String, levels: u8, words: &[u64]) -> Result<(), AllocError>
-    requires { InRange 1 24 levels }
-    ensures { OnOk result (string_bytes text.new ≡ string_bytes text.old ++ (number_line (codes "levels") levels ++ words_line levels words.now)) }
+    requires { InRange 1 MAX_LEVELS levels }
+    ensures { OnOk result (string_bytes text.new ≡ string_bytes text.old
+        ++ (number_line (codes "levels") levels ++ words_line levels words.now)) }
 {
     write!(text, "levels {levels}\n")?;
     write_words(text, levels, words)
@@ -28,8 +30,9 @@ pub(crate) fn write_nested_reply(
     word: u64,
     words: &[u64],
 ) -> Result<(), AllocError>
-    requires { InRange 1 24 levels }
-    ensures { OnOk result (string_bytes text.new ≡ string_bytes text.old ++ (takes_line pebble (word_text levels word) ++ words_line levels words.now)) }
+    requires { InRange 1 MAX_LEVELS levels }
+    ensures { OnOk result (string_bytes text.new ≡ string_bytes text.old
+        ++ (takes_line pebble (word_text levels word) ++ words_line levels words.now)) }
 {
     write!(text, "pebble {pebble} takes ")?;
     write_word(text, levels, word)?;
@@ -39,7 +42,7 @@ pub(crate) fn write_nested_reply(
 
 /// Writes the words of the pebbles.
 fn write_words(text: &mut String, levels: u8, words: &[u64]) -> Result<(), AllocError>
-    requires { InRange 1 24 levels }
+    requires { InRange 1 MAX_LEVELS levels }
     ensures { OnOk result (string_bytes text.new ≡ string_bytes text.old ++ words_line levels words.now) }
 {
     text.push_str("at")?;
@@ -52,7 +55,7 @@ fn write_words(text: &mut String, levels: u8, words: &[u64]) -> Result<(), Alloc
 
 /// Writes the digits of a word, and a dot for the word without digits.
 fn write_word(text: &mut String, levels: u8, word: u64) -> Result<(), AllocError>
-    requires { InRange 1 24 levels }
+    requires { InRange 1 MAX_LEVELS levels }
     ensures { OnOk result (string_bytes text.new ≡ string_bytes text.old ++ word_text levels word) }
 {
     if levels == 1 {

@@ -3,9 +3,10 @@
 ghost use Rattle.std.specs.Prelude.{◌≡◌, ◌↔◌, ◌+◌, ◌≤◌, ◌<◌, ◌^◌, ℕ, List, [], true, false, Err, IfOk, IfErr, OnOk, OnErr, string_bytes};
 ghost use Rattle.std.specs.Io.KnownBytes.{Appends};
 ghost use Rattle.board_text.specs.Ends.{AppendsFront};
-ghost use Rattle.player.specs.Transcript.{Game, Standing, Going, BringInTurn, standing, stopped_line};
+ghost use Rattle.player.specs.Transcript.{Game, Standing, Going, BringInTurn, stopped_line};
+ghost use Rattle.player.specs.Inside.Transcript.{standing};
 ghost use Rattle.player.specs.Play.{HasEnded, BreaksOff};
-ghost use Rattle.player.specs.Turns.{BringsAll, Says, Writes, FailsToWrite};
+ghost use Rattle.player.specs.Inside.Turns.{BringsAll, Says, Writes, FailsToWrite};
 ghost use Rattle.player.specs.declared.end.PlayEnd.TheVariants.{Stopped};
 ghost use Rattle.player.specs.declared.end.PlayFault.TheVariants.{Read, Write};
 
@@ -37,7 +38,8 @@ pub(crate) trait Play {
         ensures game { game self.new ≡ game self.old }
         ensures count { requests self.new ≤ requests self.old + 1 }
         ensures said { IfOk result (λ end. Says (string_bytes text.old) (string_bytes text.new)
-            (λ said. BringsAll (game self.old) (Going (at self.old) (requests self.old)) word said (standing end (at self.new) (requests self.new)))) };
+            (λ said. BringsAll (game self.old) (Going (at self.old) (requests self.old)) word said
+            (standing end (at self.new) (requests self.new)))) };
 
     /// How many requests were answered.
     fn requests(&self) -> u32
@@ -55,8 +57,10 @@ pub(crate) fn play_on<P: Play, R: Source, W: Sink>(
     requires empty { string_bytes text.old ≡ [] }
     requires reader_ready { R.has_failed reader.old ≡ false }
     requires writer_ready { W.has_failed writer.old ≡ false }
-    ensures ok { IfOk result (HasEnded (BringInTurn (P.game play.old) (Going (P.at play.old) 0)) (R.left reader.old) (R.left reader.new) (W.taken writer.old) (W.taken writer.new)) }
-    ensures fault { IfErr result (BreaksOff (BringInTurn (P.game play.old) (Going (P.at play.old) 0)) (R.left reader.old) (R.left reader.new) (W.taken writer.old) (W.taken writer.new)) }
+    ensures ok { IfOk result (HasEnded (BringInTurn (P.game play.old) (Going (P.at play.old) 0)) (R.left reader.old) (R.left reader.new)
+        (W.taken writer.old) (W.taken writer.new)) }
+    ensures fault { IfErr result (BreaksOff (BringInTurn (P.game play.old) (Going (P.at play.old) 0)) (R.left reader.old) (R.left reader.new)
+        (W.taken writer.old) (W.taken writer.new)) }
     ensures read { (R.has_failed reader.new ≡ true) ↔ (result ≡ Err Read) }
     ensures write { (W.has_failed writer.new ≡ true) ↔ (result ≡ Err Write) }
 {
@@ -92,7 +96,8 @@ fn turn<P: Play, W: Sink>(
     ensures empty { OnOk result (string_bytes text.new ≡ []) }
     ensures unfailed { OnOk result (W.has_failed writer.new ≡ false) }
     ensures written { IfOk result (λ end. Writes (W.taken writer.old) (W.taken writer.new)
-        (λ said. BringsAll (P.game play.old) (Going (P.at play.old) (P.requests play.old)) word said (standing end (P.at play.new) (P.requests play.new)))) }
+        (λ said. BringsAll (P.game play.old) (Going (P.at play.old) (P.requests play.old)) word said
+        (standing end (P.at play.new) (P.requests play.new)))) }
     ensures fault { IfErr result (FailsToWrite (W.taken writer.old) (W.taken writer.new)
         (λ said. (to : Standing) × BringsAll (P.game play.old) (Going (P.at play.old) (P.requests play.old)) word said to)) }
     ensures write { (W.has_failed writer.new ≡ true) ↔ (result ≡ Err Write) }
@@ -110,7 +115,8 @@ fn stop<P: Play, W: Sink>(play: &P, text: &mut String, writer: &mut W) -> Result
     requires ready { W.has_failed writer.old ≡ false }
     ensures end { IfOk result (λ end. end ≡ Stopped (P.requests play.now)) }
     ensures written { OnOk result (Appends (W.taken writer.old) (W.taken writer.new) (stopped_line (P.requests play.now))) }
-    ensures fault { IfErr result (FailsToWrite (W.taken writer.old) (W.taken writer.new) (λ said. said ≡ stopped_line (P.requests play.now))) }
+    ensures fault { IfErr result (FailsToWrite (W.taken writer.old) (W.taken writer.new)
+        (λ said. said ≡ stopped_line (P.requests play.now))) }
     ensures write { (W.has_failed writer.new ≡ true) ↔ (result ≡ Err Write) }
 {
     let requests = play.requests();

@@ -2,7 +2,7 @@
 
 ghost use Rattle.std.specs.Prelude.{◌≡◌, ◌≢◌, ℕ, ◌<◌, ◌^◌, MatchOption};
 ghost use Rattle.std.specs.Fmt.{decimal};
-ghost use Rattle.player.specs.Words.{Spells};
+ghost use Rattle.player.specs.Inside.Words.{Spells};
 
 use board_text::line_reader::LineReader;
 

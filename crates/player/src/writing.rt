@@ -21,7 +21,8 @@ pub(crate) fn write_opening(
     start: u32,
 ) -> Result<(), AllocError>
     requires { start < configurations space.now }
-    ensures { OnOk result (string_bytes text.new ≡ string_bytes text.old ++ opening_lines space.now value (configuration_at space.now start)) }
+    ensures { OnOk result (string_bytes text.new ≡ string_bytes text.old
+        ++ opening_lines space.now value (configuration_at space.now start)) }
 {
     write_claim(text, claim(value))?;
     text.push_str("\n")?;
@@ -47,7 +48,8 @@ pub(crate) fn write_reply(
     rank: u32,
 ) -> Result<(), AllocError>
     requires { rank < configurations space.now }
-    ensures { OnOk result (string_bytes text.new ≡ string_bytes text.old ++ (takes_line pebble (decimal label) ++ at_line space.now (configuration_at space.now rank))) }
+    ensures { OnOk result (string_bytes text.new ≡ string_bytes text.old
+        ++ (takes_line pebble (decimal label) ++ at_line space.now (configuration_at space.now rank))) }
 {
     write!(text, "pebble {pebble} takes {label}\n")?;
     write_at(text, space, rank)
@@ -72,7 +74,8 @@ pub(crate) fn write_stopped(text: &mut String, requests: u32) -> Result<(), Allo
 
 /// The end of a play that the person stops, with its line.
 pub(crate) fn stopped(text: &mut String, requests: u32) -> Result<Option<PlayEnd>, AllocError>
-    ensures { IfOk result (λ end. (end ≡ Some (Stopped requests)) × (string_bytes text.new ≡ string_bytes text.old ++ stopped_line requests)) }
+    ensures { IfOk result (λ end. (end ≡ Some (Stopped requests))
+        × (string_bytes text.new ≡ string_bytes text.old ++ stopped_line requests)) }
 {
     write_stopped(text, requests)?;
     Ok(Some(PlayEnd::Stopped { requests }))

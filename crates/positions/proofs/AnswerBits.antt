@@ -4,10 +4,11 @@ use Rattle.std.specs.List.{All}
 use Rattle.std.proofs.lemmas.List.{take_all, take-take, length-take-le, get_or-take}
 use Rattle.std.proofs.lemmas.List.Elements.{All-more, All-take, All-get_or}
 use Rattle.board_text.specs.PlainBoard.{PlainBoard, IsBoard, Beats, BeatsPlace, places}
-use Rattle.board_text.proofs.Places.{some_places}
+use Rattle.board_text.proofs.Cited.{some_places}
 use Rattle.board_text.specs.Domination.{has_bit}
+use Rattle.board_text.specs.declared.board.TheConstants.{MAX_LABELS}
 use Rattle.positions.specs.Gaps.{gaps, others_of, IsAnswer}
-use Rattle.positions.specs.Weights.{weight_of}
+use Rattle.positions.specs.Inside.Weights.{weight_of}
 use Rattle.positions.specs.Counts.{IsSmallest}
 use Rattle.positions.proofs.Counting.{smallest_of}
 use Rattle.positions.proofs.LabelBits.{HasBitFrom}
@@ -17,7 +18,7 @@ use Rattle.positions.proofs.GapLaws.{others_of_gap, answer_beats_others}
 -- the bits of the labels that beat those of the first other pebbles, and the rest of the gap
 pub record IsNarrowed (board : PlainBoard) (gap place rest : ℕ) (words : List ℕ) : Type 0 where
   pub rest_is : IsRest (places board) (board.pebbles - 1) (others_of board gap) place rest
-  pub bits : (x : ℕ) → x < 256 → (has_bit words x ≡ true) ↔ ((x < board.labels) × All (BeatsPlace board x) (take place (others_of board gap)))
+  pub bits : (x : ℕ) → x < MAX_LABELS → (has_bit words x ≡ true) ↔ ((x < board.labels) × All (BeatsPlace board x) (take place (others_of board gap)))
 
 -- the label of the next other pebble, by its weight
 pub next_other : (board : PlainBoard) (gap place rest weight : ℕ) → IsBoard board → gap < gaps board → place < board.pebbles - 1 → weight ≡ weight_of board (place + 1)
@@ -30,8 +31,8 @@ next_other board gap place rest weight is below inside weighs read =
 
 pub narrowed_more : (board : PlainBoard) (gap place rest label next : ℕ) (words row new : List ℕ) → gap < gaps board → place < board.pebbles - 1 → label < board.labels
     → IsNarrowed board gap place rest words → IsNextRest (places board) (board.pebbles - 1) (others_of board gap) place label next
-    → ((x : ℕ) → x < 256 → (has_bit row x ≡ true) ↔ Beats board x label)
-    → ((x : ℕ) → x < 256 → (has_bit new x ≡ true) ↔ ((has_bit words x ≡ true) × (has_bit row x ≡ true)))
+    → ((x : ℕ) → x < MAX_LABELS → (has_bit row x ≡ true) ↔ Beats board x label)
+    → ((x : ℕ) → x < MAX_LABELS → (has_bit new x ≡ true) ↔ ((has_bit words x ≡ true) × (has_bit row x ≡ true)))
     → IsNarrowed board gap (place + 1) next new
 narrowed_more board gap place rest label next words row new below inside is_label narrowed is beaten both =
     let others : List ℕ = others_of board gap in
@@ -73,7 +74,7 @@ narrowed_blank board gap place rest label next words below inside blank narrowed
 
 -- all others are looked at
 pub answer_bits : (board : PlainBoard) (gap place rest : ℕ) (words : List ℕ) → gap < gaps board → board.pebbles - 1 ≤ place → IsNarrowed board gap place rest words
-    → (x : ℕ) → x < 256 → (has_bit words x ≡ true) ↔ IsAnswer board gap x
+    → (x : ℕ) → x < MAX_LABELS → (has_bit words x ≡ true) ↔ IsAnswer board gap x
 answer_bits board gap place rest words below all narrowed x small =
     let others : List ℕ = others_of board gap in
     let long : length others ≡ board.pebbles - 1 = (others_of_gap board gap below).size in
@@ -85,7 +86,7 @@ answer_bits board gap place rest words below all narrowed x small =
 
 -- the smallest bit from a bound on is the smallest number from there on of which the fact holds that the bits show
 pub smallest_bit : (P : ℕ → Type 0) (from : ℕ) (words : List ℕ) (found : Option ℕ)
-    → ((x : ℕ) → x < 256 → (has_bit words x ≡ true) ↔ P x) → ((x : ℕ) → P x → x < 256)
+    → ((x : ℕ) → x < MAX_LABELS → (has_bit words x ≡ true) ↔ P x) → ((x : ℕ) → P x → x < MAX_LABELS)
     → IsSmallest (HasBitFrom words from) found → IsSmallest (λ x. (from ≤ x) × P x) found
 smallest_bit P from words found bits small is =
     smallest_of (HasBitFrom words from) (λ x. (from ≤ x) × P x) found
@@ -97,7 +98,7 @@ smallest_bit P from words found bits small is =
 
 -- the smallest bit of an answer set from a bound on is the smallest answer from there on
 pub smallest_answer : (board : PlainBoard) (gap from : ℕ) (words : List ℕ) (found : Option ℕ)
-    → ((x : ℕ) → x < 256 → (has_bit words x ≡ true) ↔ IsAnswer board gap x) → board.labels ≤ 256
+    → ((x : ℕ) → x < MAX_LABELS → (has_bit words x ≡ true) ↔ IsAnswer board gap x) → board.labels ≤ MAX_LABELS
     → IsSmallest (HasBitFrom words from) found → IsSmallest (λ label. (from ≤ label) × IsAnswer board gap label) found
 smallest_answer board gap from words found bits few is =
     smallest_bit (IsAnswer board gap) from words found bits (λ label answer. omega (arith, answer.is_label, few)) is

@@ -2,7 +2,9 @@
 use Rattle.std.proofs.Common.{◌≡◌, ℕ, ◌+◌, ◌*◌, ◌/◌, ◌%◌, ◌<◌, ◌≤◌, sym, ap, subst, inl, inr, mod-lt, arith}
 use Rattle.std.proofs.Math.Nat.{div-add-mod, mul-le-mul_left}
 use Rattle.std.proofs.lemmas.Bool.{cases_lt}
-use Rattle.positions.specs.Weights.{IsDivisor}
+use Rattle.board_text.specs.declared.board.TheConstants.{MAX_PEBBLES}
+use Rattle.positions.specs.Inside.Weights.{IsDivisor}
+use Rattle.positions.specs.declared.space.TheConstants.{MAX_CONFIGURATIONS}
 
 -- the product of a number with a factor that is too large by less than one
 pub record IsNear (product quotient : ℕ) : Type 0 where
@@ -10,16 +12,16 @@ pub record IsNear (product quotient : ℕ) : Type 0 where
   pub below : product < quotient * 8796093022208 + 8796093022208
 
 pub near : (by times rest quotient low number : ℕ) → by * times + rest ≡ 8796093022208 → rest < by → by * quotient + low ≡ number → low < by
-    → by ≤ 1048576 → number ≤ 6291456 → IsNear (number * (times + 1)) quotient
+    → by ≤ MAX_CONFIGURATIONS → number ≤ MAX_PEBBLES * MAX_CONFIGURATIONS → IsNear (number * (times + 1)) quotient
 near by times rest quotient low number whole small is under few bounded =
     let spelled : number * (times + 1) ≡ (by * quotient + low) * (times + 1) = ap (λ n. n * (times + 1)) (sym is) in
     let shifted : quotient * (by * times + rest) ≡ quotient * 8796093022208 = ap (λ n. quotient * n) whole in
     let rests : quotient * rest ≤ quotient * by = mul-le-mul_left quotient (omega arith) in
     let lows : times * (low + 1) ≤ times * by = mul-le-mul_left times (omega arith) in
-    let many : (times + 1) * by ≤ (times + 1) * 1048576 = mul-le-mul_left (times + 1) few in
+    let many : (times + 1) * by ≤ (times + 1) * MAX_CONFIGURATIONS = mul-le-mul_left (times + 1) few in
     record { least = omega arith; below = omega arith }
 
-pub near_of : (by factor number : ℕ) → IsDivisor by factor → number ≤ 6291456 → IsNear (number * factor) (number / by)
+pub near_of : (by factor number : ℕ) → IsDivisor by factor → number ≤ MAX_PEBBLES * MAX_CONFIGURATIONS → IsNear (number * factor) (number / by)
 near_of by factor number is few =
     let times : ℕ = 8796093022208 / by in
     let same : factor ≡ times + 1 = is.factor_is in

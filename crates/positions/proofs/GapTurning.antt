@@ -2,10 +2,12 @@
 use Rattle.std.proofs.Common.{◌≡◌, ℕ, ◌+◌, ◌-◌, ◌*◌, ◌/◌, ◌%◌, ◌^◌, ◌<◌, ◌≤◌, List, get_or, refl, sym, ap, ◌∙◌, subst, arith, mod-lt, mul-le-mul_right}
 use Rattle.std.proofs.Math.Nat.{pow-le-pow_right}
 use Rattle.board_text.specs.PlainBoard.{PlainBoard, IsBoard, places}
-use Rattle.board_text.proofs.Places.{some_places}
+use Rattle.board_text.specs.declared.board.TheConstants.{MAX_PEBBLES}
+use Rattle.board_text.proofs.Cited.{some_places}
 use Rattle.positions.specs.Ranks.{configurations, rank_of, configuration_at}
 use Rattle.positions.specs.Gaps.{gaps_each, gaps, gap_of, pebble_of, others_of, member_of}
-use Rattle.positions.specs.Weights.{AreNumbersOf, weight_of}
+use Rattle.positions.specs.Inside.Weights.{AreNumbersOf, weight_of}
+use Rattle.positions.specs.declared.space.TheConstants.{MAX_CONFIGURATIONS}
 use Rattle.positions.proofs.Digits.{number_of-digits_of}
 use Rattle.positions.proofs.Parts.{Room, room_at, quotient, remainder}
 use Rattle.positions.proofs.Ranks.{rank_of-configuration_at, rank_below, configuration_at_is}
@@ -21,23 +23,23 @@ first_weight board base weights are =
     are.weighs 0 some ∙ ap (λ n. places board ^ n) all
 
 pub gaps_few : {labels pebbles size : ℕ} {words : List ℕ} (board : PlainBoard) (base : ℕ) (weights : List ℕ)
-    → AreNumbersOf board labels pebbles base size weights words → gaps board ≤ 6291456
+    → AreNumbersOf board labels pebbles base size weights words → gaps board ≤ MAX_PEBBLES * MAX_CONFIGURATIONS
 gaps_few board base weights are =
     let most : gaps_each board ≤ configurations board = pow-le-pow_right (some_places board are.is_board) (omega arith) in
-    let few : configurations board ≤ 1048576 = are.few in
-    let product : board.pebbles * gaps_each board ≤ 6 * gaps_each board = mul-le-mul_right (gaps_each board) are.is_board.pebbles.1 in
+    let few : configurations board ≤ MAX_CONFIGURATIONS = are.few in
+    let product : board.pebbles * gaps_each board ≤ MAX_PEBBLES * gaps_each board = mul-le-mul_right (gaps_each board) are.is_board.pebbles.1 in
     omega arith
 
-pub tuples_few : (board : PlainBoard) → IsBoard board → configurations board ≤ 1048576 → gaps_each board ≤ 1048576
+pub tuples_few : (board : PlainBoard) → IsBoard board → configurations board ≤ MAX_CONFIGURATIONS → gaps_each board ≤ MAX_CONFIGURATIONS
 tuples_few board is few =
     let most : gaps_each board ≤ configurations board = pow-le-pow_right (some_places board is) (omega arith) in
     omega arith
 
 -- a gap is small enough to be divided by the number of tuples
-pub gap_divides : (board : PlainBoard) (gap : ℕ) → IsBoard board → configurations board ≤ 1048576 → gap < gaps board → (gap ≤ 6291456) × (gap ≤ 1048576 * gaps_each board)
+pub gap_divides : (board : PlainBoard) (gap : ℕ) → IsBoard board → configurations board ≤ MAX_CONFIGURATIONS → gap < gaps board → (gap ≤ MAX_PEBBLES * MAX_CONFIGURATIONS) × (gap ≤ MAX_CONFIGURATIONS * gaps_each board)
 gap_divides board gap is few below =
-    let each : gaps_each board ≤ 1048576 = tuples_few board is few in
-    let product : board.pebbles * gaps_each board ≤ 6 * gaps_each board = mul-le-mul_right (gaps_each board) is.pebbles.1 in
+    let each : gaps_each board ≤ MAX_CONFIGURATIONS = tuples_few board is few in
+    let product : board.pebbles * gaps_each board ≤ MAX_PEBBLES * gaps_each board = mul-le-mul_right (gaps_each board) is.pebbles.1 in
     (omega arith, omega arith)
 
 -- a rank without a pebble's label, behind the pebble

@@ -6,6 +6,7 @@ use Rattle.std.proofs.lemmas.Bool.{cases_eq, cases_lt, eqb-true, eq-eqb}
 use Rattle.std.proofs.lemmas.List.{get_or-set_same, get_or-set_other, length-set}
 use Rattle.std.proofs.lemmas.Nat.Bits.{bit_at_set_same, bit_at_set_other, bit_at-zero, bit_at_and, bit_at-lt, bit_at_ones, bit_at_mask_inside, bit_at_mask_below, bit_at-trailing_zeros, ones_shl}
 use Rattle.board_text.specs.Domination.{has_bit}
+use Rattle.board_text.specs.declared.board.TheConstants.{MAX_LABELS}
 use Rattle.positions.specs.Counts.{HasSize, IsSmallest}
 use Rattle.positions.proofs.Counting.{count_below, count_below-same, count_below-add, count_below-le, count_ones-is, size_of}
 
@@ -38,9 +39,9 @@ has_bit-set_other words label x inside other =
 -- the bits of the labels below a number are set
 pub record HasBelow (words : List ℕ) (bound : ℕ) : Type 0 where
   pub size : length words ≡ 4
-  pub each : (x : ℕ) → x < 256 → (has_bit words x ≡ true) ↔ (x < bound)
+  pub each : (x : ℕ) → x < MAX_LABELS → (has_bit words x ≡ true) ↔ (x < bound)
 
-pub below_more : (words : List ℕ) (bound : ℕ) → bound < 256 → HasBelow words bound → HasBelow (with_bit words bound) (bound + 1)
+pub below_more : (words : List ℕ) (bound : ℕ) → bound < MAX_LABELS → HasBelow words bound → HasBelow (with_bit words bound) (bound + 1)
 below_more words bound small has = record {
   size = length-set words (bound / 64) (bit_or (get_or words (bound / 64) 0) (1 * 2 ^ (bound % 64) % 2 ^ 64)) ∙ has.size;
   each = λ x low. elim (cases_eq x bound) [
@@ -84,7 +85,7 @@ word_of_both first second (suc (suc zero)) low = refl
 word_of_both first second (suc (suc (suc zero))) low = refl
 word_of_both first second (suc (suc (suc (suc k)))) low = absurd (omega arith)
 
-pub has_bit-both : (first second : List ℕ) (x : ℕ) → x < 256 → (has_bit (both_of first second) x ≡ true) ↔ ((has_bit first x ≡ true) × (has_bit second x ≡ true))
+pub has_bit-both : (first second : List ℕ) (x : ℕ) → x < MAX_LABELS → (has_bit (both_of first second) x ≡ true) ↔ ((has_bit first x ≡ true) × (has_bit second x ≡ true))
 has_bit-both first second x small =
     let word = word_of_both first second (x / 64) (omega arith) in
     subst (λ w. (nat_eq (bit_at w (x % 64)) 1 ≡ true) ↔ ((has_bit first x ≡ true) × (has_bit second x ≡ true))) (sym word)
@@ -112,12 +113,12 @@ bits_more words k count small is =
 pub bits_few : (words : List ℕ) (bound count : ℕ) → count ≡ count_below (has_bit words) bound → count ≤ bound
 bits_few words bound count is = let few = count_below-le (has_bit words) bound in omega arith
 
-pub size_of_bits : (words : List ℕ) (bound count : ℕ) → bound ≡ 256 → count ≡ count_below (has_bit words) bound
-    → HasSize (λ x. (x < 256) × (has_bit words x ≡ true)) count
+pub size_of_bits : (words : List ℕ) (bound count : ℕ) → bound ≡ MAX_LABELS → count ≡ count_below (has_bit words) bound
+    → HasSize (λ x. (x < MAX_LABELS) × (has_bit words x ≡ true)) count
 size_of_bits words bound count all is =
-    let same : count_below (has_bit words) 256 ≡ count = ap (count_below (has_bit words)) (sym all) ∙ sym is in
-    subst (HasSize (λ x. (x < 256) × (has_bit words x ≡ true))) same
-    (size_of (λ x. (x < 256) × (has_bit words x ≡ true)) (has_bit words) 256 (λ x. (λ h. h, λ h. h)))
+    let same : count_below (has_bit words) MAX_LABELS ≡ count = ap (count_below (has_bit words)) (sym all) ∙ sym is in
+    subst (HasSize (λ x. (x < MAX_LABELS) × (has_bit words x ≡ true))) same
+    (size_of (λ x. (x < MAX_LABELS) × (has_bit words x ≡ true)) (has_bit words) MAX_LABELS (λ x. (λ h. h, λ h. h)))
 
 -- ---- the first bit from a bound on
 
@@ -164,7 +165,7 @@ pub none_passed : (words : List ℕ) (bound place : ℕ) → 64 * place + 64 ≤
 none_passed words bound place passed x above low set = omega arith
 
 abbrev pub HasBitFrom : List ℕ → ℕ → ℕ → Type 0
-HasBitFrom words bound x = (bound ≤ x) × (x < 256) × (has_bit words x ≡ true)
+HasBitFrom words bound x = (bound ≤ x) × (x < MAX_LABELS) × (has_bit words x ≡ true)
 
 pub search_some : (words : List ℕ) (bound place kept first : ℕ) → place < 4 → 0 < bit_and (get_or words place 0) kept → bit_and (get_or words place 0) kept < 2 ^ 64
     → Keeps bound place kept → NoneBefore words bound place → first ≡ 64 * place + trailing_zeros w64 (bit_and (get_or words place 0) kept)

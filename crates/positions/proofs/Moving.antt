@@ -2,11 +2,13 @@
 use Rattle.std.proofs.Common.{◌≡◌, ◌≢◌, ℕ, ◌+◌, ◌-◌, ◌*◌, ◌<◌, ◌≤◌, ◌↔◌, true, List, get_or, sym, ap, ◌∙◌, subst, below_more, arith}
 use Rattle.board_text.specs.PlainBoard.{PlainBoard, Beats, BeatsPlace, IsBoard, places}
 use Rattle.board_text.specs.Domination.{has_bit}
+use Rattle.board_text.specs.declared.board.TheConstants.{MAX_LABELS, MAX_PEBBLES}
 use Rattle.positions.specs.Game.{Legal, moved}
 use Rattle.positions.specs.Gaps.{IsDominator}
-use Rattle.positions.specs.Position.{Position, position_at, HasPlaces}
+use Rattle.positions.specs.Position.{Position, position_at}
+use Rattle.positions.specs.Inside.Position.{HasPlaces}
 use Rattle.positions.specs.Ranks.{configurations, rank_of, configuration_at}
-use Rattle.positions.specs.Weights.{weight_of}
+use Rattle.positions.specs.Inside.Weights.{weight_of}
 use Rattle.positions.proofs.Configurations.{moved_is_configuration}
 use Rattle.positions.proofs.Parts.{Parts, parts_at}
 use Rattle.positions.proofs.Ranks.{rank_below, rank_of-configuration_at, configuration_at_is}
@@ -17,12 +19,12 @@ BeatsOthers board held pebble bound label = (other : ℕ) → other < bound → 
 
 -- the bits are those of such labels
 abbrev pub AreBeating : PlainBoard → List ℕ → ℕ → ℕ → List ℕ → Type 0
-AreBeating board held pebble bound words = (label : ℕ) → label < 256 → (has_bit words label ≡ true) ↔ ((label < board.labels) × BeatsOthers board held pebble bound label)
+AreBeating board held pebble bound words = (label : ℕ) → label < MAX_LABELS → (has_bit words label ≡ true) ↔ ((label < board.labels) × BeatsOthers board held pebble bound label)
 
 -- a further pebble holds a label
 pub beating_more : (board : PlainBoard) (held words row new : List ℕ) (pebble bound : ℕ) → bound ≢ pebble → get_or held bound 0 < board.labels
-    → ((x : ℕ) → x < 256 → (has_bit row x ≡ true) ↔ Beats board x (get_or held bound 0))
-    → ((x : ℕ) → x < 256 → (has_bit new x ≡ true) ↔ ((has_bit words x ≡ true) × (has_bit row x ≡ true)))
+    → ((x : ℕ) → x < MAX_LABELS → (has_bit row x ≡ true) ↔ Beats board x (get_or held bound 0))
+    → ((x : ℕ) → x < MAX_LABELS → (has_bit new x ≡ true) ↔ ((has_bit words x ≡ true) × (has_bit row x ≡ true)))
     → AreBeating board held pebble bound words → AreBeating board held pebble (bound + 1) new
 beating_more board held words row new pebble bound differs is_label beaten both are label small = (
   λ set.
@@ -62,7 +64,7 @@ module _ (position : Position) (board space : PlainBoard) (rank : ℕ) (held : L
   pub few_pebbles : IsBoard space → (pebble : ℕ) → pebble < position.board.pebbles → pebble < 6
   few_pebbles is_board pebble inside =
       let there : pebble < board.pebbles = subst (λ p. pebble < p.board.pebbles) (sym is) inside in
-      let most : board.pebbles ≤ 6 = (subst IsBoard has.same_board is_board).pebbles.1 in
+      let most : board.pebbles ≤ MAX_PEBBLES = (subst IsBoard has.same_board is_board).pebbles.1 in
       omega arith
 
   -- what a label adds to the rank without the pebble's place

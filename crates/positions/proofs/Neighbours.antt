@@ -3,10 +3,10 @@ use Rattle.std.proofs.Common.{◌≡◌, ℕ, suc, ◌+◌, ◌-◌, ◌*◌, �
 use Rattle.std.proofs.Math.Nat.{one-le-pow, div-lt_iff_lt-mul}
 use Rattle.std.proofs.lemmas.Nat.{div-mul-add, mod-mul-add, pow-add}
 use Rattle.board_text.specs.PlainBoard.{PlainBoard, places}
-use Rattle.board_text.proofs.Places.{some_places}
+use Rattle.board_text.proofs.Cited.{some_places}
 use Rattle.positions.specs.Ranks.{rank_of}
 use Rattle.positions.specs.Gaps.{gaps_each, gaps, pebble_of, member_of}
-use Rattle.positions.specs.Weights.{AreNumbersOf, weight_of}
+use Rattle.positions.specs.Inside.Weights.{AreNumbersOf, weight_of}
 use Rattle.positions.proofs.GapLaws.{positive_each, pebble_below}
 use Rattle.positions.proofs.GapTurning.{first_weight, member_is_rank}
 

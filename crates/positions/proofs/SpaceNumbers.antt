@@ -2,7 +2,7 @@
 use Rattle.std.proofs.Common.{◌≡◌, subst}
 use Rattle.board_text.specs.PlainBoard.{PlainBoard}
 use Rattle.positions.specs.declared.space.Space.TheInside.{Inside}
-use Rattle.positions.specs.Weights.{AreNumbersOf}
+use Rattle.positions.specs.Inside.Weights.{AreNumbersOf}
 
 abbrev pub NumbersOf : PlainBoard → Inside → Type 0
 NumbersOf board s = AreNumbersOf board s.labels s.pebbles s.places s.configurations s.weights s.every_label.words

@@ -10,10 +10,13 @@ use Rattle.std.proofs.lemmas.List.{length_push, get_or_push, get_or_append_left}
 use Rattle.std.proofs.lemmas.List.Elements.{All-nil, All-cons, All-head, All-tail}
 use Rattle.board_text.specs.PlainBoard.{PlainBoard, IsBoard, Beats, BeatsPlace, places}
 use Rattle.board_text.specs.Domination.{has_bit}
-use Rattle.board_text.proofs.Places.{some_places}
+use Rattle.board_text.specs.declared.board.TheConstants.{MAX_LABELS}
+use Rattle.board_text.proofs.Cited.{some_places}
 use Rattle.positions.specs.Ranks.{configurations, digits_of}
 use Rattle.positions.specs.Gaps.{gaps, gaps_each, IsAnswer}
-use Rattle.positions.specs.Tuples.{tuple_of, AreBeating, AreWords, AreAllWords, IsColumn, AreColumns}
+use Rattle.positions.specs.Tuples.{tuple_of}
+use Rattle.positions.specs.Inside.Tuples.{AreBeating, AreWords, AreAllWords, IsColumn, AreColumns}
+use Rattle.positions.specs.declared.space.TheConstants.{MAX_CONFIGURATIONS}
 use Rattle.positions.proofs.GapLaws.{answer_beats_others}
 
 -- the bit of a label in a row is one of the word of its column
@@ -45,7 +48,7 @@ BeatsOne board number place word = (bit : ℕ) → bit < 64 → (bit_at word bit
 
 -- the word of a column in the row of all labels
 pub word_of_every : (board : PlainBoard) (number : ℕ) (every : List ℕ) → number < 4
-    → ((x : ℕ) → x < 256 → (has_bit every x ≡ true) ↔ (x < board.labels)) → IsEvery board number (get_or every number 0)
+    → ((x : ℕ) → x < MAX_LABELS → (has_bit every x ≡ true) ↔ (x < board.labels)) → IsEvery board number (get_or every number 0)
 word_of_every board number every inside labels bit small = (
   λ set. (labels (64 * number + bit) (omega arith)).0 ((bit_of_word every number bit small).1 set),
   λ less. (bit_of_word every number bit small).0 ((labels (64 * number + bit) (omega arith)).1 less),
@@ -53,7 +56,7 @@ word_of_every board number every inside labels bit small = (
 
 -- those of a column's labels that dominate a label
 pub beating_label : (board : PlainBoard) (number place every : ℕ) (row : List ℕ) → number < 4 → place < board.labels → IsEvery board number every
-    → ((x : ℕ) → x < 256 → (has_bit row x ≡ true) ↔ Beats board x place) → BeatsOne board number place (bit_and every (get_or row number 0))
+    → ((x : ℕ) → x < MAX_LABELS → (has_bit row x ≡ true) ↔ Beats board x place) → BeatsOne board number place (bit_and every (get_or row number 0))
 beating_label board number place every row inside held labels beats bit small = (
   λ set.
       let both = (bit_of_both_words every (get_or row number 0) bit).0 set in
@@ -159,7 +162,7 @@ row_of_columns columns tuple first second third fourth row is one two three four
 -- the words of a tuple have the gap's answers
 pub answers_of_tuple : (board : PlainBoard) (columns : List (List ℕ)) (tuple : ℕ) (row : List ℕ) → AreColumns board columns → tuple < gaps_each board
     → ((number : ℕ) → number < 4 → IsWordIn columns tuple number (get_or row number 0)) → (gap : ℕ) → gap < gaps board → tuple_of board gap ≡ tuple
-    → (label : ℕ) → label < 256 → (has_bit row label ≡ true) ↔ IsAnswer board gap label
+    → (label : ℕ) → label < MAX_LABELS → (has_bit row label ≡ true) ↔ IsAnswer board gap label
 answers_of_tuple board columns tuple row all inside words gap below same label small =
     let held : List ℕ = digits_of (places board) (board.pebbles - 1) tuple in
     let number : ℕ = label / 64 in
@@ -180,8 +183,8 @@ answers_of_tuple board columns tuple row all inside words gap below same label s
     )
 
 -- there are no more tuples of one more place than configurations
-pub room_for_more : (board : PlainBoard) (number count : ℕ) (words : List ℕ) → AreAllWords board number count words → IsBoard board → configurations board ≤ 1048576 → count < board.pebbles
-    → places board * length words ≤ 1048576
+pub room_for_more : (board : PlainBoard) (number count : ℕ) (words : List ℕ) → AreAllWords board number count words → IsBoard board → configurations board ≤ MAX_CONFIGURATIONS → count < board.pebbles
+    → places board * length words ≤ MAX_CONFIGURATIONS
 room_for_more board number count words all is few inside =
     let many : places board * length words ≡ places board ^ suc count = ap (λ n. places board * n) all.so_many ∙ sym (pow-succ' (places board) count) in
     let most : places board ^ suc count ≤ places board ^ board.pebbles = pow-le-pow_right (some_places board is) (omega arith) in

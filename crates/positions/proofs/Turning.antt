@@ -5,10 +5,12 @@ use Rattle.std.proofs.lemmas.List.{take_more, length-take-le, take_all}
 use Rattle.std.proofs.lemmas.List.Elements.{All-take}
 use Rattle.std.proofs.lemmas.List.{get_or_default}
 use Rattle.board_text.specs.PlainBoard.{PlainBoard, IsBoard, IsConfiguration, places}
-use Rattle.board_text.proofs.Places.{some_places}
+use Rattle.board_text.specs.declared.board.TheConstants.{MAX_PEBBLES}
+use Rattle.board_text.proofs.Cited.{some_places}
 use Rattle.positions.specs.Game.{moved}
 use Rattle.positions.specs.Ranks.{number_of, configurations, rank_of, configuration_at}
-use Rattle.positions.specs.Weights.{AreNumbersOf, weight_of}
+use Rattle.positions.specs.Inside.Weights.{AreNumbersOf, weight_of}
+use Rattle.positions.specs.declared.space.TheConstants.{MAX_CONFIGURATIONS}
 use Rattle.positions.proofs.Configurations.{moved_is_configuration}
 use Rattle.positions.proofs.Digits.{length-digits_of, number_of-push, number_below}
 use Rattle.positions.proofs.Parts.{Parts, parts_at, quotient, remainder}
@@ -23,7 +25,7 @@ weight_positive board base weights pebble are inside =
 -- the parts of a rank by a pebble, with its weight
 -- the weight of a pebble, whatever is read where there is none
 pub read_weight : {labels pebbles size : ℕ} {words : List ℕ} (board : PlainBoard) (base : ℕ) (weights : List ℕ) (pebble none : ℕ)
-    → AreNumbersOf board labels pebbles base size weights words → length weights ≡ 6 → pebble < board.pebbles → get_or weights pebble none ≡ get_or weights pebble 0
+    → AreNumbersOf board labels pebbles base size weights words → length weights ≡ MAX_PEBBLES → pebble < board.pebbles → get_or weights pebble none ≡ get_or weights pebble 0
 read_weight board base weights pebble none are six inside = get_or_default weights pebble none 0 (omega (arith, six, are.is_board.pebbles.1))
 
 pub rank_parts : {labels pebbles size : ℕ} {words : List ℕ} (board : PlainBoard) (base : ℕ) (weights : List ℕ) (rank pebble : ℕ)
@@ -50,7 +52,7 @@ held_is board base weights rank pebble are below inside =
 pub record IsWith (board : PlainBoard) (base : ℕ) (weight rank pebble label : ℕ) : Type 0 where
   pub rank_is : rank - rank / weight % base * weight + label * weight ≡ rank_of board (moved (configuration_at board rank) pebble label)
   pub below : rank - rank / weight % base * weight + label * weight < configurations board
-  pub few : rank - rank / weight % base * weight + label * weight ≤ 1048576
+  pub few : rank - rank / weight % base * weight + label * weight ≤ MAX_CONFIGURATIONS
 
 pub with_label : {labels pebbles size : ℕ} {words : List ℕ} (board : PlainBoard) (base : ℕ) (weights : List ℕ) (rank pebble label : ℕ)
     → AreNumbersOf board labels pebbles base size weights words → rank < configurations board → pebble < board.pebbles → label < board.labels
@@ -66,7 +68,7 @@ with_label board base weights rank pebble label are below inside low =
     let same : rank - rank / weight % base * weight + label * weight ≡ rank_of board (moved (configuration_at board rank) pebble label) = omega arith in
     let small : rank_of board (moved (configuration_at board rank) pebble label) < configurations board =
     rank_below board (moved (configuration_at board rank) pebble label) (moved_is_configuration board (configuration_at board rank) pebble label low (configuration_at_is board rank below)) in
-    let few : configurations board ≤ 1048576 = are.few in
+    let few : configurations board ≤ MAX_CONFIGURATIONS = are.few in
     record {
       rank_is = same;
       below = subst (λ n. n < configurations board) (sym same) small;
@@ -88,7 +90,7 @@ rank_rest_next board rank place rest weight is_board weighs inside is =
 
 pub record IsFrontNumber (board : PlainBoard) (configuration : List ℕ) (index number : ℕ) : Type 0 where
   pub number_is : number ≡ number_of (places board) (take index configuration)
-  pub few : number ≤ 1048576
+  pub few : number ≤ MAX_CONFIGURATIONS
 
 pub record IsNextFront (board : PlainBoard) (configuration : List ℕ) (index number : ℕ) : Type 0 where
   pub below : number < configurations board
@@ -111,7 +113,7 @@ front_more board base weights configuration index number are is inside front =
     number_below (places board) front_list (All-take (λ l. l < places board) (index + 1) configuration is.each_place) in
     let long : length front_list ≤ board.pebbles = omega (arith, is.each_pebble) in
     let most : places board ^ length front_list ≤ configurations board = pow-le-pow_right some long in
-    let few : configurations board ≤ 1048576 = are.few in
+    let few : configurations board ≤ MAX_CONFIGURATIONS = are.few in
     record { below = omega arith; front = record { number_is = same; few = omega arith } }
 
 pub front_all : (board : PlainBoard) (configuration : List ℕ) (index number : ℕ) → length configuration ≤ index

@@ -4,14 +4,16 @@ use Rattle.std.proofs.Math.Nat.{pow-suc, pow-le-pow_right}
 use Rattle.std.proofs.lemmas.Bool.{cases_eq}
 use Rattle.std.proofs.lemmas.List.{length-set, get_or-set_same, get_or-set_other}
 use Rattle.board_text.specs.PlainBoard.{PlainBoard, IsBoard, places}
-use Rattle.board_text.proofs.Places.{some_places}
+use Rattle.board_text.specs.declared.board.TheConstants.{MAX_PEBBLES}
+use Rattle.board_text.proofs.Cited.{some_places}
 use Rattle.positions.specs.Ranks.{configurations}
-use Rattle.positions.specs.Weights.{weight_of}
+use Rattle.positions.specs.Inside.Weights.{weight_of}
+use Rattle.positions.specs.declared.space.TheConstants.{MAX_CONFIGURATIONS}
 
 -- the weights from a pebble on are found, and the next one too
 pub record IsWeighed (board : PlainBoard) (weights : List ℕ) (pebble next : ℕ) : Type 0 where
-  pub six : length weights ≡ 6
-  pub few : next ≤ 1048576
+  pub six : length weights ≡ MAX_PEBBLES
+  pub few : next ≤ MAX_CONFIGURATIONS
   pub power : next ≡ places board ^ (board.pebbles - pebble)
   pub weighs : (other : ℕ) → pebble ≤ other → other < board.pebbles → get_or weights other 0 ≡ weight_of board other
 
@@ -21,11 +23,11 @@ next_power board pebble next inside power =
     let one_more : suc (board.pebbles - (pebble + 1)) ≡ board.pebbles - pebble = omega arith in
     ap (λ n. n * places board) power ∙ sym (pow-suc (places board) (board.pebbles - (pebble + 1))) ∙ ap (λ n. places board ^ n) one_more
 
-pub weighed_more : (board : PlainBoard) (weights : List ℕ) (pebble next : ℕ) → IsBoard board → pebble < board.pebbles → next * places board ≤ 1048576
+pub weighed_more : (board : PlainBoard) (weights : List ℕ) (pebble next : ℕ) → IsBoard board → pebble < board.pebbles → next * places board ≤ MAX_CONFIGURATIONS
     → IsWeighed board weights (pebble + 1) next → IsWeighed board (set weights pebble next) pebble (next * places board)
 weighed_more board weights pebble next is inside few weighed =
-    let six : length weights ≡ 6 = weighed.six in
-    let most : board.pebbles ≤ 6 = is.pebbles.1 in
+    let six : length weights ≡ MAX_PEBBLES = weighed.six in
+    let most : board.pebbles ≤ MAX_PEBBLES = is.pebbles.1 in
     let within : pebble < length weights = omega arith in
     let left : board.pebbles - (pebble + 1) ≡ board.pebbles - 1 - pebble = omega arith in
     record {
@@ -40,8 +42,8 @@ weighed_more board weights pebble next is inside few weighed =
     }
 
 -- a power that is too large is one of a board that is too large
-pub too_large : (board : PlainBoard) (weights : List ℕ) (pebble next : ℕ) → IsBoard board → pebble < board.pebbles → 1048576 < next * places board
-    → IsWeighed board weights (pebble + 1) next → 1048576 < configurations board
+pub too_large : (board : PlainBoard) (weights : List ℕ) (pebble next : ℕ) → IsBoard board → pebble < board.pebbles → MAX_CONFIGURATIONS < next * places board
+    → IsWeighed board weights (pebble + 1) next → MAX_CONFIGURATIONS < configurations board
 too_large board weights pebble next is inside large weighed =
     let power : next * places board ≡ places board ^ (board.pebbles - pebble) = next_power board pebble next inside weighed.power in
     let most : places board ^ (board.pebbles - pebble) ≤ configurations board = pow-le-pow_right (some_places board is) (omega arith) in

@@ -9,7 +9,8 @@ use Rattle.positions.specs.Table.{AnswerRow, RequestRow, Answers, StopsAfter, Is
 
 -- the tables show the claim: the labeller's that so many requests are answered, the adversary's that no more are
 abbrev pub Shows : PlainBoard → List AnswerRow → List RequestRow → Claim → Type 0
-Shows board labeller adversary (claims.Exactly number) = Answers board labeller number board.start × StopsAfter board adversary number board.start
+Shows board labeller adversary (claims.Exactly number) = Answers board labeller number board.start
+    × StopsAfter board adversary number board.start
 Shows board labeller adversary (claims.AtLeast number) = Answers board labeller number board.start
 Shows board labeller adversary (claims.AtMost number) = StopsAfter board adversary number board.start
 Shows board labeller adversary claims.Forever = IsClosed board labeller × IsListed labeller board.start
@@ -17,6 +18,7 @@ Shows board labeller adversary claims.Forever = IsClosed board labeller × IsLis
 -- the claim holds of the start's value
 abbrev pub Holds : PlainBoard → Claim → Type 0
 Holds board (claims.Exactly number) = HasValue board board.start (Finite number)
-Holds board (claims.AtLeast number) = HasValue board board.start Forever ⊎ ((depth : ℕ) × (number ≤ depth) × HasValue board board.start (Finite depth))
+Holds board (claims.AtLeast number) = HasValue board board.start Forever
+    ⊎ ((depth : ℕ) × (number ≤ depth) × HasValue board board.start (Finite depth))
 Holds board (claims.AtMost number) = HasValueAtMost board board.start number
 Holds board claims.Forever = HasValue board board.start Forever

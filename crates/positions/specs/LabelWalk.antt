@@ -1,6 +1,7 @@
 -- Walks over the labels of a set.
 use Rattle.std.specs.Prelude.{◌≡◌, ℕ, ◌+◌, ◌<◌, ◌↔◌, true, List, Some}
 use Rattle.board_text.specs.Domination.{has_bit}
+use Rattle.board_text.specs.declared.board.TheConstants.{MAX_LABELS}
 use Rattle.positions.specs.Counts.{IsSmallest}
 
 -- the labels that are left, as words of bits, and a label from which on they are
@@ -10,6 +11,6 @@ pub record Walk : Type 0 where
 
 -- the label was the smallest, and those after it are left
 pub record IsStep (before after : Walk) (label : ℕ) : Type 0 where
-  pub smallest : IsSmallest (λ x. (x < 256) × (has_bit before.left x ≡ true)) (Some label)
-  pub left : (x : ℕ) → x < 256 → (has_bit after.left x ≡ true) ↔ ((has_bit before.left x ≡ true) × (label < x))
+  pub smallest : IsSmallest (λ x. (x < MAX_LABELS) × (has_bit before.left x ≡ true)) (Some label)
+  pub left : (x : ℕ) → x < MAX_LABELS → (has_bit after.left x ≡ true) ↔ ((has_bit before.left x ≡ true) × (label < x))
   pub from : after.from ≡ label + 1

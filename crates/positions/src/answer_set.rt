@@ -6,6 +6,7 @@ ghost use Rattle.positions.specs.Counts.{HasSize, IsSmallest};
 
 use crate::label_set::LabelSet;
 use crate::label_walk::LabelWalk;
+use board_text::MAX_LABELS;
 use std::marker::Model;
 
 /// The answers of a gap, which are found once and then read one after the other.
@@ -34,14 +35,14 @@ impl AnswerSet {
 
     /// How many answers there are.
     pub fn len(&self) -> u32
-        ensures { HasSize (λ x. (x < 256) × (has_bit self.now x ≡ true)) result }
+        ensures { HasSize (λ x. (x < MAX_LABELS) × (has_bit self.now x ≡ true)) result }
     {
         self.labels.len()
     }
 
     /// The smallest answer that is at least a bound, if there is one.
     pub fn first_from(&self, bound: u16) -> Option<u16>
-        ensures { IsSmallest (λ x. (bound ≤ x) × (x < 256) × (has_bit self.now x ≡ true)) result }
+        ensures { IsSmallest (λ x. (bound ≤ x) × (x < MAX_LABELS) × (has_bit self.now x ≡ true)) result }
     {
         self.labels.first_from(bound)
     }

@@ -4,7 +4,7 @@ ghost use Rattle.std.specs.Prelude.{◌≡◌, ℕ, ◌+◌, ◌*◌, ◌<◌, �
 ghost use Rattle.std.specs.Int.{bit_at};
 ghost use Rattle.board_text.specs.PlainBoard.{BeatsPlace, places};
 ghost use Rattle.positions.specs.Ranks.{configurations};
-ghost use Rattle.positions.specs.Tuples.{IsColumn, AreWords, AreAllWords};
+ghost use Rattle.positions.specs.Inside.Tuples.{IsColumn, AreWords, AreAllWords};
 
 use crate::label_set::LabelSet;
 use crate::space::MAX_CONFIGURATIONS;

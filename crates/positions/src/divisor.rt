@@ -3,6 +3,7 @@
 ghost use Rattle.std.specs.Prelude.{◌≡◌, ◌*◌, ◌/◌, ◌%◌, ◌<◌, ◌≤◌};
 
 use crate::space::MAX_CONFIGURATIONS;
+use board_text::MAX_PEBBLES;
 use std::marker::Model;
 
 /// A divisor, 1 to 1,048,576, by which is divided with a product in place of a division.
@@ -18,7 +19,7 @@ pub(crate) struct Divisor {
 impl Model for Divisor {
     ghost use Rattle.std.specs.Prelude.{ℕ, ◌+◌, ◌/◌, ◌^◌};
     ghost use Rattle.std.proofs.Common.{sym, ap};
-    ghost use Rattle.positions.specs.Weights.{IsDivisor};
+    ghost use Rattle.positions.specs.Inside.Weights.{IsDivisor};
 
     ghost Value = { ℕ };
 
@@ -52,7 +53,7 @@ impl Divisor {
 
     /// How many times the divisor is in a number.
     pub(crate) fn quotient(self, number: u32) -> u32
-        requires few { number ≤ 6 * MAX_CONFIGURATIONS }
+        requires few { number ≤ MAX_PEBBLES * MAX_CONFIGURATIONS }
         requires not_many { number ≤ MAX_CONFIGURATIONS * self }
         ensures { result ≡ number / self }
     {
@@ -61,7 +62,7 @@ impl Divisor {
 
     /// What a number is more than a multiple of the divisor.
     pub(crate) fn rest(self, number: u32) -> u32
-        requires few { number ≤ 6 * MAX_CONFIGURATIONS }
+        requires few { number ≤ MAX_PEBBLES * MAX_CONFIGURATIONS }
         requires not_many { number ≤ MAX_CONFIGURATIONS * self }
         ensures { result ≡ number % self }
     {

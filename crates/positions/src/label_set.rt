@@ -6,7 +6,7 @@ ghost use Rattle.board_text.specs.Domination.{has_bit};
 ghost use Rattle.positions.specs.Counts.{HasSize, IsSmallest};
 
 use crate::label_walk::LabelWalk;
-use board_text::ROW_WORDS;
+use board_text::{MAX_LABELS, ROW_WORDS};
 
 /// A set of labels: the label x is bit `x % 64` of word `x / 64`.
 #[derive(Clone, Copy)]
@@ -17,8 +17,8 @@ pub(crate) struct LabelSet {
 impl LabelSet {
     /// The labels below a number.
     pub(crate) fn below(labels: u16) -> LabelSet
-        requires { labels ≤ 256 }
-        ensures { (x : ℕ) → x < 256 → (has_bit result.words x ≡ true) ↔ (x < labels) }
+        requires { labels ≤ MAX_LABELS }
+        ensures { (x : ℕ) → x < MAX_LABELS → (has_bit result.words x ≡ true) ↔ (x < labels) }
     {
         let mut words = [0; ROW_WORDS];
         for label in 0..labels {
@@ -30,7 +30,8 @@ impl LabelSet {
     /// The labels that are both in this set and in a row of bits.
     pub(crate) fn intersection(self, row: &[u64]) -> LabelSet
         requires { length row.now ≡ ROW_WORDS }
-        ensures { (x : ℕ) → x < 256 → (has_bit result.words x ≡ true) ↔ ((has_bit self.words x ≡ true) × (has_bit row.now x ≡ true)) }
+        ensures { (x : ℕ) → x < MAX_LABELS
+            → (has_bit result.words x ≡ true) ↔ ((has_bit self.words x ≡ true) × (has_bit row.now x ≡ true)) }
     {
         LabelSet {
             words: [
@@ -44,7 +45,7 @@ impl LabelSet {
 
     /// How many labels are in the set.
     pub(crate) fn len(&self) -> u32
-        ensures { HasSize (λ x. (x < 256) × (has_bit self.now.words x ≡ true)) result }
+        ensures { HasSize (λ x. (x < MAX_LABELS) × (has_bit self.now.words x ≡ true)) result }
     {
         let mut count = 0;
         for word in &self.words {
@@ -62,7 +63,7 @@ impl LabelSet {
 
     /// The smallest label of the set that is at least a bound.
     pub(crate) fn first_from(&self, bound: u16) -> Option<u16>
-        ensures { IsSmallest (λ x. (bound ≤ x) × (x < 256) × (has_bit self.now.words x ≡ true)) result }
+        ensures { IsSmallest (λ x. (bound ≤ x) × (x < MAX_LABELS) × (has_bit self.now.words x ≡ true)) result }
     {
         let bound = bound as usize;
         // Each word has its own step, so that the words can be kept in registers.

@@ -4,7 +4,7 @@ ghost use Rattle.std.specs.Prelude.{◌≡◌, ℕ, ◌<◌, true, MatchOption};
 ghost use Rattle.board_text.specs.Domination.{has_bit};
 ghost use Rattle.positions.specs.LabelWalk.{IsStep};
 
-use board_text::ROW_WORDS;
+use board_text::{MAX_LABELS, ROW_WORDS};
 use std::marker::Model;
 
 /// A walk over the labels of a set, in ascending order.
@@ -13,15 +13,25 @@ use std::marker::Model;
 #[derive(Drop)]
 pub struct LabelWalk {
     words: [u64; ROW_WORDS],
+    /// The place of the word that the walk has come to.
+    place: usize,
+    /// What is left of that word, which then stands for the one in `words`.
+    word: u64,
+    /// 0 only where all words behind the first are 0.
+    behind: u64,
     from: u16,
 }
 
 impl Model for LabelWalk {
+    ghost use Rattle.std.specs.Prelude.{slice_set};
     ghost use Rattle.positions.specs.LabelWalk.{Walk};
+    ghost use Rattle.positions.specs.Inside.LabelWalk.{HasCome};
 
     ghost Value = { Walk };
 
-    ghost view = { λ w. record { left = w.words; from = w.from } };
+    ghost view = { λ w. record { left = slice_set w.words w.place w.word; from = w.from } };
+
+    ghost invariant = { λ w. HasCome w.words w.place w.word w.behind };
 }
 
 impl LabelWalk {
@@ -29,22 +39,31 @@ impl LabelWalk {
     pub(crate) fn new(words: [u64; ROW_WORDS]) -> LabelWalk
         ensures { result ≡ record { left = words; from = 0 } }
     {
-        LabelWalk { words, from: 0 }
+        LabelWalk {
+            words,
+            place: 0,
+            word: words[0],
+            behind: words[1] | words[2] | words[3],
+            from: 0,
+        }
     }
 
     /// The next label, if one is left.
     pub fn take_next(&mut self) -> Option<u16>
-        ensures { MatchOption result ((label : ℕ) → label < 256 → has_bit self.old.left label ≡ true → ⊥) (IsStep self.old self.new) }
+        ensures { MatchOption result ((label : ℕ) → label < MAX_LABELS → has_bit self.old.left label ≡ true → ⊥)
+            (IsStep self.old self.new) }
     {
-        for place in 0..ROW_WORDS {
-            let word = self.words[place];
-            if word != 0 {
-                let label = (64 * place) as u16 + word.trailing_zeros() as u16;
-                self.words[place] = word & (word - 1);
-                self.from = label + 1;
-                return Some(label);
+        while self.word == 0 {
+            if self.behind == 0 || self.place + 1 == ROW_WORDS {
+                return None;
             }
+            self.words[self.place] = 0;
+            self.place += 1;
+            self.word = self.words[self.place];
         }
-        None
+        let label = (64 * self.place) as u16 + self.word.trailing_zeros() as u16;
+        self.word &= self.word - 1;
+        self.from = label + 1;
+        Some(label)
     }
 }

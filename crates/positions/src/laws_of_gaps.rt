@@ -8,9 +8,11 @@ ghost use Rattle.positions.specs.Gaps.{gaps, gap_of, pebble_of, member_of, IsAns
 /// The gap of a pebble at a configuration is a gap of that pebble, and its members are the configurations
 /// that differ in that pebble's label alone.
 pub fn gaps_of_configurations()
-    ensures is_gap { (board : PlainBoard) → (configuration : List ℕ) → (pebble : ℕ) → IsConfiguration board configuration → pebble < board.pebbles
+    ensures is_gap { (board : PlainBoard) → (configuration : List ℕ) → (pebble : ℕ) → IsConfiguration board configuration
+        → pebble < board.pebbles
         → gap_of board configuration pebble < gaps board }
-    ensures pebble { (board : PlainBoard) → (configuration : List ℕ) → (pebble : ℕ) → IsConfiguration board configuration → pebble < board.pebbles
+    ensures pebble { (board : PlainBoard) → (configuration : List ℕ) → (pebble : ℕ) → IsConfiguration board configuration
+        → pebble < board.pebbles
         → pebble_of board (gap_of board configuration pebble) ≡ pebble }
     ensures members { (board : PlainBoard) → (configuration : List ℕ) → (pebble : ℕ) → (label : ℕ) → IsConfiguration board configuration
         → pebble < board.pebbles → member_of board (gap_of board configuration pebble) label ≡ moved configuration pebble label }

@@ -10,7 +10,7 @@ ghost use Rattle.positions.specs.Ranks.{configurations, rank_of};
 use crate::answer_set::AnswerSet;
 use crate::members::Members;
 use crate::space::{MAX_CONFIGURATIONS, Space};
-use board_text::Board;
+use board_text::{Board, MAX_LABELS, MAX_PEBBLES};
 use std::marker::Model;
 
 /// The moves from a configuration, whose places are found once for all of them.
@@ -22,11 +22,12 @@ pub struct Moves<'a> {
     space: &'a Space,
     rank: u32,
     /// The place of each pebble of the board.
-    places: [u16; 6],
+    places: [u16; MAX_PEBBLES],
 }
 
 impl<'a> Model for Moves<'a> {
-    ghost use Rattle.positions.specs.Position.{Position, position_at, HasPlaces};
+    ghost use Rattle.positions.specs.Position.{Position, position_at};
+    ghost use Rattle.positions.specs.Inside.Position.{HasPlaces};
 
     ghost Value = { Position };
 
@@ -44,7 +45,7 @@ impl Space {
         requires rank { rank < configurations self.now }
         ensures { result ≡ position_at board.now rank }
     {
-        let mut places = [0; 6];
+        let mut places = [0; MAX_PEBBLES];
         let mut rest = rank;
         for pebble in 0..self.pebbles() {
             let weight = self.weight(pebble).value();
@@ -87,8 +88,9 @@ impl<'a> Moves<'a> {
 
     /// The labels that a request of the pebble may be answered with.
     pub fn answers(&self, pebble: u8) -> AnswerSet
-        ensures bits { (label : ℕ) → label < 256 → (has_bit result label ≡ true) ↔ Legal self.now.board self.now.configuration pebble label }
-        ensures few { self.now.board.labels ≤ 256 }
+        ensures bits { (label : ℕ) → label < MAX_LABELS
+            → (has_bit result label ≡ true) ↔ Legal self.now.board self.now.configuration pebble label }
+        ensures few { self.now.board.labels ≤ MAX_LABELS }
     {
         let mut answers = self.space.every_label();
         for other in 0..self.space.pebbles() {
@@ -103,7 +105,8 @@ impl<'a> Moves<'a> {
     /// The ranks of the configurations after a request of the pebble, by the label of the answer.
     pub fn results(&self, pebble: u8) -> Members
         requires { pebble < self.now.board.pebbles }
-        ensures ranks { (label : ℕ) → label < self.now.board.labels → result.first + label * result.step ≡ rank_of self.now.board (moved self.now.configuration pebble label) }
+        ensures ranks { (label : ℕ) → label < self.now.board.labels → result.first + label * result.step
+            ≡ rank_of self.now.board (moved self.now.configuration pebble label) }
         ensures below { (label : ℕ) → label < self.now.board.labels → result.first + label * result.step < configurations self.now.board }
         ensures few { configurations self.now.board ≤ MAX_CONFIGURATIONS }
     {

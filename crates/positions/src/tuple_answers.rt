@@ -9,7 +9,7 @@ use crate::answer_set::AnswerSet;
 use crate::column::Column;
 use crate::label_set::LabelSet;
 use crate::space::Space;
-use board_text::{Board, Memory, ROW_WORDS};
+use board_text::{Board, MAX_LABELS, Memory, ROW_WORDS};
 use std::alloc::Global;
 use std::marker::Model;
 use std::snapshot::Snapshot;
@@ -27,7 +27,7 @@ pub struct TupleAnswers {
 
 impl Model for TupleAnswers {
     ghost use Rattle.board_text.specs.PlainBoard.{PlainBoard};
-    ghost use Rattle.positions.specs.Tuples.{AreColumns};
+    ghost use Rattle.positions.specs.Inside.Tuples.{AreColumns};
 
     ghost Value = { PlainBoard };
 
@@ -59,7 +59,7 @@ impl TupleAnswers {
     pub fn answers(&self, tuple: u32) -> AnswerSet
         requires { tuple < gaps_each self.now }
         ensures { (gap : ℕ) → gap < gaps self.now → tuple_of self.now gap ≡ tuple
-            → (label : ℕ) → label < 256 → (has_bit result label ≡ true) ↔ IsAnswer self.now gap label }
+            → (label : ℕ) → label < MAX_LABELS → (has_bit result label ≡ true) ↔ IsAnswer self.now gap label }
     {
         AnswerSet::new(LabelSet {
             words: [

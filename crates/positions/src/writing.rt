@@ -11,7 +11,8 @@ use std::alloc::AllocError;
 /// Writes the places of the configuration of a rank, each with a space before it: its label, or a hyphen where it holds none.
 pub fn write_labels(text: &mut String, space: &Space, at: u32) -> Result<(), AllocError>
     requires { at < configurations space.now }
-    ensures { OnOk result (string_bytes text.new ≡ string_bytes text.old ++ spaced_places space.now.labels (configuration_at space.now at)) }
+    ensures { OnOk result (string_bytes text.new ≡ string_bytes text.old
+        ++ spaced_places space.now.labels (configuration_at space.now at)) }
 {
     for pebble in 0..space.pebbles() {
         write_place(text, space.labels(), space.label_at(at, pebble))?;

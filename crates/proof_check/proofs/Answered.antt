@@ -6,12 +6,11 @@ use Rattle.positions.specs.Position.{Position, position_at}
 use Rattle.positions.specs.Ranks.{rank_of, configuration_at, configurations}
 use Rattle.positions.specs.Table.{AnswerRow}
 use Rattle.positions.specs.declared.turns.Turns.{Turns}
-use Rattle.positions.proofs.Ranks.{configuration_at_is}
-use Rattle.positions.proofs.Configurations.{moved_is_configuration}
+use Rattle.positions.proofs.Cited.{configuration_at_is, moved_is_configuration}
 use Rattle.proof_text.specs.declared.proof.LabellerRow.{LabellerRow}
 use Rattle.proof_text.specs.Proof.{answer_row}
 use Rattle.proof_text.specs.Rules.{IsEnough, one_less, IsListedFor, Serves, MeetsRequest}
-use Rattle.proof_check.specs.Checker.{IsRowFor}
+use Rattle.proof_check.specs.Inside.Checker.{IsRowFor}
 use Rattle.proof_check.specs.CheckFaults.{HasRow}
 
 pub told : {P : Type 0} (b : Bool) → IsTrue b ↔ P → b ≡ false → P → ⊥

@@ -6,9 +6,9 @@ use Rattle.std.proofs.lemmas.List.{get_or-map, length-map, get_or_default}
 use Rattle.std.proofs.lemmas.List.Elements.{All-contains}
 use Rattle.board_text.specs.PlainBoard.{PlainBoard}
 use Rattle.positions.specs.Ranks.{rank_of, configuration_at, configurations}
-use Rattle.positions.proofs.Ranks.{rank_of-configuration_at, configuration_at-rank_of}
-use Rattle.proof_check.specs.Checker.{IsRowFor, FindsRow}
-use Rattle.proof_check.specs.RowIndex.{AreRanked, HasNone, IsRowOf}
+use Rattle.positions.proofs.Cited.{rank_of-configuration_at, configuration_at-rank_of}
+use Rattle.proof_check.specs.Inside.Checker.{IsRowFor, FindsRow}
+use Rattle.proof_check.specs.Inside.RowIndex.{AreRanked, HasNone, IsRowOf}
 
 Contains-map : {R X : Type 0} (f : R → X) (rows : List R) (row : R) → Contains rows row → Contains (map f rows) (f row)
 Contains-map f rows row is =

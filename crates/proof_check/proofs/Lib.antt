@@ -11,3 +11,4 @@ pub mod Turns
 pub mod Refusing
 pub mod FirstRow
 pub mod OneFault
+pub mod Cited

@@ -3,15 +3,16 @@ use Rattle.std.proofs.Common.{◌≡◌, ℕ, ◌<◌, ◌≤◌, ◌↔◌, tru
 use Rattle.std.proofs.lemmas.Bool.{cases_lt}
 use Rattle.board_text.specs.Domination.{has_bit}
 use Rattle.board_text.specs.PlainBoard.{PlainBoard}
+use Rattle.board_text.specs.declared.board.TheConstants.{MAX_LABELS}
 use Rattle.positions.specs.Counts.{IsSmallest}
 use Rattle.positions.specs.Game.{Legal}
 use Rattle.positions.specs.LabelWalk.{Walk}
 use Rattle.positions.specs.Position.{Position, position_at}
 use Rattle.positions.specs.Ranks.{configuration_at}
 use Rattle.positions.specs.Table.{RequestRow}
-use Rattle.positions.proofs.Walking.{AreFrom, walk_begins}
+use Rattle.positions.proofs.Cited.{AreFrom, walk_begins}
 use Rattle.proof_text.specs.Rules.{IsListedBelow, MeetsAnswer, MeetsAnswers}
-use Rattle.proof_check.specs.Checker.{IsRowFor}
+use Rattle.proof_check.specs.Inside.Checker.{IsRowFor}
 
 module _ (rows : List RequestRow) (configuration : List ℕ) (row : RequestRow) (is : IsRowFor (λ r. r.at) rows configuration row) where
   pub listed_below : (bound : ℕ) → row.left < bound → IsListedBelow rows configuration bound
@@ -23,8 +24,8 @@ module _ (rows : List RequestRow) (configuration : List ℕ) (row : RequestRow) 
       let left : listed.row.left ≡ row.left = ap (λ (r : RequestRow). r.left) (is.only listed.row listed.among listed.at) in
       omega (arith, low, left, large)
 
-pub legal_few : (board : PlainBoard) (position : Position) (rank pebble : ℕ) → position ≡ position_at board rank → position.board.labels ≤ 256 → (label : ℕ) → Legal board (configuration_at board rank) pebble label → label < 256
-legal_few board position rank pebble is few label legal = let most : board.labels ≤ 256 = subst (λ (p : Position). p.board.labels ≤ 256) is few in omega (arith, legal.is_label, most)
+pub legal_few : (board : PlainBoard) (position : Position) (rank pebble : ℕ) → position ≡ position_at board rank → position.board.labels ≤ MAX_LABELS → (label : ℕ) → Legal board (configuration_at board rank) pebble label → label < MAX_LABELS
+legal_few board position rank pebble is few label legal = let most : board.labels ≤ MAX_LABELS = subst (λ (p : Position). p.board.labels ≤ MAX_LABELS) is few in omega (arith, legal.is_label, most)
 
 -- each label below a bound is met
 module _ (board : PlainBoard) (rows : List RequestRow) (row : RequestRow) (from : ℕ) (before : (earlier : ℕ) → earlier < from → MeetsAnswer board rows row earlier) where

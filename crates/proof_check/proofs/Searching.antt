@@ -6,7 +6,7 @@ use Rattle.std.specs.Ordering.{nat_cmp, ordering_index}
 use Rattle.std.proofs.lemmas.Bool.{cases_eq, cases_lt}
 use Rattle.std.proofs.lemmas.Bool.Decides.{nat_tests}
 use Rattle.std.proofs.lemmas.Cmp.{ranked}
-use Rattle.proof_check.specs.RowIndex.{AreAscending, HasNone, IsRowOf}
+use Rattle.proof_check.specs.Inside.RowIndex.{AreAscending, HasNone, IsRowOf}
 
 module _ {X : Type 0} (rank : X → ℕ) (rows : List X) (number : ℕ) where
   rise : AreAscending rank rows → IsNonDecreasingBy (λ row. ordering_index (nat_cmp (rank row) number)) rows

@@ -10,13 +10,13 @@ use Rattle.positions.specs.declared.claim.Claim.{Claim}
 use Rattle.positions.specs.declared.claim.Claim.TheVariants.{Exactly, AtLeast, AtMost, Forever}
 use Rattle.positions.specs.declared.turns.Turns.{Turns}
 use Rattle.positions.specs.declared.turns.Turns.TheVariants.{Count, Always}
-use Rattle.positions.proofs.Ranks.{rank_of-configuration_at}
+use Rattle.positions.proofs.Cited.{rank_of-configuration_at}
 use Rattle.proof_text.specs.declared.proof.LabellerRow.{LabellerRow}
 use Rattle.proof_text.specs.declared.proof.AdversaryRow.{AdversaryRow}
 use Rattle.proof_text.specs.Proof.{PlainProof, IsProof, IsAnswerRow, AreAnswerRows, AreRequestRows, AreTurns, answer_row, request_row, answer_rows, request_rows}
-use Rattle.proof_text.proofs.RankedRows.{rank_small, answer_each, request_each}
+use Rattle.proof_text.proofs.Cited.{rank_small, answer_each, request_each}
 use Rattle.proof_text.specs.Rules.{BreaksNoRule, Serves, wanted_of, StartIsBelow}
-use Rattle.proof_check.specs.Checker.{IsAnswering, AreAnswering, IsRequesting, AreRequesting}
+use Rattle.proof_check.specs.Inside.Checker.{IsAnswering, AreAnswering, IsRequesting, AreRequesting}
 use Rattle.proof_check.proofs.Answering as answering
 use Rattle.proof_check.proofs.Stopping as stopping
 

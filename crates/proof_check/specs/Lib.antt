@@ -1,3 +1,2 @@
 pub mod CheckFaults
-pub mod Checker
-pub mod RowIndex
+pub mod Inside

@@ -7,7 +7,7 @@ ghost use Rattle.proof_text.specs.Proof.{request_row};
 ghost use Rattle.proof_text.specs.Rules.{MeetsAnswer, MeetsAnswers, AdversaryObeys, StartIsBelow};
 ghost use Rattle.proof_check.specs.CheckFaults as faults;
 ghost use Rattle.proof_check.specs.CheckFaults.{IsWrongAfter, IsWrongRequest, IsWrongBound, AdversaryFault};
-ghost use Rattle.proof_check.specs.Checker.{IsRequesting};
+ghost use Rattle.proof_check.specs.Inside.Checker.{IsRequesting};
 
 use crate::checked_row::{CheckedRow, first_fault};
 use crate::checker::Checker;

@@ -3,7 +3,7 @@
 ghost use Rattle.std.specs.Prelude.{IsSome, MatchBool, MatchOption};
 ghost use Rattle.std.specs.List.{All};
 ghost use Rattle.board_text.specs.PlainBoard.{PlainBoard};
-ghost use Rattle.proof_check.specs.Checker.{Checked};
+ghost use Rattle.proof_check.specs.Inside.Checker.{Checked};
 ghost use Rattle.proof_check.specs.CheckFaults.{FirstFault};
 ghost use Rattle.proof_check.specs.declared.fault.CheckFault.{CheckFault as Fault};
 

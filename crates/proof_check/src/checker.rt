@@ -6,7 +6,7 @@ ghost use Rattle.board_text.specs.PlainBoard.{IsConfiguration};
 ghost use Rattle.positions.specs.Position.{position_at};
 ghost use Rattle.positions.specs.Ranks.{configurations, rank_of};
 ghost use Rattle.proof_text.specs.Proof.{IsDocument, plain_proof, answer_row, answer_rows, request_row, request_rows};
-ghost use Rattle.proof_check.specs.Checker.{IsAnswering, IsRequesting, FindsRow};
+ghost use Rattle.proof_check.specs.Inside.Checker.{IsAnswering, IsRequesting, FindsRow};
 
 use crate::row_index::RowIndex;
 use board_text::Board;
@@ -28,7 +28,7 @@ pub(crate) struct Checker<'a> {
 }
 
 impl<'a> Model for Checker<'a> {
-    ghost use Rattle.proof_check.specs.Checker.{Checked, checked, IsChecker};
+    ghost use Rattle.proof_check.specs.Inside.Checker.{Checked, checked, IsChecker};
 
     ghost Value = { Checked };
 

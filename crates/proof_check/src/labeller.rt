@@ -6,7 +6,7 @@ ghost use Rattle.proof_text.specs.Proof.{answer_row};
 ghost use Rattle.proof_text.specs.Rules as rules;
 ghost use Rattle.proof_text.specs.Rules.{IsEnough, IsWanted, one_less, Serves, MeetsRequest, MeetsRequests, LabellerObeys};
 ghost use Rattle.proof_check.specs.CheckFaults.{IsWrongAnswer, IsWrongAt, IsWrongStart, LabellerFault};
-ghost use Rattle.proof_check.specs.Checker.{IsAnswering};
+ghost use Rattle.proof_check.specs.Inside.Checker.{IsAnswering};
 
 use crate::checked_row::{CheckedRow, first_fault};
 use crate::checker::Checker;

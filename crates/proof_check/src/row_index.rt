@@ -1,7 +1,7 @@
 //! The rows of a document by the ranks of their configurations.
 
 ghost use Rattle.std.specs.Prelude.{◌≡◌, ℕ, List, length, IfOk, MatchOption};
-ghost use Rattle.proof_check.specs.RowIndex.{AreAscending, AreRanked, IsIndex, HasNone, IsRowOf};
+ghost use Rattle.proof_check.specs.Inside.RowIndex.{AreAscending, AreRanked, IsIndex, HasNone, IsRowOf};
 
 use proof_text::{AdversaryRow, LabellerRow};
 use std::alloc::{AllocError, Global};
@@ -32,6 +32,9 @@ impl Ranked for AdversaryRow {
     }
 }
 
+/// What stands in an index where no row has the rank. It is no place.
+const NO_PLACE: u32 = u32::MAX;
+
 /// Rows that are searched have fewer than one in so many configurations.
 const SEARCHED: usize = 64;
 
@@ -45,7 +48,7 @@ pub(crate) struct RowIndex<'a, R: Ranked> {
 
 impl<'a, R: Ranked> Model for RowIndex<'a, R> {
     ghost use Rattle.std.specs.Prelude.{List};
-    ghost use Rattle.proof_check.specs.RowIndex.{AreFound};
+    ghost use Rattle.proof_check.specs.Inside.RowIndex.{AreFound};
 
     ghost Value = { List R };
 
@@ -106,7 +109,7 @@ fn places_of<R: Ranked>(alloc: Global, size: u32, rows: &[R]) -> Result<Vec<u32>
     requires { AreRanked R.rank size rows.now }
     ensures { IfOk result (λ places. IsIndex R.rank rows.now places.items) }
 {
-    let mut places = vec![in alloc; u32::MAX; size as usize]?;
+    let mut places = vec![in alloc; NO_PLACE; size as usize]?;
     for (place, row) in rows.iter().enumerate() {
         places[row.rank() as usize] = place as u32;
     }

@@ -13,9 +13,10 @@ use Rattle.proof_text.specs.declared.fault.ProofKind.TheVariants as kinds
 use Rattle.proof_text.specs.declared.proof.LabellerRow.{LabellerRow}
 use Rattle.proof_text.specs.declared.proof.AdversaryRow.{AdversaryRow}
 use Rattle.proof_text.specs.Proof.{PlainProof, IsProof, IsClaim, AreRows, IsAnswerRow, IsRequestRow, asks_labeller, asks_adversary, answer_row, request_row, answer_rows, request_rows}
-use Rattle.proof_text.specs.ProofText.{version_line, claim_words, claim_line, head, labeller_section, adversary_section, front, end_line, labeller_lines, adversary_lines, answer_line, request_line, labeller_line, adversary_line}
+use Rattle.board_text.specs.BoardText.{end_line}
+use Rattle.proof_text.specs.ProofText.{version_line, claim_words, claim_line, head, labeller_section, adversary_section, front, labeller_lines, adversary_lines, answer_line, request_line}
 use Rattle.proof_text.specs.ProofFaults.{LabellerFault, AdversaryFault, HasFault, InLabeller, InAdversary, AnswerMisread, RequestMisread, end_number}
-use Rattle.proof_text.specs.RowForm.{PartRead, SectionFault, section_text, labeller_form, adversary_form}
+use Rattle.proof_text.specs.Inside.RowForm.{PartRead, SectionFault, section_text, labeller_form, adversary_form}
 use Rattle.proof_text.proofs.SectionLemmas.{rows_seen, fault_seen}
 
 pub head_taken : (claim : Claim) (text a b : List ℕ) → text ≡ version_line ++ a → a ≡ claim_line claim ++ b → text ≡ head claim ++ b
@@ -82,11 +83,11 @@ adversary_seen board claim rows old new part =
 
 pub in_labeller : (board : PlainBoard) (claim : Claim) (text : List ℕ) (number line : ℕ) (kind : ProofKind) → SectionFault board (labeller_form board claim) text number line kind → InLabeller board claim text number line kind
 in_labeller board claim text number line kind h =
-    fault_seen board (answer_row board) (labeller_form board claim).IsRow (IsAnswerRow board claim) (λ row. row.at) (answer_line board) (λ row is. is.0) labeller_line (AnswerMisread board claim) text number line kind h
+    fault_seen board (answer_row board) (labeller_form board claim).IsRow (IsAnswerRow board claim) (λ row. row.at) (answer_line board) (λ row is. is.0) (number_line (codes "labeller")) (AnswerMisread board claim) text number line kind h
 
 pub in_adversary : (board : PlainBoard) (claim : Claim) (text : List ℕ) (number line : ℕ) (kind : ProofKind) → SectionFault board (adversary_form board claim) text number line kind → InAdversary board text number line kind
 in_adversary board claim text number line kind h =
-    fault_seen board (request_row board) (adversary_form board claim).IsRow (IsRequestRow board) (λ row. row.at) (request_line board) (λ row is. is) adversary_line (RequestMisread board) text number line kind h
+    fault_seen board (request_row board) (adversary_form board claim).IsRow (IsRequestRow board) (λ row. row.at) (request_line board) (λ row is. is) (number_line (codes "adversary")) (RequestMisread board) text number line kind h
 
 pub is_document : (board : PlainBoard) (claim : Claim) (labeller : List LabellerRow) (adversary : List AdversaryRow) (a b d : List ℕ) → IsClaim claim → LabellerPart board claim labeller a b → AdversaryPart board claim adversary b d
     → IsProof board (document claim (answer_rows board labeller) (request_rows board adversary))

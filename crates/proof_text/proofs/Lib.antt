@@ -7,3 +7,4 @@ pub mod OneRow
 pub mod OneDocument
 pub mod RankedRows
 pub mod OneFault
+pub mod Cited

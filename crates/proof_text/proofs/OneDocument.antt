@@ -4,7 +4,7 @@ use Rattle.std.specs.Prelude.{codes, Result, Ok, Err, IfOk, IfErr, MatchResult}
 use Rattle.std.specs.List.{flat_map, AllByRecursion}
 use Rattle.std.proofs.lemmas.List.{append_cancel_left, append-nil, length-append, nil_from_length, get_or_at}
 use Rattle.std.proofs.lemmas.List.Elements.{recursion_from_All}
-use Rattle.board_text.proofs.Lines.{number_line_unique}
+use Rattle.board_text.proofs.Cited.{number_line_unique}
 use Rattle.board_text.specs.LineForms.{number_line}
 use Rattle.board_text.specs.PlainBoard.{PlainBoard, IsBoard}
 use Rattle.positions.specs.declared.claim.Claim.{Claim}
@@ -15,7 +15,8 @@ use Rattle.proof_text.specs.declared.fault.ProofKind.{ProofKind}
 use Rattle.proof_text.specs.declared.fault.ProofKind.TheVariants as kinds
 use Rattle.proof_text.specs.declared.proof.Proof.{Proof}
 use Rattle.proof_text.specs.Proof.{PlainProof, IsProof, IsDocument, plain_proof, IsClaim, IsBefore, AreRows, AreAnswerRows, AreRequestRows, IsAnswerRow, IsRequestRow, asks_labeller, asks_adversary}
-use Rattle.proof_text.specs.ProofText.{version_line, claim_line, head, answer_line, request_line, labeller_section, adversary_section, front, end_line, proof_text}
+use Rattle.board_text.specs.BoardText.{end_line}
+use Rattle.proof_text.specs.ProofText.{version_line, claim_line, head, answer_line, request_line, labeller_section, adversary_section, front, proof_text}
 use Rattle.proof_text.specs.ProofFaults.{MayFollow, RowsCome, InSection, AnswerRowFault, RequestRowFault, LabellerFault, AdversaryFault, HasFault}
 use Rattle.proof_text.proofs.OneRow.{answer_unique, request_unique, no_answer_fault, no_request_fault}
 

@@ -8,13 +8,15 @@ use Rattle.board_text.specs.LineForms.{Lacks, number_line}
 use Rattle.board_text.specs.Numerals.{SpellsBelow}
 use Rattle.board_text.specs.Ranges.{InRange}
 use Rattle.board_text.specs.PlainBoard.{PlainBoard, IsBoard, places}
-use Rattle.board_text.proofs.Lines.{number_line_unique}
+use Rattle.board_text.proofs.Cited.{number_line_unique}
 use Rattle.positions.specs.declared.claim.Claim.{Claim}
 use Rattle.positions.specs.Table.{AnswerRow}
+use Rattle.positions.specs.declared.space.TheConstants.{MAX_CONFIGURATIONS}
 use Rattle.proof_text.specs.declared.fault.ProofKind.{ProofKind}
 use Rattle.proof_text.specs.declared.fault.ProofKind.TheVariants as kinds
-use Rattle.proof_text.specs.Proof.{AreAnswerRows, IsAnswerRow, IsClaim, IsProof, asks_adversary, asks_labeller, IsRequestRow, PlainProof, most_rows}
-use Rattle.proof_text.specs.ProofText.{adversary_section, answer_line, claim_line, end_line, front, head, labeller_lines, labeller_section, request_line, version_line}
+use Rattle.proof_text.specs.Proof.{AreAnswerRows, IsAnswerRow, IsClaim, IsProof, asks_adversary, asks_labeller, IsRequestRow, PlainProof}
+use Rattle.board_text.specs.BoardText.{end_line}
+use Rattle.proof_text.specs.ProofText.{adversary_section, answer_line, claim_line, front, head, labeller_lines, labeller_section, request_line, version_line}
 use Rattle.proof_text.specs.ProofFaults.{AdversaryFault, AnswerRowFault, HasFault, HasRequestWords, InAdversary, InLabeller, InSection, LabellerFault, MayFollow, RequestRowFault, RowsCome, SpellConfiguration, SpellLabels, end_number}
 use Rattle.proof_text.specs.RowWords.{RequestWords}
 use Rattle.proof_text.proofs.OneDocument.{OneReading, asked_section, head_unique, labeller_unique, next_row, no_section_fault, regroup, rows_split, same_front, same_proof}
@@ -160,7 +162,7 @@ record FaultyRow {X : Type 0} (board : PlainBoard) (IsRow : X → Type 0) (at : 
 
 data SectionKind {X : Type 0} (board : PlainBoard) (IsRow : X → Type 0) (at : X → List ℕ) (word : List ℕ) (row_line : X → List ℕ)
     (RowFault : (List ℕ → Type 0) → List ℕ → ProofKind → Type 0) (text : List ℕ) (number line : ℕ) (kind : ProofKind) : Type 0 where
-  no_head : kind ≡ kinds.Section → line ≡ number → Lacks (InRange 0 most_rows) (number_line word) text → SectionKind board IsRow at word row_line RowFault text number line kind
+  no_head : kind ≡ kinds.Section → line ≡ number → Lacks (InRange 0 MAX_CONFIGURATIONS) (number_line word) text → SectionKind board IsRow at word row_line RowFault text number line kind
   bad_row : FaultyRow board IsRow at word row_line RowFault text number line kind → SectionKind board IsRow at word row_line RowFault text number line kind
 
 module _ {X : Type 0} (board : PlainBoard) (IsRow : X → Type 0) (at : X → List ℕ) (word : List ℕ) (row_line : X → List ℕ) (RowFault : (List ℕ → Type 0) → List ℕ → ProofKind → Type 0)

@@ -8,9 +8,7 @@ use Rattle.board_text.specs.Ranges.{AreNumbers}
 use Rattle.board_text.specs.Numerals.{spaced_texts}
 use Rattle.board_text.specs.PlaceForms.{place_word, SpellsPlace}
 use Rattle.board_text.specs.PlainBoard.{PlainBoard, IsBoard, places}
-use Rattle.board_text.proofs.Lines.{small_numbers}
-use Rattle.board_text.proofs.Places.{few_places}
-use Rattle.board_text.proofs.PlaceLemmas.{texts_unique, words_are_texts, words_spell, same_words}
+use Rattle.board_text.proofs.Cited.{small_numbers, few_places, texts_unique, words_are_texts, words_spell, same_words}
 use Rattle.positions.specs.declared.claim.Claim.{Claim}
 use Rattle.positions.specs.declared.turns.Turns.{Turns}
 use Rattle.positions.specs.declared.turns.Turns.TheVariants.{Count, Always}

@@ -6,11 +6,11 @@ use Rattle.std.proofs.Math.Nat.{one-le-pow, pow-succ'}
 use Rattle.std.proofs.lemmas.List.{length-map, get_or-map, get_or-take}
 use Rattle.std.proofs.lemmas.List.Elements.{All-head}
 use Rattle.board_text.specs.PlainBoard.{PlainBoard, IsBoard, IsConfiguration, places}
-use Rattle.board_text.proofs.Places.{some_places}
+use Rattle.board_text.proofs.Cited.{some_places}
 use Rattle.positions.specs.Ranks.{digits_of, rank_of, configuration_at, configurations}
 use Rattle.positions.specs.Table.{AnswerRow, RequestRow}
 use Rattle.positions.specs.declared.claim.Claim.{Claim}
-use Rattle.positions.proofs.Ranks.{rank_of-configuration_at}
+use Rattle.positions.proofs.Cited.{rank_of-configuration_at}
 use Rattle.proof_text.specs.declared.proof.LabellerRow.{LabellerRow}
 use Rattle.proof_text.specs.declared.proof.AdversaryRow.{AdversaryRow}
 use Rattle.proof_text.specs.Proof.{IsAnswerRow, IsRequestRow, AreAnswerRows, AreRequestRows, IsPadded, answer_row, request_row, answer_rows, request_rows}

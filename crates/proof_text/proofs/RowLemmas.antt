@@ -7,23 +7,26 @@ use Rattle.std.specs.Prelude.{not, Ok}
 use Rattle.board_text.specs.Ranges.{AreNumbers}
 use Rattle.board_text.specs.PlaceForms.{place_word, SpellsPlace, SpellPlaces}
 use Rattle.board_text.specs.PlainBoard.{PlainBoard, places}
-use Rattle.board_text.proofs.PlaceLemmas.{words_spell}
+use Rattle.board_text.specs.declared.board.TheConstants.{MAX_PEBBLES}
+use Rattle.board_text.proofs.Cited.{words_spell}
 use Rattle.positions.specs.declared.claim.Claim.{Claim}
 use Rattle.positions.specs.declared.turns.Turns.{Turns}
 use Rattle.positions.specs.Table.{AnswerRow, RequestRow}
 use Rattle.positions.specs.Ranks.{rank_of, configuration_at, configurations}
-use Rattle.positions.proofs.Ranks.{configuration_at-rank_of, rank_of-configuration_at}
+use Rattle.positions.specs.declared.space.TheConstants.{MAX_CONFIGURATIONS}
+use Rattle.positions.proofs.Cited.{configuration_at-rank_of, rank_of-configuration_at}
 use Rattle.proof_text.specs.declared.fault.ProofKind.TheVariants as kinds
 use Rattle.proof_text.specs.declared.proof.LabellerRow.{LabellerRow}
 use Rattle.proof_text.specs.declared.proof.AdversaryRow.{AdversaryRow}
 use Rattle.proof_text.specs.declared.row_words.AnswerValues.{AnswerValues}
 use Rattle.proof_text.specs.declared.row_words.RequestValues.{RequestValues}
-use Rattle.proof_text.specs.Proof.{IsAnswerRow, IsRequestRow, answer_row, request_row, greatest_number, most_rows}
+use Rattle.proof_text.specs.Proof.{IsAnswerRow, IsRequestRow, answer_row, request_row}
 use Rattle.proof_text.specs.ProofText.{turns_text, answer_line, request_line}
 use Rattle.proof_text.specs.RowWords.{AnswerWords, RequestWords, answer_words_line, request_words_line}
 use Rattle.proof_text.specs.ProofFaults.{AnswerRowFault, RequestRowFault}
-use Rattle.proof_text.specs.Reading.{TurnsOf, NumberOf, TakesAnswerWords, TakesRequestWords}
-use Rattle.proof_text.specs.RowForm.{IsFrom, LineFault, NextRow, labeller_form, adversary_form}
+use Rattle.proof_text.specs.Inside.Reading.{TurnsOf, NumberOf, TakesAnswerWords, TakesRequestWords}
+use Rattle.proof_text.specs.Inside.RowForm.{IsFrom, LineFault, NextRow, labeller_form, adversary_form}
+use Rattle.proof_text.specs.declared.proof.TheConstants.{MOST_TURNS}
 
 -- places below the bound are spelled so
 pub spelled_below : (labels bound : ℕ) (texts : List (List ℕ)) (places : List ℕ) → SpellPlaces labels bound texts true places → All (SpellsPlace labels bound) texts
@@ -114,7 +117,7 @@ module _ (board : PlainBoard) (claim : Claim) (at answers zeros old new : List �
   pub answer_order : rank < least → LineFault board (labeller_form board claim) (IsFrom board least) old kinds.Order
   answer_order lt = (read_answers, answers_are, new, answers_spelled, λ from. omega (arith, rank_of-configuration_at board rank below, lt, from))
 
-  pub answer_next : configurations board ≤ most_rows → least ≤ rank → NextRow board (labeller_form board claim) least (Ok read_answers) old new
+  pub answer_next : configurations board ≤ MAX_CONFIGURATIONS → least ≤ rank → NextRow board (labeller_form board claim) least (Ok read_answers) old new
   answer_next few above = (answers_are, above, below, few, answers_spelled)
 
 -- ---- an adversary's row
@@ -144,7 +147,7 @@ request_number board values at old new ask MayStand (words, are, e, s) placed so
   (are, new, e),
   spelled_below board.labels (places board) words.at at (cases_spelled board.labels (places board) words.at values.are_places at placed s.places),
   (let k : NumberOf board.pebbles words.ask (Some ask) = subst (λ (n : Option ℕ). NumberOf board.pebbles words.ask n) some s.pebble in (ask, k.0, k.1)),
-  subst (λ (n : Option ℕ). NumberOf (greatest_number + 1) words.left n) none s.number,
+  subst (λ (n : Option ℕ). NumberOf (MOST_TURNS + 1) words.left n) none s.number,
 )
 
 -- a row was read
@@ -164,7 +167,7 @@ pub request_read : (board : PlainBoard) (values : RequestValues) (at old new : L
     → RequestRead board (request at left ask) old new
 request_read board values at old new left ask (words, are, e, s) placed some_left some_ask =
     let p = cases_spelled board.labels (places board) words.at values.are_places at placed s.places in
-    let n : NumberOf (greatest_number + 1) words.left (Some left) = subst (λ (m : Option ℕ). NumberOf (greatest_number + 1) words.left m) some_left s.number in
+    let n : NumberOf (MOST_TURNS + 1) words.left (Some left) = subst (λ (m : Option ℕ). NumberOf (MOST_TURNS + 1) words.left m) some_left s.number in
     let k : NumberOf board.pebbles words.ask (Some ask) = subst (λ (m : Option ℕ). NumberOf board.pebbles words.ask m) some_ask s.pebble in
     let count = places_count board.pebbles board.labels (places board) words.at at are.at.0 p in
     record {
@@ -192,7 +195,7 @@ module _ (board : PlainBoard) (claim : Claim) (at old new : List ℕ) (left ask 
   pub request_order : rank < least → LineFault board (adversary_form board claim) (IsFrom board least) old kinds.Order
   request_order lt = (read_request, request_is, new, request_spelled, λ from. omega (arith, rank_of-configuration_at board rank below, lt, from))
 
-  pub request_next : configurations board ≤ most_rows → least ≤ rank → NextRow board (adversary_form board claim) least (Ok read_request) old new
+  pub request_next : configurations board ≤ MAX_CONFIGURATIONS → least ≤ rank → NextRow board (adversary_form board claim) least (Ok read_request) old new
   request_next few above = (request_is, above, below, few, request_spelled)
 
 -- ---- places on the stack
@@ -210,7 +213,7 @@ zero_at place =
 pub zero_behind : (n place : ℕ) → get_or (drop n six_zeros) place 0 ≡ 0
 zero_behind n place = get_or-drop n six_zeros place 0 ∙ zero_at (n + place)
 
-pub places_taken : (n : ℕ) → n ≤ 6 → length (take n six_zeros) ≡ n
+pub places_taken : (n : ℕ) → n ≤ MAX_PEBBLES → length (take n six_zeros) ≡ n
 places_taken n few = omega (arith, length-take n six_zeros)
 
 pub not_false : (b : Bool) → not b ≡ false → b ≡ true

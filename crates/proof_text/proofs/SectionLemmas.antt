@@ -10,12 +10,13 @@ use Rattle.std.proofs.lemmas.List.Quantifiers.{all_pairs_push}
 use Rattle.board_text.specs.LineForms.{number_line}
 use Rattle.board_text.specs.PlainBoard.{PlainBoard}
 use Rattle.positions.specs.Ranks.{rank_of}
-use Rattle.positions.proofs.Ranks.{rank_of-configuration_at}
+use Rattle.positions.specs.declared.space.TheConstants.{MAX_CONFIGURATIONS}
+use Rattle.positions.proofs.Cited.{rank_of-configuration_at}
 use Rattle.proof_text.specs.declared.fault.ProofKind.{ProofKind}
 use Rattle.proof_text.specs.declared.fault.ProofKind.TheVariants as kinds
-use Rattle.proof_text.specs.Proof.{AreRows, IsBefore, most_rows}
+use Rattle.proof_text.specs.Proof.{AreRows, IsBefore}
 use Rattle.proof_text.specs.ProofFaults.{MayFollow, RowsCome, RowFault, InSection}
-use Rattle.proof_text.specs.RowForm.{RowForm, IsFrom, LineFault, NextRow, SectionFault, at_of}
+use Rattle.proof_text.specs.Inside.RowForm.{RowForm, IsFrom, LineFault, NextRow, SectionFault, at_of}
 
 -- what comes after the last row comes after all
 follows_all : {X : Type 0} (board : PlainBoard) (at : X → List ℕ) (rows : List X) (configuration : List ℕ)
@@ -34,7 +35,7 @@ pub rows_none : {X : Type 0} (board : PlainBoard) (IsRow : X → Type 0) (at : X
 rows_none board IsRow at = record { few = omega arith; each = All-nil IsRow; ascending = λ i j d less below. absurd (omega arith) }
 
 pub rows_push : {X : Type 0} (board : PlainBoard) (IsRow : X → Type 0) (at : X → List ℕ) (rows : List X) (row : X)
-    → AreRows board IsRow at rows → IsRow row → MayFollow board at rows (at row) → length rows < most_rows → AreRows board IsRow at (rows ++ row ∷ [])
+    → AreRows board IsRow at rows → IsRow row → MayFollow board at rows (at row) → length rows < MAX_CONFIGURATIONS → AreRows board IsRow at (rows ++ row ∷ [])
 rows_push board IsRow at rows row are is follows few = record {
   few = omega (arith, length_push rows row, few);
   each = All-push IsRow rows row are.each is;
@@ -76,7 +77,7 @@ come_push board IsRow at section_line row_line text count least rows row rest ne
 }
 
 pub come_none : {X : Type 0} (board : PlainBoard) (IsRow : X → Type 0) (at : X → List ℕ) (section_line : ℕ → List ℕ) (row_line : X → List ℕ) (text : List ℕ) (count : ℕ) (rest : List ℕ)
-    → count ≤ most_rows → text ≡ section_line count ++ rest → RowsCome board IsRow at section_line row_line text count [] rest
+    → count ≤ MAX_CONFIGURATIONS → text ≡ section_line count ++ rest → RowsCome board IsRow at section_line row_line text count [] rest
 come_none board IsRow at section_line row_line text count rest few e = record { few = few; come = omega arith; are_rows = rows_none board IsRow at; spelled = e }
 
 -- ---- rows that name their configurations by ranks

@@ -9,17 +9,18 @@ use Rattle.std.proofs.lemmas.List.{append-nil}
 use Rattle.board_text.specs.declared.line_reader.Numeral.{Numeral}
 use Rattle.board_text.specs.declared.line_reader.Numeral.TheVariants.{Number, NoNumber}
 use Rattle.board_text.specs.Numerals.{Says, IsNumberIn}
-use Rattle.board_text.proofs.NumeralLemmas.{spells_none, spells_number}
+use Rattle.board_text.proofs.Cited.{spells_none, spells_number}
 use Rattle.positions.specs.declared.claim.Claim.{Claim}
 use Rattle.positions.specs.declared.claim.Claim.TheVariants.{Exactly, AtLeast, AtMost, Forever}
 use Rattle.positions.specs.declared.turns.Turns.{Turns}
 use Rattle.positions.specs.declared.turns.Turns.TheVariants.{Count, Always}
-use Rattle.proof_text.specs.Proof.{AreTurns, greatest_number}
+use Rattle.proof_text.specs.Proof.{AreTurns}
 use Rattle.proof_text.specs.ProofText.{turns_text}
-use Rattle.proof_text.specs.Reading.{TurnsOf, NumberOf}
+use Rattle.proof_text.specs.Inside.Reading.{TurnsOf, NumberOf}
+use Rattle.proof_text.specs.declared.proof.TheConstants.{MOST_TURNS}
 use Rattle.proof_text.proofs.Words.{no_star}
 
-pub count_small : (claim : Claim) (n : ℕ) → AreTurns claim (Count n) → n < greatest_number + 1
+pub count_small : (claim : Claim) (n : ℕ) → AreTurns claim (Count n) → n < MOST_TURNS + 1
 count_small (Exactly k) n are = omega (arith, are.1)
 count_small (AtLeast k) n are = omega (arith, are.1)
 count_small (AtMost k) n are = omega (arith, are.1)

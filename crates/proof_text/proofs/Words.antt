@@ -8,10 +8,9 @@ use Rattle.std.proofs.lemmas.List.{append_cancel_left, append-nil}
 use Rattle.board_text.specs.LineForms.{NoDigit}
 use Rattle.board_text.specs.Numerals.{spaced_texts}
 use Rattle.board_text.specs.PlaceForms.{ArePlaceTexts}
-use Rattle.board_text.proofs.Numbers.{digits_split}
-use Rattle.board_text.proofs.PlaceLemmas.{texts_unique}
+use Rattle.board_text.proofs.Cited.{digits_split, texts_unique}
 use Rattle.proof_text.specs.RowWords.{AnswerWords, RequestWords, IsTurnsText, AreAnswerWords, AreRequestWords, answer_words_line, request_words_line}
-use Rattle.proof_text.specs.Reading.{position_text}
+use Rattle.proof_text.specs.Inside.Reading.{position_text}
 
 -- a space and a line feed are no digits
 pub no_digit_space : (more : List ℕ) → NoDigit (32 ∷ more)

@@ -8,9 +8,11 @@ use Rattle.positions.specs.declared.turns.Turns.{Turns}
 use Rattle.positions.specs.declared.turns.Turns.TheVariants.{Count, Always}
 use Rattle.positions.specs.Table.{AnswerRow, RequestRow}
 use Rattle.positions.specs.Ranks.{rank_of, configuration_at}
+use Rattle.positions.specs.declared.space.TheConstants.{MAX_CONFIGURATIONS}
 use Rattle.proof_text.specs.declared.proof.LabellerRow.{LabellerRow}
 use Rattle.proof_text.specs.declared.proof.AdversaryRow.{AdversaryRow}
 use Rattle.proof_text.specs.declared.proof.Proof.{Proof}
+use Rattle.proof_text.specs.declared.proof.TheConstants.{MOST_TURNS}
 
 -- a claim, and the rows of both sides
 pub record PlainProof : Type 0 where
@@ -18,19 +20,11 @@ pub record PlainProof : Type 0 where
   pub labeller : List AnswerRow
   pub adversary : List RequestRow
 
--- the greatest number of a document, but for those of its sections
-abbrev pub greatest_number : ℕ
-greatest_number = 1000000000
-
--- the greatest number of rows in a section
-abbrev pub most_rows : ℕ
-most_rows = 1048576
-
 -- the number of the claim is in range
 abbrev pub IsClaim : Claim → Type 0
-IsClaim (Exactly number) = number ≤ greatest_number
-IsClaim (AtLeast number) = number ≤ greatest_number
-IsClaim (AtMost number) = number ≤ greatest_number
+IsClaim (Exactly number) = number ≤ MOST_TURNS
+IsClaim (AtLeast number) = number ≤ MOST_TURNS
+IsClaim (AtMost number) = number ≤ MOST_TURNS
 IsClaim Forever = Unit {0}
 
 -- whether a document with the claim has a labeller's section
@@ -52,7 +46,7 @@ abbrev pub AreTurns : Claim → Turns → Type 0
 AreTurns Forever Always = Unit {0}
 AreTurns Forever (Count number) = ⊥
 AreTurns claim Always = ⊥
-AreTurns claim (Count number) = InRange 1 greatest_number number
+AreTurns claim (Count number) = InRange 1 MOST_TURNS number
 
 -- a labeller's row in a document with the claim
 pub record IsAnswerRow (board : PlainBoard) (claim : Claim) (row : AnswerRow) : Type 0 where
@@ -63,7 +57,7 @@ pub record IsAnswerRow (board : PlainBoard) (claim : Claim) (row : AnswerRow) : 
 -- an adversary's row
 pub record IsRequestRow (board : PlainBoard) (row : RequestRow) : Type 0 where
   pub at : IsConfiguration board row.at
-  pub left : row.left ≤ greatest_number
+  pub left : row.left ≤ MOST_TURNS
   pub request : row.request < board.pebbles
 
 -- one configuration comes before another, in rank
@@ -72,7 +66,7 @@ IsBefore board first second = rank_of board first < rank_of board second
 
 -- the rows of a section: not too many, each as it should be, and their configurations in ascending order of rank
 pub record AreRows {X : Type 0} (board : PlainBoard) (IsRow : X → Type 0) (at : X → List ℕ) (rows : List X) : Type 0 where
-  pub few : length rows ≤ most_rows
+  pub few : length rows ≤ MAX_CONFIGURATIONS
   pub each : All IsRow rows
   pub ascending : AllPairs (λ first second. IsBefore board (at first) (at second)) rows
 

@@ -1,19 +1,22 @@
 -- The faults of a document's text, in the order of the format.
-use Rattle.std.specs.Prelude.{◌≡◌, ℕ, ◌+◌, ◌<◌, ◌≤◌, ◌⊎◌, true, false, List, [], ◌∷◌, ◌++◌, length, All}
+use Rattle.std.specs.Prelude.{◌≡◌, ℕ, ◌+◌, ◌<◌, ◌≤◌, ◌⊎◌, true, false, List, [], ◌∷◌, ◌++◌, length, All, codes}
 use Rattle.std.specs.List.{flat_map}
-use Rattle.board_text.specs.LineForms.{Lacks}
+use Rattle.board_text.specs.BoardText.{end_line}
+use Rattle.board_text.specs.LineForms.{Lacks, number_line}
 use Rattle.board_text.specs.Ranges.{InRange}
 use Rattle.board_text.specs.PlainBoard.{PlainBoard, places}
 use Rattle.positions.specs.declared.claim.Claim.{Claim}
 use Rattle.positions.specs.declared.turns.Turns.{Turns}
 use Rattle.positions.specs.Table.{AnswerRow}
+use Rattle.positions.specs.declared.space.TheConstants.{MAX_CONFIGURATIONS}
 use Rattle.proof_text.specs.declared.fault.ProofKind.{ProofKind}
 use Rattle.proof_text.specs.declared.fault.ProofKind.TheVariants as kinds
 use Rattle.proof_text.specs.Proof.{PlainProof, IsProof, IsClaim, asks_labeller, asks_adversary, AreTurns, IsAnswerRow, IsRequestRow}
-use Rattle.proof_text.specs.Proof.{AreAnswerRows, AreRows, IsBefore, greatest_number, most_rows}
-use Rattle.proof_text.specs.ProofText.{version_line, claim_line, turns_text, answer_line, request_line, labeller_line, adversary_line}
-use Rattle.proof_text.specs.ProofText.{end_line, head, labeller_section, front, proof_text, labeller_lines, adversary_lines}
+use Rattle.proof_text.specs.Proof.{AreAnswerRows, AreRows, IsBefore}
+use Rattle.proof_text.specs.ProofText.{version_line, claim_line, turns_text, answer_line, request_line}
+use Rattle.proof_text.specs.ProofText.{head, labeller_section, front, proof_text, labeller_lines, adversary_lines}
 use Rattle.proof_text.specs.RowWords.{AnswerWords, RequestWords, AreAnswerWords, AreRequestWords, answer_words_line, request_words_line}
+use Rattle.proof_text.specs.declared.proof.TheConstants.{MOST_TURNS}
 use Rattle.board_text.specs.Numerals.{SpellsBelow}
 use Rattle.board_text.specs.PlaceForms.{SpellsPlace}
 
@@ -71,7 +74,7 @@ RequestMisread board rest kinds.Pebble =
     (words : RequestWords) × HasRequestWords board rest words × SpellConfiguration board words.at × ¬ SpellsBelow board.pebbles words.ask
 RequestMisread board rest kinds.Number =
     (words : RequestWords) × HasRequestWords board rest words × SpellConfiguration board words.at × SpellsBelow board.pebbles words.ask
-    × ¬ SpellsBelow (greatest_number + 1) words.left
+    × ¬ SpellsBelow (MOST_TURNS + 1) words.left
 RequestMisread board rest kind = ⊥
 
 -- the fault of what stands where a labeller's row should
@@ -88,7 +91,7 @@ RequestRowFault board MayStand rest kind =
 pub record RowsCome {X : Type 0} (board : PlainBoard) (IsRow : X → Type 0) (at : X → List ℕ) (section_line : ℕ → List ℕ)
     (row_line : X → List ℕ)
     (text : List ℕ) (count : ℕ) (rows : List X) (rest : List ℕ) : Type 0 where
-  pub few : count ≤ most_rows
+  pub few : count ≤ MAX_CONFIGURATIONS
   pub come : length rows ≤ count
   pub are_rows : AreRows board IsRow at rows
   pub spelled : text ≡ section_line count ++ (flat_map row_line rows ++ rest)
@@ -99,7 +102,7 @@ abbrev pub InSection : {X : Type 0} → PlainBoard → (X → Type 0) → (X →
     → ((List ℕ → Type 0) → List ℕ → ProofKind → Type 0)
     → List ℕ → ℕ → ℕ → ProofKind → Type 0
 InSection board IsRow at section_line row_line RowFault text number line kinds.Section = (line ≡ number)
-    × Lacks (InRange 0 most_rows) section_line text
+    × Lacks (InRange 0 MAX_CONFIGURATIONS) section_line text
 InSection {X} board IsRow at section_line row_line RowFault text number line kinds.Memory =
     (line ≡ 0) × ((count : ℕ) × (rows : List X) × (rest : List ℕ) × RowsCome board IsRow at section_line row_line text count rows rest)
 InSection {X} board IsRow at section_line row_line RowFault text number line kind =
@@ -110,13 +113,14 @@ InSection {X} board IsRow at section_line row_line RowFault text number line kin
 -- The fault of a labeller's section in a document with the claim.
 abbrev pub InLabeller : PlainBoard → Claim → List ℕ → ℕ → ℕ → ProofKind → Type 0
 InLabeller board claim text number line kind =
-    InSection board (IsAnswerRow board claim) (λ row. row.at) labeller_line (answer_line board)
+    InSection board (IsAnswerRow board claim) (λ row. row.at) (number_line (codes "labeller")) (answer_line board)
     (AnswerRowFault board claim) text number line kind
 
 -- The fault of an adversary's section.
 abbrev pub InAdversary : PlainBoard → List ℕ → ℕ → ℕ → ProofKind → Type 0
 InAdversary board text number line kind =
-    InSection board (IsRequestRow board) (λ row. row.at) adversary_line (request_line board) (RequestRowFault board) text number line kind
+    InSection board (IsRequestRow board) (λ row. row.at) (number_line (codes "adversary")) (request_line board)
+    (RequestRowFault board) text number line kind
 
 -- The labeller's section that the claim asks for has the fault.
 pub record LabellerFault (board : PlainBoard) (text : List ℕ) (line : ℕ) (kind : ProofKind) : Type 0 where

@@ -2,6 +2,7 @@
 use Rattle.std.specs.Prelude.{ℕ, ◌+◌, List, [], ◌++◌, length, codes, if◌then◌else◌}
 use Rattle.std.specs.List.{flat_map}
 use Rattle.std.specs.Fmt.{decimal}
+use Rattle.board_text.specs.BoardText.{end_line}
 use Rattle.board_text.specs.LineForms.{closed, number_line}
 use Rattle.board_text.specs.PlaceForms.{spaced_places}
 use Rattle.board_text.specs.PlainBoard.{PlainBoard}
@@ -41,30 +42,23 @@ abbrev pub request_line : PlainBoard → RequestRow → List ℕ
 request_line board row = closed
     (codes "at" ++ (spaced_places board.labels row.at ++ (codes " for " ++ (decimal row.left ++ (codes " ask " ++ decimal row.request)))))
 
-abbrev pub labeller_line : ℕ → List ℕ
-labeller_line count = number_line (codes "labeller") count
-
-abbrev pub adversary_line : ℕ → List ℕ
-adversary_line count = number_line (codes "adversary") count
-
-abbrev pub end_line : List ℕ
-end_line = closed (codes "end")
-
 -- the first two lines
 abbrev pub head : Claim → List ℕ
 head claim = version_line ++ claim_line claim
 
 -- the labeller's section, where the claim asks for it
 abbrev pub labeller_section : PlainBoard → Claim → List AnswerRow → List ℕ
-labeller_section board claim rows = if asks_labeller claim then labeller_line (length rows) ++ flat_map (answer_line board) rows else []
+labeller_section board claim rows =
+    if asks_labeller claim then number_line (codes "labeller") (length rows) ++ flat_map (answer_line board) rows else []
 
 -- the adversary's section, where the claim asks for it
 abbrev pub adversary_section : PlainBoard → Claim → List RequestRow → List ℕ
-adversary_section board claim rows = if asks_adversary claim then adversary_line (length rows) ++ flat_map (request_line board) rows else []
+adversary_section board claim rows =
+    if asks_adversary claim then number_line (codes "adversary") (length rows) ++ flat_map (request_line board) rows else []
 
 -- the text up to its last row
 abbrev pub front : PlainBoard → PlainProof → List ℕ
-front board proof = head proof.claim
+front board proof = (closed (codes "proof 1") ++ closed (claim_words proof.claim))
     ++ (labeller_section board proof.claim proof.labeller ++ adversary_section board proof.claim proof.adversary)
 
 -- the text of a document of the board

@@ -17,4 +17,4 @@ pub use laws::{documents_have_no_fault, one_document, one_fault, one_row_of_a_ra
 pub use parsing::parse;
 pub use positions::{Claim, Turns};
 pub use printing::print;
-pub use proof::{AdversaryRow, LabellerRow, Proof};
+pub use proof::{AdversaryRow, LabellerRow, MOST_TURNS, Proof};

@@ -1,12 +1,10 @@
 //! A strategy document, with configurations named by their ranks.
 
+use board_text::MAX_PEBBLES;
 use positions::{Claim, Turns};
 
 /// The greatest number of a claim or a row.
-pub(crate) const MOST_TURNS: u32 = 1_000_000_000;
-
-/// The greatest number of rows in a section.
-pub(crate) const MOST_ROWS: u32 = 1_048_576;
+pub const MOST_TURNS: u32 = 1_000_000_000;
 
 /// A labeller's row: an answer to each request at a configuration.
 #[derive(Clone, Copy, Debug, PartialEq, Eq)]
@@ -16,7 +14,7 @@ pub struct LabellerRow {
     /// For how many turns the configuration is listed.
     pub turns: Turns,
     /// The label that each pebble is put on; 0 in the places of pebbles that the board doesn't have.
-    pub take: [u16; 6],
+    pub take: [u16; MAX_PEBBLES],
 }
 
 /// An adversary's row: the request to make at a configuration.

@@ -4,7 +4,7 @@ ghost use Rattle.std.specs.Prelude.{◌≡◌, ◌≢◌, ℕ, ◌+◌, ◌<◌,
 ghost use Rattle.positions.specs.declared.turns.Turns.TheVariants.{Count, Always};
 ghost use Rattle.board_text.specs.declared.line_reader.Numeral.TheVariants.{Number};
 ghost use Rattle.proof_text.specs.Proof.{AreTurns};
-ghost use Rattle.proof_text.specs.Reading.{TakesPosition, TakesTurns, TakesAnswerWords, TakesRequestWords};
+ghost use Rattle.proof_text.specs.Inside.Reading.{TakesPosition, TakesTurns, TakesAnswerWords, TakesRequestWords};
 
 use crate::proof::MOST_TURNS;
 use board_text::line_reader::{LineReader, Numeral};

@@ -5,13 +5,13 @@ ghost use Rattle.board_text.specs.PlainBoard.{PlainBoard};
 ghost use Rattle.positions.specs.Ranks.{configurations};
 ghost use Rattle.positions.specs.declared.claim.Claim.{Claim as Claimed};
 ghost use Rattle.proof_text.specs.ProofText.{turns_text};
-ghost use Rattle.proof_text.specs.RowForm.{RowForm, NextRow, labeller_form, adversary_form};
+ghost use Rattle.proof_text.specs.Inside.RowForm.{RowForm, NextRow, labeller_form, adversary_form};
 
 use crate::fault::ProofKind;
 use crate::proof::{AdversaryRow, LabellerRow};
 use crate::row_words::{answer_words, request_words};
 use board_text::line_reader::LineReader;
-use board_text::{write_number, write_places};
+use board_text::{MAX_PEBBLES, write_number, write_places};
 use positions::{Claim, Space, Turns, write_labels};
 use std::alloc::AllocError;
 
@@ -68,8 +68,8 @@ impl Row for LabellerRow {
         least: u32,
     ) -> Result<LabellerRow, ProofKind> {
         let pebbles = space.pebbles() as usize;
-        let mut at = [0; 6];
-        let mut take = [0; 6];
+        let mut at = [0; MAX_PEBBLES];
+        let mut take = [0; MAX_PEBBLES];
         let Some(values) = answer_words(
             text,
             space.labels(),
@@ -131,7 +131,7 @@ impl Row for AdversaryRow {
         least: u32,
     ) -> Result<AdversaryRow, ProofKind> {
         let pebbles = space.pebbles();
-        let mut at = [0; 6];
+        let mut at = [0; MAX_PEBBLES];
         let Some(values) = request_words(
             text,
             space.labels(),

@@ -3,13 +3,12 @@
 ghost use Rattle.std.specs.Prelude.{◌≡◌, ◌<◌, ◌≤◌, ◌+◌, ◌++◌, true, if◌then◌else◌, All, IfOk, IfErr, OnOk, string_bytes};
 ghost use Rattle.positions.specs.Ranks.{configurations};
 ghost use Rattle.positions.specs.declared.claim.Claim.{Claim as Claimed};
-ghost use Rattle.proof_text.specs.RowForm.{SectionRead, PartRead, SectionFault, section_text};
+ghost use Rattle.proof_text.specs.Inside.RowForm.{SectionRead, PartRead, SectionFault, section_text};
 
 use crate::fault::{ProofFault, ProofKind};
-use crate::proof::MOST_ROWS;
 use crate::rows::Row;
 use board_text::line_reader::LineReader;
-use positions::{Claim, Space};
+use positions::{Claim, MAX_CONFIGURATIONS, Space};
 use std::alloc::{AllocError, Global};
 use std::fmt::Write;
 
@@ -24,11 +23,11 @@ fn read_section<R: Row>(
     claim: Claim,
     line: u32,
 ) -> Result<Vec<R>, ProofFault>
-    requires { line ≤ MOST_ROWS + 4 }
+    requires { line ≤ MAX_CONFIGURATIONS + 4 }
     ensures read { IfOk result (λ rows. SectionRead space.now (R.form space.now claim) rows.items text.old text.new) }
     ensures fault { IfErr result (λ fault. SectionFault space.now (R.form space.now claim) text.old line fault.line fault.kind) }
 {
-    let Some(count) = text.number_line(R::word().as_bytes(), 0, MOST_ROWS) else {
+    let Some(count) = text.number_line(R::word().as_bytes(), 0, MAX_CONFIGURATIONS) else {
         return Err(ProofFault::at(line, ProofKind::Section));
     };
     let Ok(mut rows) = Vec::with_capacity(alloc, room(count, text.len())) else {
@@ -57,7 +56,7 @@ pub(crate) fn read_part<R: Row>(
     claim: Claim,
     line: u32,
 ) -> Result<Vec<R>, ProofFault>
-    requires { line ≤ MOST_ROWS + 4 }
+    requires { line ≤ MAX_CONFIGURATIONS + 4 }
     ensures read { IfOk result (λ rows. PartRead space.now (R.form space.now claim) rows.items text.old text.new) }
     ensures fault { IfErr result (λ fault. ((R.form space.now claim).asked ≡ true)
         × SectionFault space.now (R.form space.now claim) text.old line fault.line fault.kind) }
@@ -92,7 +91,7 @@ pub(crate) fn write_part<R: Row>(
 
 /// How many lines a section of so many rows has, if it is asked for.
 pub(crate) fn section_lines(asked: bool, rows: usize) -> u32
-    requires { rows ≤ MOST_ROWS }
+    requires { rows ≤ MAX_CONFIGURATIONS }
     ensures { result ≡ (if asked then 1 + rows else 0) }
 {
     if asked { 1 + rows as u32 } else { 0 }

@@ -12,13 +12,12 @@ use Rattle.positions.specs.Game.{LabellerTree, AdversaryTree, moved}
 use Rattle.positions.specs.Value.{HasValue}
 use Rattle.positions.specs.Ranks.{configurations, rank_of, configuration_at}
 use Rattle.positions.specs.Gaps.{gaps, gap_of, pebble_of, others_of, member_of, IsAnswer, IsDominator}
-use Rattle.board_text.proofs.Places.{label_is_place}
-use Rattle.positions.proofs.Trees.{some_tree, not_both_trees}
-use Rattle.positions.proofs.BoundedSearch.{beats_or_not}
-use Rattle.positions.proofs.Ranks.{rank_below, rank_of-configuration_at, configuration_at-rank_of, configuration_at_is}
-use Rattle.positions.proofs.GapLaws.{gap_below, pebble_of-gap_of, member_of-gap_of, own_member, pebble_below, member_is, label_of_member, gap_of-member_of, legal_is_answer, answer_beats_others, one_gap}
-use Rattle.retro_core.specs.Arena.{IsArena, lasts, Dominant}
-use Rattle.retro_core.specs.BoardArena.{beats, beats_place, answers, arena_of}
+use Rattle.board_text.proofs.Cited.{label_is_place}
+use Rattle.positions.proofs.Cited.{some_tree, not_both_trees, beats_or_not, rank_below, rank_of-configuration_at, configuration_at-rank_of}
+use Rattle.positions.proofs.Cited.{configuration_at_is, gap_below, pebble_of-gap_of, member_of-gap_of, own_member, pebble_below, member_is}
+use Rattle.positions.proofs.Cited.{label_of_member, gap_of-member_of, legal_is_answer, answer_beats_others, one_gap}
+use Rattle.retro_core.specs.Inside.Arena.{IsArena, lasts, Dominant}
+use Rattle.retro_core.specs.Inside.BoardArena.{beats, beats_place, answers, arena_of}
 use Rattle.retro_core.proofs.Counts.{some_below, count_below-some}
 use Rattle.retro_core.proofs.Lasting.{both_true, and_true, true_or_false, true_not_false, next-gives, next-from, same_is}
 

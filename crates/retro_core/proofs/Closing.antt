@@ -2,8 +2,9 @@
 use Rattle.std.proofs.Common.{◌≡◌, ℕ, ◌+◌, ◌<◌, ◌≢◌, ◌⊎◌, ◌==◌, not, inl, inr, Bool, true, false, suc, arith, sym, ap, ◌∙◌, List, length, slice_index, slice_set, get_or-set_other, get_or-set_same}
 use Rattle.std.proofs.Math.ListN.{length-set}
 use Rattle.std.proofs.lemmas.Bool.Decides.{nat_tests}
-use Rattle.retro_core.specs.Arena.{Arena, IsArena, live, next, lasts, without, Dominant}
-use Rattle.retro_core.specs.Tables.{is_open, IsCounted, AreWords, IsClosed, IsBetween}
+use Rattle.retro_core.specs.Inside.Arena.{Arena, IsArena, live, next, lasts, without, Dominant}
+use Rattle.retro_core.specs.Inside.Tables.{is_open, IsCounted, AreWords, IsClosed, IsBetween}
+use Rattle.retro_core.specs.declared.stage.TheConstants.{OPEN}
 use Rattle.retro_core.proofs.Lasting.{both_true, and_true, true_or_false, true_not_false, same_or_not, live-le, live-same, next-closed, next-le, next-same}
 use Rattle.retro_core.proofs.Strikes.{strike-home, strike-other, open-same, open-outside, open-member}
 
@@ -74,14 +75,14 @@ words-some a is above c p n values i dominates now some t = record {
 }
 
 -- a word that is a value is not open
-filed-shut : (n value : ℕ) → value ≢ 4294967295 → n ≡ value → n == 4294967295 ≡ false
+filed-shut : (n value : ℕ) → value ≢ OPEN → n ≡ value → n == OPEN ≡ false
 filed-shut n value small e = grind (arith, nat_tests)
 
-pub same-open : (m n : ℕ) → m ≡ n → m == 4294967295 ≡ n == 4294967295
-same-open m n e = ap (λ k. k == 4294967295) e
+pub same-open : (m n : ℕ) → m ≡ n → m == OPEN ≡ n == OPEN
+same-open m n e = ap (λ k. k == OPEN) e
 
 -- the words after the gap has closed
-closed-opened : (a : Arena) → IsArena a → (above : ℕ → Bool) (c p value : ℕ) (values values' : List ℕ) → c < a.configurations → Dominant a c p → live a (without above c) (a.gap c p) ≡ 0 → AreWords a above values → value ≢ 4294967295 → IsClosed a (a.gap c p) value values values' → (x : ℕ) → x < a.configurations → is_open values' x ≡ next a (without above c) x
+closed-opened : (a : Arena) → IsArena a → (above : ℕ → Bool) (c p value : ℕ) (values values' : List ℕ) → c < a.configurations → Dominant a c p → live a (without above c) (a.gap c p) ≡ 0 → AreWords a above values → value ≢ OPEN → IsClosed a (a.gap c p) value values values' → (x : ℕ) → x < a.configurations → is_open values' x ≡ next a (without above c) x
 closed-opened a is above c p value values values' i dominates now t small closed x j =
     let g = a.gap c p in
     let in_gaps = is.gap_in c p i dominates.0 in
@@ -124,7 +125,7 @@ word-after a is above c p r values values' i dominates now t between stops close
     ]
 
 -- a strike that closes the gap
-pub words-closed : (a : Arena) → IsArena a → (above : ℕ → Bool) (c p r : ℕ) (values values' : List ℕ) → c < a.configurations → Dominant a c p → live a (without above c) (a.gap c p) ≡ 0 → suc r ≢ 4294967295 → IsBetween a r above → lasts a (suc r) c ≡ false → IsClosed a (a.gap c p) (suc r) values values' → AreWords a above values → AreWords a (without above c) values'
+pub words-closed : (a : Arena) → IsArena a → (above : ℕ → Bool) (c p r : ℕ) (values values' : List ℕ) → c < a.configurations → Dominant a c p → live a (without above c) (a.gap c p) ≡ 0 → suc r ≢ OPEN → IsBetween a r above → lasts a (suc r) c ≡ false → IsClosed a (a.gap c p) (suc r) values values' → AreWords a above values → AreWords a (without above c) values'
 words-closed a is above c p r values values' i dominates now small between stops closed t = record {
   values_length = closed.same_length ∙ t.values_length;
   opened = closed-opened a is above c p (suc r) values values' i dominates now t small closed;

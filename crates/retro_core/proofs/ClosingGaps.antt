@@ -3,10 +3,11 @@ use Rattle.std.proofs.Common.{◌≡◌, ℕ, ◌+◌, ◌<◌, ◌≤◌, true,
 use Rattle.board_text.specs.PlainBoard.{IsBoard, places}
 use Rattle.positions.specs.Ranks.{configurations}
 use Rattle.positions.specs.Gaps.{gaps}
-use Rattle.retro_core.specs.Arena.{Arena, IsArena}
-use Rattle.retro_core.specs.BoardArena.{arena_of}
-use Rattle.retro_core.specs.Stage.{PlainStage, filed, IsFiled, IsKept, Closes}
-use Rattle.retro_core.specs.Tables.{is_open, IsClosing}
+use Rattle.positions.specs.declared.space.TheConstants.{MAX_CONFIGURATIONS}
+use Rattle.retro_core.specs.Inside.Arena.{Arena, IsArena}
+use Rattle.retro_core.specs.Inside.BoardArena.{arena_of}
+use Rattle.retro_core.specs.Inside.Stage.{PlainStage, filed, IsFiled, IsKept, Closes}
+use Rattle.retro_core.specs.Inside.Tables.{is_open, IsClosing}
 use Rattle.retro_core.proofs.BoardArenas.{arena_is}
 use Rattle.retro_core.proofs.Filing.{listed-away, filed-once}
 use Rattle.retro_core.proofs.Striking.{kept-self}
@@ -15,7 +16,7 @@ use Rattle.retro_core.proofs.Listed.{closing-start, closing-step, closing-end, s
 -- a board with few configurations, a value that is a word, and one of the board's gaps
 pub record IsToClose (s : PlainStage) (gap : ℕ) : Type 0 where
   pub is_board : IsBoard s.board
-  pub few : configurations s.board ≤ 1048576
+  pub few : configurations s.board ≤ MAX_CONFIGURATIONS
   pub low : s.value ≤ configurations s.board
   pub is_gap : gap < gaps s.board
 

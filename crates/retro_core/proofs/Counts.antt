@@ -1,6 +1,6 @@
 -- How many numbers below a bound pass a test.
 use Rattle.std.proofs.Common.{◌≡◌, ℕ, ◌+◌, ◌<◌, ◌≤◌, ◌≢◌, ◌⊎◌, inl, inr, Bool, true, false, cond, zero, suc, refl, arith}
-use Rattle.retro_core.specs.Arena.{count_below}
+use Rattle.retro_core.specs.Inside.Arena.{count_below}
 
 pub count_below-same : (n : ℕ) (f g : ℕ → Bool) → ((k : ℕ) → k < n → f k ≡ g k) → count_below n f ≡ count_below n g
 count_below-same zero f g same = refl

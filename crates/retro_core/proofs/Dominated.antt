@@ -5,16 +5,17 @@ use Rattle.std.proofs.lemmas.Bool.Decides.{nat_tests}
 use Rattle.std.proofs.lemmas.List.{append-nil, length_push}
 use Rattle.std.proofs.lemmas.List.Elements.{filter-append}
 use Rattle.index_lists.specs.Lists.{times}
-use Rattle.index_lists.proofs.Times.{cond_same, cond_other, times-here, times-more, times-later}
+use Rattle.index_lists.proofs.Cited.{cond_same, cond_other, times-here, times-more, times-later}
 use Rattle.board_text.specs.PlainBoard.{PlainBoard}
 use Rattle.positions.specs.Ranks.{configurations, configuration_at}
 use Rattle.positions.specs.Gaps.{IsDominator}
 use Rattle.positions.specs.Counts.{IsSmallest}
-use Rattle.retro_core.specs.Arena.{Arena, IsArena, live, next, Dominant, dominated}
-use Rattle.retro_core.specs.BoardArena.{arena_of}
+use Rattle.retro_core.specs.Inside.Arena.{Arena, IsArena, live, next, Dominant, dominated}
+use Rattle.retro_core.specs.Inside.BoardArena.{arena_of}
 use Rattle.retro_core.specs.Round.{TellsDominated}
-use Rattle.retro_core.specs.Stored.{known_pebble, AreDominators, AreNext}
-use Rattle.retro_core.specs.Tables.{IsCounted, AreWords}
+use Rattle.retro_core.specs.Inside.Stored.{known_pebble, AreDominators, AreNext}
+use Rattle.retro_core.specs.Inside.Tables.{IsCounted, AreWords}
+use Rattle.retro_core.specs.declared.stage.TheConstants.{NO_PEBBLE}
 use Rattle.retro_core.proofs.BoardArenas.{dominant_is}
 use Rattle.retro_core.proofs.Counts.{some_below, count_below-some, count_below-same}
 use Rattle.retro_core.proofs.Lasting.{same_test, true_or_false, true_not_false, next-gives, next-from}
@@ -58,18 +59,18 @@ filtered-times test x (y ∷ ys) holds = elim (true_or_false (test y)) [
 -- ---- bytes
 
 -- the byte of a pebble that dominates
-pub some-dominator : (b : PlainBoard) (dominators : List ℕ) (c : ℕ) → AreDominators b dominators → c < configurations b → slice_index dominators c ≢ 255 → Dominant (arena_of b) c (slice_index dominators c)
+pub some-dominator : (b : PlainBoard) (dominators : List ℕ) (c : ℕ) → AreDominators b dominators → c < configurations b → slice_index dominators c ≢ NO_PEBBLE → Dominant (arena_of b) c (slice_index dominators c)
 some-dominator b dominators c are i d =
     let byte : ℕ = slice_index dominators c in
-    let known : known_pebble byte ≡ Some byte = cond_other byte 255 None (Some byte) d in
+    let known : known_pebble byte ≡ Some byte = cond_other byte NO_PEBBLE None (Some byte) d in
     let small : IsSmallest (IsDominator b (configuration_at b c)) (Some byte) = subst (IsSmallest (IsDominator b (configuration_at b c))) known (are.each c i) in
     (dominant_is b c byte i small.0.is_pebble).0 small.0
 
 -- the byte where none does
-pub no-dominator : (b : PlainBoard) (dominators : List ℕ) (c : ℕ) → AreDominators b dominators → c < configurations b → slice_index dominators c ≡ 255 → dominated (arena_of b) c ≡ false
+pub no-dominator : (b : PlainBoard) (dominators : List ℕ) (c : ℕ) → AreDominators b dominators → c < configurations b → slice_index dominators c ≡ NO_PEBBLE → dominated (arena_of b) c ≡ false
 no-dominator b dominators c are i e =
     let byte : ℕ = slice_index dominators c in
-    let known : known_pebble byte ≡ None = cond_same byte 255 None (Some byte) e in
+    let known : known_pebble byte ≡ None = cond_same byte NO_PEBBLE None (Some byte) e in
     let none : IsSmallest (IsDominator b (configuration_at b c)) None = subst (IsSmallest (IsDominator b (configuration_at b c))) known (are.each c i) in
     elim (true_or_false (dominated (arena_of b) c)) [
       | inr fails ↦ fails

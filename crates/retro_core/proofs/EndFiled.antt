@@ -4,18 +4,20 @@ use Rattle.std.proofs.lemmas.Bool.{cases_lt}
 use Rattle.std.proofs.lemmas.List.{take_more, take-append-drop}
 use Rattle.std.proofs.lemmas.Bool.Decides.{nat_tests}
 use Rattle.index_lists.specs.Lists.{times}
-use Rattle.index_lists.proofs.Times.{times-append}
+use Rattle.index_lists.proofs.Cited.{times-append}
 use Rattle.positions.specs.Ranks.{configurations}
 use Rattle.positions.specs.Gaps.{gaps}
 use Rattle.positions.specs.Counts.{HasSize}
-use Rattle.positions.proofs.Sizes.{same_size}
-use Rattle.retro_core.specs.Arena.{Arena, IsArena, live, lasts}
-use Rattle.retro_core.specs.BoardArena.{arena_of}
+use Rattle.positions.specs.declared.space.TheConstants.{MAX_CONFIGURATIONS}
+use Rattle.positions.proofs.Cited.{same_size}
+use Rattle.retro_core.specs.Inside.Arena.{Arena, IsArena, live, lasts}
+use Rattle.retro_core.specs.Inside.BoardArena.{arena_of}
 use Rattle.retro_core.specs.Ending.{IsRoundEnd}
 use Rattle.retro_core.specs.Round.{IsWorth}
 use Rattle.retro_core.specs.Solving.{AnswerLasts}
-use Rattle.retro_core.specs.Stage.{PlainStage, filed, solving, IsFiled, IsKept, IsStriking, IsUnstruck, FilesAll, TakesCounts}
-use Rattle.retro_core.specs.Tables.{is_open, alive, IsCounted, AreWords}
+use Rattle.retro_core.specs.Inside.Stage.{PlainStage, filed, solving, IsFiled, IsKept, IsStriking, IsUnstruck, FilesAll, TakesCounts}
+use Rattle.retro_core.specs.Inside.Tables.{is_open, alive, IsCounted, AreWords}
+use Rattle.retro_core.specs.declared.stage.TheConstants.{OPEN}
 use Rattle.retro_core.proofs.BoardArenas.{arena_is, value_of_lasts, lasts_of_value}
 use Rattle.retro_core.proofs.Closing.{IsCounted-same, AreWords-same, same-open}
 use Rattle.retro_core.proofs.Filing.{listed-away, filed-once}
@@ -35,7 +37,7 @@ files-none s are = record {
   filed_are = are;
 }
 
-pub files-more : (s : PlainStage) (ranks : List ℕ) (rank : ℕ) (now : PlainStage) → configurations s.board ≤ 1048576 → s.value ≤ configurations s.board
+pub files-more : (s : PlainStage) (ranks : List ℕ) (rank : ℕ) (now : PlainStage) → configurations s.board ≤ MAX_CONFIGURATIONS → s.value ≤ configurations s.board
     → rank < configurations s.board → is_open s.values rank ≡ true → times rank ranks ≡ 0 → FilesAll s ranks now → FilesAll s (ranks ++ rank ∷ []) (filed now rank)
 files-more s ranks rank now few low i still new so_far =
     let value_is : now.value ≡ s.value = so_far.kept.value_is in
@@ -133,7 +135,7 @@ module _ (s : PlainStage) (unstruck : IsUnstruck s) where
       ];
     }
       where
-        word_shut : (n value : ℕ) → n ≡ value → value < 4294967295 → n == 4294967295 ≡ false
+        word_shut : (n value : ℕ) → n ≡ value → value < OPEN → n == OPEN ≡ false
         word_shut n value e small = grind (arith, nat_tests)
 
         shut : (x : ℕ) → 0 < times x won → is_open m.values x ≡ false

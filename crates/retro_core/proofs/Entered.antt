@@ -1,14 +1,14 @@
 -- How many answers of a gap lead to where a test holds.
 use Rattle.std.proofs.Common.{◌≡◌, ℕ, ◌+◌, ◌<◌, ◌&&◌, ◌↔◌, Bool, true, false, cond, zero, suc, refl, arith, sym, ap, ◌∙◌, subst, List, [], ◌∷◌, Contains, length, slice_index}
 use Rattle.board_text.specs.PlainBoard.{PlainBoard, places}
-use Rattle.board_text.proofs.Places.{label_is_place}
+use Rattle.board_text.proofs.Cited.{label_is_place}
 use Rattle.positions.specs.Gaps.{gaps, IsAnswer}
 use Rattle.positions.specs.Counts.{HasSize}
-use Rattle.positions.proofs.Counting.{size_of, count_below as count_to, count_below-zero as count_to-zero, count_below-add as count_to-add}
-use Rattle.positions.proofs.Sizes.{same_size, size_zero}
-use Rattle.retro_core.specs.Arena.{count_below, live, lasts}
-use Rattle.retro_core.specs.BoardArena.{answers, arena_of}
-use Rattle.retro_core.specs.Tables.{IsCounted}
+use Rattle.positions.proofs.Cited.{size_of, count_below as count_to, count_below-zero as count_to-zero, count_below-add as count_to-add}
+use Rattle.positions.proofs.Cited.{same_size, size_zero}
+use Rattle.retro_core.specs.Inside.Arena.{count_below, live, lasts}
+use Rattle.retro_core.specs.Inside.BoardArena.{answers, arena_of}
+use Rattle.retro_core.specs.Inside.Tables.{IsCounted}
 use Rattle.retro_core.proofs.BoardArenas.{answers_is}
 use Rattle.retro_core.proofs.Lasting.{both_true, and_true, true_not_false}
 

@@ -5,12 +5,13 @@ use Rattle.std.proofs.lemmas.Bool.{cases_lt}
 use Rattle.std.proofs.lemmas.List.{ext_get_or}
 use Rattle.std.proofs.lemmas.List.FromFn.{length-map-range_with_len, get_or-map-range_with_len}
 use Rattle.index_lists.specs.Lists.{Lists, times, AreLists, AreSame, pushed}
-use Rattle.index_lists.proofs.Times.{cond_same, cond_other, times-append}
+use Rattle.index_lists.proofs.Cited.{cond_same, cond_other, times-append}
 use Rattle.board_text.specs.PlainBoard.{PlainBoard}
 use Rattle.positions.specs.Ranks.{configurations}
-use Rattle.retro_core.specs.Solving.{first_lists}
-use Rattle.retro_core.specs.Stage.{PlainStage, stage_of, filed_at, listed, filed, IsFiled}
-use Rattle.retro_core.specs.Tables.{is_open}
+use Rattle.positions.specs.declared.space.TheConstants.{MAX_CONFIGURATIONS}
+use Rattle.retro_core.specs.Inside.Solving.{first_lists}
+use Rattle.retro_core.specs.Inside.Stage.{PlainStage, stage_of, filed_at, listed, filed, IsFiled}
+use Rattle.retro_core.specs.Inside.Tables.{is_open}
 use Rattle.retro_core.proofs.Lasting.{same_or_not}
 use Rattle.retro_core.proofs.Listed.{open_word, times_one, times_none}
 
@@ -88,13 +89,13 @@ module _ (s : PlainStage) (rank : ℕ) where
   ]
 
 -- an open configuration stands in no list
-pub open-free : (s : PlainStage) (rank : ℕ) → IsFiled s → configurations s.board ≤ 1048576 → rank < configurations s.board → is_open s.values rank ≡ true → (v : ℕ) → times rank (filed_at s v) ≡ 0
+pub open-free : (s : PlainStage) (rank : ℕ) → IsFiled s → configurations s.board ≤ MAX_CONFIGURATIONS → rank < configurations s.board → is_open s.values rank ≡ true → (v : ℕ) → times rank (filed_at s v) ≡ 0
 open-free s rank are few i still v = elim (cases_lt (configurations s.board) v) [
   | inl beyond ↦ ap (times rank) (past s.buckets v (let size = are.lists_length in omega arith))
   | inr low ↦ are.once v rank low i ∙ cond_other (slice_index s.values rank) v 1 0 (let word = open_word s.values rank still in λ e. omega arith)
 ]
 
-pub filed-once : (s : PlainStage) (rank : ℕ) → IsFiled s → configurations s.board ≤ 1048576 → s.value ≤ configurations s.board → rank < configurations s.board → is_open s.values rank ≡ true → IsFiled (filed s rank)
+pub filed-once : (s : PlainStage) (rank : ℕ) → IsFiled s → configurations s.board ≤ MAX_CONFIGURATIONS → s.value ≤ configurations s.board → rank < configurations s.board → is_open s.values rank ≡ true → IsFiled (filed s rank)
 filed-once s rank are few low i still = record {
   values_length = length-set s.values rank s.value ∙ are.values_length;
   lists_length = length-set s.buckets s.value (filed_at s s.value ++ rank ∷ []) ∙ are.lists_length;

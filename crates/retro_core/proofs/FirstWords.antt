@@ -3,10 +3,11 @@ use Rattle.std.proofs.Common.{◌≡◌, ℕ, ◌+◌, ◌-◌, ◌<◌, ◌==�
 use Rattle.std.proofs.Math.ListN.{length-set}
 use Rattle.std.proofs.lemmas.Bool.{cases_lt}
 use Rattle.std.proofs.lemmas.List.{length-replicate, get_or-replicate}
-use Rattle.retro_core.specs.Arena.{Arena, IsArena, next, lasts}
-use Rattle.retro_core.specs.Opening.{IsRun, IsStopped, AreStopping, IsWritten}
-use Rattle.retro_core.specs.Tables.{IsCounted, AreFirstWords}
-use Rattle.index_lists.proofs.Times.{cond_same, cond_other}
+use Rattle.retro_core.specs.Inside.Arena.{Arena, IsArena, next, lasts}
+use Rattle.retro_core.specs.Inside.Opening.{IsRun, IsStopped, AreStopping, IsWritten}
+use Rattle.retro_core.specs.Inside.Tables.{IsCounted, AreFirstWords}
+use Rattle.retro_core.specs.declared.stage.TheConstants.{OPEN}
+use Rattle.index_lists.proofs.Cited.{cond_same, cond_other}
 use Rattle.retro_core.proofs.Lasting.{true_or_false, same_or_not, next-gives, next-fails}
 
 -- ---- the members of a run of gaps
@@ -93,20 +94,20 @@ stopping-more a is gap place first counts old words new run low first_is written
 -- the members of those of the first gaps that have no answer have the word 0, and all others are open
 pub record AreStopped (a : Arena) (counts : List ℕ) (gap : ℕ) (words : List ℕ) : Type 0 where
   pub words_length : length words ≡ a.configurations
-  pub either : (x : ℕ) → x < a.configurations → (slice_index words x ≡ 4294967295) ⊎ (slice_index words x ≡ 0)
+  pub either : (x : ℕ) → x < a.configurations → (slice_index words x ≡ OPEN) ⊎ (slice_index words x ≡ 0)
   pub sound : (x : ℕ) → x < a.configurations → slice_index words x ≡ 0 → (p : ℕ) × (p < a.pebbles) × (slice_index counts (a.gap x p) ≡ 0)
   pub found : (x p : ℕ) → x < a.configurations → p < a.pebbles → a.gap x p < gap → slice_index counts (a.gap x p) ≡ 0 → slice_index words x ≡ 0
 
-pub stopped-start : (a : Arena) (counts : List ℕ) (n : ℕ) → n ≡ a.configurations → AreStopped a counts 0 (replicate n 4294967295)
+pub stopped-start : (a : Arena) (counts : List ℕ) (n : ℕ) → n ≡ a.configurations → AreStopped a counts 0 (replicate n OPEN)
 stopped-start a counts n size = record {
-  words_length = length-replicate n 4294967295 ∙ size;
+  words_length = length-replicate n OPEN ∙ size;
   either = λ x i. inl (still x i);
   sound = λ x i none. absurd (let word = still x i in omega arith);
   found = λ x p i j low none. absurd (omega arith);
 }
   where
-    still : (x : ℕ) → x < a.configurations → slice_index (replicate n 4294967295) x ≡ 4294967295
-    still x i = get_or-replicate n x 4294967295 0 (omega arith)
+    still : (x : ℕ) → x < a.configurations → slice_index (replicate n OPEN) x ≡ OPEN
+    still x i = get_or-replicate n x OPEN 0 (omega arith)
 
 -- a run of gaps more
 pub stopped-more : (a : Arena) → IsArena a → (counts part : List ℕ) (gap : ℕ) (words new : List ℕ) → IsRun a gap (length part) → ((k : ℕ) → k < length part → slice_index part k ≡ slice_index counts (gap + k))
@@ -150,7 +151,7 @@ first-words a is counts words counted stopped = record {
   words_length = stopped.words_length;
   each = λ x i. elim (true_or_false (next a (lasts a 0) x)) [
     | inl going ↦ elim (stopped.either x i) [
-      | inl still ↦ still ∙ sym (ap (λ t. cond {A = ℕ} t 4294967295 0) going)
+      | inl still ↦ still ∙ sym (ap (λ t. cond {A = ℕ} t OPEN 0) going)
       | inr stop ↦ absurd (
           let found = stopped.sound x i stop in
           let some = next-gives a (lasts a 0) x found.0 going found.1 in
@@ -161,6 +162,6 @@ first-words a is counts words counted stopped = record {
     | inr stuck ↦
         let gap = next-fails a (lasts a 0) x stuck in
         stopped.found x gap.0 i gap.1 (is.gap_in x gap.0 i gap.1) (counted.counted (a.gap x gap.0) (is.gap_in x gap.0 i gap.1) ∙ gap.2)
-        ∙ sym (ap (λ t. cond {A = ℕ} t 4294967295 0) stuck)
+        ∙ sym (ap (λ t. cond {A = ℕ} t OPEN 0) stuck)
   ];
 }

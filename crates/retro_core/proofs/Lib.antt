@@ -28,3 +28,4 @@ pub mod OpenMembers
 pub mod States
 pub mod Safest
 pub mod EndFiled
+pub mod Cited

@@ -3,19 +3,20 @@ use Rattle.std.proofs.Common.{◌≡◌, ◌≢◌, ℕ, ◌+◌, ◌<◌, ◌==
 use Rattle.std.proofs.Math.ListN.{length-set}
 use Rattle.std.proofs.lemmas.Bool.{cases_lt}
 use Rattle.index_lists.specs.Lists.{times}
-use Rattle.index_lists.proofs.Times.{same_is, differ_is, times-later}
-use Rattle.retro_core.specs.Arena.{Arena, IsArena}
-use Rattle.retro_core.specs.Tables.{is_open, IsClosing, IsClosed}
+use Rattle.index_lists.proofs.Cited.{same_is, differ_is, times-later}
+use Rattle.retro_core.specs.Inside.Arena.{Arena, IsArena}
+use Rattle.retro_core.specs.Inside.Tables.{is_open, IsClosing, IsClosed}
+use Rattle.retro_core.specs.declared.stage.TheConstants.{OPEN}
 use Rattle.retro_core.proofs.Lasting.{true_or_false, true_not_false, same_or_not}
 
-pub open_word : (values : List ℕ) (x : ℕ) → is_open values x ≡ true → slice_index values x ≡ 4294967295
-open_word values x e = elim (same_or_not (slice_index values x) 4294967295) [
+pub open_word : (values : List ℕ) (x : ℕ) → is_open values x ≡ true → slice_index values x ≡ OPEN
+open_word values x e = elim (same_or_not (slice_index values x) OPEN) [
   | inl same ↦ same
-  | inr other ↦ absurd (true_not_false (is_open values x) e (differ_is (slice_index values x) 4294967295 other))
+  | inr other ↦ absurd (true_not_false (is_open values x) e (differ_is (slice_index values x) OPEN other))
 ]
 
-pub shut_word : (values : List ℕ) (x : ℕ) → slice_index values x ≢ 4294967295 → is_open values x ≡ false
-shut_word values x other = differ_is (slice_index values x) 4294967295 other
+pub shut_word : (values : List ℕ) (x : ℕ) → slice_index values x ≢ OPEN → is_open values x ≡ false
+shut_word values x other = differ_is (slice_index values x) OPEN other
 
 pub times_one : (node : ℕ) → times node (node ∷ []) ≡ 1
 times_one node = rw (same_is node node refl) refl
@@ -29,11 +30,11 @@ times_true false n h e = absurd (omega arith)
 
 -- ---- the words while a gap closes
 
-pub open-after : (values : List ℕ) (rank value : ℕ) → rank < length values → value ≢ 4294967295 → is_open (slice_set values rank value) rank ≡ false
-open-after values rank value i small = ap (λ w. w == 4294967295) (get_or-set_same values rank value 0 i) ∙ differ_is value 4294967295 small
+pub open-after : (values : List ℕ) (rank value : ℕ) → rank < length values → value ≢ OPEN → is_open (slice_set values rank value) rank ≡ false
+open-after values rank value i small = ap (λ w. w == OPEN) (get_or-set_same values rank value 0 i) ∙ differ_is value OPEN small
 
 pub open-elsewhere : (values : List ℕ) (rank value x : ℕ) → x ≢ rank → is_open (slice_set values rank value) x ≡ is_open values x
-open-elsewhere values rank value x d = ap (λ w. w == 4294967295) (get_or-set_other values rank x value 0 d)
+open-elsewhere values rank value x d = ap (λ w. w == OPEN) (get_or-set_other values rank x value 0 d)
 
 pub closing-start : (a : Arena) (g value : ℕ) (values : List ℕ) → IsClosing a g value values values
 closing-start a g value values = record {
@@ -43,7 +44,7 @@ closing-start a g value values = record {
   kept = λ x i shut. refl;
 }
 
-pub closing-step : (a : Arena) (g value : ℕ) (values values' : List ℕ) (rank : ℕ) → rank < a.configurations → length values ≡ a.configurations → value ≢ 4294967295 → is_open values' rank ≡ true → a.gap rank (a.pebble g) ≡ g
+pub closing-step : (a : Arena) (g value : ℕ) (values values' : List ℕ) (rank : ℕ) → rank < a.configurations → length values ≡ a.configurations → value ≢ OPEN → is_open values' rank ≡ true → a.gap rank (a.pebble g) ≡ g
     → IsClosing a g value values values' → IsClosing a g value values (slice_set values' rank value)
 closing-step a g value values values' rank i size small was_open member c =
     let place : rank < length values' = (let s = c.same_length in omega arith) in record {
@@ -77,7 +78,7 @@ closing-end a g value values values' shut c = record {
 }
 
 -- the members of a gap with the first labels are not open
-pub shut-more : (a : Arena) (g label : ℕ) (values values' : List ℕ) (rank value : ℕ) → rank < length values → value ≢ 4294967295 → a.member g label ≡ rank → values' ≡ slice_set values rank value
+pub shut-more : (a : Arena) (g label : ℕ) (values values' : List ℕ) (rank value : ℕ) → rank < length values → value ≢ OPEN → a.member g label ≡ rank → values' ≡ slice_set values rank value
     → ((v : ℕ) → v < label → is_open values (a.member g v) ≡ false) → (v : ℕ) → v < label + 1 → is_open values' (a.member g v) ≡ false
 shut-more a g label values values' rank value i small here set shut v h = ap (λ (ws : List ℕ). is_open ws (a.member g v)) set ∙ elim (same_or_not (a.member g v) rank) [
   | inl same ↦ ap (is_open (slice_set values rank value)) same ∙ open-after values rank value i small

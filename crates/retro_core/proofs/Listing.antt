@@ -5,12 +5,14 @@ use Rattle.std.proofs.Math.ListN.{length-set}
 use Rattle.std.proofs.lemmas.Bool.{cases_lt}
 use Rattle.std.proofs.lemmas.List.Quantifiers.{all_pairs_push}
 use Rattle.index_lists.specs.Lists.{times}
-use Rattle.index_lists.proofs.Times.{cond_same, cond_other, times-here, times-more, times-append}
+use Rattle.index_lists.proofs.Cited.{cond_same, cond_other, times-here, times-more, times-append}
 use Rattle.positions.specs.Ranks.{configurations}
-use Rattle.retro_core.specs.Arena.{Arena, next, lasts}
-use Rattle.retro_core.specs.BoardArena.{arena_of}
-use Rattle.retro_core.specs.Stage.{PlainStage, filed_at, listed, IsUnlisted, IsOpened}
-use Rattle.retro_core.specs.Tables.{is_open, AreWords, AreFirstWords}
+use Rattle.positions.specs.declared.space.TheConstants.{MAX_CONFIGURATIONS}
+use Rattle.retro_core.specs.Inside.Arena.{Arena, next, lasts}
+use Rattle.retro_core.specs.Inside.BoardArena.{arena_of}
+use Rattle.retro_core.specs.Inside.Stage.{PlainStage, filed_at, listed, IsUnlisted, IsOpened}
+use Rattle.retro_core.specs.Inside.Tables.{is_open, AreWords, AreFirstWords}
+use Rattle.retro_core.specs.declared.stage.TheConstants.{OPEN}
 use Rattle.retro_core.proofs.Filing.{listed-here, listed-away}
 use Rattle.retro_core.proofs.Lasting.{same_or_not, true_or_false}
 use Rattle.retro_core.proofs.Listed.{times_one, times_none}
@@ -115,16 +117,16 @@ module _ (s : PlainStage) (rank : ℕ) (now : PlainStage) (so_far : IsListing s 
 -- ---- all of them
 
 first-open : (a : Arena) (words : List ℕ) → AreFirstWords a words → (x : ℕ) → x < a.configurations → is_open words x ≡ next a (lasts a 0) x
-first-open a words are x i = ap (λ w. w == 4294967295) (are.each x i) ∙ by (next a (lasts a 0) x)
+first-open a words are x i = ap (λ w. w == OPEN) (are.each x i) ∙ by (next a (lasts a 0) x)
   where
-    by : (t : Bool) → (cond {A = ℕ} t 4294967295 0 == 4294967295) ≡ t
+    by : (t : Bool) → (cond {A = ℕ} t OPEN 0 == OPEN) ≡ t
     by true = refl
     by false = refl
 
 first-zero : (a : Arena) (words : List ℕ) → AreFirstWords a words → (x : ℕ) → x < a.configurations → is_open words x ≡ false → (slice_index words x ≡ 0) × (next a (lasts a 0) x ≡ false)
 first-zero a words are x i shut =
     let stuck : next a (lasts a 0) x ≡ false = sym (first-open a words are x i) ∙ shut in
-    (are.each x i ∙ ap (λ t. cond {A = ℕ} t 4294967295 0) stuck, stuck)
+    (are.each x i ∙ ap (λ t. cond {A = ℕ} t OPEN 0) stuck, stuck)
 
 -- the first words say how long each configuration lasts
 first-are-words : (a : Arena) (words : List ℕ) → AreFirstWords a words → AreWords a (lasts a 0) words
@@ -135,7 +137,7 @@ first-are-words a words are = record {
   stopping = λ x i shut. let zero = first-zero a words are x i shut in rw zero.0 zero.1;
 }
 
-pub all-listed : (s : PlainStage) (rank : ℕ) (now : PlainStage) → IsUnlisted s → configurations s.board ≤ 1048576 → rank ≡ configurations s.board → IsListing s rank now → IsOpened now
+pub all-listed : (s : PlainStage) (rank : ℕ) (now : PlainStage) → IsUnlisted s → configurations s.board ≤ MAX_CONFIGURATIONS → rank ≡ configurations s.board → IsListing s rank now → IsOpened now
 all-listed s rank now are few all l = record {
   value_is = l.value_is;
   stage = record {
@@ -159,8 +161,8 @@ all-listed s rank now are few all l = record {
 
     other-word : (v x : ℕ) → suc v ≤ configurations s.board → x < configurations s.board → slice_index s.values x ≢ suc v
     other-word v x low i e = elim (true_or_false (next (arena_of s.board) (lasts (arena_of s.board) 0) x)) [
-      | inl going ↦ let word = are.words_are.each x i ∙ ap (λ t. cond {A = ℕ} t 4294967295 0) going in omega arith
-      | inr stuck ↦ let word = are.words_are.each x i ∙ ap (λ t. cond {A = ℕ} t 4294967295 0) stuck in omega arith
+      | inl going ↦ let word = are.words_are.each x i ∙ ap (λ t. cond {A = ℕ} t OPEN 0) going in omega arith
+      | inr stuck ↦ let word = are.words_are.each x i ∙ ap (λ t. cond {A = ℕ} t OPEN 0) stuck in omega arith
     ]
 
     once : (v x : ℕ) → v ≤ configurations s.board → x < configurations s.board → times x (filed_at now v) ≡ cond (slice_index s.values x == v) 1 0

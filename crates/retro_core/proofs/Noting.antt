@@ -3,26 +3,28 @@ use Rattle.std.proofs.Common.{◌≡◌, ◌≢◌, ℕ, ◌+◌, ◌*◌, ◌<�
 use Rattle.std.proofs.Math.ListN.{length-set}
 use Rattle.std.proofs.lemmas.Bool.{cases_lt}
 use Rattle.std.proofs.lemmas.List.{take_at, get_or_append_left, get_or_push}
-use Rattle.index_lists.proofs.Times.{cond_same, cond_other}
+use Rattle.index_lists.proofs.Cited.{cond_same, cond_other}
 use Rattle.board_text.specs.PlainBoard.{PlainBoard, IsBoard, places}
-use Rattle.board_text.proofs.Places.{label_is_place}
+use Rattle.board_text.proofs.Cited.{label_is_place}
 use Rattle.board_text.specs.Domination.{has_bit}
+use Rattle.board_text.specs.declared.board.TheConstants.{MAX_LABELS, MAX_PEBBLES}
 use Rattle.positions.specs.Ranks.{configurations, configuration_at}
 use Rattle.positions.specs.Gaps.{gaps, pebble_of, IsAnswer, IsDominator}
 use Rattle.positions.specs.Counts.{HasSize, IsSmallest}
-use Rattle.positions.proofs.Sizes.{same_fact_size}
-use Rattle.retro_core.specs.Arena.{Dominant}
-use Rattle.retro_core.specs.BoardArena.{arena_of}
-use Rattle.retro_core.specs.Opening.{AreAnswers, AreNoted}
-use Rattle.retro_core.specs.Stored.{AreDominators}
+use Rattle.positions.proofs.Cited.{same_fact_size}
+use Rattle.retro_core.specs.Inside.Arena.{Dominant}
+use Rattle.retro_core.specs.Inside.BoardArena.{arena_of}
+use Rattle.retro_core.specs.Inside.Opening.{AreAnswers, AreNoted}
+use Rattle.retro_core.specs.Inside.Stored.{AreDominators}
+use Rattle.retro_core.specs.declared.stage.TheConstants.{NO_PEBBLE}
 use Rattle.retro_core.proofs.BoardArenas.{answers_is, arena_is, dominant_is, dominant_label}
 use Rattle.retro_core.proofs.Lasting.{same_or_not}
 
 -- the labels of a set
 abbrev pub HasLabel : List ℕ → ℕ → Type 0
-HasLabel words label = (label < 256) × (has_bit words label ≡ true)
+HasLabel words label = (label < MAX_LABELS) × (has_bit words label ≡ true)
 
-pub has_few : (words : List ℕ) (label : ℕ) → HasLabel words label → label < 256
+pub has_few : (words : List ℕ) (label : ℕ) → HasLabel words label → label < MAX_LABELS
 has_few words label has = has.0
 
 -- the bits of a gap's answers that are at least a bound
@@ -31,12 +33,12 @@ IsBitFrom words from x = (from ≤ x) × HasLabel words x
 
 -- ---- how many answers
 
-pub answers_sized : (b : PlainBoard) (gap count : ℕ) (words : List ℕ) → AreAnswers b gap words → HasSize (λ x. (x < 256) × (has_bit words x ≡ true)) count → HasSize (IsAnswer b gap) count
+pub answers_sized : (b : PlainBoard) (gap count : ℕ) (words : List ℕ) → AreAnswers b gap words → HasSize (λ x. (x < MAX_LABELS) × (has_bit words x ≡ true)) count → HasSize (IsAnswer b gap) count
 answers_sized b gap count words are size =
-    same_fact_size (λ x. (x < 256) × (has_bit words x ≡ true)) (IsAnswer b gap) count
+    same_fact_size (λ x. (x < MAX_LABELS) × (has_bit words x ≡ true)) (IsAnswer b gap) count
     (λ x. (
       λ has. (are.bits x has.0).0 has.1,
-      λ answer. let small : x < 256 = omega (arith, answer.is_label, are.is_board.labels.1) in (small, (are.bits x small).1 answer),
+      λ answer. let small : x < MAX_LABELS = omega (arith, answer.is_label, are.is_board.labels.1) in (small, (are.bits x small).1 answer),
     ))
     size
 
@@ -55,19 +57,19 @@ counted_push b counts gap count size before here g low = elim (cases_lt g gap) [
 pub written : (items new : List ℕ) (n : ℕ) → length new ≡ n → take n (new ++ drop (length new) items) ≡ new
 written items new n size = take_at new (drop (length new) items) n size
 
-pub noted-all : (b : PlainBoard) → IsBoard b → (dominators : List ℕ) → AreNoted b (256 * gaps b) dominators → AreDominators b dominators
+pub noted-all : (b : PlainBoard) → IsBoard b → (dominators : List ℕ) → AreNoted b (MAX_LABELS * gaps b) dominators → AreDominators b dominators
 noted-all b is dominators noted = record {
   dominators_length = noted.noted_length;
-  each = λ c i. elim (same_or_not (slice_index dominators c) 255) [
-    | inl none ↦ subst (IsSmallest (IsDominator b (configuration_at b c))) (sym (cond_same (slice_index dominators c) 255 None (Some (slice_index dominators c)) none)) (λ p dominator.
+  each = λ c i. elim (same_or_not (slice_index dominators c) NO_PEBBLE) [
+    | inl none ↦ subst (IsSmallest (IsDominator b (configuration_at b c))) (sym (cond_same (slice_index dominators c) NO_PEBBLE None (Some (slice_index dominators c)) none)) (λ p dominator.
         let d = (dominant_is b c p i dominator.is_pebble).0 dominator in
         let byte = noted.found c p i d (within c p i d) in
         let low : p < b.pebbles = dominator.is_pebble in
-        let few : b.pebbles ≤ 6 = is.pebbles.1 in
+        let few : b.pebbles ≤ MAX_PEBBLES = is.pebbles.1 in
         omega arith)
     | inr some ↦
         let d = noted.sound c i some in
-        subst (IsSmallest (IsDominator b (configuration_at b c))) (sym (cond_other (slice_index dominators c) 255 None (Some (slice_index dominators c)) some)) (
+        subst (IsSmallest (IsDominator b (configuration_at b c))) (sym (cond_other (slice_index dominators c) NO_PEBBLE None (Some (slice_index dominators c)) some)) (
           (dominant_is b c (slice_index dominators c) i d.0).1 d,
           λ q dominator.
               let other = (dominant_is b c q i dominator.is_pebble).0 dominator in
@@ -77,35 +79,35 @@ noted-all b is dominators noted = record {
   ];
 }
   where
-    within : (c p : ℕ) → c < configurations b → Dominant (arena_of b) c p → 256 * (arena_of b).gap c p + (arena_of b).place c p < 256 * gaps b
+    within : (c p : ℕ) → c < configurations b → Dominant (arena_of b) c p → MAX_LABELS * (arena_of b).gap c p + (arena_of b).place c p < MAX_LABELS * gaps b
     within c p i d =
         let gap_in : (arena_of b).gap c p < gaps b = (arena_is b is).gap_in c p i d.0 in
         let label_in : (arena_of b).place c p < b.labels = dominant_label b is c p i d in
-        let few : b.labels ≤ 256 = is.labels.1 in
+        let few : b.labels ≤ MAX_LABELS = is.labels.1 in
         omega arith
 
 -- ---- one answer more
 
 module _ (b : PlainBoard) (is : IsBoard b) (gap from : ℕ) (words : List ℕ) (dominators : List ℕ) (in_gaps : gap < gaps b) (are : AreAnswers b gap words)
-    (noted : AreNoted b (256 * gap + from) dominators) where
+    (noted : AreNoted b (MAX_LABELS * gap + from) dominators) where
   -- what comes before the next gap and not before the bound is an answer of this gap
-  late : (c p : ℕ) → c < configurations b → Dominant (arena_of b) c p → 256 * gap + from ≤ 256 * (arena_of b).gap c p + (arena_of b).place c p
-      → 256 * (arena_of b).gap c p + (arena_of b).place c p < 256 * gap + 256
+  late : (c p : ℕ) → c < configurations b → Dominant (arena_of b) c p → MAX_LABELS * gap + from ≤ MAX_LABELS * (arena_of b).gap c p + (arena_of b).place c p
+      → MAX_LABELS * (arena_of b).gap c p + (arena_of b).place c p < MAX_LABELS * gap + MAX_LABELS
       → ((arena_of b).gap c p ≡ gap) × IsBitFrom words from ((arena_of b).place c p)
   late c p i d after before =
       let a = arena_of b in
       let label : ℕ = a.place c p in
       let low : label < b.labels = dominant_label b is c p i d in
-      let small : label < 256 = omega (arith, are.is_board.labels.1) in
+      let small : label < MAX_LABELS = omega (arith, are.is_board.labels.1) in
       let same : a.gap c p ≡ gap = omega arith in
       let answer = (answers_is b gap label in_gaps).0 (subst (λ g. a.is_answer g label ≡ true) same d.1) in
       (same, (omega arith, (small, (are.bits label small).1 answer)))
 
-  pub noted-end : IsSmallest (IsBitFrom words from) None → AreNoted b (256 * (gap + 1)) dominators
+  pub noted-end : IsSmallest (IsBitFrom words from) None → AreNoted b (MAX_LABELS * (gap + 1)) dominators
   noted-end none = record {
     noted_length = noted.noted_length;
     sound = noted.sound;
-    found = λ c p i d before. elim (cases_lt (256 * (arena_of b).gap c p + (arena_of b).place c p) (256 * gap + from)) [
+    found = λ c p i d before. elim (cases_lt (MAX_LABELS * (arena_of b).gap c p + (arena_of b).place c p) (MAX_LABELS * gap + from)) [
       | inl early ↦ noted.found c p i d early
       | inr after ↦ absurd (none ((arena_of b).place c p) (late c p i d after (omega arith)).1)
     ];
@@ -131,12 +133,12 @@ module _ (b : PlainBoard) (is : IsBoard b) (gap from : ℕ) (words : List ℕ) (
 
     -- what else was to be noted is noted before
     earlier : (c p : ℕ) → c < configurations b → Dominant (arena_of b) c p → c ≢ (arena_of b).member gap label
-        → 256 * (arena_of b).gap c p + (arena_of b).place c p < 256 * gap + (label + 1) → 256 * (arena_of b).gap c p + (arena_of b).place c p < 256 * gap + from
-    earlier c p i d other before = elim (cases_lt (256 * (arena_of b).gap c p + (arena_of b).place c p) (256 * gap + from)) [
+        → MAX_LABELS * (arena_of b).gap c p + (arena_of b).place c p < MAX_LABELS * gap + (label + 1) → MAX_LABELS * (arena_of b).gap c p + (arena_of b).place c p < MAX_LABELS * gap + from
+    earlier c p i d other before = elim (cases_lt (MAX_LABELS * (arena_of b).gap c p + (arena_of b).place c p) (MAX_LABELS * gap + from)) [
       | inl early ↦ early
       | inr after ↦ absurd (
           let a = arena_of b in
-          let small : label < 256 = next.0.1.0 in
+          let small : label < MAX_LABELS = next.0.1.0 in
           let there = late c p i d after (omega arith) in
           let least : label ≤ a.place c p = next.1 (a.place c p) there.1 in
           let gap_is : a.gap c p ≡ gap = there.0 in
@@ -144,7 +146,7 @@ module _ (b : PlainBoard) (is : IsBoard b) (gap from : ℕ) (words : List ℕ) (
           other (sym ((arena_is b is).member_of_gap c p i d.0) ∙ ap (λ g. a.member g (a.place c p)) gap_is ∙ ap (a.member gap) label_is))
     ]
 
-    pub noted-step : (rank pebble : ℕ) → rank ≡ (arena_of b).member gap label → pebble ≡ pebble_of b gap → AreNoted b (256 * gap + (label + 1)) (slice_set dominators rank pebble)
+    pub noted-step : (rank pebble : ℕ) → rank ≡ (arena_of b).member gap label → pebble ≡ pebble_of b gap → AreNoted b (MAX_LABELS * gap + (label + 1)) (slice_set dominators rank pebble)
     noted-step rank pebble rank_is pebble_is =
         let a = arena_of b in
         let ok = arena_is b is in

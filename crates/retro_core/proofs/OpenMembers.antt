@@ -1,9 +1,10 @@
 -- The open members of a gap, from a place on.
 use Rattle.std.proofs.Common.{◌≡◌, ◌≢◌, ℕ, zero, suc, ◌+◌, ◌-◌, ◌*◌, ◌<◌, ◌≤◌, ◌∙◌, refl, sym, ap, arith, List, [], ◌∷◌, Some, slice_get, slice_index}
 use Rattle.board_text.specs.PlainBoard.{PlainBoard, places}
-use Rattle.retro_core.specs.BoardArena.{arena_of}
-use Rattle.retro_core.specs.SourceWalk.{open_from}
-use Rattle.retro_core.specs.Tables.{is_open, members_from}
+use Rattle.retro_core.specs.Inside.BoardArena.{arena_of}
+use Rattle.retro_core.specs.Inside.SourceWalk.{open_from}
+use Rattle.retro_core.specs.Inside.Tables.{is_open, members_from}
+use Rattle.retro_core.specs.declared.stage.TheConstants.{OPEN}
 use Rattle.retro_core.proofs.Lasting.{same_is}
 use Rattle.retro_core.proofs.Listed.{shut_word}
 use Rattle.retro_core.proofs.Sources.{members-skip, members-take}
@@ -12,13 +13,13 @@ module _ (b : PlainBoard) (values : List ℕ) (gap place rank : ℕ) (low : plac
   count : places b - place ≡ suc (places b - (place + 1))
   count = omega arith
 
-  pub open-here : slice_index values rank ≡ 4294967295 → slice_get (members_from (arena_of b) (is_open values) gap place (places b - place)) 0 ≡ Some rank
+  pub open-here : slice_index values rank ≡ OPEN → slice_get (members_from (arena_of b) (is_open values) gap place (places b - place)) 0 ≡ Some rank
   open-here word =
       ap (λ n. slice_get (members_from (arena_of b) (is_open values) gap place n) 0) count
-      ∙ ap (λ (xs : List ℕ). slice_get xs 0) (members-take (arena_of b) (is_open values) gap place (places b - (place + 1)) (ap (is_open values) (sym rank_is) ∙ same_is (slice_index values rank) 4294967295 word))
+      ∙ ap (λ (xs : List ℕ). slice_get xs 0) (members-take (arena_of b) (is_open values) gap place (places b - (place + 1)) (ap (is_open values) (sym rank_is) ∙ same_is (slice_index values rank) OPEN word))
       ∙ ap Some (sym rank_is)
 
-  pub shut-here : slice_index values rank ≢ 4294967295
+  pub shut-here : slice_index values rank ≢ OPEN
       → slice_get (members_from (arena_of b) (is_open values) gap place (places b - place)) 0 ≡ slice_get (members_from (arena_of b) (is_open values) gap (place + 1) (places b - (place + 1))) 0
   shut-here word =
       ap (λ n. slice_get (members_from (arena_of b) (is_open values) gap place n) 0) count
@@ -27,18 +28,18 @@ module _ (b : PlainBoard) (values : List ℕ) (gap place rank : ℕ) (low : plac
 -- ---- a walk over them
 
 -- the member with this place is passed over, or comes first
-pub walk-skip : (values : List ℕ) (first step place places rank : ℕ) → place < places → rank ≡ first + place * step → slice_index values rank ≢ 4294967295
+pub walk-skip : (values : List ℕ) (first step place places rank : ℕ) → place < places → rank ≡ first + place * step → slice_index values rank ≢ OPEN
     → open_from values first step place (places - place) ≡ open_from values first step (place + 1) (places - (place + 1))
 walk-skip values first step place places rank low here word =
     let count : places - place ≡ suc (places - (place + 1)) = omega arith in
     ap (open_from values first step place) count ∙ rw (ap (is_open values) (sym here) ∙ shut_word values rank word) refl
 
-pub walk-take : (values : List ℕ) (first step place places rank : ℕ) → place < places → rank ≡ first + place * step → slice_index values rank ≡ 4294967295
+pub walk-take : (values : List ℕ) (first step place places rank : ℕ) → place < places → rank ≡ first + place * step → slice_index values rank ≡ OPEN
     → open_from values first step place (places - place) ≡ rank ∷ open_from values first step (place + 1) (places - (place + 1))
 walk-take values first step place places rank low here word =
     let count : places - place ≡ suc (places - (place + 1)) = omega arith in
     ap (open_from values first step place) count
-    ∙ rw (ap (is_open values) (sym here) ∙ same_is (slice_index values rank) 4294967295 word) (ap (λ x. x ∷ open_from values first step (place + 1) (places - (place + 1))) (sym here))
+    ∙ rw (ap (is_open values) (sym here) ∙ same_is (slice_index values rank) OPEN word) (ap (λ x. x ∷ open_from values first step (place + 1) (places - (place + 1))) (sym here))
 
 -- behind the last place none is left
 pub walk-end : (values : List ℕ) (first step place places : ℕ) → places ≤ place → open_from values first step place (places - place) ≡ []

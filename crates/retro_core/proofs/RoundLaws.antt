@@ -9,13 +9,12 @@ use Rattle.positions.specs.Game.{LabellerTree}
 use Rattle.positions.specs.Ranks.{configurations, rank_of, configuration_at}
 use Rattle.positions.specs.Gaps.{gaps, member_of, IsAnswer}
 use Rattle.positions.specs.Counts.{HasSize}
-use Rattle.positions.proofs.Sizes.{same_size}
-use Rattle.positions.proofs.Values.{same_value}
-use Rattle.retro_core.specs.Arena.{live, lasts}
-use Rattle.retro_core.specs.BoardArena.{arena_of}
+use Rattle.positions.proofs.Cited.{same_size, same_value}
+use Rattle.retro_core.specs.Inside.Arena.{live, lasts}
+use Rattle.retro_core.specs.Inside.BoardArena.{arena_of}
 use Rattle.retro_core.specs.Solving.{Solving, IsSolving, AnswerLasts, source}
 use Rattle.retro_core.specs.Round.{PlainSeat, Round, spent, all_todo, all_owed, all_won, IsWorth, IsDue, IsLawful}
-use Rattle.retro_core.specs.Rules.{tally, total, home_among, value_before, rules_of, held_in, AreKept}
+use Rattle.retro_core.specs.Inside.Rules.{tally, total, home_among, value_before, rules_of, held_in, AreKept}
 use Rattle.retro_core.proofs.Lasting.{same_or_not}
 use Rattle.retro_core.proofs.BoardArenas.{arena_is, at_member, tree_of_lasts, lasts_of_tree}
 use Rattle.retro_core.proofs.Entered.{live-size}

@@ -10,12 +10,12 @@ use Rattle.positions.specs.Value.{HasValue}
 use Rattle.positions.specs.Ranks.{configurations, rank_of, configuration_at}
 use Rattle.positions.specs.Gaps.{gaps, gap_of, member_of, IsDominator}
 use Rattle.positions.specs.Counts.{HasSize}
-use Rattle.positions.proofs.Sizes.{same_size}
-use Rattle.retro_core.specs.Arena.{Arena, IsArena, count_below, live, lasts}
-use Rattle.retro_core.specs.BoardArena.{arena_of}
+use Rattle.positions.proofs.Cited.{same_size}
+use Rattle.retro_core.specs.Inside.Arena.{Arena, IsArena, count_below, live, lasts}
+use Rattle.retro_core.specs.Inside.BoardArena.{arena_of}
 use Rattle.retro_core.specs.Solving.{Solving, IsSolving, AnswerLasts, bucket, source}
 use Rattle.retro_core.specs.Round.{IsWorth, IsDue, TellsDominated, AreToStrike}
-use Rattle.retro_core.specs.Rules.{tally, home_among, has_home, value_before, rules_of, IsStruckIn, IsToWin, AreSound, AreReady}
+use Rattle.retro_core.specs.Inside.Rules.{tally, home_among, has_home, value_before, rules_of, IsStruckIn, IsToWin, AreSound, AreReady}
 use Rattle.retro_core.proofs.Lasting.{true_or_false, true_not_false, same_is, differ_is, lasts-less, lasts-at-most, next-gives, next-closed, next-fails}
 use Rattle.retro_core.proofs.BoardArenas.{arena_is, at_member, tree_of_lasts, lasts_of_tree, value_of_lasts, lasts_of_value, dominant_is}
 use Rattle.retro_core.proofs.Entered.{live-size}

@@ -7,19 +7,20 @@ use Rattle.board_text.specs.PlainBoard.{IsBoard}
 use Rattle.positions.specs.Game.{LabellerTree}
 use Rattle.positions.specs.Ranks.{configurations, rank_of, configuration_at}
 use Rattle.positions.specs.Gaps.{gaps, gap_of, member_of, IsAnswer, IsDominator}
-use Rattle.positions.proofs.Sizes.{same_size, size_zero}
-use Rattle.positions.proofs.Ranks.{configuration_at_is}
-use Rattle.positions.proofs.GapLaws.{gap_below}
-use Rattle.retro_core.specs.Arena.{live, lasts}
-use Rattle.retro_core.specs.BoardArena.{arena_of}
+use Rattle.positions.proofs.Cited.{same_size, size_zero, configuration_at_is, gap_below}
+use Rattle.retro_core.specs.Inside.Arena.{live, lasts}
+use Rattle.retro_core.specs.Inside.BoardArena.{arena_of}
 use Rattle.retro_core.specs.Solving.{Solving, IsSolving, AnswerLasts}
-use Rattle.retro_core.specs.Round.{PlainSeat, Round, round_of, spent, seat_at, together, all_todo, all_owed, all_won, IsDue, IsLawful, AreToStrike, AreFirstCounts, AreFirstValues, opening, IsOpening, IsWorkedOff, HasWonAll, first_of, rest_of, seat_tried, struck, first_is_open, tried, split, joined}
+use Rattle.retro_core.specs.Round.{PlainSeat, Round, spent, seat_at, together, all_todo, all_owed, all_won, IsDue, IsLawful, AreToStrike}
+use Rattle.retro_core.specs.Round.{AreFirstCounts, AreFirstValues, opening, IsOpening, IsWorkedOff, HasWonAll, first_of, rest_of}
+use Rattle.retro_core.specs.Round.{seat_tried, struck, first_is_open, tried, split, joined}
+use Rattle.retro_core.specs.Inside.Round.{round_of}
 use Rattle.retro_core.specs.declared.step.Step.{Step}
 use Rattle.retro_core.specs.declared.step.Step.TheVariants as steps
 use Rattle.retro_core.specs.declared.step.Seen.{Seen}
 use Rattle.retro_core.specs.declared.step.Seen.TheVariants as seen
 use Rattle.retro_core.specs.Stepping.{Does, LeadTo}
-use Rattle.retro_core.specs.Rules.{total, rules_of}
+use Rattle.retro_core.specs.Inside.Rules.{total, rules_of}
 use Rattle.retro_core.proofs.Lasting.{next-fails}
 use Rattle.retro_core.proofs.BoardArenas.{arena_is, at_member, tree_of_lasts, lasts_of_value}
 use Rattle.retro_core.proofs.Sums.{total-at, times-together}

@@ -1,17 +1,18 @@
 -- The answers of a gap that last forever, by the words and the dominators of its members.
 use Rattle.std.proofs.Common.{◌≡◌, ℕ, ◌<◌, ◌≤◌, inl, inr, true, arith, sym, ap, ◌∙◌, subst, List, slice_index}
 use Rattle.board_text.specs.PlainBoard.{PlainBoard, IsBoard, places}
-use Rattle.board_text.proofs.Places.{label_is_place}
+use Rattle.board_text.specs.declared.board.TheConstants.{MAX_PEBBLES}
+use Rattle.board_text.proofs.Cited.{label_is_place}
 use Rattle.positions.specs.declared.value.Value.TheVariants.{Finite, Forever}
 use Rattle.positions.specs.Value.{HasValue}
 use Rattle.positions.specs.Ranks.{configurations, configuration_at}
 use Rattle.positions.specs.Gaps.{gaps, pebble_of, member_of}
-use Rattle.positions.proofs.Values.{same_value}
-use Rattle.retro_core.specs.Arena.{Arena, IsArena, Dominant}
-use Rattle.retro_core.specs.BoardArena.{arena_of}
+use Rattle.positions.proofs.Cited.{same_value}
+use Rattle.retro_core.specs.Inside.Arena.{Arena, IsArena, Dominant}
+use Rattle.retro_core.specs.Inside.BoardArena.{arena_of}
 use Rattle.retro_core.specs.Solving.{AnswerForever}
-use Rattle.retro_core.specs.Stored.{AreDominators}
-use Rattle.retro_core.specs.Tables.{is_open, AreValues}
+use Rattle.retro_core.specs.Inside.Stored.{AreDominators}
+use Rattle.retro_core.specs.Inside.Tables.{is_open, AreValues}
 use Rattle.retro_core.proofs.BoardArenas.{arena_is, answers_is, at_member}
 use Rattle.retro_core.proofs.Dominated.{dominated-by, some-dominator, dominator-byte}
 use Rattle.retro_core.proofs.Lasting.{true_or_false}
@@ -42,7 +43,7 @@ module _ (b : PlainBoard) (board_is : IsBoard b) (values dominators : List ℕ) 
   pub safe-here : slice_index dominators rank ≡ pebble_of b gap → is_open values rank ≡ true → AnswerForever b gap label
   safe-here byte_is still =
       let pebble_in : pebble_of b gap < b.pebbles = is.pebble_in gap in_gaps in
-      let few : b.pebbles ≤ 6 = board_is.pebbles.1 in
+      let few : b.pebbles ≤ MAX_PEBBLES = board_is.pebbles.1 in
       let d : Dominant a rank (slice_index dominators rank) = some-dominator b dominators rank are_dominators rank_in (λ e. omega arith) in
       let there : Dominant a (a.member gap label) (a.pebble gap) = subst (λ x. Dominant a x (a.pebble gap)) rank_is (subst (λ p. Dominant a rank p) byte_is d) in
       let answer : a.is_answer gap label ≡ true = rw (is.gap_of_member gap label in_gaps is_place, is.place_of_member gap label in_gaps is_place) at there.1 in

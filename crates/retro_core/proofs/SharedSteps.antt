@@ -4,12 +4,13 @@ use Rattle.std.specs.Option.{is_none}
 use Rattle.std.proofs.lemmas.List.{get_or-map, map-set, take-set-le, drop-set-lt, drop-set-add, get_or-take, get_or-drop, length-map}
 use Rattle.std.proofs.Math.Seq.{take-set-lt}
 use Rattle.index_lists.specs.Lists.{times}
-use Rattle.index_lists.proofs.Times.{cond_same, cond_other}
+use Rattle.index_lists.proofs.Cited.{cond_same, cond_other}
 use Rattle.positions.specs.Ranks.{configuration_at}
 use Rattle.positions.specs.Gaps.{gaps, gap_of, IsDominator}
 use Rattle.retro_core.specs.Solving.{Solving, IsSolving}
-use Rattle.retro_core.specs.Round.{PlainSeat, round_of, spent, all_won, IsLawful, first_of, seat_struck, seat_tried, first_is_open}
-use Rattle.retro_core.specs.Words.{open_word, value_of_word, round_of_words}
+use Rattle.retro_core.specs.Round.{PlainSeat, spent, all_won, IsLawful, first_of, seat_struck, seat_tried, first_is_open}
+use Rattle.retro_core.specs.Inside.Round.{round_of}
+use Rattle.retro_core.specs.Inside.Words.{open_word, value_of_word, round_of_words}
 use Rattle.retro_core.proofs.Lasting.{same_or_not}
 use Rattle.retro_core.proofs.RoundSteps.{strike-lawful, try-lawful}
 

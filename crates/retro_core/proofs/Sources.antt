@@ -1,10 +1,9 @@
 -- The members of a gap that pass a test, by label.
 use Rattle.std.proofs.Common.{◌≡◌, ℕ, zero, suc, ◌+◌, ◌-◌, ◌<◌, ◌≤◌, ◌==◌, ◌&&◌, Bool, true, false, cond, inl, inr, refl, sym, ap, ◌∙◌, subst, arith, List, ◌∷◌, Some, slice_get}
 use Rattle.index_lists.specs.Lists.{times}
-use Rattle.index_lists.proofs.Times.{times-later}
-use Rattle.index_lists.proofs.Places.{some_is}
-use Rattle.retro_core.specs.Arena.{Arena, IsArena}
-use Rattle.retro_core.specs.Tables.{members_from}
+use Rattle.index_lists.proofs.Cited.{times-later, some_is}
+use Rattle.retro_core.specs.Inside.Arena.{Arena, IsArena}
+use Rattle.retro_core.specs.Inside.Tables.{members_from}
 use Rattle.retro_core.proofs.Lasting.{both_true, and_true, true_or_false, true_not_false, same_or_not, same_is, differ_is}
 
 -- a member is left out or comes first

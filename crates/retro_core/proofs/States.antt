@@ -4,7 +4,7 @@ use Rattle.std.specs.List.{filter, AllPairs}
 use Rattle.std.proofs.lemmas.Bool.{cases_lt}
 use Rattle.std.proofs.lemmas.List.FromFn.{get_or-map-range_with_len}
 use Rattle.index_lists.specs.Lists.{times}
-use Rattle.index_lists.proofs.Times.{cond_same, cond_other, times-here}
+use Rattle.index_lists.proofs.Cited.{cond_same, cond_other, times-here}
 use Rattle.board_text.specs.PlainBoard.{PlainBoard, IsBoard}
 use Rattle.positions.specs.declared.value.Value.TheVariants.{Finite, Forever}
 use Rattle.positions.specs.Game.{LabellerTree}
@@ -12,13 +12,15 @@ use Rattle.positions.specs.Value.{HasValue}
 use Rattle.positions.specs.Ranks.{configurations, rank_of, configuration_at}
 use Rattle.positions.specs.Gaps.{gaps, member_of}
 use Rattle.positions.specs.Counts.{HasSize}
-use Rattle.positions.proofs.Ranks.{rank_below, configuration_at-rank_of}
-use Rattle.retro_core.specs.Arena.{Arena, IsArena, count_below, live, lasts, IsLast, dominated}
-use Rattle.retro_core.specs.BoardArena.{arena_of}
+use Rattle.positions.specs.declared.space.TheConstants.{MAX_CONFIGURATIONS}
+use Rattle.positions.proofs.Cited.{rank_below, configuration_at-rank_of}
+use Rattle.retro_core.specs.Inside.Arena.{Arena, IsArena, count_below, live, lasts, IsLast, dominated}
+use Rattle.retro_core.specs.Inside.BoardArena.{arena_of}
 use Rattle.retro_core.specs.Round.{AreToStrike}
-use Rattle.retro_core.specs.Solving.{Solving, AreOpenMembers, IsSolving, NoneHas, AnswerLasts, AnswerForever, first_lists}
-use Rattle.retro_core.specs.Stage.{PlainStage, filed_at, turned, IsFiled, IsStage, IsKept, IsStriking, IsUnstruck, IsOpened, IsState}
-use Rattle.retro_core.specs.Tables.{is_open, open_members, alive, struck_rounds, AreWords, AreValues}
+use Rattle.retro_core.specs.Solving.{Solving, AreOpenMembers, IsSolving, NoneHas, AnswerLasts, AnswerForever}
+use Rattle.retro_core.specs.Inside.Solving.{first_lists}
+use Rattle.retro_core.specs.Inside.Stage.{PlainStage, filed_at, turned, IsFiled, IsStage, IsKept, IsStriking, IsUnstruck, IsOpened, IsState}
+use Rattle.retro_core.specs.Inside.Tables.{is_open, open_members, alive, struck_rounds, AreWords, AreValues}
 use Rattle.retro_core.proofs.Counts.{count_below-some, count_below-less, count_below-bound}
 use Rattle.retro_core.proofs.Lasting.{both_true, true_or_false, true_not_false, same_or_not, same_is, lasts-less, lasts-at-most}
 use Rattle.retro_core.proofs.Strikes.{lasts-forever}
@@ -75,7 +77,7 @@ filed-few s v x f = elim (cases_lt 0 (times x (filed_at s v))) [
 
 -- ---- the start and the end of a round
 
-module _ (s : PlainStage) (board_is : IsBoard s.board) (few : configurations s.board ≤ 1048576) where
+module _ (s : PlainStage) (board_is : IsBoard s.board) (few : configurations s.board ≤ MAX_CONFIGURATIONS) where
   abbrev a : Arena
   a = arena_of s.board
 
@@ -178,7 +180,7 @@ module _ (s : PlainStage) (board_is : IsBoard s.board) (few : configurations s.b
 not_true : false ≡ true → ⊥
 not_true e = cc
 
-pub start-state : (s : PlainStage) → IsBoard s.board → configurations s.board ≤ 1048576 → 0 < configurations s.board → IsOpened s → IsState (turned s) 0 false
+pub start-state : (s : PlainStage) → IsBoard s.board → configurations s.board ≤ MAX_CONFIGURATIONS → 0 < configurations s.board → IsOpened s → IsState (turned s) 0 false
 start-state s is_board few some opened = record {
   is_board = is_board;
   few = few;
@@ -389,8 +391,8 @@ module _ (s : PlainStage) (round : ℕ) (is_done : Bool) (st : IsState s round i
     board' : IsBoard s'.board
     board' = subst IsBoard (sym kept.board_is) st.is_board
 
-    few' : configurations s'.board ≤ 1048576
-    few' = subst (λ p. configurations p ≤ 1048576) (sym kept.board_is) st.few
+    few' : configurations s'.board ≤ MAX_CONFIGURATIONS
+    few' = subst (λ p. configurations p ≤ MAX_CONFIGURATIONS) (sym kept.board_is) st.few
 
     below' : round < configurations s'.board
     below' = subst (λ p. round < configurations p) (sym kept.board_is) round-below

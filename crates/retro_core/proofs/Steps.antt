@@ -1,9 +1,9 @@
 -- Each step of a round keeps its rules.
 use Rattle.std.proofs.Common.{◌≡◌, ◌≢◌, ◌⊎◌, ℕ, zero, suc, ◌+◌, ◌-◌, ◌/◌, ◌<◌, ◌≤◌, ◌==◌, true, false, cond, List, [], ◌∷◌, ◌++◌, length, set, refl, sym, ap, ◌∙◌, inl, inr, subst, arith, Option, Some, None, slice_get}
 use Rattle.index_lists.specs.Lists.{times}
-use Rattle.index_lists.proofs.Times.{cond_same, cond_other, times-append}
+use Rattle.index_lists.proofs.Cited.{cond_same, cond_other, times-append}
 use Rattle.retro_core.specs.Round.{PlainSeat, spent, first_of, rest_of, seat_tried, seat_kept, seat_new, seat_joined}
-use Rattle.retro_core.specs.Rules.{Rules, tally, total, IsStruckIn, IsToWin, word_of, held_in, AreSound, AreReady, AreKept}
+use Rattle.retro_core.specs.Inside.Rules.{Rules, tally, total, IsStruckIn, IsToWin, word_of, held_in, AreSound, AreReady, AreKept}
 use Rattle.retro_core.proofs.Lasting.{same_or_not}
 use Rattle.retro_core.proofs.Sums.{same_seat, no_seat, total-set, total-at, total-le, total-cut, total-glue, times-cut, tally-append, tally-cut}
 

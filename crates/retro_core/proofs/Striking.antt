@@ -2,13 +2,14 @@
 use Rattle.std.proofs.Common.{◌≡◌, ◌≢◌, ℕ, ◌+◌, ◌<◌, ◌≤◌, ◌==◌, not, inl, inr, Bool, true, false, cond, suc, refl, arith, sym, ap, ◌∙◌, subst, List, ◌∷◌, slice_index, slice_set}
 use Rattle.std.proofs.lemmas.Bool.Decides.{nat_tests}
 use Rattle.index_lists.specs.Lists.{times}
-use Rattle.index_lists.proofs.Times.{times-here, times-more, times-later}
+use Rattle.index_lists.proofs.Cited.{times-here, times-more, times-later}
 use Rattle.board_text.specs.PlainBoard.{PlainBoard, IsBoard}
 use Rattle.positions.specs.Ranks.{configurations}
-use Rattle.retro_core.specs.Arena.{Arena, IsArena, lasts, without, Dominant}
-use Rattle.retro_core.specs.BoardArena.{arena_of}
-use Rattle.retro_core.specs.Stage.{PlainStage, counting, IsFiled, IsKept, Closes, IsStruckAt, IsStriking}
-use Rattle.retro_core.specs.Tables.{alive, IsCounted, AreWords, IsBetween}
+use Rattle.positions.specs.declared.space.TheConstants.{MAX_CONFIGURATIONS}
+use Rattle.retro_core.specs.Inside.Arena.{Arena, IsArena, lasts, without, Dominant}
+use Rattle.retro_core.specs.Inside.BoardArena.{arena_of}
+use Rattle.retro_core.specs.Inside.Stage.{PlainStage, counting, IsFiled, IsKept, Closes, IsStruckAt, IsStriking}
+use Rattle.retro_core.specs.Inside.Tables.{alive, IsCounted, AreWords, IsBetween}
 use Rattle.retro_core.proofs.BoardArenas.{arena_is}
 use Rattle.retro_core.proofs.Closing.{IsCounted-same, AreWords-same, counted-struck, words-some, words-closed, home-now}
 use Rattle.retro_core.proofs.Lasting.{true_or_false, same_or_not, same_is, lasts-less}
@@ -132,7 +133,7 @@ module _ (s : PlainStage) (board_is : IsBoard s.board) (c : ℕ) (rest : List �
       once = fewer;
     }
 
-    pub struck-closed : (s' : PlainStage) → n ≡ 0 → configurations s.board ≤ 1048576 → s.value ≤ configurations s.board → Closes (counting s (slice_set s.counts g n)) g s' → IsStriking s' rest
+    pub struck-closed : (s' : PlainStage) → n ≡ 0 → configurations s.board ≤ MAX_CONFIGURATIONS → s.value ≤ configurations s.board → Closes (counting s (slice_set s.counts g n)) g s' → IsStriking s' rest
     struck-closed s' none few low closes =
         let value_is : s.value ≡ suc k.round = k.value_is in
         striking-of s' rest s.board closes.kept.board_is k.round (closes.kept.value_is ∙ value_is)

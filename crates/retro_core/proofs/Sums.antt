@@ -1,9 +1,9 @@
 -- Sums over seats, and how they change where one seat changes.
 use Rattle.std.proofs.Common.{◌≡◌, ◌≢◌, ℕ, zero, suc, ◌+◌, ◌≤◌, List, [], ◌∷◌, ◌++◌, take, drop, set, refl, sym, ap, subst, arith, Option, Some, None, slice_get}
 use Rattle.index_lists.specs.Lists.{times}
-use Rattle.index_lists.proofs.Times.{times-append}
+use Rattle.index_lists.proofs.Cited.{times-append}
 use Rattle.retro_core.specs.Round.{PlainSeat, together, total_width}
-use Rattle.retro_core.specs.Rules.{tally, total}
+use Rattle.retro_core.specs.Inside.Rules.{tally, total}
 
 pub same_seat : (v w : PlainSeat) → Some v ≡ Some w → v ≡ w
 same_seat v w e = cc

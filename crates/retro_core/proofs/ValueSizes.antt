@@ -8,21 +8,20 @@ use Rattle.std.proofs.lemmas.List.{length-append, take_all}
 use Rattle.std.proofs.lemmas.List.Sums.{sum_by_more}
 use Rattle.std.specs.List.{sum}
 use Rattle.index_lists.specs.Lists.{times}
-use Rattle.index_lists.proofs.Times.{times-here, times-more, times-later}
+use Rattle.index_lists.proofs.Cited.{times-here, times-more, times-later}
 use Rattle.board_text.specs.PlainBoard.{PlainBoard}
 use Rattle.positions.specs.declared.value.Value.TheVariants.{Finite, Forever}
 use Rattle.positions.specs.Laws.{Occurs}
 use Rattle.positions.specs.Ranks.{configurations, rank_of, configuration_at}
 use Rattle.positions.specs.Value.{HasValue}
-use Rattle.positions.proofs.Counting.{size_of}
-use Rattle.positions.proofs.Finiteness.{smaller_occurs}
-use Rattle.positions.proofs.Ranks.{rank_below, configuration_at-rank_of, configuration_at_is}
-use Rattle.positions.proofs.Sizes.{size_zero}
-use Rattle.positions.proofs.Values.{same_value}
-use Rattle.retro_core.specs.Arena.{count_below}
-use Rattle.retro_core.specs.Sizes.{HasCount, IsGreatest, AreSizes, AreCounts}
-use Rattle.retro_core.specs.Stage.{PlainStage, filed_at, turned, IsFiled, IsKept, IsState}
-use Rattle.retro_core.specs.Tables.{is_open, AreValues}
+use Rattle.positions.specs.declared.space.TheConstants.{MAX_CONFIGURATIONS}
+use Rattle.positions.proofs.Cited.{size_of, smaller_occurs, rank_below, configuration_at-rank_of, configuration_at_is, size_zero}
+use Rattle.positions.proofs.Cited.{same_value}
+use Rattle.retro_core.specs.Inside.Arena.{count_below}
+use Rattle.retro_core.specs.Sizes.{HasCount, IsGreatest}
+use Rattle.retro_core.specs.Inside.Sizes.{AreSizes, AreCounts}
+use Rattle.retro_core.specs.Inside.Stage.{PlainStage, filed_at, turned, IsFiled, IsKept, IsState}
+use Rattle.retro_core.specs.Inside.Tables.{is_open, AreValues}
 use Rattle.retro_core.proofs.Counts.{some_below, count_below-none, count_below-same, count_below-some, count_below-without}
 use Rattle.retro_core.proofs.Entered.{count-same}
 use Rattle.retro_core.proofs.Lasting.{true_or_false, same_or_not, same_is, differ_is}
@@ -154,7 +153,7 @@ first-sizes n forever values sizes counts (suc v) low =
     ∙ ap (λ m. count_below n (λ x. nat_lt (slice_index values x) m)) (sym next)
 
 -- all sizes and what is worth forever
-pub all-sizes : (n forever : ℕ) (values sizes : List ℕ) → n ≤ 1048576 → AreCounts n values sizes forever → sum sizes + forever ≡ n
+pub all-sizes : (n forever : ℕ) (values sizes : List ℕ) → n ≤ MAX_CONFIGURATIONS → AreCounts n values sizes forever → sum sizes + forever ≡ n
 all-sizes n forever values sizes few counts =
     let k : ℕ = length sizes in
     let total : sum sizes ≡ count_below n (λ x. nat_lt (slice_index values x) k) = ap sum (sym (take_all k sizes (omega arith))) ∙ first-sizes n forever values sizes counts k (omega arith) in
@@ -181,7 +180,7 @@ finite_same j k e = cc
 finite_not_forever : (j : ℕ) → Finite j ≡ Forever → ⊥
 finite_not_forever j e = cc
 
-module _ (b : PlainBoard) (values sizes : List ℕ) (forever : ℕ) (few : configurations b ≤ 1048576) (are : AreValues b values) (counts : AreCounts (configurations b) values sizes forever) where
+module _ (b : PlainBoard) (values sizes : List ℕ) (forever : ℕ) (few : configurations b ≤ MAX_CONFIGURATIONS) (are : AreValues b values) (counts : AreCounts (configurations b) values sizes forever) where
   -- a finite value is the word
   finite-word : (v x : ℕ) → x < configurations b → HasValue b (configuration_at b x) (Finite v) → (is_open values x ≡ false) × (slice_index values x ≡ v)
   finite-word v x i value = elim (true_or_false (is_open values x)) [

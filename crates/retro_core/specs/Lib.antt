@@ -1,14 +1,6 @@
-pub mod Arena
-pub mod BoardArena
-pub mod Tables
 pub mod Solving
-pub mod Stage
-pub mod Stored
-pub mod Opening
 pub mod Sizes
 pub mod Round
-pub mod Rules
 pub mod Stepping
-pub mod Words
 pub mod Ending
-pub mod SourceWalk
+pub mod Inside

@@ -1,5 +1,6 @@
 -- A round at the value of a solver: its words and seats, when they are lawful, how it begins, and what its steps do.
-use Rattle.std.specs.Prelude.{◌≡◌, ℕ, suc, ◌+◌, ◌-◌, ◌/◌, ◌<◌, ◌≤◌, ◌↔◌, ◌⊎◌, ◌==◌, Bool, true, cond, List, [], ◌∷◌, ◌++◌, length, take, drop, filter, slice_index, slice_index_or, slice_set, Option, Some, None}
+use Rattle.std.specs.Prelude.{◌≡◌, ℕ, suc, ◌+◌, ◌-◌, ◌/◌, ◌<◌, ◌≤◌, ◌↔◌, ◌⊎◌, ◌==◌, Bool, true, cond, List, [], ◌∷◌, ◌++◌, length, take}
+use Rattle.std.specs.Prelude.{drop, filter, slice_index, slice_index_or, slice_set, Option, Some, None}
 use Rattle.std.specs.Option.{is_none}
 use Rattle.index_lists.specs.Lists.{times}
 use Rattle.board_text.specs.PlainBoard.{PlainBoard, places}
@@ -25,10 +26,6 @@ pub record Round : Type 0 where
   pub counts : List ℕ
   pub values : List (Option ℕ)
   pub seats : List PlainSeat
-
--- the round of these parts
-abbrev pub round_of : Solving → ℕ → List ℕ → List (Option ℕ) → List PlainSeat → Round
-round_of s width counts values seats = record { solving = s; width = width; counts = counts; values = values; seats = seats }
 
 -- a seat that was joined into another
 abbrev pub spent : PlainSeat

@@ -1,6 +1,5 @@
 -- A solver as plain data, and what it knows of the game.
-use Rattle.std.specs.Prelude.{◌≡◌, ℕ, suc, ◌<◌, ◌≤◌, ◌↔◌, Bool, true, List, [], AllPairs, map, slice_index_or}
-use Rattle.std.specs.List.{range_with_len}
+use Rattle.std.specs.Prelude.{◌≡◌, ℕ, suc, ◌<◌, ◌≤◌, ◌↔◌, Bool, true, List, [], AllPairs, slice_index_or}
 use Rattle.board_text.specs.PlainBoard.{PlainBoard, IsBoard, IsConfiguration, places}
 use Rattle.index_lists.specs.Lists.{times}
 use Rattle.positions.specs.declared.value.Value.TheVariants.{Finite, Forever}
@@ -26,10 +25,6 @@ bucket s value = slice_index_or s.buckets value []
 -- the members of a gap that are not filed
 abbrev pub source : Solving → ℕ → List ℕ
 source s gap = slice_index_or s.sources gap []
-
--- the first so many lists
-abbrev pub first_lists : ℕ → (ℕ → List ℕ) → List (List ℕ)
-first_lists count list = map list (range_with_len 0 count)
 
 -- a rank is filed at a value exactly where it is the value of its configuration, and no round is still to come for it
 pub record AreBuckets (s : Solving) : Type 0 where

@@ -2,14 +2,14 @@
 
 ghost use Rattle.std.specs.Prelude.{◌≡◌, ◌+◌, ◌*◌, ◌<◌, IfOk};
 ghost use Rattle.positions.specs.Gaps.{gaps, pebble_of};
-ghost use Rattle.retro_core.specs.Arena.{lasts};
-ghost use Rattle.retro_core.specs.BoardArena.{arena_of};
-ghost use Rattle.retro_core.specs.Opening.{AreAnswers, AreNoted};
-ghost use Rattle.retro_core.specs.Stored.{AreDominators};
-ghost use Rattle.retro_core.specs.Tables.{IsCounted};
+ghost use Rattle.retro_core.specs.Inside.Arena.{lasts};
+ghost use Rattle.retro_core.specs.Inside.BoardArena.{arena_of};
+ghost use Rattle.retro_core.specs.Inside.Opening.{AreAnswers, AreNoted};
+ghost use Rattle.retro_core.specs.Inside.Stored.{AreDominators};
+ghost use Rattle.retro_core.specs.Inside.Tables.{IsCounted};
 
 use crate::stage::NO_PEBBLE;
-use board_text::{Board, Memory};
+use board_text::{Board, MAX_LABELS, Memory};
 use positions::{AnswerSet, Space, TupleAnswers};
 use std::alloc::Global;
 
@@ -43,8 +43,8 @@ impl Answering {
 fn note_dominator(dominators: &mut [u8], space: &Space, gap: u32, answers: &AnswerSet)
     requires gap { gap < gaps space.now }
     requires answers { AreAnswers space.now gap answers.now }
-    requires noted { AreNoted space.now (256 * gap) dominators.old }
-    ensures { AreNoted space.now (256 * (gap + 1)) dominators.new }
+    requires noted { AreNoted space.now (MAX_LABELS * gap) dominators.old }
+    ensures { AreNoted space.now (MAX_LABELS * (gap + 1)) dominators.new }
 {
     let pebble = space.gap_pebble(gap);
     let members = space.members(gap);

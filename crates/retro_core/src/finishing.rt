@@ -5,9 +5,9 @@ ghost use Rattle.index_lists.specs.Lists.{times};
 ghost use Rattle.positions.specs.Ranks.{configurations};
 ghost use Rattle.positions.specs.Gaps.{gaps};
 ghost use Rattle.retro_core.specs.Ending.{IsRoundEnd};
-ghost use Rattle.retro_core.specs.Tables.{is_open};
-ghost use Rattle.retro_core.specs.Stored.{IsSmall};
-ghost use Rattle.retro_core.specs.Stage.{counting, solving, IsFiled, IsKept, IsStriking, IsUnstruck, FilesAll, TakesCounts};
+ghost use Rattle.retro_core.specs.Inside.Tables.{is_open};
+ghost use Rattle.retro_core.specs.Inside.Stored.{IsSmall};
+ghost use Rattle.retro_core.specs.Inside.Stage.{counting, solving, IsFiled, IsKept, IsStriking, IsUnstruck, FilesAll, TakesCounts};
 
 use crate::end::RoundEnd;
 use crate::stage::Stage;

@@ -4,7 +4,8 @@ ghost use Rattle.std.specs.Prelude.{◌≡◌, ℕ, ◌<◌, List, Option, lengt
 ghost use Rattle.positions.specs.Ranks.{configurations};
 ghost use Rattle.positions.specs.Gaps.{gaps};
 ghost use Rattle.retro_core.specs.Solving.{Solving, IsSolving};
-ghost use Rattle.retro_core.specs.Round.{Round, AreFirstCounts, AreFirstValues, AreToStrike, opening, IsOpening, IsLawful, IsWorkedOff, HasWonAll};
+ghost use Rattle.retro_core.specs.Round.{Round, AreFirstCounts, AreFirstValues, AreToStrike, opening, IsOpening, IsLawful, IsWorkedOff};
+ghost use Rattle.retro_core.specs.Round.{HasWonAll};
 ghost use Rattle.retro_core.specs.Stepping.{Does, LeadTo};
 ghost use Rattle.retro_core.specs.declared.step.Step.{Step as Doing};
 ghost use Rattle.retro_core.specs.declared.step.Seen.{Seen as Answer};

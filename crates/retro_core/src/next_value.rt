@@ -3,7 +3,7 @@
 ghost use Rattle.std.specs.Prelude.{false, []};
 ghost use Rattle.retro_core.specs.Ending.{IsRoundEnd};
 ghost use Rattle.retro_core.specs.Solving.{Solving};
-ghost use Rattle.retro_core.specs.Stage.{solving, IsKept, IsStriking, IsUnstruck};
+ghost use Rattle.retro_core.specs.Inside.Stage.{solving, IsKept, IsStriking, IsUnstruck};
 
 use crate::end::RoundEnd;
 use crate::stage::Stage;

@@ -4,11 +4,11 @@ ghost use Rattle.std.specs.Prelude.{if◌then◌else◌, ◌==◌, ◌≡◌, �
 ghost use Rattle.board_text.specs.PlainBoard.{places};
 ghost use Rattle.positions.specs.Ranks.{configurations};
 ghost use Rattle.positions.specs.Gaps.{gaps};
-ghost use Rattle.retro_core.specs.Arena.{lasts, next};
-ghost use Rattle.retro_core.specs.BoardArena.{arena_of};
-ghost use Rattle.retro_core.specs.Opening.{IsRun, AreStopping, IsWritten};
-ghost use Rattle.retro_core.specs.Tables.{IsCounted, AreFirstWords};
-ghost use Rattle.retro_core.specs.Stage.{IsUnlisted, IsOpened};
+ghost use Rattle.retro_core.specs.Inside.Arena.{lasts, next};
+ghost use Rattle.retro_core.specs.Inside.BoardArena.{arena_of};
+ghost use Rattle.retro_core.specs.Inside.Opening.{IsRun, AreStopping, IsWritten};
+ghost use Rattle.retro_core.specs.Inside.Tables.{IsCounted, AreFirstWords};
+ghost use Rattle.retro_core.specs.Inside.Stage.{IsUnlisted, IsOpened};
 
 use crate::answering::Answering;
 use crate::stage::{OPEN, Stage};

@@ -5,9 +5,9 @@ ghost use Rattle.board_text.specs.PlainBoard.{IsBoard, places};
 ghost use Rattle.positions.specs.Ranks.{configurations, configuration_at};
 ghost use Rattle.positions.specs.Gaps.{gaps, IsDominator};
 ghost use Rattle.positions.specs.Counts.{IsSmallest};
-ghost use Rattle.retro_core.specs.BoardArena.{arena_of};
-ghost use Rattle.retro_core.specs.Tables.{is_open, members_from, open_members};
-ghost use Rattle.retro_core.specs.Stage.{filed_at};
+ghost use Rattle.retro_core.specs.Inside.BoardArena.{arena_of};
+ghost use Rattle.retro_core.specs.Inside.Tables.{is_open, members_from, open_members};
+ghost use Rattle.retro_core.specs.Inside.Stage.{filed_at};
 
 use crate::source_walk::SourceWalk;
 use crate::stage::{NO_PEBBLE, OPEN, Stage};

@@ -38,8 +38,8 @@ pub struct Solver<S: ListStore> {
 impl<S: ListStore> Model for Solver<S> {
     ghost use Rattle.std.specs.Prelude.{◌-◌, vec_capacity};
     ghost use Rattle.retro_core.specs.Solving.{Solving};
-    ghost use Rattle.retro_core.specs.Sizes.{AreSizes};
-    ghost use Rattle.retro_core.specs.Stage.{IsState, solving};
+    ghost use Rattle.retro_core.specs.Inside.Sizes.{AreSizes};
+    ghost use Rattle.retro_core.specs.Inside.Stage.{IsState, solving};
 
     ghost Value = { Solving };
 

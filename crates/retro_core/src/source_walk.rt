@@ -17,7 +17,7 @@ pub struct SourceWalk<'a> {
 
 impl<'a> Model for SourceWalk<'a> {
     ghost use Rattle.std.specs.Prelude.{ℕ, List, ◌-◌};
-    ghost use Rattle.retro_core.specs.SourceWalk.{open_from, HasMembers};
+    ghost use Rattle.retro_core.specs.Inside.SourceWalk.{open_from, HasMembers};
 
     ghost Value = { List ℕ };
 

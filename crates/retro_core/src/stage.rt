@@ -6,10 +6,10 @@ ghost use Rattle.board_text.specs.PlainBoard.{places};
 ghost use Rattle.positions.specs.Ranks.{configurations, configuration_at};
 ghost use Rattle.positions.specs.Gaps.{gaps, IsDominator};
 ghost use Rattle.positions.specs.Counts.{IsSmallest};
-ghost use Rattle.retro_core.specs.Arena.{dominated};
-ghost use Rattle.retro_core.specs.BoardArena.{arena_of};
-ghost use Rattle.retro_core.specs.Tables.{is_open, members_from};
-ghost use Rattle.retro_core.specs.Stage.{PlainStage, filed_at, listed, filed, turned, IsFiled, IsKept, Closes, IsStriking};
+ghost use Rattle.retro_core.specs.Inside.Arena.{dominated};
+ghost use Rattle.retro_core.specs.Inside.BoardArena.{arena_of};
+ghost use Rattle.retro_core.specs.Inside.Tables.{is_open, members_from};
+ghost use Rattle.retro_core.specs.Inside.Stage.{PlainStage, filed_at, listed, filed, turned, IsFiled, IsKept, Closes, IsStriking};
 
 use index_lists::ListStore;
 use positions::Space;
@@ -48,8 +48,8 @@ pub(crate) struct Stage<S: ListStore> {
 
 impl<S: ListStore> Model for Stage<S> {
     ghost use Rattle.std.specs.Prelude.{◌≡◌, ◌≤◌, length, vec_capacity};
-    ghost use Rattle.retro_core.specs.Stage.{PlainStage, stage_of};
-    ghost use Rattle.retro_core.specs.Stored.{IsSmall, AreWide, AreDominators, AreNext, AreStored, HasRoom};
+    ghost use Rattle.retro_core.specs.Inside.Stage.{PlainStage, stage_of};
+    ghost use Rattle.retro_core.specs.Inside.Stored.{IsSmall, AreWide, AreDominators, AreNext, AreStored, HasRoom};
 
     ghost Value = { PlainStage };
 

@@ -8,10 +8,11 @@ ghost use Rattle.positions.specs.Counts.{IsSmallest};
 ghost use Rattle.retro_core.specs.Solving.{AnswerForever};
 ghost use Rattle.positions.specs.declared.value.Value.TheVariants.{Finite};
 ghost use Rattle.positions.specs.Laws.{Occurs};
-ghost use Rattle.retro_core.specs.Sizes.{HasCount, IsGreatest, AreCounts};
-ghost use Rattle.retro_core.specs.Arena.{count_below};
-ghost use Rattle.retro_core.specs.Stored.{AreDominators};
-ghost use Rattle.retro_core.specs.Tables.{is_open, AreValues};
+ghost use Rattle.retro_core.specs.Sizes.{HasCount, IsGreatest};
+ghost use Rattle.retro_core.specs.Inside.Sizes.{AreCounts};
+ghost use Rattle.retro_core.specs.Inside.Arena.{count_below};
+ghost use Rattle.retro_core.specs.Inside.Stored.{AreDominators};
+ghost use Rattle.retro_core.specs.Inside.Tables.{is_open, AreValues};
 
 use crate::stage::OPEN;
 use positions::{Space, Value};
@@ -36,9 +37,9 @@ pub struct Values {
 impl Model for Values {
     ghost use Rattle.board_text.specs.PlainBoard.{PlainBoard};
     ghost use Rattle.positions.specs.Ranks.{configurations};
-    ghost use Rattle.retro_core.specs.Sizes.{AreCounts};
-    ghost use Rattle.retro_core.specs.Stored.{AreDominators};
-    ghost use Rattle.retro_core.specs.Tables.{AreValues};
+    ghost use Rattle.retro_core.specs.Inside.Sizes.{AreCounts};
+    ghost use Rattle.retro_core.specs.Inside.Stored.{AreDominators};
+    ghost use Rattle.retro_core.specs.Inside.Tables.{AreValues};
 
     ghost Value = { PlainBoard };
 

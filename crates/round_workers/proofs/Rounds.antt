@@ -3,14 +3,11 @@ use Rattle.std.proofs.Common.{◌≡◌, ℕ, suc, ◌+◌, ◌-◌, ◌<◌, �
 use Rattle.std.proofs.lemmas.Bool.{cases_lt}
 use Rattle.board_text.specs.PlainBoard.{PlainBoard, IsConfiguration}
 use Rattle.index_lists.specs.Lists.{times}
-use Rattle.index_lists.proofs.Times.{times-here}
+use Rattle.index_lists.proofs.Cited.{times-here}
 use Rattle.positions.specs.declared.value.Value.TheVariants.{Finite, Forever}
 use Rattle.positions.specs.Ranks.{configurations, configuration_at}
 use Rattle.positions.specs.Value.{HasValue}
-use Rattle.positions.proofs.Finiteness.{forever_from_count}
-use Rattle.positions.proofs.Ranks.{configuration_at_is}
-use Rattle.positions.proofs.Trees.{lasts_at_most}
-use Rattle.positions.proofs.Values.{same_value}
+use Rattle.positions.proofs.Cited.{forever_from_count, configuration_at_is, lasts_at_most, same_value}
 use Rattle.retro_core.specs.declared.progress.Progress.{Progress}
 use Rattle.retro_core.specs.declared.progress.Progress.TheVariants.{Filed, Done}
 use Rattle.retro_core.specs.Solving.{Solving, bucket, IsSolving, NoneHas}

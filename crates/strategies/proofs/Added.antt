@@ -1,9 +1,22 @@
 -- Ranks that are added to others.
-use Rattle.std.proofs.Common.{◌≡◌, ℕ, zero, suc, ◌+◌, ◌<◌, ◌≤◌, ◌⊎◌, ◌↔◌, inl, inr, List, [], ◌∷◌, ◌++◌, length, Some, slice_get, slice_index_or, sym, subst, arith}
-use Rattle.std.specs.List.{Contains}
-use Rattle.std.proofs.lemmas.Bool.{cases_lt, cases_eq}
+use Rattle.std.proofs.Common.{◌≡◌, ◌≢◌, ℕ, zero, suc, ◌+◌, ◌<◌, ◌≤◌, ◌⊎◌, ◌↔◌, inl, inr, sym, subst, arith}
+use Rattle.std.proofs.Common.{List, [], ◌∷◌, ◌++◌, length, Some, slice_get, slice_index_or}
+use Rattle.std.specs.List.{AllPairs, Contains}
+use Rattle.std.proofs.Math.Dec.{eqb}
+use Rattle.std.proofs.lemmas.Bool.{cases_lt, cases_eq, eqb-true}
+use Rattle.std.proofs.lemmas.Bool.Decides.{Decides-eqb}
 use Rattle.std.proofs.lemmas.List.Elements.{Contains-append_left, Contains-append_right, Contains-append_cases}
-use Rattle.strategies.specs.Spreading.{IsWith, IsWithAll}
+use Rattle.std.proofs.lemmas.Map.Made.{IsDistinct-from_AllPairs}
+use Rattle.std.proofs.lemmas.Map.Steps.{length-le_from_distinct_below}
+use Rattle.std.proofs.lemmas.Map.Views.{Contains-from_any}
+use Rattle.strategies.specs.Inside.Spreading.{IsWith, IsWithAll}
+
+-- there are no more than numbers below a bound, where none is there twice
+pub few_apart : (ranks : List ℕ) (bound : ℕ) → AllPairs (λ first second. first ≢ second) ranks
+    → ((rank : ℕ) → Contains ranks rank → rank < bound) → length ranks ≤ bound
+few_apart ranks bound apart below =
+    length-le_from_distinct_below ranks bound (IsDistinct-from_AllPairs {eq = eqb} Decides-eqb ranks apart)
+    (λ rank any. below rank (Contains-from_any {eq = eqb} eqb-true rank ranks any))
 
 pub contains_or_not : (xs : List ℕ) (x : ℕ) → Contains xs x ⊎ ¬ Contains xs x
 contains_or_not [] x = inr (λ among. absurd (let inside : among.0 < 0 = among.1 in omega arith))

@@ -5,10 +5,7 @@ use Rattle.board_text.specs.PlainBoard.{PlainBoard, IsConfiguration}
 use Rattle.positions.specs.declared.value.Value.{Value}
 use Rattle.positions.specs.Game.{Legal, LabellerTree, moved}
 use Rattle.positions.specs.Value.{HasValue}
-use Rattle.positions.proofs.BoundedSearch.{dominates_or_not}
-use Rattle.positions.proofs.Configurations.{moved_is_configuration}
-use Rattle.positions.proofs.Finiteness.{some_value}
-use Rattle.positions.proofs.Values.{same_value}
+use Rattle.positions.proofs.Cited.{dominates_or_not, moved_is_configuration, some_value, same_value}
 use Rattle.strategies.specs.Best.{IsLess, HasSmallerValue, HasNoGreaterValue, HasGreatestResult, IsBestAnswer}
 use Rattle.strategies.proofs.Comparing.{cases_value, IsLess-trans, not_above, lasts_too}
 

@@ -6,8 +6,8 @@ use Rattle.std.proofs.lemmas.List.{ext_get_or, length-set, length-replicate, get
 use Rattle.std.proofs.lemmas.List.FromFn.{length-map-range_with_len, get_or-map-range_with_len}
 use Rattle.std.proofs.lemmas.Nat.Bits.{bit_at-zero}
 use Rattle.board_text.specs.Domination.{has_bit}
-use Rattle.positions.proofs.LabelBits.{with_bit, has_bit-set_same, has_bit-set_other}
-use Rattle.strategies.specs.Marks.{marks_of}
+use Rattle.positions.proofs.Cited.{with_bit, has_bit-set_same, has_bit-set_other}
+use Rattle.strategies.specs.Inside.Marks.{marks_of}
 
 pub so_many : (size : ℕ) (words : List ℕ) → length (marks_of size words) ≡ size
 so_many size words = length-map-range_with_len (has_bit words) 0 size

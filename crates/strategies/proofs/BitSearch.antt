@@ -7,7 +7,7 @@ use Rattle.std.proofs.lemmas.Nat.{shr-shr}
 use Rattle.std.proofs.lemmas.Nat.Bits.{bit_at-zero, bit_at_above, bit_at-trailing_zeros}
 use Rattle.board_text.specs.Domination.{has_bit}
 use Rattle.positions.specs.Counts.{IsSmallest}
-use Rattle.strategies.specs.Marks.{marks_of}
+use Rattle.strategies.specs.Inside.Marks.{marks_of}
 use Rattle.strategies.proofs.BitMarks.{so_many, mark_at}
 
 -- no bit from the bound on is set before a number

@@ -1,5 +1,6 @@
 -- Lists of exactly the rows of a document, built rank by rank.
-use Rattle.std.proofs.Common.{◌≡◌, ℕ, ◌+◌, ◌<◌, ◌≤◌, ◌↔◌, List, [], ◌∷◌, ◌++◌, length, get_or, refl, sym, ◌∙◌, subst, inl, inr, arith}
+use Rattle.std.proofs.Common.{◌≡◌, ℕ, zero, suc, ◌+◌, ◌<◌, ◌≤◌, ◌⊎◌, ◌↔◌, List, [], ◌∷◌, ◌++◌, length, get_or}
+use Rattle.std.proofs.Common.{refl, sym, ◌∙◌, subst, inl, inr, arith}
 use Rattle.std.specs.List.{AllPairs, Contains}
 use Rattle.std.proofs.lemmas.Bool.{cases_lt}
 use Rattle.std.proofs.lemmas.List.{length-append, get_or_append_left, get_or_at}
@@ -70,3 +71,38 @@ module _ {X : Type 0} (board : PlainBoard) (IsRow : X → Type 0) (at : X → Li
     each = λ row. (λ among. ((exactly.each row).0 among).0, λ is. (exactly.each row).1 (is, below row is));
     ascending = exactly.ascending;
   }
+
+  -- the only row of a rank, or none
+  abbrev pub RowOrNone : ℕ → Type 0
+  RowOrNone rank =
+      ((row : X) × IsRow row × (rank_of board (at row) ≡ rank)
+      × ((other : X) → IsRow other → rank_of board (at other) ≡ rank → row ≡ other))
+      ⊎ ((row : X) → IsRow row → rank_of board (at row) ≡ rank → ⊥)
+
+  -- where each rank has one row at most, there is a list of all rows
+  pub rows_below : (bound : ℕ) → ((rank : ℕ) → rank < bound → RowOrNone rank) → (rows : List X) × AreExactlyBelow board IsRow at bound rows
+  rows_below zero each = (
+    [],
+    record {
+      each = λ row. (
+        λ among. absurd (let inside : among.0 < 0 = among.1 in omega arith),
+        λ is. absurd (let below : rank_of board (at row) < 0 = is.1 in omega arith),
+      );
+      ascending = λ i j d less inside. absurd (omega arith);
+    },
+  )
+  rows_below (suc bound) each =
+      let before = rows_below bound (λ rank below. each rank (omega arith)) in
+      let next : bound + 1 ≡ suc bound = omega arith in
+      elim (each bound (omega arith)) [
+        | inl some ↦ (
+          before.0 ++ some.0 ∷ [],
+          subst (λ (n : ℕ). AreExactlyBelow board IsRow at n (before.0 ++ some.0 ∷ [])) next
+              (push_row bound before.0 some.0 before.1 some.1 some.2 some.3),
+        )
+        | inr none ↦ (
+          before.0,
+          subst (λ (n : ℕ). AreExactlyBelow board IsRow at n before.0) next
+              (pass_ranks bound (bound + 1) before.0 (omega arith) before.1 (λ row is above below. none row is (omega arith))),
+        )
+      ]

@@ -6,8 +6,7 @@ use Rattle.positions.specs.declared.value.Value.{Value}
 use Rattle.positions.specs.declared.value.Value.TheVariants.{Finite, Forever}
 use Rattle.positions.specs.Game.{LabellerTree, AdversaryTree}
 use Rattle.positions.specs.Value.{HasValue}
-use Rattle.positions.proofs.Trees.{not_both_trees, lasts_at_most}
-use Rattle.positions.proofs.Values.{at_most_from_tree, same_value}
+use Rattle.positions.proofs.Cited.{not_both_trees, lasts_at_most, at_most_from_tree, same_value}
 use Rattle.strategies.specs.Best.{IsLess, HasSmallerValue, HasNoGreaterValue}
 
 -- a labeller who lasts so many requests doesn't have a smaller value

@@ -11,11 +11,9 @@ use Rattle.positions.specs.declared.claim.Claim.{Claim}
 use Rattle.positions.specs.Value.{HasValue}
 use Rattle.positions.specs.Table.{AnswerRow, RequestRow}
 use Rattle.positions.specs.Ranks.{rank_of, configurations}
-use Rattle.positions.proofs.Trees.{lasts_at_most}
-use Rattle.positions.proofs.Values.{same_value}
-use Rattle.positions.proofs.Finiteness.{forever_from_count}
-use Rattle.positions.proofs.Ranks.{rank_below}
-use Rattle.proof_text.specs.Proof.{PlainProof, IsClaim, AreTurns, IsAnswerRow, IsRequestRow, AreRows, AreAnswerRows, asks_labeller, asks_adversary, IsProof, most_rows}
+use Rattle.positions.specs.declared.space.TheConstants.{MAX_CONFIGURATIONS}
+use Rattle.positions.proofs.Cited.{lasts_at_most, same_value, forever_from_count, rank_below}
+use Rattle.proof_text.specs.Proof.{PlainProof, IsClaim, AreTurns, IsAnswerRow, IsRequestRow, AreRows, AreAnswerRows, asks_labeller, asks_adversary, IsProof}
 use Rattle.strategies.specs.Best.{IsLess}
 use Rattle.strategies.specs.Document.{IsAnswerable, IsAnswerMove, LeadsBy, IsLabellerRow, IsAdversaryRow, AsksAdversary, AreExactly, IsDocumentOf, claim_of, turns_of}
 use Rattle.strategies.proofs.Reaching.{answers_lead_to, requests_lead_to}
@@ -50,7 +48,7 @@ few_rows rank bound (row ∷ rows) ascends each =
     omega arith
 
 -- the rows of a section are as the format has them, if each row is
-section : {X : Type 0} (board : PlainBoard) (IsRow IsFormed : X → Type 0) (at : X → List ℕ) (rows : List X) → configurations board ≤ most_rows
+section : {X : Type 0} (board : PlainBoard) (IsRow IsFormed : X → Type 0) (at : X → List ℕ) (rows : List X) → configurations board ≤ MAX_CONFIGURATIONS
     → ((row : X) → IsRow row → IsConfiguration board (at row)) → ((row : X) → IsRow row → IsFormed row)
     → AreExactly board IsRow at rows → AreRows board IsFormed at rows
 section {X} board IsRow IsFormed at rows few are formed exactly =
@@ -107,7 +105,7 @@ module _ (board : PlainBoard) (is_start : IsConfiguration board board.start) (st
   requests_configuration : (row : RequestRow) → AsksAdversary start × IsAdversaryRow board row → IsConfiguration board row.at
   requests_configuration row is = requests_lead_to board board.start is.1.moves row.at is_start is.1.reached
 
-  requests_formed : configurations board ≤ most_rows → (row : RequestRow) → AsksAdversary start × IsAdversaryRow board row → IsRequestRow board row
+  requests_formed : configurations board ≤ MAX_CONFIGURATIONS → (row : RequestRow) → AsksAdversary start × IsAdversaryRow board row → IsRequestRow board row
   requests_formed few row is =
       let low : row.left < configurations board = value_below board row.at row.left (requests_configuration row is) is.1.has_value in
       record {
@@ -116,7 +114,7 @@ module _ (board : PlainBoard) (is_start : IsConfiguration board board.start) (st
         request = is.1.best.0.is_pebble;
       }
 
-claim_formed : (board : PlainBoard) → IsConfiguration board board.start → configurations board ≤ most_rows → (start : Value) → HasValue board board.start start
+claim_formed : (board : PlainBoard) → IsConfiguration board board.start → configurations board ≤ MAX_CONFIGURATIONS → (start : Value) → HasValue board board.start start
     → IsClaim (claim_of start)
 claim_formed board is_start few (Finite number) has =
     let low : number < configurations board = value_below board board.start number is_start has in omega arith
@@ -133,7 +131,7 @@ sometimes_adversary board (Finite number) rows exactly same = absurd cc
 sometimes_adversary board Forever [] exactly same = refl
 sometimes_adversary board Forever (row ∷ rows) exactly same = absurd ((exactly.each row).0 (Contains-get_or (row ∷ rows) 0 row (omega arith))).0
 
-pub is_formed : (board : PlainBoard) (proof : PlainProof) → IsConfiguration board board.start → configurations board ≤ most_rows → IsDocumentOf board proof
+pub is_formed : (board : PlainBoard) (proof : PlainProof) → IsConfiguration board board.start → configurations board ≤ MAX_CONFIGURATIONS → IsDocumentOf board proof
     → IsProof board proof
 is_formed board proof is_start few is =
     let low = claim_formed board is_start few is.value is.has_value in

@@ -2,6 +2,7 @@
 use Rattle.std.proofs.Common.{◌≡◌, ℕ, ◌+◌, ◌<◌, ◌≤◌, ◌↔◌, ◌⊎◌, List, Option, None, Some, option_map, inl, inr, refl, sym, ◌∙◌, ap, subst, arith}
 use Rattle.std.proofs.lemmas.Bool.{cases_lt}
 use Rattle.board_text.specs.PlainBoard.{PlainBoard, IsConfiguration}
+use Rattle.board_text.specs.declared.board.TheConstants.{MAX_LABELS}
 use Rattle.positions.specs.declared.value.Value.{Value}
 use Rattle.positions.specs.declared.value.Value.TheVariants.{Finite, Forever}
 use Rattle.positions.specs.Counts.{IsSmallest}
@@ -9,18 +10,15 @@ use Rattle.positions.specs.Game.{Legal, moved}
 use Rattle.positions.specs.Value.{HasValue}
 use Rattle.positions.specs.Ranks.{rank_of, configuration_at}
 use Rattle.positions.specs.Gaps.{gap_of, member_of, IsAnswer}
-use Rattle.positions.proofs.Configurations.{moved_is_configuration}
-use Rattle.positions.proofs.GapLaws.{member_of-gap_of, legal_is_answer}
-use Rattle.positions.proofs.Ranks.{configuration_at-rank_of}
-use Rattle.positions.proofs.Finiteness.{some_value}
+use Rattle.positions.proofs.Cited.{moved_is_configuration, member_of-gap_of, legal_is_answer, configuration_at-rank_of, some_value}
 use Rattle.strategies.specs.declared.gap_best.Best.{Best}
 use Rattle.strategies.specs.Best.{IsLess}
-use Rattle.strategies.specs.GapBest.{IsBestFor}
+use Rattle.strategies.specs.Inside.GapBest.{IsBestFor}
 use Rattle.strategies.proofs.Comparing.{cases_value, not_above}
 use Rattle.strategies.proofs.Answers.{IsBestBelow, NoneBelow, first_next, better_next, as_good_next, best_of_all}
 
 -- answers are few
-pub answer_few : (board : PlainBoard) (gap : ℕ) → board.labels ≤ 256 → (label : ℕ) → IsAnswer board gap label → label < 256
+pub answer_few : (board : PlainBoard) (gap : ℕ) → board.labels ≤ MAX_LABELS → (label : ℕ) → IsAnswer board gap label → label < MAX_LABELS
 answer_few board gap few label is = omega (arith, is.is_label, few)
 
 -- the best of the answers below a bound, if there is one

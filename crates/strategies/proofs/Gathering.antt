@@ -11,11 +11,10 @@ use Rattle.positions.specs.declared.value.Value.TheVariants.{Finite, Forever}
 use Rattle.positions.specs.Value.{HasValue}
 use Rattle.positions.specs.Ranks.{rank_of, configuration_at}
 use Rattle.positions.specs.Table.{RequestRow}
-use Rattle.positions.proofs.Ranks.{rank_below, rank_of-configuration_at, configuration_at-rank_of}
-use Rattle.positions.proofs.Values.{same_value}
+use Rattle.positions.proofs.Cited.{rank_below, rank_of-configuration_at, configuration_at-rank_of, same_value}
 use Rattle.strategies.specs.Document.{IsAnswerable, IsAnswerMove, IsRequestMove, LeadsBy, IsAdversaryRow}
-use Rattle.strategies.specs.Side.{Side, AreOfReached, AreSection, IsRowAt, labeller_side, adversary_side}
-use Rattle.strategies.specs.Spreading.{AreRanksOf}
+use Rattle.strategies.specs.Inside.Side.{Side, AreOfReached, AreSection, IsRowAt, labeller_side, adversary_side}
+use Rattle.strategies.specs.Inside.Spreading.{AreRanksOf}
 use Rattle.strategies.proofs.Building.{AreExactlyBelow, pass_ranks, push_row, all_rows}
 use Rattle.strategies.proofs.OneList.{one_answer_row, one_request_row}
 use Rattle.strategies.proofs.Reaching.{answers_lead_to, requests_lead_to}
@@ -56,18 +55,21 @@ pub record AreSectionBelow {R : Type 0} (board : PlainBoard) (side : Side R) (bo
   pub exactly : AreExactlyBelow board side.IsRow side.at bound (map side.shown rows)
   pub filled : All side.IsFilled rows
 
+-- a row whose configuration has a rank stands there
+pub at_rank : {R : Type 0} (board : PlainBoard) (side : Side R) → AreOfReached board side → (row : side.Row) (rank : ℕ) → side.IsRow row
+    → rank_of board (side.at row) ≡ rank → side.at row ≡ configuration_at board rank
+at_rank board side of_reached row rank is_row same =
+    sym (configuration_at-rank_of board (side.at row) (of_reached.is_configuration row is_row)) ∙ ap (configuration_at board) same
+
 module _ {R : Type 0} (board : PlainBoard) (side : Side R) (of_reached : AreOfReached board side)
     (ranks : List ℕ) (are : AreRanksOf board side.IsReached ranks) (from : ℕ) (rows : List R) (section : AreSectionBelow board side from rows) where
   abbrev IsNext : Option ℕ → Type 0
   IsNext = IsSmallest (λ rank. (from ≤ rank) × Contains ranks rank)
 
-  at_rank : (row : side.Row) (rank : ℕ) → side.IsRow row → rank_of board (side.at row) ≡ rank → side.at row ≡ configuration_at board rank
-  at_rank row rank is_row same = sym (configuration_at-rank_of board (side.at row) (of_reached.is_configuration row is_row)) ∙ ap (configuration_at board) same
-
   among : (row : side.Row) (rank : ℕ) → side.IsRow row → rank_of board (side.at row) ≡ rank → Contains ranks rank
   among row rank is_row same =
       let below = rank_below board (side.at row) (of_reached.is_configuration row is_row) in
-      (are rank).1 (omega (arith, below, same), of_reached.reached row rank is_row (at_rank row rank is_row same))
+      (are rank).1 (omega (arith, below, same), of_reached.reached row rank is_row (at_rank board side of_reached row rank is_row same))
 
   up_to : (rank : ℕ) → IsNext (Some rank) → AreExactlyBelow board side.IsRow side.at rank (map side.shown rows)
   up_to rank next = pass_ranks board side.IsRow side.at from rank (map side.shown rows) next.0.0 section.exactly (λ row is_row above below.
@@ -79,7 +81,8 @@ module _ {R : Type 0} (board : PlainBoard) (side : Side R) (of_reached : AreOfRe
     exactly = subst (AreExactlyBelow board side.IsRow side.at (rank + 1)) (sym (map-append side.shown rows (row ∷ [])))
         (push_row board side.IsRow side.at rank (map side.shown rows) (side.shown row) (up_to rank next) is_row
         (ap (rank_of board) here ∙ rank_of-configuration_at board rank ((are rank).0 next.0.1).0)
-        (λ other is_other same. of_reached.one (side.shown row) other is_row is_other (here ∙ sym (at_rank other rank is_other same))));
+        (λ other is_other same. of_reached.one (side.shown row) other is_row is_other
+        (here ∙ sym (at_rank board side of_reached other rank is_other same))));
     filled = All-push side.IsFilled rows row section.filled filled;
   }
 
@@ -87,7 +90,7 @@ module _ {R : Type 0} (board : PlainBoard) (side : Side R) (of_reached : AreOfRe
   pub none_there : (rank : ℕ) → IsNext (Some rank) → IsRowAt board side rank None → AreSectionBelow board side (rank + 1) rows
   none_there rank next none = record {
     exactly = pass_ranks board side.IsRow side.at rank (rank + 1) (map side.shown rows) (omega arith) (up_to rank next)
-        (λ row is_row above below. none row is_row (at_rank row rank is_row (omega arith)));
+        (λ row is_row above below. none row is_row (at_rank board side of_reached row rank is_row (omega arith)));
     filled = section.filled;
   }
 

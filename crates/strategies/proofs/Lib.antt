@@ -14,11 +14,14 @@ pub mod Finding
 pub mod Showing
 pub mod Lone
 pub mod BitMarks
+pub mod Added
 pub mod Marking
 pub mod GapAnswers
 pub mod Lowering
-pub mod Added
 pub mod Spread
 pub mod Steps
 pub mod Gathering
 pub mod Making
+pub mod Closure
+pub mod Existing
+pub mod Cited

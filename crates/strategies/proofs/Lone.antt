@@ -2,10 +2,11 @@
 use Rattle.std.proofs.Common.{◌≡◌, ℕ, zero, suc, ◌<◌, List, [], ◌∷◌, get_or, slice_index, refl, sym, subst, arith}
 use Rattle.std.specs.List.{Contains}
 use Rattle.board_text.specs.PlainBoard.{IsBoard}
-use Rattle.board_text.proofs.Places.{start_from_numbers}
+use Rattle.board_text.proofs.Cited.{start_from_numbers}
 use Rattle.positions.specs.declared.value.Value.TheVariants.{Forever}
 use Rattle.positions.specs.declared.turns.Turns.TheVariants.{Always}
-use Rattle.positions.specs.Game.{Legal, LabellerTree, HasAnswer, moved}
+use Rattle.positions.specs.Game.{Legal, LabellerTree, moved}
+use Rattle.positions.specs.Inside.Game.{HasAnswer}
 use Rattle.positions.specs.Table.{AnswerRow, RequestRow}
 use Rattle.strategies.specs.Best.{HasNoGreaterValue, IsBestAnswer}
 use Rattle.strategies.specs.Document.{IsAnswerMove, LeadsBy, IsLabellerRow, IsAdversaryRow, AsksAdversary, AreExactly, IsDocumentOf}

@@ -7,11 +7,10 @@ use Rattle.positions.specs.declared.value.Value.TheVariants.{Finite, Forever}
 use Rattle.positions.specs.Counts.{IsSmallest}
 use Rattle.positions.specs.Game.{moved}
 use Rattle.positions.specs.Value.{HasValue}
-use Rattle.positions.proofs.Finiteness.{some_value}
-use Rattle.positions.proofs.Values.{same_value}
+use Rattle.positions.proofs.Cited.{some_value, same_value}
 use Rattle.strategies.specs.declared.gap_best.Best.{Best}
 use Rattle.strategies.specs.Best.{IsLess, HasSmallerValue, HasNoGreaterValue, LowersValue}
-use Rattle.strategies.specs.GapBest.{IsBestFor, LeadsBelow}
+use Rattle.strategies.specs.Inside.GapBest.{IsBestFor, LeadsBelow}
 use Rattle.strategies.proofs.Comparing.{cases_value, IsLess-trans}
 use Rattle.strategies.proofs.Requests.{first_is_smallest, best_request, finite_from_request}
 

@@ -4,15 +4,16 @@ use Rattle.std.proofs.Math.ListN.{length-set}
 use Rattle.std.proofs.lemmas.Bool.{cases_eq}
 use Rattle.std.proofs.lemmas.List.{get_or-set_same, get_or-set_other, length-take-le, get_or-take}
 use Rattle.board_text.specs.PlainBoard.{PlainBoard, IsBoard}
+use Rattle.board_text.specs.declared.board.TheConstants.{MAX_PEBBLES}
 use Rattle.positions.specs.declared.value.Value.{Value}
 use Rattle.positions.specs.declared.value.Value.TheVariants.{Finite}
 use Rattle.positions.specs.Value.{HasValue}
 use Rattle.positions.specs.Ranks.{configuration_at}
-use Rattle.positions.proofs.Values.{same_value}
+use Rattle.positions.proofs.Cited.{same_value}
 use Rattle.strategies.specs.Best.{IsLess, IsBestAnswer}
-use Rattle.strategies.specs.GapBest.{IsBestFor}
+use Rattle.strategies.specs.Inside.GapBest.{IsBestFor}
 use Rattle.strategies.specs.Document.{IsLabellerRow, turns_of}
-use Rattle.strategies.specs.Spreading.{IsReachedByAnswers}
+use Rattle.strategies.specs.Inside.Spreading.{IsReachedByAnswers}
 use Rattle.strategies.proofs.Rows.{answers_one}
 
 -- the best answers to requests below a pebble are in their places, and all others are 0
@@ -21,7 +22,7 @@ pub record AreTaken (board : PlainBoard) (configuration : List ℕ) (bound : ℕ
   pub best : (pebble : ℕ) → pebble < bound → IsBestAnswer board configuration pebble (slice_index labels pebble)
   pub rest : (pebble : ℕ) → bound ≤ pebble → slice_index labels pebble ≡ 0
 
-pub taken_more : (board : PlainBoard) (configuration : List ℕ) (pebble label : ℕ) (labels : List ℕ) → pebble < 6 → AreTaken board configuration pebble labels
+pub taken_more : (board : PlainBoard) (configuration : List ℕ) (pebble label : ℕ) (labels : List ℕ) → pebble < MAX_PEBBLES → AreTaken board configuration pebble labels
     → IsBestAnswer board configuration pebble label → AreTaken board configuration (pebble + 1) (slice_set labels pebble label)
 taken_more board configuration pebble label labels low taken is = record {
   six = length-set labels pebble label ∙ taken.six;

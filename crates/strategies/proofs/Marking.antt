@@ -1,18 +1,14 @@
 -- Marks of the ranks that were reached.
 use Rattle.std.proofs.Common.{◌≡◌, ◌≢◌, ℕ, zero, suc, ◌<◌, ◌≤◌, inl, inr, Bool, true, false, List, [], ◌∷◌, ◌++◌, length, slice_index_or, slice_set, Option, Some, None, refl, sym, ◌∙◌, subst, arith}
 use Rattle.std.specs.List.{Contains}
-use Rattle.std.proofs.Math.Dec.{eqb}
 use Rattle.std.proofs.Math.ListN.{replicate}
-use Rattle.std.proofs.lemmas.Bool.{cases_lt, cases_eq, eqb-true}
-use Rattle.std.proofs.lemmas.Bool.Decides.{Decides-eqb}
+use Rattle.std.proofs.lemmas.Bool.{cases_lt, cases_eq}
 use Rattle.std.proofs.lemmas.List.{get_or-set_same, get_or-set_other, get_or_past}
 use Rattle.std.proofs.lemmas.List.Elements.{Contains-get_or, Contains-append_left, Contains-append_right, Contains-append_cases}
 use Rattle.std.proofs.lemmas.List.Quantifiers.{all_pairs_push}
-use Rattle.std.proofs.lemmas.Map.Made.{IsDistinct-from_AllPairs}
-use Rattle.std.proofs.lemmas.Map.Steps.{length-le_from_distinct_below}
-use Rattle.std.proofs.lemmas.Map.Views.{Contains-from_any}
 use Rattle.positions.specs.Counts.{IsSmallest}
-use Rattle.strategies.specs.Spreading.{AreMarked, IsWith}
+use Rattle.strategies.specs.Inside.Spreading.{AreMarked, IsWith}
+use Rattle.strategies.proofs.Added.{few_apart, only_one}
 
 pub false_not_true : (b : Bool) → b ≡ false → b ≡ true → ⊥
 false_not_true true p q = absurd cc
@@ -29,10 +25,6 @@ no_marks size = record {
   marked = λ rank. (λ marked. absurd (false_not_true (slice_index_or (replicate size false) rank false) (all_false size rank) marked), λ among. absurd (let inside : among.0 < 0 = among.1 in omega arith));
   once = λ i j d less inside. absurd (omega arith);
 }
-
-only_one : (rank other : ℕ) → Contains (rank ∷ []) other → other ≡ rank
-only_one rank other (zero, inside, same) = sym same
-only_one rank other (suc place, inside, same) = absurd (omega arith)
 
 -- one more is marked
 pub mark_more : (marks : List Bool) (ranks : List ℕ) (rank : ℕ) → AreMarked marks ranks → rank < length marks → ¬ Contains ranks rank
@@ -57,13 +49,10 @@ mark_more marks ranks rank are inside new = record {
 
 -- there are no more than marks
 pub few_ranks : (marks : List Bool) (ranks : List ℕ) → AreMarked marks ranks → length ranks ≤ length marks
-few_ranks marks ranks are =
-    length-le_from_distinct_below ranks (length marks) (IsDistinct-from_AllPairs {eq = eqb} Decides-eqb ranks are.once)
-    (λ rank any. elim (cases_lt rank (length marks)) [
-      | inl inside ↦ inside
-      | inr beyond ↦ absurd (false_not_true (slice_index_or marks rank false) (get_or_past marks rank false beyond)
-          ((are.marked rank).1 (Contains-from_any {eq = eqb} eqb-true rank ranks any)))
-    ])
+few_ranks marks ranks are = few_apart ranks (length marks) are.once (λ rank among. elim (cases_lt rank (length marks)) [
+  | inl inside ↦ inside
+  | inr beyond ↦ absurd (false_not_true (slice_index_or marks rank false) (get_or_past marks rank false beyond) ((are.marked rank).1 among))
+])
 
 pub known_stays : (marks : List Bool) (ranks : List ℕ) (rank : ℕ) → AreMarked marks ranks → slice_index_or marks rank false ≡ true → IsWith ranks rank ranks
 known_stays marks ranks rank are marked = record { known = λ _. refl; other = λ not. absurd (not ((are.marked rank).0 marked)) }

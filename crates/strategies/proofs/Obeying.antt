@@ -11,9 +11,7 @@ use Rattle.positions.specs.Game.{LabellerTree, moved}
 use Rattle.positions.specs.Value.{HasValue}
 use Rattle.positions.specs.Claim.{Holds}
 use Rattle.positions.specs.Table.{AnswerRow, RequestRow}
-use Rattle.positions.proofs.Configurations.{moved_is_configuration}
-use Rattle.positions.proofs.Finiteness.{some_value}
-use Rattle.positions.proofs.Values.{same_value}
+use Rattle.positions.proofs.Cited.{moved_is_configuration, some_value, same_value}
 use Rattle.proof_text.specs.Proof.{PlainProof}
 use Rattle.proof_text.specs.Rules.{IsEnough, one_less, IsListedFor, Serves, MeetsRequests, LabellerObeys, IsListedBelow, MeetsAnswers, AdversaryObeys, wanted_of, StartIsBelow, BreaksNoRule}
 use Rattle.strategies.specs.Best.{IsLess}

@@ -8,7 +8,7 @@ use Rattle.positions.specs.declared.value.Value.TheVariants.{Finite}
 use Rattle.positions.specs.Value.{HasValue}
 use Rattle.positions.specs.Table.{AnswerRow, RequestRow}
 use Rattle.positions.specs.Ranks.{rank_of}
-use Rattle.positions.proofs.Values.{same_value}
+use Rattle.positions.proofs.Cited.{same_value}
 use Rattle.proof_text.specs.Proof.{PlainProof}
 use Rattle.strategies.specs.Best.{IsBestAnswer, IsBestRequest}
 use Rattle.strategies.specs.Document.{IsLabellerRow, IsAdversaryRow, AsksAdversary, AreExactly, IsDocumentOf, claim_of, turns_of}

@@ -4,7 +4,7 @@ use Rattle.board_text.specs.PlainBoard.{PlainBoard, IsConfiguration}
 use Rattle.positions.specs.declared.value.Value.TheVariants.{Forever}
 use Rattle.positions.specs.Game.{moved}
 use Rattle.positions.specs.Value.{HasValue}
-use Rattle.positions.proofs.Configurations.{moved_is_configuration}
+use Rattle.positions.proofs.Cited.{moved_is_configuration}
 use Rattle.strategies.specs.Document.{IsAnswerMove, IsRequestMove, LeadsBy}
 use Rattle.strategies.proofs.Answers.{lasts_after}
 

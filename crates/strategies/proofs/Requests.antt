@@ -7,16 +7,13 @@ use Rattle.positions.specs.declared.value.Value.TheVariants.{Finite, Forever}
 use Rattle.positions.specs.Game.{Legal, Dominates, LabellerTree, AdversaryTree, moved}
 use Rattle.positions.specs.Ranks.{configurations}
 use Rattle.positions.specs.Value.{HasValue}
-use Rattle.positions.proofs.BoundedSearch.{each_or_some, dominates_or_not}
-use Rattle.positions.proofs.Trees.{some_tree}
-use Rattle.positions.proofs.Configurations.{moved_is_configuration}
-use Rattle.positions.proofs.Finiteness.{some_value, forever_from_count}
-use Rattle.positions.proofs.Values.{same_value}
+use Rattle.positions.proofs.Cited.{each_or_some, dominates_or_not, some_tree, moved_is_configuration, some_value, forever_from_count}
+use Rattle.positions.proofs.Cited.{same_value}
 use Rattle.strategies.specs.Best.{IsLess, HasNoGreaterValue, LowersValue, IsBestRequest}
 use Rattle.strategies.proofs.Comparing.{at_least, less_from_tree, not_less}
 
 -- the least number at which P holds, from one at which it does
-least : (P : ℕ → Type 0) → ((i : ℕ) → P i ⊎ ¬ P i) → (fuel n : ℕ) → n ≤ fuel → P n → (m : ℕ) × (m ≤ n) × P m × ((i : ℕ) → i < m → ¬ P i)
+pub least : (P : ℕ → Type 0) → ((i : ℕ) → P i ⊎ ¬ P i) → (fuel n : ℕ) → n ≤ fuel → P n → (m : ℕ) × (m ≤ n) × P m × ((i : ℕ) → i < m → ¬ P i)
 least P decided zero n bound here = (n, omega arith, here, λ i below. absurd (omega arith))
 least P decided (suc fuel) n bound here =
     elim (each_or_some (λ i. ¬ P i) P n (λ i below. elim (decided i) [ inl holds ↦ inr holds | inr fails ↦ inl fails ])) [

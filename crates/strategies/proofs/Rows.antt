@@ -6,7 +6,7 @@ use Rattle.positions.specs.declared.value.Value.TheVariants.{Finite, Forever}
 use Rattle.positions.specs.Game.{LabellerTree}
 use Rattle.positions.specs.Value.{HasValue}
 use Rattle.positions.specs.Table.{AnswerRow, RequestRow}
-use Rattle.positions.proofs.Trees.{lasts_at_most}
+use Rattle.positions.proofs.Cited.{lasts_at_most}
 use Rattle.strategies.specs.Best.{IsLess, IsBestAnswer}
 use Rattle.strategies.specs.Document.{IsAnswerMove, IsRequestMove, LeadsBy, IsLabellerRow, IsAdversaryRow, turns_of}
 use Rattle.strategies.proofs.Answers.{best_answer}

@@ -10,8 +10,7 @@ use Rattle.positions.specs.Game.{LabellerTree, moved}
 use Rattle.positions.specs.Value.{HasValue}
 use Rattle.positions.specs.Claim.{Shows}
 use Rattle.positions.specs.Table.{AnswerRow, RequestRow, AnswersLegally, AnswersAll, Answers, IsListed, IsClosed, Requests, Leads, StopsAfter, request_at}
-use Rattle.positions.proofs.Trees.{lasts_at_most}
-use Rattle.positions.proofs.Finiteness.{some_value}
+use Rattle.positions.proofs.Cited.{lasts_at_most, some_value}
 use Rattle.proof_text.specs.Proof.{PlainProof}
 use Rattle.strategies.specs.Best.{IsLess, IsBestAnswer, IsBestRequest}
 use Rattle.strategies.specs.Document.{IsAnswerable, IsAnswerMove, IsRequestMove, LeadsBy, IsLabellerRow, IsAdversaryRow, AsksAdversary, AreExactly, IsDocumentOf, claim_of}

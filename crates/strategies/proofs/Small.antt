@@ -2,7 +2,7 @@
 use Rattle.std.proofs.Common.{◌≡◌, ◌≢◌, ℕ, zero, suc, ◌<◌, ◌≤◌, List, [], ◌∷◌, get_or, slice_index, refl, sym, ap, subst, arith}
 use Rattle.std.specs.List.{AllPairs, Contains}
 use Rattle.board_text.specs.PlainBoard.{Beats, BeatsPlace, AreLabels, IsBoard, places}
-use Rattle.board_text.proofs.Places.{start_from_numbers}
+use Rattle.board_text.proofs.Cited.{start_from_numbers}
 use Rattle.positions.specs.declared.value.Value.TheVariants.{Finite}
 use Rattle.positions.specs.declared.turns.Turns.TheVariants.{Count}
 use Rattle.positions.specs.Game.{Legal, AdversaryTree, moved}

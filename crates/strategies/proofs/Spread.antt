@@ -8,12 +8,11 @@ use Rattle.positions.specs.declared.value.Value.TheVariants.{Finite}
 use Rattle.positions.specs.Game.{moved}
 use Rattle.positions.specs.Value.{HasValue}
 use Rattle.positions.specs.Ranks.{configurations, rank_of, configuration_at}
-use Rattle.positions.proofs.Configurations.{moved_is_configuration}
-use Rattle.positions.proofs.Ranks.{rank_below, rank_of-configuration_at, configuration_at-rank_of, configuration_at_is}
-use Rattle.positions.proofs.Values.{same_value}
+use Rattle.positions.proofs.Cited.{moved_is_configuration, rank_below, rank_of-configuration_at, configuration_at-rank_of}
+use Rattle.positions.proofs.Cited.{configuration_at_is, same_value}
 use Rattle.strategies.specs.Best.{IsLess}
 use Rattle.strategies.specs.Document.{IsAnswerable, IsAnswerMove, IsRequestMove, LeadsBy}
-use Rattle.strategies.specs.Spreading.{AnswerLeads, RequestLeads, IsReachedBy, IsWith, IsWithAll, AreRanksOf}
+use Rattle.strategies.specs.Inside.Spreading.{AnswerLeads, RequestLeads, IsReachedBy, IsWith, IsWithAll, AreRanksOf}
 use Rattle.strategies.proofs.Added.{only_one}
 use Rattle.strategies.proofs.Reaching.{one_more, moves_stay}
 
@@ -24,7 +23,7 @@ pub record IsSpread (P : ℕ → Type 0) (Leads : ℕ → ℕ → Type 0) (place
   pub sound : (rank : ℕ) → Contains ranks rank → P rank
   pub spread : (at from to : ℕ) → at < place → slice_get ranks at ≡ Some from → Leads from to → Contains ranks to
 
-get_there : (xs : List ℕ) (place x : ℕ) → slice_get xs place ≡ Some x → Contains xs x
+pub get_there : (xs : List ℕ) (place x : ℕ) → slice_get xs place ≡ Some x → Contains xs x
 get_there [] place x there = absurd cc
 get_there (y ∷ ys) zero x there = (0, omega arith, let same : Some y ≡ Some x = there in cc)
 get_there (y ∷ ys) (suc place) x there = let later = get_there ys place x there in (suc later.0, omega (arith, later.1), later.2)
@@ -42,7 +41,7 @@ nowhere (y ∷ ys) zero at x end there = absurd cc
 nowhere (y ∷ ys) (suc place) zero x end there = omega arith
 nowhere (y ∷ ys) (suc place) (suc at) x end there = let less = nowhere ys place at x end there in omega (arith, less)
 
-somewhere : (xs : List ℕ) (place x : ℕ) → slice_get xs place ≡ Some x → place < length xs
+pub somewhere : (xs : List ℕ) (place x : ℕ) → slice_get xs place ≡ Some x → place < length xs
 somewhere [] place x there = absurd cc
 somewhere (y ∷ ys) zero x there = omega arith
 somewhere (y ∷ ys) (suc place) x there = let less = somewhere ys place x there in omega (arith, less)

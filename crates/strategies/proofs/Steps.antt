@@ -10,13 +10,12 @@ use Rattle.positions.specs.Game.{Legal, moved}
 use Rattle.positions.specs.Value.{HasValue}
 use Rattle.positions.specs.Ranks.{configurations, rank_of, configuration_at}
 use Rattle.positions.specs.Gaps.{gaps, gap_of, member_of, IsAnswer}
-use Rattle.positions.proofs.GapLaws.{member_of-gap_of, legal_is_answer}
-use Rattle.positions.proofs.Ranks.{configuration_at_is}
-use Rattle.positions.proofs.Values.{same_value}
+use Rattle.positions.proofs.Cited.{member_of-gap_of, legal_is_answer, configuration_at_is, same_value}
 use Rattle.strategies.specs.declared.gap_best.Best.{Best}
 use Rattle.strategies.specs.Best.{IsLess, LowersValue}
-use Rattle.strategies.specs.GapBest.{IsBestFor}
-use Rattle.strategies.specs.Spreading.{IsAnswerStep, IsRequestStep, RequestLeads, IsWith, IsWithAll, IsAnswerAt, IsAnswerOf, AreExpanded}
+use Rattle.strategies.specs.Inside.GapBest.{IsBestFor}
+use Rattle.strategies.specs.Inside.Spreading.{IsAnswerStep, IsRequestStep, RequestLeads, IsWith, IsWithAll, IsAnswerAt, IsAnswerOf}
+use Rattle.strategies.specs.Inside.Spreading.{AreExpanded}
 use Rattle.strategies.proofs.Answers.{same_answer}
 use Rattle.strategies.proofs.Requests.{same_request}
 use Rattle.strategies.proofs.Added.{Below, added_known, added_one, added_same, added_more, below_same, below_all}

@@ -8,7 +8,7 @@ ghost use Rattle.positions.specs.Ranks.{configurations, rank_of, configuration_a
 ghost use Rattle.positions.specs.Value.{HasValue};
 ghost use Rattle.positions.specs.declared.value.Value.TheVariants.{Forever};
 ghost use Rattle.strategies.specs.Best.{LowersValue};
-ghost use Rattle.strategies.specs.GapBest.{IsBestFor, IsGapBest, AreGapsBest, LeadsBelow};
+ghost use Rattle.strategies.specs.Inside.GapBest.{IsBestFor, IsGapBest, AreGapsBest, LeadsBelow};
 
 use crate::gap_best::{Best, best_of_gap, is_less};
 use crate::listed::Listed;
@@ -30,7 +30,7 @@ pub(crate) struct BestMoves<'a> {
 impl<'a> Model for BestMoves<'a> {
     ghost use Rattle.std.specs.Prelude.{◌≡◌};
     ghost use Rattle.board_text.specs.PlainBoard.{PlainBoard};
-    ghost use Rattle.strategies.specs.GapBest.{AreGapsBest};
+    ghost use Rattle.strategies.specs.Inside.GapBest.{AreGapsBest};
 
     ghost Value = { PlainBoard };
 

@@ -6,10 +6,10 @@ ghost use Rattle.positions.specs.Gaps.{gaps, IsAnswer};
 ghost use Rattle.positions.specs.declared.value.Value.TheVariants.{Finite};
 ghost use Rattle.strategies.specs.declared.gap_best.Best.{Best as BestOfGap};
 ghost use Rattle.strategies.specs.Best.{IsLess};
-ghost use Rattle.strategies.specs.GapBest.{IsGapBest, AreGapsBest};
+ghost use Rattle.strategies.specs.Inside.GapBest.{IsGapBest, AreGapsBest};
 
 use crate::listed::Listed;
-use board_text::{Board, Memory};
+use board_text::{Board, MAX_LABELS, Memory};
 use positions::{AnswerSet, TupleAnswers, Value};
 use retro_core::Values;
 use std::alloc::Global;
@@ -44,7 +44,7 @@ pub(crate) fn best_of_gaps(
 /// The best answer of a gap, if it has an answer. The answers are those of the gap.
 pub(crate) fn best_of_gap(values: &Values, gap: u32, answers: AnswerSet) -> Option<Best>
     requires gap { gap < gaps values.now }
-    requires answers { (label : ℕ) → label < 256 → (has_bit answers label ≡ true) ↔ IsAnswer values.now gap label }
+    requires answers { (label : ℕ) → label < MAX_LABELS → (has_bit answers label ≡ true) ↔ IsAnswer values.now gap label }
     ensures { IsGapBest values.now gap result }
 {
     let space = values.space();

@@ -13,6 +13,11 @@ ghost use Rattle.strategies.specs.Example.{small_board, small_document, lone_boa
 
 use positions::MAX_CONFIGURATIONS;
 
+/// Each board has a document.
+pub fn each_board_has_a_document()
+    ensures { (board : PlainBoard) → IsConfiguration board board.start → (proof : PlainProof) × IsDocumentOf board proof }
+{}
+
 /// What the document of a board claims of the start holds.
 pub fn documents_claim_what_holds()
     ensures { (board : PlainBoard) → (proof : PlainProof) → IsDocumentOf board proof → Holds board proof.claim }

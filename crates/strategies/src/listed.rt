@@ -25,7 +25,7 @@ pub(crate) struct Listed {
 impl Model for Listed {
     ghost use Rattle.std.specs.Prelude.{Option};
     ghost use Rattle.strategies.specs.declared.gap_best.Best.{Best as BestOfGap};
-    ghost use Rattle.strategies.specs.Listed.{best_of};
+    ghost use Rattle.strategies.specs.Inside.Listed.{best_of};
 
     ghost Value = { Option BestOfGap };
 

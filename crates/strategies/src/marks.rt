@@ -19,7 +19,7 @@ pub(crate) struct Marks {
 
 impl Model for Marks {
     ghost use Rattle.std.specs.Prelude.{◌*◌, ◌≤◌, List, Bool, length};
-    ghost use Rattle.strategies.specs.Marks.{marks_of};
+    ghost use Rattle.strategies.specs.Inside.Marks.{marks_of};
 
     ghost Value = { List Bool };
 

@@ -5,12 +5,12 @@ ghost use Rattle.board_text.specs.PlainBoard.{PlainBoard};
 ghost use Rattle.positions.specs.Ranks.{configurations};
 ghost use Rattle.positions.specs.declared.value.Value.{Value as Worth};
 ghost use Rattle.strategies.specs.Document.{turns_of};
-ghost use Rattle.strategies.specs.Side.{Side, AreOfReached, AreSection, IsRowAt, adversary_side, labeller_side};
-ghost use Rattle.strategies.specs.Spreading.{AreRanksOf};
+ghost use Rattle.strategies.specs.Inside.Side.{Side, AreOfReached, AreSection, IsRowAt, adversary_side, labeller_side};
+ghost use Rattle.strategies.specs.Inside.Spreading.{AreRanksOf};
 
 use crate::best_moves::BestMoves;
 use crate::reached::Reached;
-use board_text::Memory;
+use board_text::{MAX_PEBBLES, Memory};
 use positions::{MAX_CONFIGURATIONS, Turns, Value};
 use proof_text::{AdversaryRow, LabellerRow};
 use std::alloc::Global;
@@ -41,7 +41,7 @@ impl SectionRow for LabellerRow {
     }
 
     fn at(moves: &BestMoves<'_>, start: Value, rank: u32) -> Option<LabellerRow> {
-        let mut take = [0; 6];
+        let mut take = [0; MAX_PEBBLES];
         for pebble in 0..moves.space().pebbles() {
             if let Some(best) = moves.answer(rank, pebble) {
                 take[pebble as usize] = best.label;

@@ -4,8 +4,9 @@ ghost use Rattle.std.specs.Prelude.{◌≡◌, ◌<◌, ◌≤◌, IfOk};
 ghost use Rattle.board_text.specs.PlainBoard.{IsBoard};
 ghost use Rattle.positions.specs.Ranks.{configurations};
 ghost use Rattle.positions.specs.Gaps.{gaps};
-ghost use Rattle.strategies.specs.Spreading.{IsAnswerStep, AnswerLeads, RequestLeads, IsReachedByAnswers, IsReachedByRequests, IsWithAll};
-ghost use Rattle.strategies.specs.Spreading.{AreRanksOf, AreExpanded, IsAnswerOf};
+ghost use Rattle.strategies.specs.Inside.Spreading.{IsAnswerStep, AnswerLeads, RequestLeads, IsReachedByAnswers, IsReachedByRequests};
+ghost use Rattle.strategies.specs.Inside.Spreading.{IsWithAll};
+ghost use Rattle.strategies.specs.Inside.Spreading.{AreRanksOf, AreExpanded, IsAnswerOf};
 
 use crate::best_moves::BestMoves;
 use crate::gap_best::is_some;

@@ -5,17 +5,18 @@ use Rattle.std.proofs.lemmas.Result.{err_from_is_err_and}
 use Rattle.board_text.specs.PlainBoard.{plain_board}
 use Rattle.board_text.proofs.Places.{board_from_parts}
 use Rattle.board_text.proofs.Misfitting.{labels_fault, pebbles_fault, memory_fault, start_fault, parts_fault}
+use Rattle.board_text.proofs.building.build_parts.Goals.{then-labels-eq0-via-then-labels-eq0, then-labels-eq0-via-else-labels-eq0+then-labels-gt-MAX_LABELS, then-pebbles-eq0-via-then-pebbles-eq0, then-pebbles-eq0-via-else-pebbles-eq0+then-pebbles-gt-MAX_PEBBLES}
 use Rattle.board_text.proofs.building.build_parts.Goals as goal
 
 pub returns-then-labels-eq0-clause-fault : goal.returns-then-labels-eq0-clause-fault
 returns-then-labels-eq0-clause-fault c =
     let b = plain_board c.args.labels c.args.pebbles c.args.start.now c.args.pairs.now in
-    rw c.at.ensures (labels_fault b (omega arith) (λ h. elim c.then-labels-eq0.either [ inl w ↦ omega (arith, w, h.0) | inr w ↦ omega (arith, w, h.1) ]))
+    rw c.at.ensures (labels_fault b (omega arith) (λ h. elim c.then-labels-eq0.branch [ then-labels-eq0-via-then-labels-eq0 w ↦ omega (arith, w.if-labels-eq0.true, h.0) | then-labels-eq0-via-else-labels-eq0+then-labels-gt-MAX_LABELS w ↦ omega (arith, w.if-labels-gt-MAX_LABELS.true, h.1) ]))
 
 pub returns-then-pebbles-eq0-clause-fault : goal.returns-then-pebbles-eq0-clause-fault
 returns-then-pebbles-eq0-clause-fault c =
     let b = plain_board c.args.labels c.args.pebbles c.args.start.now c.args.pairs.now in
-    rw c.at-then-pebbles-eq0.ensures (pebbles_fault b (omega arith, omega arith) (omega arith) (λ h. elim c.then-pebbles-eq0.either [ inl w ↦ omega (arith, w, h.0) | inr w ↦ omega (arith, w, h.1) ]))
+    rw c.at-then-pebbles-eq0.ensures (pebbles_fault b (omega arith, omega arith) (omega arith) (λ h. elim c.then-pebbles-eq0.branch [ then-pebbles-eq0-via-then-pebbles-eq0 w ↦ omega (arith, w.if-pebbles-eq0.true, h.0) | then-pebbles-eq0-via-else-pebbles-eq0+then-pebbles-gt-MAX_PEBBLES w ↦ omega (arith, w.if-pebbles-gt-MAX_PEBBLES.true, h.1) ]))
 
 pub returns-in_err-beats-clause-fault : goal.returns-in_err-beats-clause-fault
 returns-in_err-beats-clause-fault c =

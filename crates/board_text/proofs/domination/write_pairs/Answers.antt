@@ -1,5 +1,5 @@
 use Rattle.std.proofs.Common.{string_bytes, ◌∙◌, sym}
-use Rattle.board_text.specs.Domination.{mark_of}
+use Rattle.board_text.specs.Inside.Domination.{mark_of}
 use Rattle.board_text.proofs.PairLines.{lines-zero, lines-marked, lines-unmarked}
 use Rattle.board_text.proofs.domination.write_pairs.Goals as goal
 use Rattle.board_text.proofs.domination.write_pairs.Goals.{then-has_pair+in_ok-writeln, else-has_pair}

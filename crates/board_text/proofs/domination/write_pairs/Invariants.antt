@@ -1,5 +1,5 @@
 use Rattle.std.proofs.Common.{◌≡◌, string_bytes}
-use Rattle.board_text.specs.Domination.{mark_of}
+use Rattle.board_text.specs.Inside.Domination.{mark_of}
 use Rattle.board_text.proofs.PairLines.{Lines}
 use Rattle.board_text.proofs.domination.write_pairs.Given as goal
 

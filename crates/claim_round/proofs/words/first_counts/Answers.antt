@@ -2,7 +2,7 @@ use Rattle.std.proofs.Common.{◌≡◌, ap, sym, subst, arith}
 use Rattle.positions.specs.Gaps.{gaps}
 use Rattle.positions.specs.Counts.{HasSize}
 use Rattle.retro_core.specs.Solving.{AnswerLasts}
-use Rattle.claim_round.specs.Openings.{HasCounts}
+use Rattle.claim_round.specs.Inside.Openings.{HasCounts}
 use Rattle.claim_round.proofs.Openings.{count_more}
 use Rattle.claim_round.proofs.words.first_counts.Goals as goal
 

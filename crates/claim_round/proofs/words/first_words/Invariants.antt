@@ -2,7 +2,7 @@ use Rattle.std.proofs.Common.{◌+◌, ◌≤◌}
 use Rattle.std.specs.Prelude.{vec_capacity}
 use Rattle.positions.specs.Ranks.{configurations}
 use Rattle.positions.specs.Gaps.{gaps}
-use Rattle.claim_round.specs.Openings.{AreFirstWords}
+use Rattle.claim_round.specs.Inside.Openings.{AreFirstWords}
 use Rattle.claim_round.proofs.words.first_words.Given as goal
 
 abbrev pub invariant-loop-rank : goal.invariant-loop-rank

@@ -1,6 +1,6 @@
 use Rattle.std.proofs.Common.{◌∙◌, ap, sym, refl, true≢false}
 use Rattle.clap.specs.Walk.{texts}
-use Rattle.command_line.specs.Reading.{is_read}
+use Rattle.command_line.specs.Inside.Reading.{is_read}
 use Rattle.command_line.proofs.Taken.{taken}
 use Rattle.command_line.proofs.words.named_job.Goals as goal
 

@@ -1,6 +1,6 @@
 use Rattle.std.proofs.Common.{◌≡◌, suc, ◌∙◌, ap, arith, length}
-use Rattle.index_lists.specs.Pairs.{nodes_of}
-use Rattle.index_lists.specs.Runs.{pairs_left}
+use Rattle.index_lists.specs.Inside.Pairs.{nodes_of}
+use Rattle.index_lists.specs.Inside.Runs.{pairs_left}
 use Rattle.index_lists.proofs.Entries.{of-here, shorter}
 use Rattle.index_lists.proofs.plain_lists.count_of.Goals as goal
 

@@ -1,6 +1,6 @@
 use Rattle.std.proofs.Common.{◌≡◌, length, None}
-use Rattle.index_lists.specs.Pairs.{nodes_of, last_from}
-use Rattle.index_lists.specs.Runs.{pairs_left}
+use Rattle.index_lists.specs.Inside.Pairs.{nodes_of, last_from}
+use Rattle.index_lists.specs.Inside.Runs.{pairs_left}
 use Rattle.index_lists.proofs.plain_lists.last_of.Given as goal
 
 abbrev pub invariant-loop-list : goal.invariant-loop-list

@@ -1,7 +1,7 @@
 use Rattle.std.proofs.Common.{◌<◌, ◌∙◌, ◌++◌, ◌∷◌, [], ap, arith}
 use Rattle.std.proofs.lemmas.List.Elements.{All-push}
 use Rattle.index_lists.specs.declared.runs.Run.{Run}
-use Rattle.index_lists.specs.Runs.{spread}
+use Rattle.index_lists.specs.Inside.Runs.{spread}
 use Rattle.index_lists.proofs.Spread.{spread-append, spread-longer, few-runs, run-most, same-run}
 use Rattle.index_lists.proofs.runs.add_place.Goals as goal
 

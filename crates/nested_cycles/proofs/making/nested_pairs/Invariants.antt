@@ -1,4 +1,4 @@
-use Rattle.nested_cycles.specs.Pairs.{AreNestedPairs}
+use Rattle.nested_cycles.specs.Inside.Pairs.{AreNestedPairs}
 use Rattle.nested_cycles.proofs.making.nested_pairs.Given as goal
 
 abbrev pub invariant-loop-place : goal.invariant-loop-place

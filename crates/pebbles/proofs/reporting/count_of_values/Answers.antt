@@ -2,7 +2,7 @@ use Rattle.pebbles.proofs.Counting.{values_to, no_values, value_fits}
 use Rattle.pebbles.proofs.reporting.count_of_values.Goals as goal
 
 pub overflow_add-result : goal.overflow_add-result
-overflow_add-result c = value_fits c.args.values.now c.in-Some.greatest c.in-Some.ensures (rw c.space.ensures at c.configurations.ensures.few)
+overflow_add-result c = value_fits c.args.values.now c.in-Some.greatest c.in-Some.ensures c.requires
 
 pub returns-in-Some : goal.returns-in-Some
 returns-in-Some c = values_to c.args.values.now c.in-Some.greatest c.in-Some.ensures

@@ -1,4 +1,4 @@
-use Rattle.strategies.proofs.Spread.{start_value}
+use Rattle.strategies.proofs.Cited.{start_value}
 use Rattle.pebbles.proofs.Counting.{whole_report}
 use Rattle.pebbles.proofs.reporting.report_of.Goals as goal
 

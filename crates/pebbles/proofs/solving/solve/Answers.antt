@@ -1,14 +1,14 @@
-use Rattle.strategies.proofs.Spread.{start_value}
+use Rattle.strategies.proofs.Cited.{start_value}
 use Rattle.pebbles.proofs.solving.solve.Goals as goal
 
-pub returns-in-Ok-print-clause-solved : goal.returns-in-Ok-print-clause-solved
-returns-in-Ok-print-clause-solved g c =
+pub returns-clause-solved : goal.returns-clause-solved
+returns-clause-solved g c =
     let b = c.args.board.now in
     let values = c.in_ok-values.ensures.values in
     record {
       has_value = start_value b c.rank.result c.of-value.result c.start.ensures.is_board.start
           (rw (c.space-space.ensures, values, c.start.ensures.value) at c.rank.ensures.rank) (rw values at c.of-value.ensures);
       document = _;
-      is_document = c.in-Ok.ensures.document;
-      text_is = rw (c.space-space.ensures, values) at c.in-Ok-print.ensures;
+      is_document = c.in_ok-document.ensures.document;
+      text_is = rw (c.space-space.ensures, values) at c.in_ok-text.ensures;
     }

@@ -1,4 +1,4 @@
-use Rattle.round_workers.proofs.Rounds.{fewer_left}
+use Rattle.round_workers.proofs.Cited.{fewer_left}
 use Rattle.pebbles.proofs.solving.values_of.Goals as goal
 
 pub loop-values-smaller : goal.loop-values-smaller

@@ -2,7 +2,7 @@ use Rattle.std.proofs.Common.{◌++◌, ap, ◌∙◌, subst}
 use Rattle.std.proofs.lemmas.Result.{IfOk-weaker, IfErr-weaker, err_from_is_err_and}
 use Rattle.std.specs.Io.KnownBytes.{Appends}
 use Rattle.board_text.specs.Ends.{AppendsFront}
-use Rattle.positions.proofs.Finiteness.{some_value}
+use Rattle.positions.proofs.Cited.{some_value}
 use Rattle.player.specs.Transcript.{PersonAnswers, Opens}
 use Rattle.player.proofs.Answering.{has_opening}
 use Rattle.player.proofs.Lasting.{keeps_to_value}

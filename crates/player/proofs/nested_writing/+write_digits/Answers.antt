@@ -1,7 +1,7 @@
 use Rattle.std.proofs.Common.{◌-◌, ◌^◌, ℕ, ap, ◌∙◌, sym, append-nil, ◌++◌, string_bytes, arith}
 use Rattle.std.proofs.Math.Nat.{one-le-pow}
 use Rattle.std.proofs.lemmas.Result.{on_ok_weaker}
-use Rattle.nested_cycles.proofs.WordNumbers.{words_fit}
+use Rattle.nested_cycles.proofs.Cited.{words_fit}
 use Rattle.player.proofs.NestedTexts.{no_digits, first_digit}
 use Rattle.player.proofs.nested_writing.+write_digits.Goals as goal
 

@@ -1,6 +1,6 @@
 use Rattle.std.proofs.Common.{ap, ◌++◌, ◌∙◌}
 use Rattle.std.proofs.lemmas.Result.{err_from_is_err_and}
-use Rattle.player.specs.Transcript.{standing}
+use Rattle.player.specs.Inside.Transcript.{standing}
 use Rattle.player.proofs.Going.{unshown}
 use Rattle.player.proofs.play.turn.Goals as goal
 

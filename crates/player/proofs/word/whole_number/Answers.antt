@@ -1,6 +1,6 @@
 use Rattle.std.proofs.Common.{[], sym, ◌∙◌, arith, append-nil}
 use Rattle.std.proofs.lemmas.Fmt.{decimal_is_IsNumeral}
-use Rattle.board_text.proofs.Numbers.{digits_split}
+use Rattle.board_text.proofs.Cited.{digits_split}
 use Rattle.player.proofs.word.whole_number.Goals as goal
 
 pub returns-in_err-number : goal.returns-in_err-number

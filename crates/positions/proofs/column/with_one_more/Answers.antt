@@ -1,6 +1,6 @@
 use Rattle.std.proofs.Common.{◌*◌, length, ap, ◌∙◌, sym, subst, bit_and, get_or, arith, suc}
 use Rattle.std.proofs.lemmas.List.{length_push}
-use Rattle.positions.specs.Tuples.{AreWords}
+use Rattle.positions.specs.Inside.Tuples.{AreWords}
 use Rattle.positions.proofs.TupleWords.{one_more_word, all_places}
 use Rattle.positions.proofs.column.with_one_more.Goals as goal
 

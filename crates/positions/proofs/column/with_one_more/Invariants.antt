@@ -1,5 +1,5 @@
 use Rattle.std.proofs.Common.{◌≡◌, ℕ, ◌+◌, ◌*◌, ◌≤◌, suc, length, vec_capacity}
-use Rattle.positions.specs.Tuples.{AreWords, AreAllWords}
+use Rattle.positions.specs.Inside.Tuples.{AreWords, AreAllWords}
 use Rattle.positions.proofs.column.with_one_more.Given as goal
 
 abbrev pub invariant-loop-place : goal.invariant-loop-place

@@ -1,6 +1,6 @@
 use Rattle.std.proofs.Common.{◌++◌, ◌∷◌, arith}
 use Rattle.std.specs.Prelude.{codes}
-use Rattle.board_text.proofs.Lines.{after}
+use Rattle.board_text.proofs.Cited.{after}
 use Rattle.proof_text.proofs.Spelled.{number_of, pebble_of}
 use Rattle.proof_text.proofs.Words.{request_position, request_left, request_ask, request_taken}
 use Rattle.proof_text.proofs.row_words.request_words.Goals as goal

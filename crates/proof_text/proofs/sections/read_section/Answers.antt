@@ -1,7 +1,7 @@
 use Rattle.std.proofs.Common.{◌≡◌, ◌+◌, ◌++◌, ◌∷◌, [], List, ℕ, length, refl, ap, ◌∙◌, arith}
 use Rattle.std.proofs.lemmas.List.{length_push}
 use Rattle.board_text.specs.LineForms.{number_line}
-use Rattle.proof_text.specs.RowForm.{at_of}
+use Rattle.proof_text.specs.Inside.RowForm.{at_of}
 use Rattle.proof_text.proofs.SectionLemmas.{come_none, row_push, line_fault_in}
 use Rattle.proof_text.proofs.sections.read_section.Goals as goal
 

@@ -1,6 +1,6 @@
 use Rattle.std.proofs.Common.{◌≡◌, ◌≤◌, length}
-use Rattle.proof_text.specs.Proof.{most_rows}
-use Rattle.proof_text.specs.RowForm.{at_of}
+use Rattle.positions.specs.declared.space.TheConstants.{MAX_CONFIGURATIONS}
+use Rattle.proof_text.specs.Inside.RowForm.{at_of}
 use Rattle.proof_text.proofs.SectionLemmas.{Come, FollowsFrom}
 use Rattle.proof_text.proofs.sections.read_section.Given as goal
 
@@ -9,5 +9,5 @@ invariant-loop-come g l = record {
   come : Come l.space (g.R.Row.form l.space l.claim) l.fn.text l.count l.rows.items l.text;
   number : length l.rows.items ≡ l.come;
   from : FollowsFrom l.space (at_of l.space (g.R.Row.form l.space l.claim)) l.rows.items l.least;
-  least : l.least ≤ most_rows;
+  least : l.least ≤ MAX_CONFIGURATIONS;
 }

@@ -1,6 +1,6 @@
 use Rattle.std.proofs.Common.{◌∙◌, subst, arith}
-use Rattle.positions.proofs.Walking.{walk_begins, from_zero, next_of, after_step, none_left}
-use Rattle.retro_core.specs.Opening.{AreNoted}
+use Rattle.positions.proofs.Cited.{walk_begins, from_zero, next_of, after_step, none_left}
+use Rattle.retro_core.specs.Inside.Opening.{AreNoted}
 use Rattle.retro_core.proofs.Noting.{HasLabel, has_few, low_label, low_place, noted-end, noted-step}
 use Rattle.retro_core.proofs.answering.note_dominator.Goals as goal
 

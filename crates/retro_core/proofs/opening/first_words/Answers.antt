@@ -1,8 +1,8 @@
 use Rattle.std.proofs.Common.{◌≡◌, ◌+◌, ◌-◌, ◌∙◌, ℕ, List, length, drop, take, sym, subst, arith}
 use Rattle.std.proofs.lemmas.List.{length-drop, length-take-le, get_or-take, get_or-drop}
 use Rattle.positions.specs.Gaps.{gaps}
-use Rattle.retro_core.specs.BoardArena.{arena_of}
-use Rattle.retro_core.specs.Opening.{IsRun, AreStopping}
+use Rattle.retro_core.specs.Inside.BoardArena.{arena_of}
+use Rattle.retro_core.specs.Inside.Opening.{IsRun, AreStopping}
 use Rattle.retro_core.proofs.BoardArenas.{arena_is}
 use Rattle.retro_core.proofs.FirstWords.{AreStopped, stopped-start, stopped-more, first-words}
 use Rattle.retro_core.proofs.Noting.{written}

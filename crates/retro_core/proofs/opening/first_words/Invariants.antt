@@ -1,6 +1,6 @@
 use Rattle.std.proofs.Common.{◌≤◌, ◌-◌}
 use Rattle.positions.specs.Gaps.{gaps}
-use Rattle.retro_core.specs.BoardArena.{arena_of}
+use Rattle.retro_core.specs.Inside.BoardArena.{arena_of}
 use Rattle.retro_core.proofs.FirstWords.{AreStopped}
 use Rattle.retro_core.proofs.opening.first_words.Given as goal
 

@@ -1,5 +1,5 @@
 use Rattle.std.proofs.Common.{◌≡◌, ◌+◌, ◌==◌, ◌∙◌, ℕ, List, cond, slice_index, slice_set, subst, sym, ap, arith}
-use Rattle.retro_core.specs.Opening.{IsWritten}
+use Rattle.retro_core.specs.Inside.Opening.{IsWritten}
 use Rattle.retro_core.proofs.FirstWords.{written-start, written-more}
 use Rattle.retro_core.proofs.opening.stop.Goals as goal
 

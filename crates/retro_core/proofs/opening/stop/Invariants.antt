@@ -1,4 +1,4 @@
-use Rattle.retro_core.specs.Opening.{IsWritten}
+use Rattle.retro_core.specs.Inside.Opening.{IsWritten}
 use Rattle.retro_core.proofs.opening.stop.Given as goal
 
 abbrev pub invariant-loop-place : goal.invariant-loop-place

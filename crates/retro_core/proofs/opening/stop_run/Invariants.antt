@@ -1,5 +1,5 @@
-use Rattle.retro_core.specs.BoardArena.{arena_of}
-use Rattle.retro_core.specs.Opening.{AreStopping}
+use Rattle.retro_core.specs.Inside.BoardArena.{arena_of}
+use Rattle.retro_core.specs.Inside.Opening.{AreStopping}
 use Rattle.retro_core.proofs.opening.stop_run.Given as goal
 
 abbrev pub invariant-loop-place : goal.invariant-loop-place

@@ -3,8 +3,8 @@ use denote.Param.{param}
 use denote.Ref.{NamedLft}
 use mir.Syntax.{named}
 use denote.Param.Send.{param_sync, arg_sync}
-use Rattle.retro_core.proofs.Sharing.{solver_sync}
-use Rattle.claim_round.proofs.Sharing.{round_sync}
+use Rattle.retro_core.proofs.Cited.{solver_sync}
+use Rattle.claim_round.proofs.Cited.{round_sync}
 use Rattle.round_workers.proofs.solving.work_round.Goals as goal
 
 pub share-requires-sync-W : goal.share-requires-sync-W

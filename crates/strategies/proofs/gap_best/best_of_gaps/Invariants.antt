@@ -1,7 +1,7 @@
 use Rattle.std.proofs.Common.{◌≡◌, ◌≤◌, length}
 use Rattle.std.specs.Vec.{vec_capacity}
 use Rattle.positions.specs.Gaps.{gaps}
-use Rattle.strategies.specs.GapBest.{AreGapsBest}
+use Rattle.strategies.specs.Inside.GapBest.{AreGapsBest}
 use Rattle.strategies.proofs.gap_best.best_of_gaps.Given as goal
 
 abbrev pub invariant-loop-gap : goal.invariant-loop-gap

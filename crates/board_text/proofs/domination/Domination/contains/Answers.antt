@@ -1,6 +1,6 @@
 use Rattle.std.proofs.Common.{◌≡◌, sym, ◌∙◌}
 use Rattle.board_text.specs.PlainBoard.{AreLabels}
-use Rattle.board_text.specs.Domination.{beats_in}
+use Rattle.board_text.specs.Inside.Domination.{beats_in}
 use Rattle.board_text.proofs.BitRows.{contains_bit, bit_contained}
 use Rattle.board_text.proofs.domination.Domination.contains.Goals as goal
 

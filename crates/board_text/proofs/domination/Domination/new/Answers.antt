@@ -1,5 +1,5 @@
 use Rattle.std.proofs.Common.{◌≡◌, ◌*◌, replicate, refl}
-use Rattle.board_text.specs.Domination.{mark_of}
+use Rattle.board_text.specs.Inside.Domination.{mark_of}
 use Rattle.board_text.proofs.DominationPairs.{pairs_none}
 use Rattle.board_text.proofs.BitRows.{rows_new, no_bit}
 use Rattle.board_text.proofs.domination.Domination.new.Goals as goal

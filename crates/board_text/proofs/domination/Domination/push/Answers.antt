@@ -1,7 +1,8 @@
 use Rattle.std.proofs.Common.{arith, ◌≡◌, ◌≤◌, ◌+◌, ◌*◌, ◌++◌, length, take, drop, ◌∙◌}
 use Rattle.std.proofs.lemmas.Nat.{mul-le}
 use Rattle.board_text.specs.PlainBoard.{AreLabels}
-use Rattle.board_text.specs.Domination.{mark_of, SetsPair}
+use Rattle.board_text.specs.Inside.Domination.{mark_of, SetsPair}
+use Rattle.board_text.specs.declared.board.TheConstants.{MAX_LABELS}
 use Rattle.board_text.proofs.DominationPairs.{few_pairs}
 use Rattle.board_text.proofs.BitRows.{place_from_next, rows_pushed, pairs_pushed, written}
 use Rattle.board_text.proofs.domination.Domination.push.Goals as goal
@@ -33,4 +34,4 @@ returns-clause-few c =
     let labels = c.self.inside.labels in
     let in_range = c.self.invariant.in_range in
     rw (same c)
-    (omega (arith, few_pairs labels (mark_of labels c.set_pair.new.rows) (labels * labels), mul-le labels labels 256 256 in_range.1 in_range.1))
+    (omega (arith, few_pairs labels (mark_of labels c.set_pair.new.rows) (labels * labels), mul-le labels labels MAX_LABELS MAX_LABELS in_range.1 in_range.1))

@@ -1,9 +1,9 @@
-use Rattle.std.proofs.Common.{◌≡◌, ◌+◌, ◌<◌, ⊎_elim, length, drop, get_or, sym, ap, ◌∙◌, arith, length-drop, Some, None}
+use Rattle.std.proofs.Common.{◌≡◌, ◌+◌, ◌^◌, ◌<◌, ⊎_elim, length, drop, get_or, sym, ap, ◌∙◌, arith, length-drop, Some, None}
 use Rattle.std.specs.Prelude.{slice_index}
 use Rattle.std.proofs.lemmas.List.{length-map}
 use Rattle.std.specs.Slots.{slots_items, slots_len, slots_counts}
-use Rattle.index_lists.proofs.Times.{cond_same, cond_other}
-use Rattle.retro_core.specs.Words.{open_word, value_of_word}
+use Rattle.index_lists.proofs.Cited.{cond_same, cond_other}
+use Rattle.retro_core.specs.Inside.Words.{open_word, value_of_word}
 use Rattle.claim_round.specs.Shared.{Ended}
 use Rattle.claim_round.proofs.Lookup.{read_at, value_read}
 use Rattle.claim_round.proofs.closed.Closed.value_at.Goals as goal
@@ -17,7 +17,7 @@ overflow_cast-result c =
     let word = read_at (slots_items c.self.inside.rows.words) (c.self.inside.gaps + c.args.rank) _ c.word-word.ensures in
     ⊎_elim
     (λ (o : slice_index (slots_items c.self.inside.rows.words) (c.self.inside.gaps + c.args.rank) ≡ open_word). absurd (c.if-word.false (sym word ∙ o)))
-    (λ (b : slice_index (slots_items c.self.inside.rows.words) (c.self.inside.gaps + c.args.rank) < 4294967296). omega arith)
+    (λ (b : slice_index (slots_items c.self.inside.rows.words) (c.self.inside.gaps + c.args.rank) < 2 ^ 32). omega arith)
     (c.self.invariant.values (c.self.inside.gaps + c.args.rank) (omega arith) (omega arith))
 
 pub returns-then-word : goal.returns-then-word

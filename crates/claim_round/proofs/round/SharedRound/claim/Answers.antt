@@ -1,9 +1,10 @@
 use Rattle.std.proofs.Common.{◌≡◌, ℕ, suc, ◌<◌, ◌+◌, List, [], ◌∷◌, ◌++◌, length, refl, sym, ap, ◌∙◌, subst, arith}
 use Rattle.atomic_table.specs.Table.{Me}
-use Rattle.index_lists.proofs.Times.{cond_same, cond_other}
+use Rattle.index_lists.proofs.Cited.{cond_same, cond_other}
 use Rattle.positions.specs.Gaps.{gaps}
 use Rattle.retro_core.specs.Round.{first_of, rest_of}
-use Rattle.claim_round.specs.Shared.{Key, View, Unit0, claimed}
+use Rattle.claim_round.specs.Shared.{Key, View}
+use Rattle.claim_round.specs.Inside.Shared.{Unit0, claimed}
 use Rattle.claim_round.proofs.Firsts.{claims_next}
 use Rattle.claim_round.proofs.Moves.{claim_allowed, read_allowed, read_open}
 use Rattle.claim_round.proofs.Seats.{claimed_seat}

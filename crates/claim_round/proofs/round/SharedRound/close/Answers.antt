@@ -1,12 +1,12 @@
-use Rattle.std.proofs.Common.{◌≡◌, ℕ, ◌<◌, ◌+◌, ◌-◌, ◌⊎◌, List, map, length, take, drop, sym, ap, ◌∙◌, subst, arith, get_or-take, get_or-drop, length-drop}
+use Rattle.std.proofs.Common.{◌≡◌, ℕ, ◌^◌, ◌<◌, ◌+◌, ◌-◌, ◌⊎◌, List, map, length, take, drop, sym, ap, ◌∙◌, subst, arith, get_or-take, get_or-drop, length-drop}
 use Rattle.std.specs.Prelude.{slice_index}
 use Rattle.std.specs.Slots.{slots_items, slots_len, slots_counts}
 use Rattle.index_lists.specs.Lists.{times}
 use Rattle.positions.specs.Gaps.{gaps}
 use Rattle.retro_core.specs.Solving.{Solving}
-use Rattle.retro_core.specs.Words.{open_word, value_of_word}
+use Rattle.retro_core.specs.Inside.Words.{open_word, value_of_word}
 use Rattle.claim_round.specs.Shared.{Key, View, RoundId, Place, Finishes}
-use Rattle.claim_round.specs.Ends.{end_of}
+use Rattle.claim_round.specs.Inside.Ends.{end_of}
 use Rattle.claim_round.proofs.Ends.{closed_fields, small_counts, small_value}
 use Rattle.claim_round.proofs.round.SharedRound.close.Goals as goal
 
@@ -81,10 +81,10 @@ invariant_of-result g c =
       full = c.close_with.ensures.values.0;
       slots = counts.1 ∙ slots;
       gaps = omega arith;
-      counts = λ g small. subst (λ n. n < 4294967296) (get_or-take G words g 0 (omega arith)) (small_counts k.solving _ c.self.invariant.sound end.0.finishes g (omega arith));
+      counts = λ g small. subst (λ n. n < 2 ^ 32) (get_or-take G words g 0 (omega arith)) (small_counts k.solving _ c.self.invariant.sound end.0.finishes g (omega arith));
       values = λ j low high.
           let e : G + (j - G) ≡ j = omega arith in
           let read : slice_index (drop G words) (j - G) ≡ slice_index words j = get_or-drop G words (j - G) 0 ∙ ap (slice_index words) e in
-          subst (λ n. (n ≡ open_word) ⊎ (n < 4294967296)) read
+          subst (λ n. (n ≡ open_word) ⊎ (n < 2 ^ 32)) read
           (small_value k.solving (drop G words) (take G words) v.has.won c.self.invariant.below c.self.invariant.sound.few end.0.finishes (j - G) (let d = length-drop G words in omega arith));
     }

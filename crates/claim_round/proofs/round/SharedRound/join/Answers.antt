@@ -4,7 +4,8 @@ use Rattle.atomic_table.specs.Table.{Me}
 use Rattle.board_text.specs.PlainBoard.{places}
 use Rattle.positions.specs.Ranks.{configurations}
 use Rattle.retro_core.specs.Solving.{Solving}
-use Rattle.claim_round.specs.Shared.{Key, View, IsBounded, Unit0, most, size}
+use Rattle.claim_round.specs.Shared.{Key, View}
+use Rattle.claim_round.specs.Inside.Shared.{IsBounded, Unit0, most, size}
 use Rattle.claim_round.proofs.Firsts.{of_round}
 use Rattle.claim_round.proofs.Loads.{some_gaps}
 use Rattle.claim_round.proofs.Moves.{join_allowed, look_allowed}

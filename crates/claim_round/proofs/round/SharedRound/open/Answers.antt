@@ -4,8 +4,9 @@ use Rattle.std.specs.VecDeque.{deque_capacity}
 use Rattle.board_text.specs.PlainBoard.{places}
 use Rattle.positions.specs.Ranks.{configurations}
 use Rattle.retro_core.specs.Round.{AreToStrike}
-use Rattle.claim_round.specs.Shared.{Key, View, opening, most, size}
-use Rattle.claim_round.specs.Openings.{AreFirstWords}
+use Rattle.claim_round.specs.Shared.{Key, View}
+use Rattle.claim_round.specs.Inside.Shared.{opening, most, size}
+use Rattle.claim_round.specs.Inside.Openings.{AreFirstWords}
 use Rattle.claim_round.proofs.Loads.{narrow}
 use Rattle.claim_round.proofs.Openings.{ranks_due, opened}
 use Rattle.claim_round.proofs.Seats.{first_seat}

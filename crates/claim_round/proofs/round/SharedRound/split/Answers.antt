@@ -4,7 +4,8 @@ use Rattle.std.specs.VecDeque.{deque_capacity}
 use Rattle.board_text.specs.PlainBoard.{places}
 use Rattle.positions.specs.Ranks.{configurations}
 use Rattle.retro_core.specs.Solving.{Solving}
-use Rattle.claim_round.specs.Shared.{Key, View, Place, most, size}
+use Rattle.claim_round.specs.Shared.{Key, View, Place}
+use Rattle.claim_round.specs.Inside.Shared.{most, size}
 use Rattle.claim_round.proofs.Firsts.{of_round}
 use Rattle.claim_round.proofs.Loads.{some_gaps}
 use Rattle.claim_round.proofs.Moves.{split_allowed}

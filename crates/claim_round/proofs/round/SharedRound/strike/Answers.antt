@@ -1,11 +1,12 @@
 use Rattle.std.proofs.Common.{◌≡◌, ℕ, ◌<◌, ◌≤◌, List, ◌++◌, length, ap, sym, subst, refl, ◌∙◌, arith}
 use Rattle.board_text.specs.PlainBoard.{PlainBoard}
-use Rattle.index_lists.proofs.Times.{cond_same, cond_other}
+use Rattle.index_lists.proofs.Cited.{cond_same, cond_other}
 use Rattle.positions.specs.Ranks.{configurations, configuration_at}
 use Rattle.positions.specs.Gaps.{gap_of, IsDominator}
 use Rattle.retro_core.specs.Solving.{Solving, source}
 use Rattle.retro_core.specs.Round.{first_of, rest_of}
-use Rattle.claim_round.specs.Shared.{Key, View, most}
+use Rattle.claim_round.specs.Shared.{Key, View}
+use Rattle.claim_round.specs.Inside.Shared.{most}
 use Rattle.claim_round.proofs.Firsts.{strikes_next, in_gaps}
 use Rattle.claim_round.proofs.Loads.{few_members}
 use Rattle.claim_round.proofs.Moves.{strike_allowed}

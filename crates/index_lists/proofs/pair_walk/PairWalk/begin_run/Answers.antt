@@ -1,7 +1,7 @@
 use Rattle.std.proofs.Common.{◌≡◌, ◌<◌, ◌≤◌, ◌+◌, ◌∷◌, length, drop, get_or, refl, sym, subst}
 use Rattle.index_lists.specs.declared.runs.Run.{Run}
 use Rattle.index_lists.specs.declared.pair_walk.PairWalk.TheInside.{Inside}
-use Rattle.index_lists.specs.Runs.{Walk, IsWalk}
+use Rattle.index_lists.specs.Inside.Runs.{Walk, IsWalk}
 use Rattle.index_lists.proofs.Spread.{begun-walk, begun-is, begun-some}
 use Rattle.index_lists.proofs.pair_walk.PairWalk.begin_run.Goals as goal
 

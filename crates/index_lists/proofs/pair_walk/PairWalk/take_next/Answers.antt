@@ -1,6 +1,6 @@
 use Rattle.std.proofs.Common.{◌<◌, ℕ, List, length, drop, refl, sym, ap, subst, ◌∙◌, arith}
 use Rattle.std.proofs.lemmas.List.{length-drop}
-use Rattle.index_lists.specs.Runs.{Walk, pairs_left}
+use Rattle.index_lists.specs.Inside.Runs.{Walk, pairs_left}
 use Rattle.index_lists.proofs.Spread.{taken}
 use Rattle.index_lists.proofs.pair_walk.PairWalk.take_next.Goals as goal
 

@@ -1,5 +1,5 @@
 use Rattle.std.proofs.Common.{◌∙◌, ap, slice_get}
-use Rattle.index_lists.specs.Pairs.{nodes_of}
+use Rattle.index_lists.specs.Inside.Pairs.{nodes_of}
 use Rattle.index_lists.proofs.Places.{read-below}
 use Rattle.index_lists.proofs.Entries.{plain-are}
 use Rattle.index_lists.proofs.plain_lists.PlainListsListStore.first.Goals as goal

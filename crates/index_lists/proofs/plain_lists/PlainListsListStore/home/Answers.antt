@@ -1,5 +1,5 @@
 use Rattle.std.proofs.Common.{◌∙◌, ap}
-use Rattle.index_lists.specs.Pairs.{home_in}
+use Rattle.index_lists.specs.Inside.Pairs.{home_in}
 use Rattle.index_lists.proofs.Entries.{plain-home, plain-are}
 use Rattle.index_lists.proofs.plain_lists.PlainListsListStore.home.Goals as goal
 

@@ -1,5 +1,5 @@
 use Rattle.std.proofs.Common.{◌∙◌, ap, None}
-use Rattle.index_lists.specs.Pairs.{nodes_of, last_from}
+use Rattle.index_lists.specs.Inside.Pairs.{nodes_of, last_from}
 use Rattle.index_lists.proofs.Places.{read-below}
 use Rattle.index_lists.proofs.Scans.{last-place}
 use Rattle.index_lists.proofs.Entries.{plain-are}

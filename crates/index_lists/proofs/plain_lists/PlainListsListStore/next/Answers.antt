@@ -1,5 +1,5 @@
 use Rattle.std.proofs.Common.{◌≡◌, ◌∙◌, ap, sym, Some, None}
-use Rattle.index_lists.specs.Pairs.{nodes_of, home_in, after}
+use Rattle.index_lists.specs.Inside.Pairs.{nodes_of, home_in, after}
 use Rattle.index_lists.proofs.Places.{stands-at}
 use Rattle.index_lists.proofs.Scans.{after-place, after-below}
 use Rattle.index_lists.proofs.Entries.{only-home, not-free, in-none, plain-are}

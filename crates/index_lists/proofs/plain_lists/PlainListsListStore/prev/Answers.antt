@@ -1,6 +1,6 @@
 use Rattle.std.proofs.Common.{◌≡◌, ◌<◌, ℕ, ◌+◌, ◌∙◌, ap, sym, Some, None}
 use Rattle.index_lists.specs.Lists.{times}
-use Rattle.index_lists.specs.Pairs.{nodes_of, home_in, before_from}
+use Rattle.index_lists.specs.Inside.Pairs.{nodes_of, home_in, before_from}
 use Rattle.index_lists.proofs.Places.{stands-at}
 use Rattle.index_lists.proofs.Scans.{before-place, before-front, before-below}
 use Rattle.index_lists.proofs.Entries.{only-home, not-free, in-none, plain-are}

@@ -1,8 +1,9 @@
 use Rattle.std.proofs.Common.{◌≡◌, ◌<◌, ◌+◌, ℕ, ◌∙◌, ◌==◌, ◌++◌, ◌∷◌, [], if◌then◌else◌, ap, sym, subst, arith, length}
 use Rattle.std.proofs.lemmas.List.{length_push}
 use Rattle.index_lists.specs.Lists.{times}
-use Rattle.index_lists.specs.Pairs.{Pairs, nodes_of}
-use Rattle.index_lists.specs.Runs.{entries_of}
+use Rattle.index_lists.specs.Pairs.{Pairs}
+use Rattle.index_lists.specs.Inside.Pairs.{nodes_of}
+use Rattle.index_lists.specs.Inside.Runs.{entries_of}
 use Rattle.index_lists.proofs.Entries.{plain-are, plain-room, plain-push, nodes-push}
 use Rattle.index_lists.proofs.Spread.{entries-length, entries-push}
 use Rattle.index_lists.proofs.plain_lists.PlainListsListStore.push_back.Goals as goal

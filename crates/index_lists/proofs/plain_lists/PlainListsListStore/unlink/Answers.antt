@@ -2,8 +2,9 @@ use Rattle.std.proofs.Common.{◌≡◌, ◌≤◌, ◌+◌, ◌==◌, not, ◌�
 use Rattle.std.specs.List.{filter}
 use Rattle.std.proofs.lemmas.List.Edits.{length-remove}
 use Rattle.index_lists.specs.Lists.{times, without_node, IsIn}
-use Rattle.index_lists.specs.Pairs.{Pairs, nodes_of, paired}
-use Rattle.index_lists.specs.Runs.{spread, entries_of}
+use Rattle.index_lists.specs.Pairs.{Pairs}
+use Rattle.index_lists.specs.Inside.Pairs.{nodes_of, paired}
+use Rattle.index_lists.specs.Inside.Runs.{spread, entries_of}
 use Rattle.index_lists.proofs.Places.{place-below}
 use Rattle.index_lists.proofs.Entries.{fewer, plain-are, plain-unlink, nodes_without}
 use Rattle.index_lists.proofs.Spread.{entries-nodes, entries-without}

@@ -1,7 +1,8 @@
 use Rattle.std.proofs.Common.{None, ap, ◌∙◌, arith}
-use Rattle.player.specs.Seats.{at}
-use Rattle.player.specs.Transcript.{Replies, no_request_line, PersonAsks, Going, standing}
-use Rattle.player.specs.Turns.{BringsAll}
+use Rattle.player.specs.Inside.Seats.{at}
+use Rattle.player.specs.Transcript.{Replies, no_request_line, PersonAsks, Going}
+use Rattle.player.specs.Inside.Transcript.{standing}
+use Rattle.player.specs.Inside.Turns.{BringsAll}
 use Rattle.player.proofs.Requests.{no_pebble}
 use Rattle.player.proofs.Moving.{says_line}
 use Rattle.player.proofs.adversary_side.AdversarySidePlay.answer.Goals as goal

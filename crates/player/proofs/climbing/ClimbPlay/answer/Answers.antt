@@ -1,6 +1,7 @@
 use Rattle.std.proofs.Common.{None, arith}
-use Rattle.player.specs.Transcript.{NestedReplies, no_request_line, PersonClimbs, Going, standing}
-use Rattle.player.specs.Turns.{BringsAll}
+use Rattle.player.specs.Transcript.{NestedReplies, no_request_line, PersonClimbs, Going}
+use Rattle.player.specs.Inside.Transcript.{standing}
+use Rattle.player.specs.Inside.Turns.{BringsAll}
 use Rattle.player.proofs.Requests.{no_pebble}
 use Rattle.player.proofs.Moving.{says_line}
 use Rattle.player.proofs.climbing.ClimbPlay.answer.Goals as goal

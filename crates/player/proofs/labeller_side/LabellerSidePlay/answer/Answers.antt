@@ -1,7 +1,9 @@
 use Rattle.std.proofs.Common.{None, Some, inl, inr, ap, ◌∙◌, ◌≤◌, subst, arith}
-use Rattle.player.specs.Seats.{at}
-use Rattle.player.specs.Transcript.{no_answer_line, stopped_line, PersonAnswers, Going, standing}
-use Rattle.player.specs.Turns.{BringsAll}
+use Rattle.board_text.specs.declared.board.TheConstants.{MAX_LABELS}
+use Rattle.player.specs.Inside.Seats.{at}
+use Rattle.player.specs.Transcript.{no_answer_line, stopped_line, PersonAnswers, Going}
+use Rattle.player.specs.Inside.Transcript.{standing}
+use Rattle.player.specs.Inside.Turns.{BringsAll}
 use Rattle.player.specs.declared.end.PlayEnd.TheVariants.{Stopped}
 use Rattle.player.proofs.Answering.{no_legal_number, no_label, stop_asked, says_all}
 use Rattle.player.proofs.Moving.{says_line}
@@ -16,7 +18,7 @@ returns-else-number-labels-clause-said c =
     let seat = c.args.self.now in
     let of_seat = c.space.ensures ∙ c.self.invariant.same_board ∙ ap (λ s. s.board) c.self.view_is in
     says_line c.refuse.result _ _ no_answer_line None (λ end said. BringsAll (PersonAnswers seat.board) (Going (at seat) seat.requests) c.args.word said (standing end (at seat) seat.requests)) c.refuse.ensures
-    (rw c.in-Number.is (no_legal_number seat c.in-Number.number (subst (λ b. b.labels ≤ 256) of_seat c.labels.ensures.is_board.labels.1)
+    (rw c.in-Number.is (no_legal_number seat c.in-Number.number (subst (λ b. b.labels ≤ MAX_LABELS) of_seat c.labels.ensures.is_board.labels.1)
     (elim c.else-number-labels.branch [
       | else-number-labels-via-else-number-labels w ↦ inr (omega (arith, w.if-number-labels.false, c.from-labels.ensures, c.labels.ensures.value, ap (λ b. b.labels) of_seat))
       | else-number-labels-via-then-number-labels+else-is_legal w ↦ inl (λ legal. let impossible = w.if-is_legal.ensures.1 legal in cc)
@@ -33,4 +35,4 @@ returns-in-Other-clause-said c =
     let seat = c.args.self.now in
     let of_seat = c.space.ensures ∙ c.self.invariant.same_board ∙ ap (λ s. s.board) c.self.view_is in
     says_line c.refuse-in-Other.result _ _ no_answer_line None (λ end said. BringsAll (PersonAnswers seat.board) (Going (at seat) seat.requests) c.args.word said (standing end (at seat) seat.requests)) c.refuse-in-Other.ensures
-    (rw c.in-Other.is (no_label seat (subst (λ b. b.labels ≤ 256) of_seat c.labels.ensures.is_board.labels.1)))
+    (rw c.in-Other.is (no_label seat (subst (λ b. b.labels ≤ MAX_LABELS) of_seat c.labels.ensures.is_board.labels.1)))

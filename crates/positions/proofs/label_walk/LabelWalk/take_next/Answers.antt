@@ -1,23 +1,54 @@
-use Rattle.std.proofs.Common.{ℕ, ◌+◌, ◌-◌, ◌*◌, ◌^◌, ◌<◌, bit_and, get_or, set, refl, subst, arith, rules}
+use Rattle.std.proofs.Common.{◌≡◌, ℕ, ◌+◌, ◌-◌, ◌*◌, inl, inr, true, List, bit_and, set, sym, ap, subst, ◌∙◌, arith, rules}
 use Rattle.std.specs.Int.{w64, trailing_zeros}
+use Rattle.std.proofs.lemmas.List.{set-get_or}
+use Rattle.board_text.specs.Domination.{has_bit}
 use Rattle.positions.specs.LabelWalk.{Walk, IsStep}
-use Rattle.positions.proofs.LowestBit.{none_empty, step_is}
+use Rattle.positions.specs.Inside.LabelWalk.{HasCome}
+use Rattle.positions.proofs.WordByWord.{moves_on, none_behind, takes_lowest, still_come}
 use Rattle.positions.proofs.label_walk.LabelWalk.take_next.Goals as goal
+use Rattle.positions.proofs.label_walk.LabelWalk.take_next.Goals.{then-self-eq0-via-then-self-eq0, then-self-eq0-via-else-self-eq0+then-self-eq-ROW_WORDS}
 
-pub returns-then-word-ne0 : goal.returns-then-word-ne0
-returns-then-word-ne0 c =
-    let s = c.loop-place.self-inside in
-    let place = c.loop-place.place in
-    let word : ℕ = get_or s.words place 0 in
-    let label : ℕ = 64 * place + trailing_zeros w64 word in
-    let some : 0 < word = omega arith in
-    let fits : word < 2 ^ 64 = search rules in
-    subst (λ (w : Walk). IsStep w (record { left = set s.words place (bit_and word (word - 1)); from = label + 1 }) label) c.loop-place.invariant.same
-    (step_is s.words place label s.from c.loop-place.invariant.sized c.loop-place-test.true some fits c.loop-place.invariant.none refl)
+pub loop-self-init : goal.loop-self-init
+loop-self-init c = record { same = c.self.view_is; come = c.self.invariant; fits = search rules }
 
-pub loop-place-preserved : goal.loop-place-preserved
-loop-place-preserved c = record {
-  same = c.loop-place.invariant.same;
-  sized = c.loop-place.invariant.sized;
-  none = none_empty c.loop-place.self-inside.words c.loop-place.place c.if-word-ne0.false c.loop-place.invariant.none;
-}
+pub returns-then-self-eq0 : goal.returns-then-self-eq0
+returns-then-self-eq0 c label small bit =
+    let s = c.loop-self.self-inside in
+    let empty = c.loop-self-test.true in
+    let come : HasCome s.words s.place 0 s.behind = subst (λ (w : ℕ). HasCome s.words s.place w s.behind) empty c.loop-self.invariant.come in
+    let left : set s.words s.place 0 ≡ c.args.self.now.left =
+    ap (λ (w : ℕ). set s.words s.place w) (sym empty) ∙ ap (λ (w : Walk). w.left) c.loop-self.invariant.same in
+    none_behind s.words s.place s.behind come
+    (elim c.then-self-eq0.branch [
+      | then-self-eq0-via-then-self-eq0 w ↦ inl w.if-self-eq0.true
+      | then-self-eq0-via-else-self-eq0+then-self-eq-ROW_WORDS w ↦ inr w.if-self-eq-ROW_WORDS.true
+    ]) label small (subst (λ (ws : List ℕ). has_bit ws label ≡ true) (sym left) bit)
+
+pub loop-self-smaller : goal.loop-self-smaller
+loop-self-smaller c = let inside = c.loop-self.invariant.come.inside in omega (arith, inside, c.if-self-eq-ROW_WORDS.false)
+
+pub loop-self-preserved : goal.loop-self-preserved
+loop-self-preserved c =
+    let s = c.loop-self.self-inside in
+    let empty = c.loop-self-test.true in
+    let come : HasCome s.words s.place 0 s.behind = subst (λ (w : ℕ). HasCome s.words s.place w s.behind) empty c.loop-self.invariant.come in
+    let inside = come.inside in
+    record {
+      same =
+          ap (λ (ws : List ℕ). record { left = ws; from = s.from }) (set-get_or (set s.words s.place 0) (s.place + 1) 0
+          ∙ ap (λ (w : ℕ). set s.words s.place w) (sym empty)) ∙ c.loop-self.invariant.same;
+      come = moves_on s.words s.place s.behind (omega (arith, inside, c.if-self-eq-ROW_WORDS.false)) come;
+      fits = search rules;
+    }
+
+pub invariant_of-self-2 : goal.invariant_of-self-2
+invariant_of-self-2 c =
+    let s = c.loop-self.self-inside in
+    still_come s.words s.place s.word s.behind s.from (omega (arith, c.loop-self-test.false)) c.loop-self.invariant.fits c.loop-self.invariant.come
+
+pub returns : goal.returns
+returns c =
+    let s = c.loop-self.self-inside in
+    subst (λ (w : Walk). IsStep w (record { left = set s.words s.place (bit_and s.word (s.word - 1)); from = 64 * s.place + trailing_zeros w64 s.word + 1 })
+    (64 * s.place + trailing_zeros w64 s.word)) c.loop-self.invariant.same
+    (takes_lowest s.words s.place s.word s.behind s.from (omega (arith, c.loop-self-test.false)) c.loop-self.invariant.fits c.loop-self.invariant.come)

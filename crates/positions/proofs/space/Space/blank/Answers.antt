@@ -1,5 +1,5 @@
 use Rattle.std.proofs.Common.{arith}
-use Rattle.board_text.proofs.Places.{labels_and_places}
+use Rattle.board_text.proofs.Cited.{labels_and_places}
 use Rattle.positions.proofs.SpaceNumbers.{numbers}
 use Rattle.positions.proofs.space.Space.blank.Goals as goal
 

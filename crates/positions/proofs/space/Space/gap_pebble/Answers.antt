@@ -1,4 +1,5 @@
 use Rattle.std.proofs.Common.{◌*◌, ◌≤◌, sym, subst, arith}
+use Rattle.positions.specs.declared.space.TheConstants.{MAX_CONFIGURATIONS}
 use Rattle.positions.proofs.GapLaws.{pebble_below}
 use Rattle.positions.proofs.GapTurning.{gap_divides}
 use Rattle.positions.proofs.space.Space.gap_pebble.Goals as goal
@@ -9,7 +10,7 @@ quotient-requires-clause-few c =
 
 pub quotient-requires-clause-not_many : goal.quotient-requires-clause-not_many
 quotient-requires-clause-not_many c =
-    subst (λ n. c.args.gap ≤ 1048576 * n) (sym c.tuples.ensures.value) (gap_divides c.args.self.now c.args.gap c.tuples.ensures.is_board c.tuples.ensures.few c.requires).1
+    subst (λ n. c.args.gap ≤ MAX_CONFIGURATIONS * n) (sym c.tuples.ensures.value) (gap_divides c.args.self.now c.args.gap c.tuples.ensures.is_board c.tuples.ensures.few c.requires).1
 
 pub overflow_cast-result : goal.overflow_cast-result
 overflow_cast-result c =

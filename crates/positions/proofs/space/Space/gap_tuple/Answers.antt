@@ -1,4 +1,5 @@
 use Rattle.std.proofs.Common.{◌*◌, ◌≤◌, sym, subst}
+use Rattle.positions.specs.declared.space.TheConstants.{MAX_CONFIGURATIONS}
 use Rattle.positions.proofs.GapTurning.{gap_divides}
 use Rattle.positions.proofs.space.Space.gap_tuple.Goals as goal
 
@@ -8,4 +9,4 @@ rest-requires-clause-few c =
 
 pub rest-requires-clause-not_many : goal.rest-requires-clause-not_many
 rest-requires-clause-not_many c =
-    subst (λ n. c.args.gap ≤ 1048576 * n) (sym c.tuples.ensures.value) (gap_divides c.args.self.now c.args.gap c.tuples.ensures.is_board c.tuples.ensures.few c.requires).1
+    subst (λ n. c.args.gap ≤ MAX_CONFIGURATIONS * n) (sym c.tuples.ensures.value) (gap_divides c.args.self.now c.args.gap c.tuples.ensures.is_board c.tuples.ensures.few c.requires).1

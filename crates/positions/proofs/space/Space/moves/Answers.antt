@@ -1,7 +1,7 @@
 use Rattle.std.proofs.Common.{ℕ, ◌/◌, get_or, set, sym, ap, ◌∙◌, inl, inr, arith}
 use Rattle.std.proofs.lemmas.Bool.{cases_eq}
 use Rattle.std.proofs.lemmas.List.{length-set, get_or-set_same, get_or-set_other}
-use Rattle.board_text.proofs.Places.{few_places}
+use Rattle.board_text.proofs.Cited.{few_places}
 use Rattle.positions.specs.Ranks.{configuration_at}
 use Rattle.positions.proofs.Turning.{rank_rest_next}
 use Rattle.positions.proofs.space.Space.moves.Goals as goal

@@ -1,4 +1,5 @@
 use Rattle.std.proofs.Common.{◌*◌, ◌≤◌, sym, subst, arith}
+use Rattle.positions.specs.declared.space.TheConstants.{MAX_CONFIGURATIONS}
 use Rattle.positions.proofs.Neighbours.{run_by}
 use Rattle.positions.proofs.SpaceNumbers.{numbers}
 use Rattle.positions.proofs.Turning.{weight_positive, read_weight}
@@ -12,7 +13,7 @@ rest-requires-clause-not_many c =
     let some = weight_positive c.args.self.now s.places s.weights c.gap_pebble.result are c.gap_pebble.ensures.below in
     let few = tuples_few c.args.self.now are.is_board are.few in
     let weight = read_weight c.args.self.now s.places s.weights c.gap_pebble.result c.index-self-gap_pebble.result are c.self.told c.gap_pebble.ensures.below in
-    subst (λ n. c.gap_tuple.result ≤ 1048576 * n) (sym weight) (omega (arith, few, some, c.gap_tuple.ensures.below))
+    subst (λ n. c.gap_tuple.result ≤ MAX_CONFIGURATIONS * n) (sym weight) (omega (arith, few, some, c.gap_tuple.ensures.below))
 
 pub returns : goal.returns
 returns c =

@@ -1,6 +1,6 @@
 use Rattle.std.proofs.Common.{below_more, arith}
 use Rattle.positions.specs.Game.{Legal}
-use Rattle.positions.proofs.Walking.{next_of, after_step, none_left}
+use Rattle.positions.proofs.Cited.{next_of, after_step, none_left}
 use Rattle.proof_text.specs.Proof.{request_row}
 use Rattle.proof_text.specs.Rules.{MeetsAnswer}
 use Rattle.proof_check.proofs.Requested.{legal_few, met_before, all_labels}

@@ -1,5 +1,5 @@
 use Rattle.std.proofs.Common.{rules, ◌<◌, length, slice_index, sym, ap, inl, inr}
-use Rattle.positions.proofs.Ranks.{rank_of-configuration_at}
+use Rattle.positions.proofs.Cited.{rank_of-configuration_at}
 use Rattle.proof_text.specs.Proof.{answer_row}
 use Rattle.proof_text.specs.Rules.{IsWanted, IsEnough, one_less}
 use Rattle.proof_check.specs.declared.fault.Side.TheVariants.{Labeller}

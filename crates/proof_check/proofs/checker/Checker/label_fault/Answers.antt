@@ -1,5 +1,5 @@
 use Rattle.std.proofs.Common.{◌<◌, sym, ap, inl, inr, arith}
-use Rattle.positions.proofs.Ranks.{rank_of-configuration_at}
+use Rattle.positions.proofs.Cited.{rank_of-configuration_at}
 use Rattle.proof_text.specs.Proof.{request_row}
 use Rattle.proof_check.specs.declared.fault.Side.TheVariants.{Adversary}
 use Rattle.proof_check.specs.declared.fault.CheckFault.TheVariants as faults

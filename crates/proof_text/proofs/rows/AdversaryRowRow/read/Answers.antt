@@ -1,8 +1,8 @@
 use Rattle.std.proofs.Common.{arith, drop, ap, sym, ◌∙◌}
 use Rattle.board_text.specs.PlainBoard.{places}
-use Rattle.board_text.proofs.Places.{labels_and_places}
+use Rattle.board_text.proofs.Cited.{labels_and_places}
 use Rattle.positions.specs.Ranks.{rank_of}
-use Rattle.proof_text.specs.RowForm.{IsFrom}
+use Rattle.proof_text.specs.Inside.RowForm.{IsFrom}
 use Rattle.proof_text.proofs.RowLemmas.{request_sizes, request_label, request_pebble, request_number, request_read, request_order, request_next, six_zeros, not_false, not_true, front_written}
 use Rattle.proof_text.proofs.rows.AdversaryRowRow.read.Goals as goal
 

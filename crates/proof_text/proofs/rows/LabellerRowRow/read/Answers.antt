@@ -1,8 +1,9 @@
 use Rattle.std.proofs.Common.{◌≤◌, drop, ap, sym, ◌∙◌, inl, inr, arith}
 use Rattle.board_text.specs.PlainBoard.{places}
-use Rattle.board_text.proofs.Places.{labels_and_places}
+use Rattle.board_text.specs.declared.board.TheConstants.{MAX_PEBBLES}
+use Rattle.board_text.proofs.Cited.{labels_and_places}
 use Rattle.positions.specs.Ranks.{rank_of}
-use Rattle.proof_text.specs.RowForm.{IsFrom}
+use Rattle.proof_text.specs.Inside.RowForm.{IsFrom}
 use Rattle.proof_text.proofs.RowLemmas.{answer_sizes, answer_label, answer_number, answer_read, answer_order, answer_next, six_zeros, zero_behind, places_taken, not_false, not_true, front_written}
 use Rattle.proof_text.proofs.rows.LabellerRowRow.read.Goals as goal
 use Rattle.proof_text.proofs.rows.LabellerRowRow.read.Goals.{then-not-values-via-then-not-values, then-not-values-via-else-not-values+then-not-values-2}
@@ -10,7 +11,7 @@ use Rattle.proof_text.proofs.rows.LabellerRowRow.read.Goals.{then-not-values-via
 pub returns-then-not-values : goal.returns-then-not-values
 returns-then-not-values c =
     let board = c.args.space.now in
-    let few : c.pebbles-pebbles.result ≤ 6 = omega (arith, c.pebbles-pebbles.ensures.value, c.pebbles-pebbles.ensures.is_board.pebbles.1) in
+    let few : c.pebbles-pebbles.result ≤ MAX_PEBBLES = omega (arith, c.pebbles-pebbles.ensures.value, c.pebbles-pebbles.ensures.is_board.pebbles.1) in
     let t = answer_sizes _ board.pebbles _ board.labels _ (places board) c.args.claim c.in-Some.values c.answer_words.new.at c.answer_words.new.take c.args.text.now c.answer_words.new.text
     (places_taken c.pebbles-pebbles.result few ∙ c.pebbles-pebbles.ensures.value) c.labels.ensures.value c.places.ensures.value c.in-Some.ensures in
     answer_label board c.args.claim c.in-Some.values c.answer_words.new.at c.answer_words.new.take c.args.text.now c.answer_words.new.text (IsFrom board c.args.least) t
@@ -22,7 +23,7 @@ returns-then-not-values c =
 pub returns-in_default-turns : goal.returns-in_default-turns
 returns-in_default-turns c =
     let board = c.args.space.now in
-    let few : c.pebbles-pebbles.result ≤ 6 = omega (arith, c.pebbles-pebbles.ensures.value, c.pebbles-pebbles.ensures.is_board.pebbles.1) in
+    let few : c.pebbles-pebbles.result ≤ MAX_PEBBLES = omega (arith, c.pebbles-pebbles.ensures.value, c.pebbles-pebbles.ensures.is_board.pebbles.1) in
     let t = answer_sizes _ board.pebbles _ board.labels _ (places board) c.args.claim c.in-Some.values c.answer_words.new.at c.answer_words.new.take c.args.text.now c.answer_words.new.text
     (places_taken c.pebbles-pebbles.result few ∙ c.pebbles-pebbles.ensures.value) c.labels.ensures.value c.places.ensures.value c.in-Some.ensures in
     answer_number board c.args.claim c.in-Some.values c.answer_words.new.at c.answer_words.new.take c.args.text.now c.answer_words.new.text (IsFrom board c.args.least) t
@@ -31,7 +32,7 @@ returns-in_default-turns c =
 pub returns-then-rank-least : goal.returns-then-rank-least
 returns-then-rank-least c =
     let board = c.args.space.now in
-    let few : c.pebbles-pebbles.result ≤ 6 = omega (arith, c.pebbles-pebbles.ensures.value, c.pebbles-pebbles.ensures.is_board.pebbles.1) in
+    let few : c.pebbles-pebbles.result ≤ MAX_PEBBLES = omega (arith, c.pebbles-pebbles.ensures.value, c.pebbles-pebbles.ensures.is_board.pebbles.1) in
     let t = answer_sizes _ board.pebbles _ board.labels _ (places board) c.args.claim c.in-Some.values c.answer_words.new.at c.answer_words.new.take c.args.text.now c.answer_words.new.text
     (places_taken c.pebbles-pebbles.result few ∙ c.pebbles-pebbles.ensures.value) c.labels.ensures.value c.places.ensures.value c.in-Some.ensures in
     let read = answer_read board c.args.claim c.in-Some.values c.answer_words.new.at c.answer_words.new.take c.args.text.now c.answer_words.new.text c.in-Some-turns.turns t
@@ -43,7 +44,7 @@ returns-then-rank-least c =
 pub returns : goal.returns
 returns c =
     let board = c.args.space.now in
-    let few : c.pebbles-pebbles.result ≤ 6 = omega (arith, c.pebbles-pebbles.ensures.value, c.pebbles-pebbles.ensures.is_board.pebbles.1) in
+    let few : c.pebbles-pebbles.result ≤ MAX_PEBBLES = omega (arith, c.pebbles-pebbles.ensures.value, c.pebbles-pebbles.ensures.is_board.pebbles.1) in
     let t = answer_sizes _ board.pebbles _ board.labels _ (places board) c.args.claim c.in-Some.values c.answer_words.new.at c.answer_words.new.take c.args.text.now c.answer_words.new.text
     (places_taken c.pebbles-pebbles.result few ∙ c.pebbles-pebbles.ensures.value) c.labels.ensures.value c.places.ensures.value c.in-Some.ensures in
     let read = answer_read board c.args.claim c.in-Some.values c.answer_words.new.at c.answer_words.new.take c.args.text.now c.answer_words.new.text c.in-Some-turns.turns t

@@ -2,18 +2,19 @@ use Rattle.std.proofs.Common.{◌≡◌, ◌+◌, ◌*◌, ◌<◌, ◌↔◌, �
 use Rattle.std.proofs.lemmas.List.{length_push}
 use Rattle.board_text.specs.PlainBoard.{PlainBoard, IsBoard}
 use Rattle.board_text.specs.Domination.{has_bit}
+use Rattle.board_text.specs.declared.board.TheConstants.{MAX_LABELS}
 use Rattle.positions.specs.Gaps.{gaps, IsAnswer}
 use Rattle.positions.specs.Tuples.{tuple_of}
-use Rattle.retro_core.specs.Opening.{AreAnswers, AreNoted}
+use Rattle.retro_core.specs.Inside.Opening.{AreAnswers, AreNoted}
 use Rattle.retro_core.proofs.Noting.{answers_sized, counted_push, written, noted-all}
 use Rattle.retro_core.proofs.Entered.{counted-all}
 use Rattle.retro_core.proofs.answering.Answering.of.Goals as goal
 
 -- the answers of a gap's tuple are those of the gap
 answers_of : (b table : PlainBoard) → b ≡ table → IsBoard b → (gap tuple : ℕ) (words : List ℕ) → gap < gaps b → tuple ≡ tuple_of b gap
-    → ((g : ℕ) → g < gaps table → tuple_of table g ≡ tuple → (label : ℕ) → label < 256 → (has_bit words label ≡ true) ↔ IsAnswer table g label) → AreAnswers b gap words
+    → ((g : ℕ) → g < gaps table → tuple_of table g ≡ tuple → (label : ℕ) → label < MAX_LABELS → (has_bit words label ≡ true) ↔ IsAnswer table g label) → AreAnswers b gap words
 answers_of b table same is gap tuple words in_gaps tuple_is answers =
-    let here = subst (λ (p : PlainBoard). (g : ℕ) → g < gaps p → tuple_of p g ≡ tuple → (label : ℕ) → label < 256 → (has_bit words label ≡ true) ↔ IsAnswer p g label) (sym same) answers in
+    let here = subst (λ (p : PlainBoard). (g : ℕ) → g < gaps p → tuple_of p g ≡ tuple → (label : ℕ) → label < MAX_LABELS → (has_bit words label ≡ true) ↔ IsAnswer p g label) (sym same) answers in
     record { bits = here gap in_gaps (sym tuple_is); is_board = is }
 
 pub note_dominator-requires-clause-answers : goal.note_dominator-requires-clause-answers
@@ -32,7 +33,7 @@ loop-gap-preserved c =
       len = ap length c.push_reserved.ensures.items ∙ length_push c.loop-gap.counts.items c.len.result ∙ ap (λ n. n + 1) i.len;
       room = rw c.push_reserved.ensures.capacity i.room;
       counted = rw c.push_reserved.ensures.items (counted_push b c.loop-gap.counts.items c.loop-gap.gap c.len.result i.len i.counted (answers_sized b c.loop-gap.gap _ c.answers-answers.result found c.len.ensures));
-      noted = subst (λ d. AreNoted b (256 * (c.loop-gap.gap + 1)) d) (sym (written _ c.note_dominator.new.dominators _ (c.note_dominator.auto.dominators ∙ c.deref_mut.ensures.len))) c.note_dominator.ensures;
+      noted = subst (λ d. AreNoted b (MAX_LABELS * (c.loop-gap.gap + 1)) d) (sym (written _ c.note_dominator.new.dominators _ (c.note_dominator.auto.dominators ∙ c.deref_mut.ensures.len))) c.note_dominator.ensures;
     }
 
 pub returns-clause-counts : goal.returns-clause-counts
@@ -47,4 +48,4 @@ returns-clause-dominators c =
     let b = c.args.space.now in
     let most = c.loop-gap.auto.gap-end in
     let end : c.loop-gap.gap ≡ gaps b = omega (arith, c.gaps-gaps.ensures.value, c.loop-gap-test.false) in
-    noted-all b c.configurations.ensures.is_board c.loop-gap.dominators.items (subst (λ g. AreNoted b (256 * g) c.loop-gap.dominators.items) end c.loop-gap.invariant.noted)
+    noted-all b c.configurations.ensures.is_board c.loop-gap.dominators.items (subst (λ g. AreNoted b (MAX_LABELS * g) c.loop-gap.dominators.items) end c.loop-gap.invariant.noted)

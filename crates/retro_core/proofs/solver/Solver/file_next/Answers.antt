@@ -1,7 +1,7 @@
 use Rattle.std.proofs.Common.{◌≡◌, ◌≢◌, ◌-◌, ◌∙◌, ℕ, suc, true, false, refl, sym, ap, subst, arith, vec_capacity}
-use Rattle.retro_core.specs.Sizes.{AreSizes}
+use Rattle.retro_core.specs.Inside.Sizes.{AreSizes}
 use Rattle.retro_core.specs.Solving.{Solving, IsSolving, NoneHas}
-use Rattle.retro_core.specs.Stage.{PlainStage, solving, turned, IsState}
+use Rattle.retro_core.specs.Inside.Stage.{PlainStage, solving, turned, IsState}
 use Rattle.retro_core.proofs.States.{solving_of, unstruck-of, none-has, to-begin, last-state, next-below, size-below, none-later, further-state}
 use Rattle.retro_core.proofs.ValueSizes.{sizes-kept, sizes-more, sizes-room}
 use Rattle.retro_core.proofs.solver.Solver.file_next.Goals as goal

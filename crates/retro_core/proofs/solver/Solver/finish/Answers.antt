@@ -1,9 +1,9 @@
 use Rattle.std.proofs.Common.{sym, subst}
 use Rattle.positions.specs.Ranks.{configurations}
-use Rattle.retro_core.specs.Arena.{count_below}
-use Rattle.retro_core.specs.Sizes.{AreCounts}
-use Rattle.retro_core.specs.Stage.{PlainStage}
-use Rattle.retro_core.specs.Tables.{is_open, AreValues}
+use Rattle.retro_core.specs.Inside.Arena.{count_below}
+use Rattle.retro_core.specs.Inside.Sizes.{AreCounts}
+use Rattle.retro_core.specs.Inside.Stage.{PlainStage}
+use Rattle.retro_core.specs.Inside.Tables.{is_open, AreValues}
 use Rattle.retro_core.proofs.States.{values-are}
 use Rattle.retro_core.proofs.ValueSizes.{counts-are}
 use Rattle.retro_core.proofs.solver.Solver.finish.Goals as goal

@@ -1,13 +1,14 @@
 use Rattle.std.proofs.Common.{◌≡◌, ◌<◌, ◌+◌, ◌-◌, ℕ, List, Some, None, slice_get, sym, ap, ◌∙◌, subst, add-one, arith}
-use Rattle.index_lists.proofs.Places.{place-of, stands-at}
+use Rattle.index_lists.proofs.Cited.{place-of, stands-at}
 use Rattle.board_text.specs.PlainBoard.{PlainBoard, places}
 use Rattle.positions.specs.Ranks.{configurations}
 use Rattle.positions.specs.Gaps.{gaps}
-use Rattle.retro_core.specs.Arena.{IsArena}
-use Rattle.retro_core.specs.BoardArena.{arena_of}
+use Rattle.retro_core.specs.Inside.Arena.{IsArena}
+use Rattle.retro_core.specs.Inside.BoardArena.{arena_of}
 use Rattle.retro_core.specs.Solving.{Solving, source}
-use Rattle.retro_core.specs.Stage.{PlainStage}
-use Rattle.retro_core.specs.Tables.{is_open, members_from, open_members}
+use Rattle.retro_core.specs.Inside.Stage.{PlainStage}
+use Rattle.retro_core.specs.Inside.Tables.{is_open, members_from, open_members}
+use Rattle.retro_core.specs.declared.stage.TheConstants.{OPEN}
 use Rattle.retro_core.proofs.BoardArenas.{arena_is}
 use Rattle.retro_core.proofs.Lasting.{same_is, true_not_false}
 use Rattle.retro_core.proofs.Listed.{shut_word}
@@ -84,7 +85,7 @@ returns-clause-not_listed g c =
     let shown = source-shown s _ c.self.inside.done st c.args.gap i in
     let gap_is : (arena_of b).gap c.args.rank ((arena_of b).pebble c.args.gap) ≡ c.args.gap =
     sym (gap_read b c.space-space.result.now c.args.rank c.gap_pebble-pebble.result c.args.gap c.gap.result c.space-space.ensures c.gap_pebble-pebble.ensures.pebble c.gap.ensures.gap) ∙ c.if-gap.false in
-    let still = same_is _ 4294967295 (sym c.word.ensures ∙ c.if-word.false) in
+    let still = same_is _ OPEN (sym c.word.ensures ∙ c.if-word.false) in
     let place = place-of c.args.rank (open_members (arena_of b) s.values c.args.gap) (member-stands (arena_of b) is (is_open s.values) c.args.gap i c.args.rank low still gap_is) in
     subst (λ (v : Solving). ((place : ℕ) → slice_get (source v c.args.gap) place ≡ Some c.args.rank → ⊥) → c.open_member.result ≡ None) c.self.view_is
     (λ none. absurd (none place.0 (ap (λ (ys : List ℕ). slice_get ys place.0) shown ∙ place.1)))

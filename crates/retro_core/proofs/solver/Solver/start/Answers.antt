@@ -1,10 +1,11 @@
 use Rattle.std.proofs.Common.{◌≡◌, ◌+◌, ◌-◌, ◌<◌, ◌≤◌, ℕ, List, [], ◌∷◌, ◌++◌, ◌∙◌, false, length, vec_capacity, sym, ap, subst, arith}
 use Rattle.std.proofs.Math.Nat.{one-le-pow}
 use Rattle.board_text.specs.PlainBoard.{PlainBoard, IsBoard, places}
-use Rattle.board_text.proofs.Places.{some_places}
+use Rattle.board_text.proofs.Cited.{some_places}
 use Rattle.positions.specs.Ranks.{configurations}
-use Rattle.retro_core.specs.Sizes.{AreSizes}
-use Rattle.retro_core.specs.Stage.{PlainStage, turned, IsOpened, IsState}
+use Rattle.positions.specs.declared.space.TheConstants.{MAX_CONFIGURATIONS}
+use Rattle.retro_core.specs.Inside.Sizes.{AreSizes}
+use Rattle.retro_core.specs.Inside.Stage.{PlainStage, turned, IsOpened, IsState}
 use Rattle.retro_core.proofs.States.{start-state, solving_of}
 use Rattle.retro_core.proofs.ValueSizes.{sizes-start}
 use Rattle.retro_core.proofs.solver.Solver.start.Goals as goal
@@ -13,10 +14,10 @@ some-configurations : (b : PlainBoard) → IsBoard b → 0 < configurations b
 some-configurations b is = one-le-pow b.pebbles (places b) (some_places b is)
 
 -- the stage of a board with few configurations, when it is opened
-opened-state : (s : PlainStage) (b : PlainBoard) → s.board ≡ b → IsBoard b → configurations b ≤ 1048576 → IsOpened s → IsState (turned s) 0 false
+opened-state : (s : PlainStage) (b : PlainBoard) → s.board ≡ b → IsBoard b → configurations b ≤ MAX_CONFIGURATIONS → IsOpened s → IsState (turned s) 0 false
 opened-state s b same is few opened =
     let is_board : IsBoard s.board = subst IsBoard (sym same) is in
-    start-state s is_board (subst (λ p. configurations p ≤ 1048576) (sym same) few) (some-configurations s.board is_board) opened
+    start-state s is_board (subst (λ p. configurations p ≤ MAX_CONFIGURATIONS) (sym same) few) (some-configurations s.board is_board) opened
 
 first-round : (s : PlainStage) → s.value ≡ 0 → 0 ≡ s.value + 1 - 1
 first-round s is = omega arith

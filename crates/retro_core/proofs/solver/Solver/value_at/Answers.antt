@@ -3,6 +3,7 @@ use Rattle.positions.specs.declared.value.Value.TheVariants.{Finite}
 use Rattle.positions.specs.Value.{HasValue}
 use Rattle.positions.specs.Ranks.{configurations, configuration_at}
 use Rattle.retro_core.specs.Solving.{Solving}
+use Rattle.retro_core.specs.declared.stage.TheConstants.{OPEN}
 use Rattle.retro_core.proofs.Lasting.{same_is}
 use Rattle.retro_core.proofs.Listed.{shut_word}
 use Rattle.retro_core.proofs.States.{value-open, value-shut}
@@ -13,7 +14,7 @@ returns-then-value g c =
     let s = c.self.inside.stage in
     let i : c.args.rank < configurations s.board = rw (← c.self.view_is) at c.requires in
     subst (λ (v : Solving). (value : ℕ) → (None ≡ Some value) ↔ ((value ≤ v.rounds) × HasValue v.board (configuration_at v.board c.args.rank) (Finite value))) c.self.view_is
-    (value-open s _ c.self.inside.done c.self.invariant.0 c.args.rank i (same_is _ 4294967295 (sym c.word-value.ensures ∙ c.if-value.true)) None refl)
+    (value-open s _ c.self.inside.done c.self.invariant.0 c.args.rank i (same_is _ OPEN (sym c.word-value.ensures ∙ c.if-value.true)) None refl)
 
 pub returns-else-value : goal.returns-else-value
 returns-else-value g c =

@@ -1,5 +1,5 @@
 use Rattle.std.proofs.Common.{◌≡◌, ◌-◌}
-use Rattle.retro_core.specs.SourceWalk.{open_from, HasMembers}
+use Rattle.retro_core.specs.Inside.SourceWalk.{open_from, HasMembers}
 use Rattle.retro_core.proofs.source_walk.SourceWalk.take_next.Given as goal
 
 abbrev pub invariant-loop-place : goal.invariant-loop-place

@@ -3,7 +3,9 @@ use Rattle.std.proofs.lemmas.List.{get_or_read}
 use Rattle.board_text.specs.PlainBoard.{PlainBoard, IsBoard, places}
 use Rattle.positions.specs.Ranks.{configurations, rank_of}
 use Rattle.positions.specs.Gaps.{gaps, member_of}
-use Rattle.retro_core.specs.Stage.{PlainStage}
+use Rattle.positions.specs.declared.space.TheConstants.{MAX_CONFIGURATIONS}
+use Rattle.retro_core.specs.Inside.Stage.{PlainStage}
+use Rattle.retro_core.specs.declared.stage.TheConstants.{OPEN}
 use Rattle.retro_core.proofs.ClosingGaps.{IsToClose, gap-start, in_words, gap-takes, gap-skips, gap-closed}
 use Rattle.retro_core.proofs.Lasting.{same_is}
 use Rattle.retro_core.proofs.Listed.{shut_word}
@@ -11,10 +13,10 @@ use Rattle.retro_core.proofs.stage.Stage.close_gap.Goals as goal
 use Rattle.retro_core.proofs.stage.Stage.close_gap.Goals.{then-index, else-index}
 
 -- what the stage knows, of what contracts see
-known : (s : PlainStage) (b : PlainBoard) (value gap : ℕ) → b ≡ s.board → value ≡ s.value → IsBoard b → configurations b ≤ 1048576 → value ≤ configurations b → gap < gaps s.board → IsToClose s gap
+known : (s : PlainStage) (b : PlainBoard) (value gap : ℕ) → b ≡ s.board → value ≡ s.value → IsBoard b → configurations b ≤ MAX_CONFIGURATIONS → value ≤ configurations b → gap < gaps s.board → IsToClose s gap
 known s b value gap same value_is is_board few low is_gap = record {
   is_board = subst IsBoard same is_board;
-  few = subst (λ p. configurations p ≤ 1048576) same few;
+  few = subst (λ p. configurations p ≤ MAX_CONFIGURATIONS) same few;
   low = subst (λ p. s.value ≤ configurations p) same (subst (λ n. n ≤ configurations b) value_is low);
   is_gap = is_gap;
 }
@@ -37,7 +39,7 @@ loop-place-preserved g c =
     let word = get_or_read now.values c.rank-rank.result c.index.result.now low (rw words at c.index.ensures) 0 in
     elim c.if-index.branch [
       | then-index w ↦ rw (w.self-is, w.file.ensures)
-          (gap-takes s c.args.gap c.loop-place.place c.rank-rank.result now to_close inside rank_is c.loop-place.invariant (same_is (slice_index now.values c.rank-rank.result) 4294967295 (sym word ∙ w.if-index.true)))
+          (gap-takes s c.args.gap c.loop-place.place c.rank-rank.result now to_close inside rank_is c.loop-place.invariant (same_is (slice_index now.values c.rank-rank.result) OPEN (sym word ∙ w.if-index.true)))
       | else-index w ↦ rw w.self-is
           (gap-skips s c.args.gap c.loop-place.place c.rank-rank.result now to_close inside rank_is c.loop-place.invariant (shut_word now.values c.rank-rank.result (λ e. w.if-index.false (word ∙ e))))
     ]

@@ -1,5 +1,5 @@
 use Rattle.std.proofs.Common.{ap, ◌∙◌}
-use Rattle.retro_core.specs.Stage.{PlainStage, filed}
+use Rattle.retro_core.specs.Inside.Stage.{PlainStage, filed}
 use Rattle.retro_core.proofs.stage.Stage.file.Goals as goal
 
 pub returns : goal.returns

@@ -1,7 +1,7 @@
 use Rattle.std.proofs.Common.{ℕ, sym, ap, ◌∙◌, subst, arith, List, [], ◌∷◌, ◌++◌, take, get_or}
 use Rattle.std.proofs.lemmas.List.{take_all}
 use Rattle.positions.specs.Ranks.{configurations}
-use Rattle.retro_core.specs.Stage.{FilesAll}
+use Rattle.retro_core.specs.Inside.Stage.{FilesAll}
 use Rattle.retro_core.proofs.Closing.{same-open}
 use Rattle.retro_core.proofs.EndFiled.{files-none, files-more, is-next}
 use Rattle.retro_core.proofs.stage.Stage.file_all.Goals as goal

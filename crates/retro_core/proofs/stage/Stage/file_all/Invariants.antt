@@ -1,5 +1,5 @@
 use Rattle.std.proofs.Common.{take}
-use Rattle.retro_core.specs.Stage.{FilesAll}
+use Rattle.retro_core.specs.Inside.Stage.{FilesAll}
 use Rattle.retro_core.proofs.stage.Stage.file_all.Given as goal
 
 abbrev pub invariant-loop-rank : goal.invariant-loop-rank

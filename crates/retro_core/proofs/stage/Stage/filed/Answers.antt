@@ -1,5 +1,5 @@
 use Rattle.std.proofs.Common.{◌∙◌, length, ap, sym}
-use Rattle.retro_core.specs.Stage.{PlainStage}
+use Rattle.retro_core.specs.Inside.Stage.{PlainStage}
 use Rattle.retro_core.proofs.Filing.{filed-shown}
 use Rattle.retro_core.proofs.stage.Stage.filed.Goals as goal
 

@@ -3,10 +3,10 @@ use Rattle.std.specs.List.{filter}
 use Rattle.std.proofs.lemmas.List.{length_push, get_or_read}
 use Rattle.std.proofs.lemmas.List.Sums.{length-filter, count_by-le-length}
 use Rattle.index_lists.specs.Lists.{times}
-use Rattle.index_lists.proofs.Kept.{fits}
+use Rattle.index_lists.proofs.Cited.{fits}
 use Rattle.positions.specs.Ranks.{configurations}
-use Rattle.retro_core.specs.Arena.{dominated}
-use Rattle.retro_core.specs.BoardArena.{arena_of}
+use Rattle.retro_core.specs.Inside.Arena.{dominated}
+use Rattle.retro_core.specs.Inside.BoardArena.{arena_of}
 use Rattle.retro_core.proofs.Filing.{filed-shown, push-here, push-shown}
 use Rattle.retro_core.proofs.Dominated.{next-more, next-same, some-dominator, dominated-by, no-dominator}
 use Rattle.retro_core.proofs.stage.Stage.list.Goals as goal

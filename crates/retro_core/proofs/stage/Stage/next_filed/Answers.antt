@@ -1,7 +1,7 @@
 use Rattle.std.proofs.Common.{◌≡◌, ◌+◌, ◌<◌, ◌∙◌, ℕ, List, slice_get, sym, ap, arith, inl, inr}
 use Rattle.std.proofs.lemmas.Bool.{cases_lt}
 use Rattle.index_lists.specs.Lists.{times}
-use Rattle.index_lists.proofs.Places.{place-of}
+use Rattle.index_lists.proofs.Cited.{place-of}
 use Rattle.retro_core.proofs.Filing.{filed-shown}
 use Rattle.retro_core.proofs.stage.Stage.next_filed.Goals as goal
 

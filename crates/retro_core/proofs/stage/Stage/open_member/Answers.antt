@@ -1,9 +1,9 @@
 use Rattle.std.proofs.Common.{◌≡◌, ◌+◌, ◌-◌, ◌<◌, ◌∙◌, Some, slice_get, sym, subst, arith}
 use Rattle.std.proofs.lemmas.List.{get_or_read}
 use Rattle.board_text.specs.PlainBoard.{places}
-use Rattle.retro_core.specs.BoardArena.{arena_of}
-use Rattle.retro_core.specs.Stage.{PlainStage}
-use Rattle.retro_core.specs.Tables.{is_open, members_from}
+use Rattle.retro_core.specs.Inside.BoardArena.{arena_of}
+use Rattle.retro_core.specs.Inside.Stage.{PlainStage}
+use Rattle.retro_core.specs.Inside.Tables.{is_open, members_from}
 use Rattle.retro_core.proofs.OpenMembers.{open-here, shut-here}
 use Rattle.retro_core.proofs.stage.Stage.open_member.Goals as goal
 

@@ -1,7 +1,7 @@
 use Rattle.std.proofs.Common.{◌≡◌, ◌-◌, slice_get}
 use Rattle.board_text.specs.PlainBoard.{places}
-use Rattle.retro_core.specs.BoardArena.{arena_of}
-use Rattle.retro_core.specs.Tables.{is_open, members_from}
+use Rattle.retro_core.specs.Inside.BoardArena.{arena_of}
+use Rattle.retro_core.specs.Inside.Tables.{is_open, members_from}
 use Rattle.retro_core.proofs.stage.Stage.open_member.Given as goal
 
 abbrev pub invariant-loop-place : goal.invariant-loop-place

@@ -1,9 +1,9 @@
 use Rattle.std.proofs.Common.{◌≡◌, ◌-◌, List, ℕ, ap, ◌∙◌, subst, arith}
 use Rattle.board_text.specs.PlainBoard.{places}
-use Rattle.retro_core.specs.BoardArena.{arena_of}
-use Rattle.retro_core.specs.SourceWalk.{open_from}
-use Rattle.retro_core.specs.Stage.{PlainStage}
-use Rattle.retro_core.specs.Tables.{open_members}
+use Rattle.retro_core.specs.Inside.BoardArena.{arena_of}
+use Rattle.retro_core.specs.Inside.SourceWalk.{open_from}
+use Rattle.retro_core.specs.Inside.Stage.{PlainStage}
+use Rattle.retro_core.specs.Inside.Tables.{open_members}
 use Rattle.retro_core.proofs.OpenMembers.{walk-all}
 use Rattle.retro_core.proofs.stage.Stage.sources.Goals as goal
 

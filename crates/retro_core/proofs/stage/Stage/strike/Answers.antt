@@ -1,12 +1,12 @@
 use Rattle.std.proofs.Common.{◌≡◌, ◌-◌, ℕ, List, ◌∷◌, refl, slice_index, slice_set, sym, ap, ◌∙◌, subst, arith}
 use Rattle.std.proofs.lemmas.List.{get_or_read}
-use Rattle.index_lists.proofs.Times.{times-here}
+use Rattle.index_lists.proofs.Cited.{times-here}
 use Rattle.board_text.specs.PlainBoard.{PlainBoard, IsBoard}
 use Rattle.positions.specs.Ranks.{configurations}
-use Rattle.retro_core.specs.Arena.{Dominant}
-use Rattle.retro_core.specs.BoardArena.{arena_of}
-use Rattle.retro_core.specs.Stage.{PlainStage, counting, IsStruckAt, IsStriking, Closes}
-use Rattle.retro_core.specs.Stored.{AreDominators}
+use Rattle.retro_core.specs.Inside.Arena.{Dominant}
+use Rattle.retro_core.specs.Inside.BoardArena.{arena_of}
+use Rattle.retro_core.specs.Inside.Stage.{PlainStage, counting, IsStruckAt, IsStriking, Closes}
+use Rattle.retro_core.specs.Inside.Stored.{AreDominators}
 use Rattle.retro_core.proofs.Dominated.{dominator-byte}
 use Rattle.retro_core.proofs.Striking.{count-left, struck-some, struck-closed}
 use Rattle.retro_core.proofs.stage.Stage.strike.Goals as goal

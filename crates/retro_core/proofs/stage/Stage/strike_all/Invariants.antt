@@ -1,5 +1,5 @@
 use Rattle.std.proofs.Common.{drop}
-use Rattle.retro_core.specs.Stage.{IsKept, IsStriking}
+use Rattle.retro_core.specs.Inside.Stage.{IsKept, IsStriking}
 use Rattle.retro_core.proofs.stage.Stage.strike_all.Given as goal
 
 abbrev pub invariant-loop-place : goal.invariant-loop-place

@@ -1,5 +1,5 @@
 use Rattle.std.proofs.Common.{◌≡◌, ℕ, ◌<◌, length, slice_index}
-use Rattle.retro_core.specs.Stage.{counting}
+use Rattle.retro_core.specs.Inside.Stage.{counting}
 use Rattle.retro_core.proofs.stage.Stage.take_counts.Given as goal
 
 abbrev pub invariant-loop-gap : goal.invariant-loop-gap

@@ -1,9 +1,9 @@
 use Rattle.std.proofs.Common.{◌≡◌, ◌+◌, ◌<◌, ◌∙◌, [], suc, length, ap, sym, subst, arith, add-one, refl}
 use Rattle.std.specs.List.{filter}
 use Rattle.positions.specs.Ranks.{configurations}
-use Rattle.retro_core.specs.Arena.{dominated}
-use Rattle.retro_core.specs.BoardArena.{arena_of}
-use Rattle.retro_core.specs.Stage.{PlainStage, stage_of, filed_at, turned}
+use Rattle.retro_core.specs.Inside.Arena.{dominated}
+use Rattle.retro_core.specs.Inside.BoardArena.{arena_of}
+use Rattle.retro_core.specs.Inside.Stage.{PlainStage, stage_of, filed_at, turned}
 use Rattle.retro_core.proofs.Filing.{list-shown, filed-shown}
 use Rattle.retro_core.proofs.stage.Stage.turn.Goals as goal
 

@@ -1,9 +1,9 @@
 use Rattle.std.proofs.Common.{◌≡◌, ◌-◌, ap, subst, arith}
 use Rattle.std.specs.List.{sum}
 use Rattle.positions.specs.Ranks.{configurations}
-use Rattle.retro_core.specs.Arena.{count_below}
-use Rattle.retro_core.specs.Sizes.{AreCounts}
-use Rattle.retro_core.specs.Tables.{is_open}
+use Rattle.retro_core.specs.Inside.Arena.{count_below}
+use Rattle.retro_core.specs.Inside.Sizes.{AreCounts}
+use Rattle.retro_core.specs.Inside.Tables.{is_open}
 use Rattle.retro_core.proofs.ValueSizes.{all-sizes}
 use Rattle.retro_core.proofs.values.Values.new.Goals as goal
 

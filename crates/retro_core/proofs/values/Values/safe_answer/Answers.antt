@@ -2,9 +2,10 @@ use Rattle.std.proofs.Common.{◌≡◌, ◌<◌, ◌∙◌, inl, inr, sym, ap, 
 use Rattle.std.proofs.lemmas.Bool.{cases_lt}
 use Rattle.std.proofs.lemmas.List.{get_or_read}
 use Rattle.board_text.specs.PlainBoard.{PlainBoard}
-use Rattle.board_text.proofs.Places.{label_is_place}
+use Rattle.board_text.proofs.Cited.{label_is_place}
 use Rattle.positions.specs.Gaps.{gaps}
 use Rattle.retro_core.specs.Solving.{AnswerForever}
+use Rattle.retro_core.specs.declared.stage.TheConstants.{OPEN}
 use Rattle.retro_core.proofs.Lasting.{same_is, differ_is, true_not_false}
 use Rattle.retro_core.proofs.Safest.{safe-here, safe-dominator, safe-open}
 use Rattle.retro_core.proofs.values.Values.safe_answer.Goals as goal
@@ -38,7 +39,7 @@ returns-then-index c =
       subst (λ (p : PlainBoard). AnswerForever p c.args.gap c.loop-label.label) c.self.view_is
           (safe-here b c.labels-label-end.ensures.is_board s.values.items s.dominators.items c.self.invariant.0 c.self.invariant.1 c.args.gap c.loop-label.label c.rank-rank.result in_gaps is_label
           (c.rank-rank.ensures ∙ c.members-members.ensures.ranks c.loop-label.label low) (sym byte ∙ c.if-index-pebble.true ∙ c.gap_pebble-pebble.ensures.pebble)
-          (same_is (slice_index s.values.items c.rank-rank.result) 4294967295 (sym word ∙ c.if-index.true))),
+          (same_is (slice_index s.values.items c.rank-rank.result) OPEN (sym word ∙ c.if-index.true))),
       λ other is. elim (cases_lt other c.loop-label.label) [
         | inl before ↦ absurd (c.loop-label.invariant other before is)
         | inr behind ↦ behind
@@ -63,7 +64,7 @@ loop-label-preserved c = λ other less is. elim (cases_lt other c.loop-label.lab
         | else-index-pebble-via-then-index-pebble+else-index w ↦
             let word = get_or_read s.values.items c.rank-rank.result w.index-then-index-pebble.result.now (omega (arith, inside, c.rank-rank.ensures, c.self.invariant.0.values_length)) w.index-then-index-pebble.ensures 0 in
             let still = safe-open b c.labels-label-end.ensures.is_board s.values.items s.dominators.items c.self.invariant.0 c.self.invariant.1 c.args.gap c.loop-label.label c.rank-rank.result in_gaps is_label rank_is answer in
-            true_not_false _ still (differ_is (slice_index s.values.items c.rank-rank.result) 4294967295 (λ e. w.if-index.false (word ∙ e)))
+            true_not_false _ still (differ_is (slice_index s.values.items c.rank-rank.result) OPEN (λ e. w.if-index.false (word ∙ e)))
         | else-index-pebble-via-else-index-pebble w ↦ w.if-index-pebble.false
             (byte ∙ safe-dominator b c.labels-label-end.ensures.is_board s.values.items s.dominators.items c.self.invariant.0 c.self.invariant.1 c.args.gap c.loop-label.label c.rank-rank.result in_gaps is_label rank_is answer
             ∙ sym c.gap_pebble-pebble.ensures.pebble)

@@ -1,5 +1,5 @@
 use Rattle.std.proofs.Common.{◌<◌, ◌≤◌, ◌∙◌, arith}
-use Rattle.strategies.specs.Spreading.{IsAnswerStep, AnswerLeads}
+use Rattle.strategies.specs.Inside.Spreading.{IsAnswerStep, AnswerLeads}
 use Rattle.strategies.proofs.Added.{Below, added_more, added_same, below_all}
 use Rattle.strategies.proofs.best_moves.BestMoves.add_answers.Goals as goal
 

@@ -1,5 +1,5 @@
 use Rattle.std.proofs.Common.{◌≡◌}
-use Rattle.strategies.specs.Spreading.{IsAnswerStep, IsWithAll}
+use Rattle.strategies.specs.Inside.Spreading.{IsAnswerStep, IsWithAll}
 use Rattle.strategies.proofs.Added.{Below}
 use Rattle.strategies.proofs.best_moves.BestMoves.add_answers.Given as goal
 

@@ -1,17 +1,18 @@
 use Rattle.std.proofs.Common.{◌≡◌, ◌≤◌, ◌-◌}
+use Rattle.board_text.specs.declared.board.TheConstants.{MAX_LABELS}
 use Rattle.positions.specs.Gaps.{IsAnswer}
-use Rattle.positions.proofs.Walking.{AreFrom}
-use Rattle.strategies.specs.Spreading.{IsWithAll, IsAnswerAt}
+use Rattle.positions.proofs.Cited.{AreFrom}
+use Rattle.strategies.specs.Inside.Spreading.{IsWithAll, IsAnswerAt}
 use Rattle.strategies.proofs.Added.{Below}
 use Rattle.strategies.proofs.best_moves.BestMoves.add_members.Given as goal
 
 abbrev pub invariant-loop-label : goal.invariant-loop-label
 invariant-loop-label l = record {
-  most : l.answers.from ≤ 256;
+  most : l.answers.from ≤ MAX_LABELS;
   left : AreFrom (IsAnswer l.self l.gap) l.answers;
   size : l.reached.size ≡ l.fn.reached.size;
   added : IsWithAll l.fn.reached.ranks (Below (IsAnswerAt l.self l.gap) l.answers.from) l.reached.ranks;
 }
 
 abbrev pub decreases-loop-label : goal.decreases-loop-label
-decreases-loop-label l = 256 - l.answers.from
+decreases-loop-label l = MAX_LABELS - l.answers.from

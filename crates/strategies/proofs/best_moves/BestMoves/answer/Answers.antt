@@ -1,5 +1,5 @@
 use Rattle.std.proofs.Common.{sym}
-use Rattle.positions.proofs.Ranks.{configuration_at_is}
+use Rattle.positions.proofs.Cited.{configuration_at_is}
 use Rattle.positions.specs.Ranks.{configuration_at}
 use Rattle.strategies.proofs.best_moves.BestMoves.answer.Goals as goal
 

@@ -1,6 +1,6 @@
 use Rattle.std.proofs.Common.{◌≡◌, ◌-◌}
 use Rattle.positions.specs.Ranks.{configurations}
-use Rattle.strategies.specs.Spreading.{AreExpanded}
+use Rattle.strategies.specs.Inside.Spreading.{AreExpanded}
 use Rattle.strategies.proofs.Spread.{IsSpreadByRequests}
 use Rattle.strategies.proofs.best_moves.BestMoves.reached_by_requests.Given as goal
 

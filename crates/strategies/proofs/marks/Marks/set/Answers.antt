@@ -1,6 +1,6 @@
 use Rattle.std.proofs.Common.{rules, ◌≡◌, ℕ, ◌/◌, ◌%◌, ◌*◌, ◌^◌, ◌<◌, Bool, true, List, bit_or, length, get_or, set, ap, ◌∙◌, arith}
 use Rattle.std.proofs.lemmas.List.{get_or_read, places}
-use Rattle.strategies.specs.Marks.{marks_of}
+use Rattle.strategies.specs.Inside.Marks.{marks_of}
 use Rattle.strategies.proofs.BitMarks.{so_many, one_marked}
 use Rattle.strategies.proofs.marks.Marks.set.Goals as goal
 

@@ -1,5 +1,5 @@
 use Rattle.std.proofs.Common.{◌≡◌, ◌<◌, ap, subst, length, sym, ◌∙◌}
-use Rattle.strategies.specs.Spreading.{IsWith, ReachedRanks}
+use Rattle.strategies.specs.Inside.Spreading.{IsWith, ReachedRanks}
 use Rattle.strategies.proofs.Marking.{mark_more, known_stays, new_added}
 use Rattle.strategies.proofs.reached.Reached.add.Goals as goal
 

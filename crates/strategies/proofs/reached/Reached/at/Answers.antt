@@ -1,5 +1,5 @@
 use Rattle.std.proofs.Common.{◌≤◌, length, subst}
-use Rattle.strategies.specs.Spreading.{ReachedRanks}
+use Rattle.strategies.specs.Inside.Spreading.{ReachedRanks}
 use Rattle.strategies.proofs.Marking.{few_ranks}
 use Rattle.strategies.proofs.reached.Reached.at.Goals as goal
 

@@ -1,7 +1,7 @@
 use Rattle.std.proofs.Common.{◌≤◌, subst}
 use Rattle.std.specs.List.{Contains}
 use Rattle.positions.specs.Counts.{IsSmallest}
-use Rattle.strategies.specs.Spreading.{ReachedRanks}
+use Rattle.strategies.specs.Inside.Spreading.{ReachedRanks}
 use Rattle.strategies.proofs.Marking.{first_reached}
 use Rattle.strategies.proofs.reached.Reached.first_from.Goals as goal
 

@@ -1,4 +1,5 @@
 use Rattle.std.proofs.Common.{◌<◌, ◌≤◌, refl, arith}
+use Rattle.board_text.specs.declared.board.TheConstants.{MAX_PEBBLES}
 use Rattle.strategies.proofs.Making.{taken_more, has_answer, labeller_row_is}
 use Rattle.strategies.proofs.sections.LabellerRowSectionRow.at.Goals as goal
 use Rattle.strategies.proofs.sections.LabellerRowSectionRow.at.Goals.{in-Some, in_default}
@@ -8,7 +9,7 @@ loop-pebble-preserved c =
     let b = c.args.moves.now in
     let pebbles = rw c.space.ensures.value at c.pebbles-pebble-end.ensures.value in
     let is_pebble : c.loop-pebble.pebble < b.pebbles = omega (arith, pebbles, c.loop-pebble-test.true) in
-    let low : c.loop-pebble.pebble < 6 = omega (arith, is_pebble, c.space.ensures.is_board.pebbles) in
+    let low : c.loop-pebble.pebble < MAX_PEBBLES = omega (arith, is_pebble, c.space.ensures.is_board.pebbles) in
     elim c.match-answer.branch [
       | in-Some w ↦ rw w.take-is (taken_more b _ c.loop-pebble.pebble w.in-Some.best.label c.loop-pebble.take low c.loop-pebble.invariant
           w.in-Some.ensures.0)

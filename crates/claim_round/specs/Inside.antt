@@ -1,0 +1,6 @@
+-- What the clauses of this crate's own functions cite, and no public contract.
+pub mod Ends
+pub mod Openings
+pub mod Rounds
+pub mod Seats
+pub mod Shared

@@ -1,0 +1,29 @@
+-- What a seat's fields are, beside its view.
+use Rattle.std.specs.Prelude.{◌≡◌, ℕ, ◌+◌, ◌*◌, ◌^◌, ◌<◌, ◌≤◌, ◌⊎◌, [], length, vec_capacity}
+use Rattle.std.specs.VecDeque.{deque_capacity}
+use Rattle.index_lists.specs.Lists.{times}
+use Rattle.claim_round.specs.Shared.{Key, Place}
+use Rattle.claim_round.specs.Inside.Shared.{most, size, IsDueIn}
+use Rattle.claim_round.specs.declared.seat.RoundSeat.TheInside.{Inside}
+
+abbrev pub place_of : Inside → Place
+place_of s = record { table = s.seat.table_id; view = s.seat.me.0 }
+
+-- there is room for what may be won: for all configurations, or for all that may be owed. What may be owed is a small number
+pub record HasRoom (k : Key) (won owed todo room : ℕ) : Type 0 where
+  pub places : (size k ≤ room) ⊎ (won + owed + most k * todo ≤ room)
+  pub few : owed + most k * todo ≤ most k * size k
+  pub narrow : most k * size k < 2 ^ 32
+  pub some_most : 0 < most k
+
+-- the real lists are those of the view, what is to do and owed is of the game, and there is room for what may be owed and won
+pub record IsSeated (s : Inside) : Type 0 where
+  pub free : s.seat.me.1 ≡ []
+  pub todo : s.todo.items ≡ s.seat.me.0.has.todo
+  pub owed : s.owed.items ≡ s.seat.me.0.has.owed
+  pub won : s.won.items ≡ s.seat.me.0.has.won
+  pub width : s.width ≡ s.seat.me.0.has.width
+  pub due : (c : ℕ) → 0 < times c s.seat.me.0.has.todo → IsDueIn s.seat.me.0.key c
+  pub inside : (c : ℕ) → 0 < times c s.seat.me.0.has.owed → c < size s.seat.me.0.key
+  pub room_owed : most s.seat.me.0.key ≤ deque_capacity s.owed
+  pub room : HasRoom s.seat.me.0.key (length s.won.items) (length s.owed.items) (length s.todo.items) (vec_capacity s.won)

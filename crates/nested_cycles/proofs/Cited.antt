@@ -1,0 +1,8 @@
+-- The lemmas that crates above cite, passed on from one place. Declares nothing.
+pub use Rattle.nested_cycles.proofs.Dominations.{each_other, one_of_two_labels}
+pub use Rattle.nested_cycles.proofs.Games.{fewer_others, in_others, others_are_good, others_are_labels, parts_after, same_words_are_good}
+pub use Rattle.nested_cycles.proofs.GoodReplies.{good_have_reply}
+pub use Rattle.nested_cycles.proofs.Levels.{good_with, reply_beats}
+pub use Rattle.nested_cycles.proofs.NestedPairs.{beats_exactly, next_pair, no_pair, pair_at, pairs_none}
+pub use Rattle.nested_cycles.proofs.OneReply.{one_label}
+pub use Rattle.nested_cycles.proofs.WordNumbers.{number_of_word, word_of-number_of, words_fit}

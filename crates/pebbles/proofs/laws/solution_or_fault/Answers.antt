@@ -1,0 +1,13 @@
+use Rattle.pebbles.proofs.Accepting.{not_wrong}
+use Rattle.pebbles.proofs.Existing.{solution_exists, solution_or_wrong}
+use Rattle.pebbles.proofs.OneOutcome.{one_solution, one_wrong}
+use Rattle.pebbles.proofs.laws.solution_or_fault.Goals as goal
+
+pub returns : goal.returns
+returns c = record {
+  solution = solution_exists;
+  one = one_solution;
+  either = solution_or_wrong;
+  one_fault = one_wrong;
+  not_both = λ text value written fault solution. not_wrong text solution.0 solution.1 fault;
+}

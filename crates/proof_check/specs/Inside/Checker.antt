@@ -1,0 +1,70 @@
+-- What a document is checked with.
+use Rattle.std.specs.Prelude.{◌≡◌, ℕ, ◌<◌, List, Option, MatchOption, slice_index}
+use Rattle.std.specs.Borrow.{Bor}
+use Rattle.std.specs.List.{All, Contains}
+use Rattle.board_text.specs.PlainBoard.{PlainBoard, IsBoard, IsConfiguration}
+use Rattle.positions.specs.Ranks.{rank_of, configurations}
+use Rattle.positions.specs.declared.claim.Claim.{Claim}
+use Rattle.proof_text.specs.declared.proof.LabellerRow.{LabellerRow}
+use Rattle.proof_text.specs.declared.proof.AdversaryRow.{AdversaryRow}
+use Rattle.proof_text.specs.Proof.{PlainProof, answer_rows, request_rows}
+use Rattle.proof_check.specs.Inside.RowIndex.{AreRanked}
+
+-- a board, and a document for it
+pub record Checked : Type 0 where
+  pub board : PlainBoard
+  pub proof : PlainProof
+
+-- the board, and the document with this claim and these rows
+abbrev pub checked : PlainBoard → Claim → List LabellerRow → List AdversaryRow → Checked
+checked board claim labeller adversary =
+    let proof : PlainProof = record { claim = claim; labeller = answer_rows board labeller; adversary = request_rows board adversary } in
+    record { board = board; proof = proof }
+
+-- each answer for a pebble of the board is a label
+abbrev pub GivesLabels : PlainBoard → LabellerRow → Type 0
+GivesLabels board row = (pebble : ℕ) → pebble < board.pebbles → slice_index row.take pebble < board.labels
+
+-- a labeller's row can be looked at
+pub record IsAnswering (board : PlainBoard) (row : LabellerRow) : Type 0 where
+  pub is_board : IsBoard board
+  pub is_rank : row.at < configurations board
+  pub gives : GivesLabels board row
+
+-- an adversary's row can be looked at
+pub record IsRequesting (board : PlainBoard) (row : AdversaryRow) : Type 0 where
+  pub is_board : IsBoard board
+  pub is_rank : row.at < configurations board
+  pub is_pebble : row.ask < board.pebbles
+
+-- rows in ascending order, each of which can be looked at
+pub record AreReady {R : Type 0} (board : PlainBoard) (IsReady : R → Type 0) (rank : R → ℕ) (rows : List R) : Type 0 where
+  pub ranked : AreRanked rank (configurations board) rows
+  pub each : All IsReady rows
+
+-- labeller's rows that can be looked at
+abbrev pub AreAnswering : PlainBoard → List LabellerRow → Type 0
+AreAnswering board rows = AreReady board (IsAnswering board) (λ row. row.at) rows
+
+-- adversary's rows that can be looked at
+abbrev pub AreRequesting : PlainBoard → List AdversaryRow → Type 0
+AreRequesting board rows = AreReady board (IsRequesting board) (λ row. row.at) rows
+
+-- the space is the board's, and the rows of both sides can be looked at
+pub record IsChecker (board space : PlainBoard) (labeller : List LabellerRow) (adversary : List AdversaryRow) : Type 0 where
+  pub same_board : space ≡ board
+  pub answering : AreAnswering board labeller
+  pub requesting : AreRequesting board adversary
+
+-- the row is the only one for the configuration
+pub record IsRowFor {X : Type 0} (at : X → List ℕ) (rows : List X) (configuration : List ℕ) (row : X) : Type 0 where
+  pub among : Contains rows row
+  pub at_is : at row ≡ configuration
+  pub only : (other : X) → Contains rows other → at other ≡ configuration → other ≡ row
+
+-- what is found for a rank: the only row for the configuration of that rank, or that there is none
+abbrev pub FindsRow : {R X : Type 0} → PlainBoard → (R → X) → (X → List ℕ) → List X → ℕ → Option (Bor R) → Type 0
+FindsRow {R} {X} board shown at rows rank found =
+    (configuration : List ℕ) → IsConfiguration board configuration → rank ≡ rank_of board configuration
+    → MatchOption found ((row : X) × Contains rows row × (at row ≡ configuration) → ⊥)
+    (λ row. IsRowFor at rows configuration (shown row.now))

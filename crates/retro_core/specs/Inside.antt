@@ -1,0 +1,13 @@
+-- What the clauses of this crate's own functions cite, and no public contract.
+pub mod Arena
+pub mod BoardArena
+pub mod Opening
+pub mod Round
+pub mod Rules
+pub mod Sizes
+pub mod Solving
+pub mod SourceWalk
+pub mod Stage
+pub mod Stored
+pub mod Tables
+pub mod Words

@@ -1,0 +1,105 @@
+-- A round by numbers alone: what it takes from the game, and what its steps keep.
+use Rattle.std.specs.Prelude.{◌≡◌, ℕ, zero, suc, ◌+◌, ◌<◌, ◌≤◌, ◌==◌, not, Bool, cond, List, [], ◌∷◌, Option, Some, None, slice_get}
+use Rattle.index_lists.specs.Lists.{times}
+use Rattle.board_text.specs.PlainBoard.{PlainBoard}
+use Rattle.positions.specs.Ranks.{configurations}
+use Rattle.positions.specs.Gaps.{gaps}
+use Rattle.retro_core.specs.Inside.Arena.{Arena, count_below, live, lasts}
+use Rattle.retro_core.specs.Inside.BoardArena.{arena_of}
+use Rattle.retro_core.specs.Solving.{Solving, source}
+use Rattle.retro_core.specs.Round.{PlainSeat, spent}
+
+-- the value and the width of a round, the numbers of gaps and of configurations; how many answers of a gap lead above the value,
+-- its members above it; the gap in which a configuration is struck, if that is one, and its value before the round, if it has one
+pub record Rules : Type 0 where
+  pub round : ℕ
+  pub width : ℕ
+  pub gaps : ℕ
+  pub size : ℕ
+  pub live : ℕ → ℕ
+  pub opens : ℕ → List ℕ
+  pub home : ℕ → ℕ
+  pub base : ℕ → Option ℕ
+
+-- how many of a list are struck in the gap
+abbrev pub tally : (ℕ → ℕ) → ℕ → List ℕ → ℕ
+tally home gap [] = 0
+tally home gap (rank ∷ ranks) = cond (home rank == gap) 1 0 + tally home gap ranks
+
+-- a number of each seat, added up
+abbrev pub total : (PlainSeat → ℕ) → List PlainSeat → ℕ
+total number [] = 0
+total number (seat ∷ seats) = number seat + total number seats
+
+-- it has the round's value and a gap in which it is struck
+pub record IsStruckIn (k : Rules) (rank : ℕ) : Type 0 where
+  pub is_rank : rank < k.size
+  pub has_gap : k.home rank < k.gaps
+  pub has_value : k.base rank ≡ Some k.round
+
+-- it is an open member of a gap that has no answer above the round's value
+pub record IsToWin (k : Rules) (rank : ℕ) : Type 0 where
+  pub gap : ℕ
+  pub is_gap : gap < k.gaps
+  pub none_above : k.live gap ≡ 0
+  pub is_open : 0 < times rank (k.opens gap)
+
+-- the value word of a configuration that stands so often in won lists
+abbrev pub word_of : Rules → ℕ → ℕ → Option ℕ
+word_of k rank zero = k.base rank
+word_of k rank (suc more) = Some (suc k.round)
+
+-- how often it is owed or won
+abbrev pub held_in : ℕ → PlainSeat → ℕ
+held_in rank seat = times rank seat.owed + times rank seat.won
+
+-- open members are configurations without a value
+pub record AreSound (k : Rules) : Type 0 where
+  pub opened : (gap rank : ℕ) → gap < k.gaps → 0 < times rank (k.opens gap) → (rank < k.size) × (k.base rank ≡ None)
+
+-- what is known of the words and of the list to strike before the first step
+pub record AreReady (k : Rules) (count : ℕ → ℕ) (value : ℕ → Option ℕ) (todo : List ℕ) : Type 0 where
+  pub counts : (gap : ℕ) → gap < k.gaps → count gap ≡ k.live gap + tally k.home gap todo
+  pub values : (rank : ℕ) → rank < k.size → value rank ≡ k.base rank
+  pub due : (rank : ℕ) → 0 < times rank todo → IsStruckIn k rank
+  pub once : (rank : ℕ) → times rank todo ≤ 1
+  pub settled : (gap rank : ℕ) → gap < k.gaps → count gap ≡ 0 → times rank (k.opens gap) ≡ 0
+  pub some_width : 0 < k.width
+
+-- the words and the seats keep the rules
+pub record AreKept (k : Rules) (count : ℕ → ℕ) (value : ℕ → Option ℕ) (seats : List PlainSeat) : Type 0 where
+  pub values : (rank : ℕ) → rank < k.size → value rank ≡ word_of k rank (total (λ seat. times rank seat.won) seats)
+  pub due : (rank : ℕ) → 0 < total (λ seat. times rank seat.todo) seats → IsStruckIn k rank
+  pub due_once : (rank : ℕ) → total (λ seat. times rank seat.todo) seats ≤ 1
+  pub counts : (gap : ℕ) → gap < k.gaps → count gap ≡ k.live gap + total (λ seat. tally k.home gap seat.todo) seats
+  pub next : (rank : ℕ) → 0 < total (held_in rank) seats → IsToWin k rank
+  pub won_once : (rank : ℕ) → total (λ seat. times rank seat.won) seats ≤ 1
+  pub closed : (gap rank : ℕ) → gap < k.gaps → count gap ≡ 0 → 0 < times rank (k.opens gap) → 0 < total (held_in rank) seats
+  pub widths : total (λ seat. seat.width) seats ≡ k.width
+  pub fits : (place : ℕ) (seat : PlainSeat) → slice_get seats place ≡ Some seat → seat.width ≡ 0 → seat ≡ spent
+
+-- the gap of a dominating pebble among the first so many, or a number that no gap has
+abbrev pub home_among : Arena → ℕ → ℕ → ℕ
+home_among a rank zero = a.gaps
+home_among a rank (suc pebble) = cond (a.is_answer (a.gap rank pebble) (a.place rank pebble)) (a.gap rank pebble) (home_among a rank pebble)
+
+-- whether a configuration is struck in a gap
+abbrev pub has_home : PlainBoard → ℕ → Bool
+has_home b rank = not (home_among (arena_of b) rank b.pebbles == gaps b)
+
+-- the value of a configuration, if it is at most the round's: how often it lasts one request more
+abbrev pub value_before : Arena → ℕ → ℕ → Option ℕ
+value_before a round rank = cond (lasts a (suc round) rank) None (Some (count_below round (λ k. lasts a (suc k) rank)))
+
+-- the rules of a round of a solver
+abbrev pub rules_of : Solving → ℕ → Rules
+rules_of s width = record {
+  round = s.rounds;
+  width = width;
+  gaps = gaps s.board;
+  size = configurations s.board;
+  live = live (arena_of s.board) (lasts (arena_of s.board) (suc s.rounds));
+  opens = source s;
+  home = λ rank. home_among (arena_of s.board) rank s.board.pebbles;
+  base = value_before (arena_of s.board) s.rounds;
+}

@@ -1,0 +1,22 @@
+-- What this crate's own functions say beside `Sizes`.
+use Rattle.std.specs.Prelude.{◌≡◌, ℕ, ◌+◌, ◌<◌, ◌≤◌, ◌==◌, false, List, length, slice_index}
+use Rattle.positions.specs.Ranks.{configurations}
+use Rattle.retro_core.specs.Inside.Arena.{count_below}
+use Rattle.retro_core.specs.Inside.Stage.{PlainStage, filed_at}
+use Rattle.retro_core.specs.Inside.Tables.{is_open}
+
+-- the lengths of the lists of the values so far, and room for one of each configuration
+pub record AreSizes (s : PlainStage) (round capacity : ℕ) (sizes : List ℕ) : Type 0 where
+  pub sized : length sizes ≡ round + 1
+  pub lengths : (v : ℕ) → v ≤ round → slice_index sizes v ≡ length (filed_at s v)
+  pub some : (v : ℕ) → 0 < v → v ≤ round → 0 < slice_index sizes v
+  pub room : configurations s.board ≤ capacity
+
+-- how many of n words are each finite value that there is, and how many stand for Forever
+pub record AreCounts (n : ℕ) (values sizes : List ℕ) (forever : ℕ) : Type 0 where
+  pub made : 0 < length sizes
+  pub few : length sizes ≤ n
+  pub counted : (v : ℕ) → v < length sizes → slice_index sizes v ≡ count_below n (λ x. slice_index values x == v)
+  pub some : (v : ℕ) → 0 < v → v < length sizes → 0 < slice_index sizes v
+  pub inside : (x : ℕ) → x < n → is_open values x ≡ false → slice_index values x < length sizes
+  pub forever_is : forever ≡ count_below n (is_open values)

@@ -1,0 +1,6 @@
+-- What the clauses of this crate's own functions cite, and no public contract.
+pub mod GapBest
+pub mod Listed
+pub mod Marks
+pub mod Side
+pub mod Spreading

@@ -1,0 +1,64 @@
+-- The sides of a document: which rows a side's section has, and where they stand.
+use Rattle.std.specs.Prelude.{◌≡◌, ℕ, List, map, Option, Some, None, All}
+use Rattle.board_text.specs.PlainBoard.{PlainBoard, IsConfiguration}
+use Rattle.positions.specs.declared.value.Value.{Value}
+use Rattle.positions.specs.Ranks.{configuration_at}
+use Rattle.positions.specs.Table.{AnswerRow, RequestRow}
+use Rattle.proof_text.specs.declared.proof.LabellerRow.{LabellerRow}
+use Rattle.proof_text.specs.declared.proof.AdversaryRow.{AdversaryRow}
+use Rattle.proof_text.specs.Proof.{IsPadded, answer_row, request_row}
+use Rattle.strategies.specs.Document.{AreExactly, IsLabellerRow, IsAdversaryRow}
+use Rattle.strategies.specs.Inside.Spreading.{IsReachedByAnswers, IsReachedByRequests}
+
+-- the rows of one side, which name their configurations by ranks
+pub record Side (R : Type 0) : Type 1 where
+  -- a row that names its configuration by its places
+  pub Row : Type 0
+  pub shown : R → Row
+  -- the row is one that the document has
+  pub IsRow : Row → Type 0
+  -- the configuration of a row
+  pub at : Row → List ℕ
+  -- the configuration of the rank is one that a row may stand at
+  pub IsReached : ℕ → Type 0
+  -- a row is filled up as the format has it
+  pub IsFilled : R → Type 0
+
+-- the labeller's rows of a document of a start with the value
+abbrev pub labeller_side : PlainBoard → Value → Side LabellerRow
+labeller_side board start = record {
+  Row = AnswerRow;
+  shown = answer_row board;
+  IsRow = IsLabellerRow board start;
+  at = λ row. row.at;
+  IsReached = IsReachedByAnswers board;
+  IsFilled = IsPadded board;
+}
+
+-- the adversary's rows of a document of a start with a finite value
+abbrev pub adversary_side : PlainBoard → Value → Side AdversaryRow
+adversary_side board start = record {
+  Row = RequestRow;
+  shown = request_row board;
+  IsRow = IsAdversaryRow board;
+  at = λ row. row.at;
+  IsReached = IsReachedByRequests board;
+  IsFilled = λ row. Unit {0};
+}
+
+-- rows stand at configurations that were reached, one at each
+pub record AreOfReached {R : Type 0} (board : PlainBoard) (side : Side R) : Type 0 where
+  pub is_configuration : (row : side.Row) → side.IsRow row → IsConfiguration board (side.at row)
+  pub reached : (row : side.Row) (rank : ℕ) → side.IsRow row → side.at row ≡ configuration_at board rank → side.IsReached rank
+  pub one : (first second : side.Row) → side.IsRow first → side.IsRow second → side.at first ≡ side.at second → first ≡ second
+
+-- the row at the configuration of a rank, or none where the side has none there
+abbrev pub IsRowAt : {R : Type 0} → PlainBoard → Side R → ℕ → Option R → Type 0
+IsRowAt board side rank (Some row) =
+    side.IsRow (side.shown row) × (side.at (side.shown row) ≡ configuration_at board rank) × side.IsFilled row
+IsRowAt board side rank None = (row : side.Row) → side.IsRow row → side.at row ≡ configuration_at board rank → ⊥
+
+-- exactly the rows of the side, in ascending rank
+pub record AreSection {R : Type 0} (board : PlainBoard) (side : Side R) (rows : List R) : Type 0 where
+  pub exactly : AreExactly board side.IsRow side.at (map side.shown rows)
+  pub filled : All side.IsFilled rows
