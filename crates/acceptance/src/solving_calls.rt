@@ -36,6 +36,16 @@ fn first_source<S: ListStore>(solver: &Solver<S>, gap: u32) -> Option<u32> {
     }
 }
 
+/// The members of a gap without a value, if it is a gap, as far as there is room.
+fn sources<S: ListStore>(solver: &Solver<S>, gap: u32) -> [Option<u32>; 3] {
+    let mut found = [None; 3];
+    if gap < solver.space().gaps() {
+        let mut walk = solver.sources(gap);
+        found = [walk.take_next(), walk.take_next(), walk.take_next()];
+    }
+    found
+}
+
 /// What stands behind a member of a gap without a value, if they are a gap and a rank.
 fn next_source<S: ListStore>(solver: &Solver<S>, gap: u32, rank: u32) -> Option<u32> {
     if gap < solver.space().gaps() && rank < solver.space().configurations() {
@@ -85,6 +95,17 @@ fn assert_first_sources<S: ListStore>(
     }
 }
 
+/// Asserts the members of gaps without a value.
+fn assert_sources<S: ListStore>(
+    rt: &impl Abort,
+    solver: &Solver<S>,
+    wanted: &[(u32, [Option<u32>; 3])],
+) {
+    for (gap, ranks) in wanted {
+        assert_same(rt, ("members of", *gap), sources(solver, *gap), *ranks);
+    }
+}
+
 /// Asserts what stands behind members of gaps without a value.
 fn assert_next_sources<S: ListStore>(
     rt: &impl Abort,
@@ -114,6 +135,7 @@ fn assert_lists_before<S: ListStore>(rt: &impl Abort, solver: &Solver<S>) {
     assert_filed(rt, solver, &[(0, STUCK), (1, [None; 6])]);
     // Gap 4 is pebble 1 where pebble 0 is on label 1. Its member with label 2 is stuck.
     assert_first_sources(rt, solver, &[(4, Some(3))]);
+    assert_sources(rt, solver, &[(4, [Some(3), Some(4), None])]);
     assert_next_sources(rt, solver, &[(4, 3, Some(4)), (4, 4, None), (4, 5, None)]);
     // Rank 0 waits in the gap before, and rank 1 behind it.
     assert_next_sources(rt, solver, &[(3, 0, Some(1)), (4, 0, None)]);
@@ -130,6 +152,7 @@ fn assert_lists_after<S: ListStore>(rt: &impl Abort, solver: &Solver<S>) {
         3,
     );
     assert_first_sources(rt, solver, &[(4, None), (3, Some(0))]);
+    assert_sources(rt, solver, &[(4, [None; 3]), (3, [Some(0), None, None])]);
     assert_next_sources(rt, solver, &[(3, 0, None)]);
     // One answer leads to a value of at least 1: label 1, which leads to rank 1.
     assert_counts_of_gaps(rt, solver, &[(4, 0), (3, 1)]);
