@@ -1,6 +1,6 @@
 -- The moves from a configuration by the places of its pebbles.
 use Rattle.std.proofs.Common.{◌≡◌, ◌≢◌, ℕ, ◌+◌, ◌-◌, ◌*◌, ◌<◌, ◌≤◌, ◌↔◌, true, List, get_or, sym, ap, ◌∙◌, subst, below_more, arith}
-use Rattle.board_text.specs.PlainBoard.{PlainBoard, Beats, BeatsPlace, IsBoard, places}
+use Rattle.board_text.specs.PlainBoard.{PlainBoard, Beats, BeatsPlace, places}
 use Rattle.board_text.specs.Domination.{has_bit}
 use Rattle.board_text.specs.declared.board.TheConstants.{MAX_LABELS, MAX_PEBBLES}
 use Rattle.positions.specs.Game.{Legal, moved}
@@ -61,10 +61,10 @@ module _ (position : Position) (board space : PlainBoard) (rank : ℕ) (held : L
         λ dominator. subst (Legal position.board position.configuration pebble) (sym same) (record { is_label = dominator.has_label; dominates = dominator.dominates }),
       )
 
-  pub few_pebbles : IsBoard space → (pebble : ℕ) → pebble < position.board.pebbles → pebble < 6
-  few_pebbles is_board pebble inside =
+  pub few_pebbles : (pebble : ℕ) → pebble < position.board.pebbles → pebble < 6
+  few_pebbles pebble inside =
       let there : pebble < board.pebbles = subst (λ p. pebble < p.board.pebbles) (sym is) inside in
-      let most : board.pebbles ≤ MAX_PEBBLES = (subst IsBoard has.same_board is_board).pebbles.1 in
+      let most : board.pebbles ≤ MAX_PEBBLES = has.is_board.pebbles.1 in
       omega arith
 
   -- what a label adds to the rank without the pebble's place

@@ -3,11 +3,10 @@
 ghost use Rattle.std.specs.Prelude.{◌≡◌, ℕ, ◌+◌, ◌*◌, ◌<◌, ◌≤◌, ◌↔◌, suc, length, slice_index_or, IfOk};
 ghost use Rattle.std.specs.Int.{bit_at};
 ghost use Rattle.board_text.specs.PlainBoard.{BeatsPlace, places};
-ghost use Rattle.positions.specs.Ranks.{configurations};
 ghost use Rattle.positions.specs.Inside.Tuples.{IsColumn, AreWords, AreAllWords};
 
 use crate::label_set::LabelSet;
-use crate::space::MAX_CONFIGURATIONS;
+use crate::space::{MAX_CONFIGURATIONS, Space};
 use board_text::{Board, Memory, ROW_WORDS};
 use std::alloc::Global;
 use std::marker::Model;
@@ -31,12 +30,19 @@ impl Model for Column {
 
 impl Column {
     /// The column of this number: that of the labels from 64 times the number on.
-    pub(crate) fn of(alloc: Global, board: &Board, number: usize) -> Result<Column, Memory>
+    ///
+    /// The board is the one that the space was made for.
+    pub(crate) fn of(
+        alloc: Global,
+        space: &Space,
+        board: &Board,
+        number: usize,
+    ) -> Result<Column, Memory>
         requires number { number < ROW_WORDS }
-        requires few { configurations board.now ≤ MAX_CONFIGURATIONS }
+        requires same_board { space.now ≡ board.now }
         ensures { IfOk result (λ column. IsColumn board.now number column) }
     {
-        if 64 * number >= board.labels() as usize {
+        if 64 * number >= space.labels() as usize {
             return Ok(Column {
                 words: Vec::new(alloc),
             });

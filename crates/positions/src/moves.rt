@@ -82,7 +82,6 @@ impl<'a> Moves<'a> {
         requires { pebble < self.now.board.pebbles }
         ensures { IsTrue result ↔ IsDominator self.now.board self.now.configuration pebble }
     {
-        let _ = self.space.pebbles();
         self.is_legal(pebble, self.places[pebble as usize])
     }
 

@@ -42,12 +42,11 @@ impl TupleAnswers {
         requires { space.now ≡ board.now }
         ensures { IfOk result (λ answers. answers ≡ board.now) }
     {
-        let _ = space.configurations();
         let columns = [
-            Column::of(alloc, board, 0)?,
-            Column::of(alloc, board, 1)?,
-            Column::of(alloc, board, 2)?,
-            Column::of(alloc, board, 3)?,
+            Column::of(alloc, space, board, 0)?,
+            Column::of(alloc, space, board, 1)?,
+            Column::of(alloc, space, board, 2)?,
+            Column::of(alloc, space, board, 3)?,
         ];
         Ok(TupleAnswers {
             board: Snapshot::of(board),

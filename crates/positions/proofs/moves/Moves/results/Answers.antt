@@ -5,7 +5,7 @@ use Rattle.positions.proofs.moves.Moves.results.Goals as goal
 pub bounds-self-inside-pebble : goal.bounds-self-inside-pebble
 bounds-self-inside-pebble c =
     let s = c.self.inside in
-    few_pebbles c.args.self.now s.board.now s.space.now s.rank s.places c.self.view_is c.self.invariant c.weight.ensures.is_board c.args.pebble c.requires
+    few_pebbles c.args.self.now s.board.now s.space.now s.rank s.places c.self.view_is c.self.invariant c.args.pebble c.requires
 
 pub overflow_mul-first : goal.overflow_mul-first
 overflow_mul-first c =
