@@ -1,9 +1,7 @@
 -- Lists of nodes as parts of one list of entries.
 use Rattle.std.proofs.Common.{◌≡◌, ◌≢◌, ℕ, ◌<◌, ◌≤◌, ◌==◌, inl, inr, not, Bool, true, false, cond, suc, List, [], ◌∷◌, ◌++◌, length, map, refl, sym, ap, subst, ◌∙◌, arith, Option, Some, None, MatchOption, length-append}
 use Rattle.std.proofs.lemmas.Bool.{cases_eq, cases_lt}
-use Rattle.std.specs.List.{filter, count_by}
-use Rattle.std.proofs.lemmas.List.{length-map}
-use Rattle.std.proofs.lemmas.List.Sums.{length-filter}
+use Rattle.std.specs.List.{filter}
 use Rattle.index_lists.specs.Lists.{times, without_node, IsFree, IsHome, AreLists, lists_of}
 use Rattle.index_lists.specs.Pairs.{Pairs}
 use Rattle.index_lists.specs.Inside.Pairs.{nodes_of, paired, all_nodes, home_in, ArePlain}
@@ -169,6 +167,7 @@ module _ (p : Pairs) (s : ArePlain p) where
   pub plain-push : (to node : ℕ) → to < p.lists → node < p.nodes → ((l : ℕ) → times node (nodes_of p.entries l) ≡ 0)
       → ArePlain (record p { entries = p.entries ++ (to, node) ∷ [] })
   plain-push to node h i f = record {
+    few = s.few;
     once = pushed-once to node f;
     below = pushed-below to node i;
     beyond = λ l g. nodes-push to node l p.entries
@@ -177,6 +176,7 @@ module _ (p : Pairs) (s : ArePlain p) where
 
   pub plain-unlink : (node : ℕ) → ArePlain (record p { entries = filter (λ e. not (e.1 == node)) p.entries })
   plain-unlink node = record {
+    few = s.few;
     once = λ x. rw (all_without node p.entries) (elim (cases_eq x node) [
       | inl e ↦ rw e (let z = times-without_same node (all_nodes p.entries) in omega arith)
       | inr d ↦ (let z = times-without_other node x (all_nodes p.entries) d in let o = s.once x in omega arith)

@@ -91,7 +91,6 @@ impl ListStore for PlainLists {
     }
 
     fn len(&self, of: u32) -> u32 {
-        let _node_count = self.node_count;
         count_of(self.pairs(), of)
     }
 }

@@ -1,5 +1,5 @@
 -- What this crate's own functions say beside `Pairs`.
-use Rattle.std.specs.Prelude.{◌≡◌, ℕ, ◌≤◌, ◌==◌, Bool, List, [], ◌∷◌, Option, None, Some, if◌then◌else◌, map, filter, slice_get}
+use Rattle.std.specs.Prelude.{◌≡◌, ℕ, ◌^◌, ◌<◌, ◌≤◌, ◌==◌, Bool, List, [], ◌∷◌, Option, None, Some, if◌then◌else◌, map, filter, slice_get}
 use Rattle.index_lists.specs.Lists.{Lists, times, lists_of}
 use Rattle.index_lists.specs.Pairs.{Pairs}
 
@@ -14,8 +14,9 @@ paired p = lists_of p.nodes p.lists (nodes_of p.entries)
 abbrev pub all_nodes : List (ℕ × ℕ) → List ℕ
 all_nodes entries = map (λ e. e.1) entries
 
--- each node once, each of them a node of a list that there is
+-- each node once, each of them a node of a list that there is, and as many nodes as an index counts
 pub record ArePlain (p : Pairs) : Type 0 where
+  pub few : p.nodes < 2 ^ 32
   pub once : (x : ℕ) → times x (all_nodes p.entries) ≤ 1
   pub below : (x : ℕ) → p.nodes ≤ x → times x (all_nodes p.entries) ≡ 0
   pub beyond : (l : ℕ) → p.lists ≤ l → nodes_of p.entries l ≡ []

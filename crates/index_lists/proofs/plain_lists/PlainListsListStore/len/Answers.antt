@@ -6,8 +6,7 @@ pub count_of-requires : goal.count_of-requires
 count_of-requires c =
     let few = plain-few _ c.pairs.ensures.kept in
     let size = ap length c.pairs.ensures.entries in
-    let nodes = ap (λ w. w.nodes) c.self.view_is in
-    omega (arith, few, size, nodes)
+    omega (arith, few, size, c.pairs.ensures.kept.few)
 
 pub returns-clause-kept : goal.returns-clause-kept
 returns-clause-kept c = plain-are _ c.pairs.ensures.kept
