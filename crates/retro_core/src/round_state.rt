@@ -91,7 +91,6 @@ impl<'a, S: ListStore> RoundState<'a, S> {
         ensures done { IfOk result (λ seen. Does self.old (Step.Strike seat) seen self.new) }
         ensures refused { IfErr result (λ fault. Refuses self.old (Step.Strike seat) fault × (self.new ≡ self.old)) }
     {
-        let _ = self.solver.round_number();
         if self.seat_width(seat) == 0 {
             return Err(StepFault::NoSuchSeat);
         }

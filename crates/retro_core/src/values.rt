@@ -36,7 +36,9 @@ pub struct Values {
 
 impl Model for Values {
     ghost use Rattle.board_text.specs.PlainBoard.{PlainBoard};
+    ghost use Rattle.std.specs.Prelude.{◌≤◌};
     ghost use Rattle.positions.specs.Ranks.{configurations};
+    ghost use Rattle.positions.specs.declared.space.TheConstants.{MAX_CONFIGURATIONS};
     ghost use Rattle.retro_core.specs.Inside.Sizes.{AreCounts};
     ghost use Rattle.retro_core.specs.Inside.Stored.{AreDominators};
     ghost use Rattle.retro_core.specs.Inside.Tables.{AreValues};
@@ -45,7 +47,7 @@ impl Model for Values {
 
     ghost view = { λ s. s.space };
 
-    ghost invariant = { λ s. AreValues s.space s.values.items × AreDominators s.space s.dominators.items × AreCounts (configurations s.space) s.values.items s.sizes.items s.forever };
+    ghost invariant = { λ s. AreValues s.space s.values.items × AreDominators s.space s.dominators.items × AreCounts (configurations s.space) s.values.items s.sizes.items s.forever × (configurations s.space ≤ MAX_CONFIGURATIONS) };
 }
 
 impl Values {
@@ -87,7 +89,6 @@ impl Values {
     pub fn count(&self, value: Value) -> u32
         ensures { HasCount self.now value result }
     {
-        let _ = self.space.configurations();
         match value {
             Value::Finite(number) => self.count_finite(number),
             Value::Forever => self.forever,
@@ -98,7 +99,6 @@ impl Values {
     fn count_finite(&self, number: u32) -> u32
         ensures { HasCount self.now (Finite number) result }
     {
-        let _ = self.space.configurations();
         if number as usize >= self.sizes.len() {
             return 0;
         }
@@ -109,7 +109,6 @@ impl Values {
     pub fn greatest_finite(&self) -> Option<u32>
         ensures { IsGreatest (Occurs self.now) result }
     {
-        let _ = self.space.configurations();
         if self.sizes[0] == 0 {
             None
         } else {

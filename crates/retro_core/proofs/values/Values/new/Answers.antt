@@ -28,4 +28,4 @@ invariant_of-result c =
     let all = all-sizes _ _ _ _ e.few c.requires.counts in
     let same = ap sum c.deref.ensures.value in
     let rest : count_below (configurations b) (is_open c.args.values.items) ≡ c.configurations.result - c.total.result = omega (arith, all, same, e.value, c.total.ensures) in
-    (c.requires.values, c.requires.dominators, subst (AreCounts (configurations b) c.args.values.items c.args.sizes.items) rest c.requires.counts)
+    (c.requires.values, c.requires.dominators, subst (AreCounts (configurations b) c.args.values.items c.args.sizes.items) rest c.requires.counts, e.few)
