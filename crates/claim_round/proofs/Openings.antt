@@ -60,11 +60,10 @@ words_more s words words' word n are e here =
     }
 
 -- the word of a value that is small, and of none
-pub word_some : (s : Solving) (rank word : ℕ) (found : Option ℕ) → found ≡ Some word → s.rounds < 2 ^ 32
+pub word_some : (s : Solving) (rank word : ℕ) (found : Option ℕ) → found ≡ Some word → word < 2 ^ 32
     → ((value : ℕ) → (found ≡ Some value) ↔ ((value ≤ s.rounds) × HasValue s.board (configuration_at s.board rank) (Finite value)))
     → (value : ℕ) → (value_of_word word ≡ Some value) ↔ ((value ≤ s.rounds) × HasValue s.board (configuration_at s.board rank) (Finite value))
 word_some s rank word found is small means value =
-    let low = ((means word).0 is).0 in
     let read : value_of_word word ≡ found = cond_other word open_word None (Some word) (λ e. absurd (omega arith)) ∙ sym is in
     ((λ e. (means value).0 (sym read ∙ e)), (λ has. read ∙ (means value).1 has))
 

@@ -38,7 +38,6 @@ pub(crate) fn first_words<S: ListStore>(
     requires { solver.now.is_done ≡ false }
     ensures { IfOk result (λ words. AreFirstWords solver.now words.items (configurations solver.now.board)) }
 {
-    let _ = solver.round_number();
     let mut words = first_counts(alloc, solver)?;
     for rank in 0..solver.space().configurations() {
         let word = match solver.value_at(rank) {

@@ -1,4 +1,4 @@
-use Rattle.std.proofs.Common.{◌≡◌, ◌↔◌, ◌≤◌, ℕ, ap, sym, subst, ◌∙◌, arith, Some}
+use Rattle.std.proofs.Common.{◌≡◌, ◌↔◌, ◌<◌, ◌≤◌, ◌^◌, ℕ, ap, sym, subst, ◌∙◌, arith, rules, Some}
 use Rattle.positions.specs.declared.value.Value.TheVariants.{Finite}
 use Rattle.positions.specs.Value.{HasValue}
 use Rattle.positions.specs.Ranks.{configurations, configuration_at}
@@ -14,7 +14,7 @@ loop-rank-preserved g c =
     let i = c.loop-rank.invariant.words in
     let word : ℕ = c.match-value_at.word in
     let means : (value : ℕ) → (value_of_word word ≡ Some value) ↔ ((value ≤ s.rounds) × HasValue s.board (configuration_at s.board c.loop-rank.rank) (Finite value)) = elim c.match-value_at.branch [
-      | in-Some w ↦ word_some s c.loop-rank.rank word c.value_at.result (w.in-Some.is ∙ ap Some (sym (w.word-is ∙ w.from-word.ensures))) (let few = c.round_number.ensures.kept.few in let low = c.round_number.ensures.below in omega arith) c.value_at.ensures
+      | in-Some w ↦ word_some s c.loop-rank.rank word c.value_at.result (w.in-Some.is ∙ ap Some (sym (w.word-is ∙ w.from-word.ensures))) (let low : w.in-Some.value < 2 ^ 32 = search rules in omega (arith, low, w.word-is, w.from-word.ensures)) c.value_at.ensures
       | in-None w ↦ subst (λ m. (value : ℕ) → (value_of_word m ≡ Some value) ↔ ((value ≤ s.rounds) × HasValue s.board (configuration_at s.board c.loop-rank.rank) (Finite value))) (sym w.word-is)
           (word_none s c.loop-rank.rank c.value_at.result w.in-None.is c.value_at.ensures)
     ] in
