@@ -169,122 +169,123 @@ fn a_write_fails_at_each_call(rt: HostRuntime) {
 }
 
 #[test]
-fn inputs_and_their_lines(rt: HostRuntime) {
-    for (text, wanted, written) in [
+fn refused_documents_and_their_lines(rt: HostRuntime) {
+    for (text, fault, written) in [
         (
             b"board 1\nlabels 3\npebbles 2\nstart 0 0\nbeats 1 0\nbeats 2 0\nbeats 2 1\nend\n\
                 proof 1\nleast 2\nlabeller 2\nat 0 0 for 2 take 1 1\nat 0 1 for 1 take 2 1\nend\n"
                 .as_slice(),
-            Ok(Verdict::Refused(CheckFault::Unlisted {
+            CheckFault::Unlisted {
                 side: Side::Labeller,
                 at: 0,
                 turn: 0,
-            })),
+            },
             b"refused labeller row 0 0 pebble 0 unlisted\n".as_slice(),
         ),
         (
             b"board 1\nlabels 3\npebbles 2\nstart 0 0\nbeats 1 0\nbeats 2 0\nbeats 2 1\nend\n\
                 proof 1\nleast 2\nlabeller 3\nat 0 0 for 2 take 0 1\nat 0 1 for 1 take 2 1\nat 1 0 for 1 take 1 2\nend\n"
                 .as_slice(),
-            Ok(Verdict::Refused(CheckFault::IllegalAnswer { at: 0, pebble: 0 })),
+            CheckFault::IllegalAnswer { at: 0, pebble: 0 },
             b"refused labeller row 0 0 pebble 0 illegal answer\n".as_slice(),
         ),
         (
             b"board 1\nlabels 3\npebbles 2\nstart 0 0\nbeats 1 0\nbeats 2 0\nbeats 2 1\nend\n\
                 proof 1\nleast 3\nlabeller 3\nat 0 0 for 2 take 1 1\nat 0 1 for 1 take 2 1\nat 1 0 for 1 take 1 2\nend\n"
                 .as_slice(),
-            Ok(Verdict::Refused(CheckFault::StartNumber {
+            CheckFault::StartNumber {
                 side: Side::Labeller,
-            })),
+            },
             b"refused labeller start number\n".as_slice(),
         ),
         (
             b"board 1\nlabels 3\npebbles 2\nstart 0 0\nbeats 1 0\nbeats 2 0\nbeats 2 1\nend\n\
                 proof 1\nleast 3\nlabeller 3\nat 0 0 for 3 take 1 1\nat 0 1 for 1 take 2 1\nat 1 0 for 1 take 1 2\nend\n"
                 .as_slice(),
-            Ok(Verdict::Refused(CheckFault::TooSmall { at: 0, pebble: 0 })),
+            CheckFault::TooSmall { at: 0, pebble: 0 },
             b"refused labeller row 0 0 pebble 0 too small\n".as_slice(),
-        ),
-        (
-            b"board 1\nlabels 3\npebbles 2\nstart 0 0\nbeats 1 0\nbeats 2 0\nbeats 2 1\nend\n\
-                proof 1\nleast 0\nlabeller 0\nend\n"
-                .as_slice(),
-            Ok(Verdict::Accepted(Shown {
-                claim: Claim::AtLeast(0),
-            })),
-            b"accepted least 0\n".as_slice(),
-        ),
-        (
-            b"board 1\nlabels 3\npebbles 2\nstart 0 0\nbeats 1 0\nbeats 2 0\nbeats 2 1\nend\n\
-                proof 1\nvalue 2\nlabeller 3\nat 0 0 for 2 take 1 1\nat 0 1 for 1 take 2 1\nat 1 0 for 1 take 1 2\nend\n"
-                .as_slice(),
-            Err(RunFault::Proof(ProofFault {
-                line: 7,
-                kind: ProofKind::Section,
-            })),
-            b"".as_slice(),
-        ),
-        (
-            b"board 1\nlabels 03\npebbles 2\nstart 0 0\nbeats 1 0\nbeats 2 0\nbeats 2 1\nend\n".as_slice(),
-            Err(RunFault::Board(BoardFault {
-                line: 2,
-                kind: BoardKind::Labels,
-            })),
-            b"".as_slice(),
-        ),
-        (
-            b"board 1\nlabels 3\npebbles 7\nstart 0 0\nbeats 1 0\nbeats 2 0\nbeats 2 1\nend\n".as_slice(),
-            Err(RunFault::Board(BoardFault {
-                line: 3,
-                kind: BoardKind::Pebbles,
-            })),
-            b"".as_slice(),
-        ),
-        (
-            b"board 1\nlabels 3\npebbles 2\nstart 0 3\nbeats 1 0\nbeats 2 0\nbeats 2 1\nend\n".as_slice(),
-            Err(RunFault::Board(BoardFault {
-                line: 4,
-                kind: BoardKind::Start,
-            })),
-            b"".as_slice(),
-        ),
-        (
-            b"board 1\nlabels 3\npebbles 2\nstart 0 0\nbeats 1 0\nbeats 0 1\nbeats 2 1\nend\n".as_slice(),
-            Err(RunFault::Board(BoardFault {
-                line: 6,
-                kind: BoardKind::TwoWay,
-            })),
-            b"".as_slice(),
-        ),
-        (
-            b"board 1\nlabels 3\npebbles 2\nstart 0 0\nbeats 1 1\nbeats 2 0\nbeats 2 1\nend\n".as_slice(),
-            Err(RunFault::Board(BoardFault {
-                line: 5,
-                kind: BoardKind::SelfBeat,
-            })),
-            b"".as_slice(),
-        ),
-        (
-            b"board 1\nlabels 3\npebbles 2\nstart 0 0\nbeats 1 0\nbeats 1 0\nbeats 2 1\nend\n".as_slice(),
-            Err(RunFault::Board(BoardFault {
-                line: 6,
-                kind: BoardKind::Order,
-            })),
-            b"".as_slice(),
-        ),
-        (
-            b"board 1\nlabels 3\npebbles 2\nstart 0 0\nbeats 1 0\nbeats 2 0\nbeats 2 1\n".as_slice(),
-            Err(RunFault::Board(BoardFault {
-                line: 8,
-                kind: BoardKind::End,
-            })),
-            b"".as_slice(),
         ),
     ] {
         let joined = Joined { text, ..JOINED };
+        let wanted = Ok(Verdict::Refused(fault));
         assert!(rt;
             serves(&rt, rt.alloc(), joined, wanted, written),
-            "{wanted:?}"
+            "{fault:?}"
+        );
+    }
+}
+
+#[test]
+fn a_claim_of_no_request(rt: HostRuntime) {
+    let joined = Joined {
+        text: b"board 1\nlabels 3\npebbles 2\nstart 0 0\nbeats 1 0\nbeats 2 0\nbeats 2 1\nend\n\
+            proof 1\nleast 0\nlabeller 0\nend\n",
+        ..JOINED
+    };
+    let wanted = Ok(Verdict::Accepted(Shown {
+        claim: Claim::AtLeast(0),
+    }));
+    assert!(rt; serves(&rt, rt.alloc(), joined, wanted, b"accepted least 0\n"));
+}
+
+#[test]
+fn a_missing_section_writes_nothing(rt: HostRuntime) {
+    let joined = Joined {
+        text: b"board 1\nlabels 3\npebbles 2\nstart 0 0\nbeats 1 0\nbeats 2 0\nbeats 2 1\nend\n\
+            proof 1\nvalue 2\nlabeller 3\nat 0 0 for 2 take 1 1\nat 0 1 for 1 take 2 1\nat 1 0 for 1 take 1 2\nend\n",
+        ..JOINED
+    };
+    let wanted = Err(RunFault::Proof(ProofFault {
+        line: 7,
+        kind: ProofKind::Section,
+    }));
+    assert!(rt; serves(&rt, rt.alloc(), joined, wanted, NOTHING));
+}
+
+#[test]
+fn faults_of_boards_write_nothing(rt: HostRuntime) {
+    for (text, line, kind) in [
+        (
+            b"board 1\nlabels 03\npebbles 2\nstart 0 0\nbeats 1 0\nbeats 2 0\nbeats 2 1\nend\n".as_slice(),
+            2,
+            BoardKind::Labels,
+        ),
+        (
+            b"board 1\nlabels 3\npebbles 7\nstart 0 0\nbeats 1 0\nbeats 2 0\nbeats 2 1\nend\n".as_slice(),
+            3,
+            BoardKind::Pebbles,
+        ),
+        (
+            b"board 1\nlabels 3\npebbles 2\nstart 0 3\nbeats 1 0\nbeats 2 0\nbeats 2 1\nend\n".as_slice(),
+            4,
+            BoardKind::Start,
+        ),
+        (
+            b"board 1\nlabels 3\npebbles 2\nstart 0 0\nbeats 1 0\nbeats 0 1\nbeats 2 1\nend\n".as_slice(),
+            6,
+            BoardKind::TwoWay,
+        ),
+        (
+            b"board 1\nlabels 3\npebbles 2\nstart 0 0\nbeats 1 1\nbeats 2 0\nbeats 2 1\nend\n".as_slice(),
+            5,
+            BoardKind::SelfBeat,
+        ),
+        (
+            b"board 1\nlabels 3\npebbles 2\nstart 0 0\nbeats 1 0\nbeats 1 0\nbeats 2 1\nend\n".as_slice(),
+            6,
+            BoardKind::Order,
+        ),
+        (
+            b"board 1\nlabels 3\npebbles 2\nstart 0 0\nbeats 1 0\nbeats 2 0\nbeats 2 1\n".as_slice(),
+            8,
+            BoardKind::End,
+        ),
+    ] {
+        let joined = Joined { text, ..JOINED };
+        let wanted = Err(RunFault::Board(BoardFault { line, kind }));
+        assert!(rt;
+            serves(&rt, rt.alloc(), joined, wanted, NOTHING),
+            "{kind:?}"
         );
     }
 }
