@@ -21,3 +21,18 @@ returns-in_err-write_all-clause-fault g c =
     rw (p.1, p.2) (cut_short IsSolution (CannotSolve c.args.workers) MAX_BOARD_BYTES read written
     c.in_ok-text.text.items c.in_ok-text.ensures.ok c.in_ok-solved.solved.value _
     (rw c.as_slice.ensures.value at c.in_ok-solved.ensures.solved) (rw c.as_bytes.ensures.value at c.in_err-write_all.ensures.front))
+
+pub returns-clause-ok : goal.returns-clause-ok
+returns-clause-ok g c =
+    let written = rw c.as_bytes.ensures.value at c.in_ok-write_all.ensures.ok in
+    (c.in_ok-text.text.items, c.in_ok-text.ensures.ok, (_, rw c.as_slice.ensures.value at c.in_ok-solved.ensures.solved, written))
+
+pub returns-clause-shows : goal.returns-clause-shows
+returns-clause-shows g c =
+    let written = rw c.as_bytes.ensures.value at c.in_ok-write_all.ensures.ok in
+    (c.in_ok-text.text.items, c.in_ok-text.ensures.ok, (_, rw c.as_slice.ensures.value at c.in_ok-solved.ensures.shows, written))
+
+pub returns-clause-accepted : goal.returns-clause-accepted
+returns-clause-accepted g c =
+    let written = rw c.as_bytes.ensures.value at c.in_ok-write_all.ensures.ok in
+    (c.in_ok-text.text.items, c.in_ok-text.ensures.ok, (_, rw c.as_slice.ensures.value at c.in_ok-solved.ensures.accepted, written))

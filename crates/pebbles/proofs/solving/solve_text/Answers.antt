@@ -14,3 +14,7 @@ returns-clause-accepted g c =
     IfOk-weaker c.solve.result _ _
     (λ solved is. accepted c.args.text.now solved.value (string_bytes solved.text) (c.in_ok-board.board, c.in_ok-board.ensures.found.0, is))
     c.solve.ensures.solved
+
+pub returns-clause-solved : goal.returns-clause-solved
+returns-clause-solved g c =
+    IfOk-weaker c.solve.result _ _ (λ solved is. (c.in_ok-board.board, c.in_ok-board.ensures.found.0, is)) c.solve.ensures.solved
