@@ -10,7 +10,7 @@ use Rattle.std.proofs.lemmas.Nat.Bits.{bit_at_set_same, bit_at_set_other, bit_at
 use Rattle.board_text.specs.Ranges.{InRange}
 use Rattle.board_text.specs.PlainBoard.{AreLabels, IsNext}
 use Rattle.board_text.specs.Domination.{has_bit}
-use Rattle.board_text.specs.Inside.Domination.{beats_in, mark_of, pairs_of, pair_at, ClearFrom, AreRows, SetsPair}
+use Rattle.board_text.specs.Inside.Domination.{beats_in, mark_of, pairs_of, pair_at, ClearFrom, AreBitRows, SetsPair}
 use Rattle.board_text.specs.declared.board.TheConstants.{MAX_LABELS}
 use Rattle.board_text.proofs.DominationPairs.{NoMarks, pairs_more, pairs_none, has_mark, is_marked, place_grows, precedes_from_place}
 
@@ -59,7 +59,7 @@ clear_marks labels rows next in_range clear place low high =
     let first : place / labels < labels = p.first in
     clear (place / labels) (place % labels) (omega (arith, first, in_range.1)) p.second (omega (arith, p.same, low))
 
-pub next_from_place : (labels : ℕ) (rows : List ℕ) (next x y : ℕ) → AreRows labels rows next → AreLabels labels (x, y) → next ≤ x * labels + y → IsNext (pairs_of labels rows) (x, y)
+pub next_from_place : (labels : ℕ) (rows : List ℕ) (next x y : ℕ) → AreBitRows labels rows next → AreLabels labels (x, y) → next ≤ x * labels + y → IsNext (pairs_of labels rows) (x, y)
 next_from_place labels rows next x y is are le before last e =
     let h : Contains (pairs_of labels rows) (last.0, last.1) = rw e (Contains-push before last) in
     let m = is_marked labels (mark_of labels rows) (labels * labels) last.0 last.1 is.in_range.0 h in
@@ -69,7 +69,7 @@ next_from_place labels rows next x y is are le before last e =
     ] in
     precedes_from_place labels last (x, y) are.1 (omega (arith, lt, le))
 
-pub place_from_next : (labels : ℕ) (rows : List ℕ) (next x y : ℕ) → AreRows labels rows next → IsNext (pairs_of labels rows) (x, y) → next ≤ x * labels + y
+pub place_from_next : (labels : ℕ) (rows : List ℕ) (next x y : ℕ) → AreBitRows labels rows next → IsNext (pairs_of labels rows) (x, y) → next ≤ x * labels + y
 place_from_next labels rows next x y is above =
     elim is.ends [
       | inl none ↦ omega (arith, none.1)
@@ -87,7 +87,7 @@ same_mark labels old new x y place in_range are sets lt other =
     let first : place / labels < labels = p.first in
     sets.others (place / labels) (place % labels) (omega (arith, first, in_range.1)) (λ both. other (sym p.same ∙ rw (both.0, both.1) refl))
 
-pub pairs_pushed : (labels : ℕ) (old new : List ℕ) (next x y : ℕ) → AreRows labels old next → AreLabels labels (x, y) → next ≤ x * labels + y → SetsPair labels old new x y
+pub pairs_pushed : (labels : ℕ) (old new : List ℕ) (next x y : ℕ) → AreBitRows labels old next → AreLabels labels (x, y) → next ≤ x * labels + y → SetsPair labels old new x y
     → pairs_of labels new ≡ pairs_of labels old ++ (x, y) ∷ []
 pairs_pushed labels old new next x y is are le sets =
     let lt : x * labels + y < labels * labels = mul-add-lt x labels y labels are.0 are.1 in
@@ -98,8 +98,8 @@ pairs_pushed labels old new next x y is are le sets =
     (λ place low high. clear_marks labels old next is.in_range is.clear place (omega (arith, le, low)) high)
     ∙ ap (λ (p : ℕ × ℕ). pairs_of labels old ++ p ∷ []) pair
 
-pub rows_pushed : (labels : ℕ) (old new : List ℕ) (next x y : ℕ) → AreRows labels old next → AreLabels labels (x, y) → next ≤ x * labels + y → SetsPair labels old new x y
-    → AreRows labels new (x * labels + y + 1)
+pub rows_pushed : (labels : ℕ) (old new : List ℕ) (next x y : ℕ) → AreBitRows labels old next → AreLabels labels (x, y) → next ≤ x * labels + y → SetsPair labels old new x y
+    → AreBitRows labels new (x * labels + y + 1)
 rows_pushed labels old new next x y is are le sets = record {
   in_range = is.in_range;
   sized = sets.size ∙ is.sized;
@@ -117,7 +117,7 @@ no_bit n x y =
     ] in
     ap (λ (w : ℕ). nat_eq (bit_at w (x % 64)) 1) word ∙ ap (λ (b : ℕ). nat_eq b 1) (bit_at-zero (x % 64))
 
-pub rows_new : (labels : ℕ) → InRange 1 MAX_LABELS labels → AreRows labels (replicate (4 * labels) 0) 0
+pub rows_new : (labels : ℕ) → InRange 1 MAX_LABELS labels → AreBitRows labels (replicate (4 * labels) 0) 0
 rows_new labels in_range = record {
   in_range = in_range;
   sized = length-replicate {A = ℕ} (4 * labels) 0;
@@ -152,7 +152,7 @@ sets_pair labels rows x y few sized are =
     }
 
 -- the next pair may stand at the end of all places at the latest
-next_within : (labels : ℕ) (rows : List ℕ) (next : ℕ) → AreRows labels rows next → next ≤ labels * labels
+next_within : (labels : ℕ) (rows : List ℕ) (next : ℕ) → AreBitRows labels rows next → next ≤ labels * labels
 next_within labels rows next is =
     elim is.ends [
       | inl none ↦ omega (arith, none.1)
@@ -166,7 +166,7 @@ row_bit rows x y small inside =
     ap (λ (w : ℕ). nat_eq (bit_at w (x % 64)) 1) (get_or-take 4 (drop (4 * y) rows) (x / 64) 0 low ∙ get_or-drop (4 * y) rows (x / 64) 0)
 
 -- the row of a label has the bits of those that beat it, and no others
-pub row_is : (labels : ℕ) (rows : List ℕ) (next x y : ℕ) → AreRows labels rows next → x < MAX_LABELS → y < labels → has_bit (take 4 (drop (4 * y) rows)) x ≡ true ↔ Contains (pairs_of labels rows) (x, y)
+pub row_is : (labels : ℕ) (rows : List ℕ) (next x y : ℕ) → AreBitRows labels rows next → x < MAX_LABELS → y < labels → has_bit (take 4 (drop (4 * y) rows)) x ≡ true ↔ Contains (pairs_of labels rows) (x, y)
 row_is labels rows next x y is small low =
     let inside : 4 * y + 4 ≤ length rows = omega (arith, is.sized, low) in
     let same = row_bit rows x y small inside in (

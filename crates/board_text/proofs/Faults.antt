@@ -7,7 +7,7 @@ use Rattle.board_text.specs.declared.fault.BoardKind.TheVariants.{Version, Label
 use Rattle.board_text.specs.PlainBoard.{plain_board, PlainBoard, IsBoard, version_of}
 use Rattle.board_text.specs.BoardText.{version_line, labels_line, pebbles_line, start_line, beats_line, end_line, front, board_text}
 use Rattle.board_text.specs.Inside.BoardText.{head}
-use Rattle.board_text.specs.BoardFaults.{PairFault, HasFault}
+use Rattle.board_text.specs.BoardFaults.{PairFault, HasBoardFault}
 
 regroup_head : (a b c d x : List ℕ) → a ++ (b ++ (c ++ (d ++ x))) ≡ (a ++ (b ++ (c ++ d))) ++ x
 regroup_head a b c d x = simp append_assoc
@@ -32,7 +32,7 @@ text_taken b text rest more e f =
     e ∙ ap (λ (t : List ℕ). head b.labels b.pebbles b.start ++ t) f ∙ regroup_text (head b.labels b.pebbles b.start) (flat_map beats_line b.pairs) end_line more
 
 -- a fault among the pairs is one of the text
-pub has_pair_fault : (text : List ℕ) (line : ℕ) (kind : BoardKind) (b : PlainBoard) (rest : List ℕ) → IsBoard b → text ≡ front b ++ rest → line ≡ 5 + length b.pairs → PairFault b.labels b.pairs rest kind → HasFault text line kind
+pub has_pair_fault : (text : List ℕ) (line : ℕ) (kind : BoardKind) (b : PlainBoard) (rest : List ℕ) → IsBoard b → text ≡ front b ++ rest → line ≡ 5 + length b.pairs → PairFault b.labels b.pairs rest kind → HasBoardFault text line kind
 has_pair_fault text line Beats b rest is e n h = (b, rest, is, e, n, h)
 has_pair_fault text line SelfBeat b rest is e n h = (b, rest, is, e, n, h)
 has_pair_fault text line TwoWay b rest is e n h = (b, rest, is, e, n, h)
@@ -45,7 +45,7 @@ has_pair_fault text line Start b rest is e n h = absurd h
 has_pair_fault text line Trailing b rest is e n h = absurd h
 has_pair_fault text line Memory b rest is e n h = absurd h
 
-pub has_trailing : (text rest : List ℕ) (line : ℕ) (b : PlainBoard) → IsBoard b → text ≡ board_text b ++ rest → (rest ≡ [] → ⊥) → line ≡ 6 + length b.pairs → HasFault text line Trailing
+pub has_trailing : (text rest : List ℕ) (line : ℕ) (b : PlainBoard) → IsBoard b → text ≡ board_text b ++ rest → (rest ≡ [] → ⊥) → line ≡ 6 + length b.pairs → HasBoardFault text line Trailing
 has_trailing text [] line b is e some n = absurd (some refl)
 has_trailing text (c ∷ more) line b is e some n = (b, c, more, is, e, n)
 

@@ -1,5 +1,5 @@
 pub mod Numbers
-pub mod Spelling
+pub mod WrittenNumbers
 pub mod Lines
 pub mod NumeralLemmas
 pub mod PlaceLemmas
@@ -8,12 +8,12 @@ pub mod BitRows
 pub mod PairLines
 pub mod PairLemmas
 pub mod Faults
-pub mod Deciding
+pub mod Decisions
 pub mod SomeReading
 pub mod BeatsLines
-pub mod Endings
-pub mod Misfitting
+pub mod EndLines
+pub mod PairFaults
 pub mod OneReading
-pub mod Moves
+pub mod StreamMoves
 pub mod Places
 pub mod Cited

@@ -6,7 +6,7 @@ use Rattle.board_text.specs.Ranges.{InRange}
 use Rattle.board_text.specs.LineForms.{Lacks}
 use Rattle.board_text.specs.PlainBoard.{PlainBoard, plain_board, IsBoard, IsStart, ArePairs, version_of}
 use Rattle.board_text.specs.BoardText.{version_line, labels_line, pebbles_line, start_line, beats_line, end_line, front, board_text}
-use Rattle.board_text.specs.BoardFaults.{InPairs, HasFault}
+use Rattle.board_text.specs.BoardFaults.{InPairs, HasBoardFault}
 use Rattle.board_text.specs.declared.fault.BoardFault.{BoardFault}
 use Rattle.board_text.specs.declared.fault.BoardKind.{BoardKind}
 use Rattle.board_text.specs.declared.fault.BoardKind.TheVariants.{Version, Labels, Pebbles, Start, Beats, SelfBeat, TwoWay, Order, End, Trailing, Memory}
@@ -15,7 +15,7 @@ use Rattle.board_text.proofs.Lines.{number_line_unique, small_numbers}
 use Rattle.board_text.proofs.PlaceLemmas.{places_line_unique}
 use Rattle.board_text.proofs.Places.{numbers_from_start, version_in_range}
 use Rattle.board_text.proofs.BeatsLines.{same, more_right, more_left, aligned}
-use Rattle.board_text.proofs.Endings.{Finding, board, fault, Ending, at_end, one_ending, no_more, pair_ending}
+use Rattle.board_text.proofs.EndLines.{Finding, board, fault, Ending, at_end, one_ending, no_more, pair_ending}
 
 -- what is found after the first lines of a text, and of the whole text
 abbrev AfterStart : ℕ → ℕ → List ℕ → List ℕ → Finding → Type 0
@@ -124,7 +124,7 @@ pair_reading : (text : List ℕ) (line : ℕ) (kind : BoardKind) → InPairs tex
 pair_reading text line kind (b, rest, is, e, number, h) =
     rw number (read_on text b rest (fault (5 + length b.pairs) kind) is e (pair_ending b rest kind h))
 
-fault_reading : (text : List ℕ) (line : ℕ) (kind : BoardKind) → kind ≢ Memory → HasFault text line kind → Reading text (fault line kind)
+fault_reading : (text : List ℕ) (line : ℕ) (kind : BoardKind) → kind ≢ Memory → HasBoardFault text line kind → Reading text (fault line kind)
 fault_reading text line Version not h = inl (h.1, ap (λ (l : ℕ). fault l Version) h.0)
 fault_reading text line Labels not h = inr (h.1, h.2, h.3, h.4, inl (h.5, ap (λ (l : ℕ). fault l Labels) h.0))
 fault_reading text line Pebbles not h =
@@ -142,7 +142,7 @@ fault_reading text line End not h = pair_reading text line End h
 
 -- ---- the laws
 
-pub one_fault : (text : List ℕ) (line other_line : ℕ) (kind other_kind : BoardKind) → kind ≢ Memory → other_kind ≢ Memory → HasFault text line kind → HasFault text other_line other_kind
+pub one_fault : (text : List ℕ) (line other_line : ℕ) (kind other_kind : BoardKind) → kind ≢ Memory → other_kind ≢ Memory → HasBoardFault text line kind → HasBoardFault text other_line other_kind
     → (line ≡ other_line) × (kind ≡ other_kind)
 one_fault text line other_line kind other_kind not other_not h g =
     let e = one_reading text (fault line kind) (fault other_line other_kind) (fault_reading text line kind not h) (fault_reading text other_line other_kind other_not g) in
@@ -153,7 +153,7 @@ one_board a b is_a is_b e =
     let same = one_reading (board_text a) (board a) (board b) (board_reading (board_text a) a is_a refl) (board_reading (board_text a) b is_b e) in
     cc
 
-pub not_both : (text : List ℕ) (line : ℕ) (kind : BoardKind) (b : PlainBoard) → IsBoard b → text ≡ board_text b → kind ≢ Memory → HasFault text line kind → ⊥
+pub not_both : (text : List ℕ) (line : ℕ) (kind : BoardKind) (b : PlainBoard) → IsBoard b → text ≡ board_text b → kind ≢ Memory → HasBoardFault text line kind → ⊥
 not_both text line kind b is e not h =
     let same = one_reading text (board b) (fault line kind) (board_reading text b is e) (fault_reading text line kind not h) in
     cc
@@ -171,15 +171,15 @@ is_memory End = inr (λ e. cc)
 is_memory Trailing = inr (λ e. cc)
 is_memory Memory = inl refl
 
-pub no_fault : (text : List ℕ) (line : ℕ) (kind : BoardKind) (b : PlainBoard) → IsBoard b → text ≡ board_text b → HasFault text line kind → kind ≡ Memory
+pub no_fault : (text : List ℕ) (line : ℕ) (kind : BoardKind) (b : PlainBoard) → IsBoard b → text ≡ board_text b → HasBoardFault text line kind → kind ≡ Memory
 no_fault text line kind b is e h = elim (is_memory kind) [ inl none ↦ none | inr not ↦ absurd (not_both text line kind b is e not h) ]
 
 -- what is read from the text of a board is that board
-pub only : (text : List ℕ) (b : PlainBoard) (r : Result PlainBoard BoardFault) → IfOk r (λ a. IsBoard a × (text ≡ board_text a)) → IfErr r (λ f. HasFault text f.line f.kind) → IsBoard b → text ≡ board_text b → MatchResult r (λ a. a ≡ b) (λ f. f.kind ≡ Memory)
+pub only : (text : List ℕ) (b : PlainBoard) (r : Result PlainBoard BoardFault) → IfOk r (λ a. IsBoard a × (text ≡ board_text a)) → IfErr r (λ f. HasBoardFault text f.line f.kind) → IsBoard b → text ≡ board_text b → MatchResult r (λ a. a ≡ b) (λ f. f.kind ≡ Memory)
 only text b (Ok a) found has_fault is e = one_board a b found.0 is (sym found.1 ∙ e)
 only text b (Err f) found has_fault is e = no_fault text f.line f.kind b is e has_fault
 
 -- what is built of the parts of a board is that board
-pub only_parts : (b : PlainBoard) (r : Result PlainBoard BoardFault) → IfOk r (λ a. IsBoard a × (a ≡ b)) → IfErr r (λ f. HasFault (board_text b) f.line f.kind) → IsBoard b → MatchResult r (λ a. a ≡ b) (λ f. f.kind ≡ Memory)
+pub only_parts : (b : PlainBoard) (r : Result PlainBoard BoardFault) → IfOk r (λ a. IsBoard a × (a ≡ b)) → IfErr r (λ f. HasBoardFault (board_text b) f.line f.kind) → IsBoard b → MatchResult r (λ a. a ≡ b) (λ f. f.kind ≡ Memory)
 only_parts b (Ok a) found has_fault is = found.1
 only_parts b (Err f) found has_fault is = no_fault (board_text b) f.line f.kind b is refl has_fault

@@ -14,7 +14,7 @@ use Rattle.board_text.specs.Readings.{IsBoardText, IsFaulty}
 use Rattle.board_text.specs.declared.fault.BoardKind.{BoardKind}
 use Rattle.board_text.specs.declared.fault.BoardKind.TheVariants.{Version, Labels, Pebbles, Start, Beats, SelfBeat, TwoWay, Order, End, Trailing}
 use Rattle.board_text.specs.declared.board.TheConstants.{MAX_LABELS, MAX_PEBBLES}
-use Rattle.board_text.proofs.Deciding.{Decided, begins, number_stands, start_stands, pair_stands, contained, next}
+use Rattle.board_text.proofs.Decisions.{Decided, begins, number_stands, start_stands, pair_stands, contained, next}
 use Rattle.board_text.proofs.PairLemmas.{pairs_push, line_push}
 use Rattle.board_text.proofs.Faults.{head_taken, front_taken, has_pair_fault}
 use Rattle.board_text.proofs.Places.{start_from_numbers, numbers_from_start}

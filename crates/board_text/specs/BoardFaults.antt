@@ -38,19 +38,19 @@ InPairs text line kind = (b : PlainBoard) × (rest : List ℕ) × IsBoard b × (
 
 -- All lines before this one are faultless, and this one has the fault and none before it in the table.
 -- Memory may be wanting once the first three lines are faultless.
-abbrev pub HasFault : List ℕ → ℕ → BoardKind → Type 0
-HasFault text line Version = (line ≡ 1) × Lacks (InRange 1 2) version_line text
-HasFault text line Labels = (line ≡ 2) × (version : ℕ) × (rest : List ℕ) × InRange 1 2 version × (text ≡ version_line version ++ rest)
+abbrev pub HasBoardFault : List ℕ → ℕ → BoardKind → Type 0
+HasBoardFault text line Version = (line ≡ 1) × Lacks (InRange 1 2) version_line text
+HasBoardFault text line Labels = (line ≡ 2) × (version : ℕ) × (rest : List ℕ) × InRange 1 2 version × (text ≡ version_line version ++ rest)
     × Lacks (InRange 1 MAX_LABELS) labels_line rest
-HasFault text line Pebbles = (line ≡ 3) × (version labels : ℕ) × (rest : List ℕ) × InRange 1 2 version × InRange 1 MAX_LABELS labels
+HasBoardFault text line Pebbles = (line ≡ 3) × (version labels : ℕ) × (rest : List ℕ) × InRange 1 2 version × InRange 1 MAX_LABELS labels
     × (text ≡ version_line version ++ (labels_line labels ++ rest)) × Lacks (InRange 1 MAX_PEBBLES) pebbles_line rest
-HasFault text line Start = (line ≡ 4) × (version labels pebbles : ℕ) × (rest : List ℕ) × InRange 1 2 version × InRange 1 MAX_LABELS labels
+HasBoardFault text line Start = (line ≡ 4) × (version labels pebbles : ℕ) × (rest : List ℕ) × InRange 1 2 version × InRange 1 MAX_LABELS labels
     × InRange 1 MAX_PEBBLES pebbles
     × (text ≡ version_line version ++ (labels_line labels ++ (pebbles_line pebbles ++ rest)))
     × Lacks (IsStart version labels pebbles) (start_line labels) rest
-HasFault text line Trailing = (b : PlainBoard) × (first : ℕ) × (more : List ℕ) × IsBoard b × (text ≡ board_text b ++ first ∷ more)
+HasBoardFault text line Trailing = (b : PlainBoard) × (first : ℕ) × (more : List ℕ) × IsBoard b × (text ≡ board_text b ++ first ∷ more)
     × (line ≡ 6 + length b.pairs)
-HasFault text line Memory = (line ≡ 0) × (version labels pebbles : ℕ) × (rest : List ℕ) × InRange 1 2 version × InRange 1 MAX_LABELS labels
+HasBoardFault text line Memory = (line ≡ 0) × (version labels pebbles : ℕ) × (rest : List ℕ) × InRange 1 2 version × InRange 1 MAX_LABELS labels
     × InRange 1 MAX_PEBBLES pebbles
     × (text ≡ version_line version ++ (labels_line labels ++ (pebbles_line pebbles ++ rest)))
-HasFault text line kind = InPairs text line kind
+HasBoardFault text line kind = InPairs text line kind

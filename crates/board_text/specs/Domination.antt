@@ -7,6 +7,6 @@ abbrev pub has_bit : List ℕ → ℕ → Bool
 has_bit row label = bit_at (slice_index row (label / 64)) (label % 64) == 1
 
 -- what a set of pairs of labels is, as plain data
-pub record Pairs : Type 0 where
+pub record PairsOfLabels : Type 0 where
   pub labels : ℕ
   pub pairs : List (ℕ × ℕ)

@@ -2,6 +2,6 @@
 pub mod BoardText
 pub mod Domination
 pub mod LineForms
-pub mod Misfits
+pub mod PairFaults
 pub mod Parsing
 pub mod PlaceForms

@@ -7,6 +7,6 @@ pub mod BoardText
 pub mod Domination
 pub mod BoardFaults
 pub mod Readings
-pub mod Ends
-pub mod Whole
+pub mod Streams
+pub mod ReadFaults
 pub mod Inside

@@ -2,7 +2,7 @@
 use Rattle.std.specs.Prelude.{◌≡◌, ◌≢◌, ℕ, List}
 use Rattle.board_text.specs.PlainBoard.{PlainBoard, IsBoard}
 use Rattle.board_text.specs.BoardText.{board_text}
-use Rattle.board_text.specs.BoardFaults.{HasFault}
+use Rattle.board_text.specs.BoardFaults.{HasBoardFault}
 use Rattle.board_text.specs.declared.fault.BoardKind.{BoardKind}
 use Rattle.board_text.specs.declared.fault.BoardKind.TheVariants.{Memory}
 
@@ -12,4 +12,4 @@ IsBoardText text = (board : PlainBoard) × IsBoard board × (text ≡ board_text
 
 -- a line of the text has a fault, want of memory aside
 abbrev pub IsFaulty : List ℕ → Type 0
-IsFaulty text = (line : ℕ) × (kind : BoardKind) × (kind ≢ Memory) × HasFault text line kind
+IsFaulty text = (line : ℕ) × (kind : BoardKind) × (kind ≢ Memory) × HasBoardFault text line kind

@@ -4,14 +4,14 @@ ghost use Rattle.std.specs.Prelude.{◌≡◌, ◌+◌, ◌↔◌, IsTrue, [], M
 ghost use Rattle.board_text.specs.Ranges.{AreNumbers};
 ghost use Rattle.board_text.specs.PlainBoard.{plain_board, IsBoard, ArePairs};
 ghost use Rattle.board_text.specs.BoardText.{board_text};
-ghost use Rattle.board_text.specs.BoardFaults.{HasFault};
-ghost use Rattle.board_text.specs.Inside.Misfits.{HasMisfit};
+ghost use Rattle.board_text.specs.BoardFaults.{HasBoardFault};
+ghost use Rattle.board_text.specs.Inside.PairFaults.{HasPairFault};
 ghost use Rattle.board_text.specs.declared.fault.BoardKind.TheVariants.{Memory as OutOfMemory};
 
 use crate::board::{Board, MAX_LABELS, MAX_PEBBLES};
 use crate::domination::Domination;
 use crate::fault::{BoardFault, BoardKind};
-use crate::pairs::pair_fault;
+use crate::pair_fault::pair_fault;
 use std::alloc::Global;
 
 impl Board {
@@ -30,7 +30,7 @@ impl Board {
         ensures only { IsBoard (plain_board labels pebbles start.now pairs.now)
             → MatchResult result (λ board. board ≡ plain_board labels pebbles start.now pairs.now) (λ fault. fault.kind ≡ OutOfMemory) }
         // Which fault it is.
-        ensures fault { IfErr result (λ fault. HasFault (board_text (plain_board labels pebbles start.now pairs.now))
+        ensures fault { IfErr result (λ fault. HasBoardFault (board_text (plain_board labels pebbles start.now pairs.now))
             fault.line fault.kind) }
     {
         build_parts(alloc, labels, pebbles, start, pairs)
@@ -46,7 +46,7 @@ fn build_parts(
     pairs: &[(u16, u16)],
 ) -> Result<Board, BoardFault>
     ensures found { IfOk result (λ board. IsBoard board × (board ≡ plain_board labels pebbles start.now pairs.now)) }
-    ensures fault { IfErr result (λ fault. HasFault (board_text (plain_board labels pebbles start.now pairs.now)) fault.line fault.kind) }
+    ensures fault { IfErr result (λ fault. HasBoardFault (board_text (plain_board labels pebbles start.now pairs.now)) fault.line fault.kind) }
 {
     if labels == 0 || labels as usize > MAX_LABELS {
         return Err(BoardFault::at(2, BoardKind::Labels));
@@ -80,7 +80,7 @@ fn push_pairs(beats: &mut Domination, pairs: &[(u16, u16)]) -> Result<(), BoardF
     requires { beats.old.pairs ≡ [] }
     ensures labels { beats.new.labels ≡ beats.old.labels }
     ensures pushed { OnOk result (ArePairs beats.old.labels pairs.now × (beats.new.pairs ≡ pairs.now)) }
-    ensures fault { IfErr result (λ fault. HasMisfit beats.old.labels pairs.now fault) }
+    ensures fault { IfErr result (λ fault. HasPairFault beats.old.labels pairs.now fault) }
 {
     let labels = beats.labels();
     let mut line = 5;

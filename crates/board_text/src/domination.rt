@@ -29,14 +29,14 @@ pub struct Domination {
 }
 
 impl Model for Domination {
-    ghost use Rattle.board_text.specs.Domination.{Pairs};
-    ghost use Rattle.board_text.specs.Inside.Domination.{pairs_of, AreRows};
+    ghost use Rattle.board_text.specs.Domination.{PairsOfLabels};
+    ghost use Rattle.board_text.specs.Inside.Domination.{pairs_of, AreBitRows};
 
-    ghost Value = { Pairs };
+    ghost Value = { PairsOfLabels };
 
     ghost view = { λ d. record { labels = d.labels; pairs = pairs_of d.labels d.rows.items } };
 
-    ghost invariant = { λ d. AreRows d.labels d.rows.items d.next };
+    ghost invariant = { λ d. AreBitRows d.labels d.rows.items d.next };
 }
 
 impl Domination {

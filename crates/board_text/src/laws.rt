@@ -3,7 +3,7 @@
 ghost use Rattle.std.specs.Prelude.{◌≡◌, ◌≢◌, ℕ, ◌⊎◌, List};
 ghost use Rattle.board_text.specs.PlainBoard.{PlainBoard, IsBoard};
 ghost use Rattle.board_text.specs.BoardText.{board_text};
-ghost use Rattle.board_text.specs.BoardFaults.{HasFault};
+ghost use Rattle.board_text.specs.BoardFaults.{HasBoardFault};
 ghost use Rattle.board_text.specs.Readings.{IsBoardText, IsFaulty};
 ghost use Rattle.board_text.specs.declared.fault.BoardKind.{BoardKind as Kind};
 ghost use Rattle.board_text.specs.declared.fault.BoardKind.TheVariants.{Memory as OutOfMemory};
@@ -18,7 +18,7 @@ pub fn one_board()
 pub fn one_fault()
     ensures { (text : List ℕ) → (line : ℕ) → (kind : Kind) → (other_line : ℕ) → (other_kind : Kind) → kind ≢ OutOfMemory
         → other_kind ≢ OutOfMemory
-        → HasFault text line kind → HasFault text other_line other_kind → (line ≡ other_line) × (kind ≡ other_kind) }
+        → HasBoardFault text line kind → HasBoardFault text other_line other_kind → (line ≡ other_line) × (kind ≡ other_kind) }
 {}
 
 /// A text is that of a board or has a fault, want of memory aside, and not both.

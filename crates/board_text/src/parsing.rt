@@ -6,14 +6,14 @@ ghost use Rattle.board_text.specs.LineForms.{Takes};
 ghost use Rattle.board_text.specs.PlainBoard.{PlainBoard, AreLabels, IsBoard, IsStart, ArePairs};
 ghost use Rattle.board_text.specs.BoardText.{start_line, beats_line, board_text};
 ghost use Rattle.board_text.specs.declared.fault.BoardKind.TheVariants.{Memory as OutOfMemory};
-ghost use Rattle.board_text.specs.BoardFaults.{HasFault};
+ghost use Rattle.board_text.specs.BoardFaults.{HasBoardFault};
 ghost use Rattle.board_text.specs.Inside.Parsing.{NextPair, PairsRead, PairsFault, HeadRead};
 
 use crate::board::{Board, MAX_LABELS, MAX_PEBBLES, version_of};
 use crate::domination::Domination;
 use crate::fault::{BoardFault, BoardKind};
 use crate::line_reader::LineReader;
-use crate::pairs::pair_fault;
+use crate::pair_fault::pair_fault;
 use std::alloc::Global;
 
 /// Takes a line `beats x y`.
@@ -102,14 +102,14 @@ pub fn parse(alloc: Global, bytes: &[u8]) -> Result<Board, BoardFault>
     ensures only { (b : PlainBoard) → IsBoard b → bytes.now ≡ board_text b
         → MatchResult result (λ board. board ≡ b) (λ fault. fault.kind ≡ OutOfMemory) }
     // Which fault it is.
-    ensures fault { IfErr result (λ fault. HasFault bytes.now fault.line fault.kind) }
+    ensures fault { IfErr result (λ fault. HasBoardFault bytes.now fault.line fault.kind) }
 {
     read(alloc, bytes)
 }
 
 fn read(alloc: Global, bytes: &[u8]) -> Result<Board, BoardFault>
     ensures found { IfOk result (λ board. IsBoard board × (bytes.now ≡ board_text board)) }
-    ensures fault { IfErr result (λ fault. HasFault bytes.now fault.line fault.kind) }
+    ensures fault { IfErr result (λ fault. HasBoardFault bytes.now fault.line fault.kind) }
 {
     let mut text = LineReader::new(bytes);
     let (version, labels, pebbles) = read_head(&mut text)?;

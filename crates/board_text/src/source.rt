@@ -3,7 +3,7 @@
 ghost use Rattle.std.specs.Prelude.{◌≡◌, ℕ, Bool, List, Option, None};
 ghost use Rattle.std.specs.Io.{ReadsAtMost};
 ghost use Rattle.std.specs.Io.KnownBytes.{ReadConsumes};
-ghost use Rattle.board_text.specs.Ends.{ReadFails};
+ghost use Rattle.board_text.specs.Streams.{ReadFails};
 
 /// What a reader or a writer that has failed answers. Nothing more is known of it.
 #[derive(Clone, Copy, Debug, PartialEq, Eq)]
@@ -12,14 +12,14 @@ pub struct Failed;
 /// Where bytes come from. A read of 0 bytes into a non-empty slice is the end of input.
 pub trait Source {
     // The bytes that reads will give from here on, where they are known.
-    ghost left: { Self → Option (List ℕ) } = { λ _. None };
+    ghost remaining: { Self → Option (List ℕ) } = { λ _. None };
 
     // Whether a read has failed so far.
     ghost has_failed: { Self → Bool };
 
     fn read(&mut self, into: &mut [u8]) -> Result<usize, Failed>
         ensures bound { ReadsAtMost result into.new }
-        ensures bytes { ReadConsumes (left self.old) (left self.new) result into.new }
+        ensures bytes { ReadConsumes (remaining self.old) (remaining self.new) result into.new }
         ensures failed { ReadFails (has_failed self.old) (has_failed self.new) result };
 
     fn failed(&self) -> bool

@@ -1,11 +1,11 @@
 pub mod Totals
 pub mod Loads
-pub mod Tracing
-pub mod Moves
+pub mod Traces
+pub mod TableSteps
 pub mod Seats
-pub mod Firsts
-pub mod Ends
+pub mod FirstEntries
+pub mod ClosedRounds
 pub mod Lookup
-pub mod Openings
-pub mod Sharing
+pub mod OpeningWords
+pub mod Lending
 pub mod Cited

@@ -13,10 +13,10 @@ use Rattle.retro_core.specs.Inside.Words.{open_word}
 use Rattle.retro_core.proofs.Cited.{times-cut, times_here, split_first, source-rank}
 use Rattle.claim_round.specs.Shared.{Key, View, kept_part, new_part, joined}
 use Rattle.claim_round.specs.Inside.Shared.{IsDueIn, most, size, load, opening, struck, claimed, IsBounded}
-use Rattle.claim_round.specs.Inside.Seats.{IsSeated, HasRoom}
+use Rattle.claim_round.specs.Inside.Seats.{IsSeated, SeatHasRoom}
 use Rattle.claim_round.specs.declared.seat.RoundSeat.TheInside.{Inside}
 use Rattle.claim_round.proofs.Loads.{length_rest, few_members, narrow, some_most}
-use Rattle.claim_round.proofs.Openings.{ranks_due}
+use Rattle.claim_round.proofs.OpeningWords.{ranks_due}
 
 pub times_first : (xs : List ℕ) → 0 < length xs → 0 < times (first_of xs) xs
 times_first xs some = let h = ap (times (first_of xs)) (split_first xs some) ∙ times_here (first_of xs) (rest_of xs) in omega arith
@@ -32,8 +32,8 @@ times_step : (a m : ℕ) → a * (1 + m) ≡ a + a * m
 times_step a m = grind arith
 
 -- who may owe and win less needs no more room
-room_less : (k : Key) (won owed todo room won' owed' todo' : ℕ) → HasRoom k won owed todo room → won' + owed' + most k * todo' ≤ won + owed + most k * todo → owed' + most k * todo' ≤ owed + most k * todo
-    → HasRoom k won' owed' todo' room
+room_less : (k : Key) (won owed todo room won' owed' todo' : ℕ) → SeatHasRoom k won owed todo room → won' + owed' + most k * todo' ≤ won + owed + most k * todo → owed' + most k * todo' ≤ owed + most k * todo
+    → SeatHasRoom k won' owed' todo' room
 room_less k won owed todo room won' owed' todo' has less fewer = record {
   places = ⊎_elim (λ (a : size k ≤ room). inl a) (λ (b : won + owed + most k * todo ≤ room). inr (omega arith)) has.places;
   few = let f = has.few in omega arith;
@@ -42,9 +42,9 @@ room_less k won owed todo room won' owed' todo' has less fewer = record {
 }
 
 -- the same, told of a seat by its fields
-room_told : (t : Inside) (k : Key) (room : ℕ) → t.seat.me.0.key ≡ k → vec_capacity t.won ≡ room → HasRoom k (length t.won.items) (length t.owed.items) (length t.todo.items) room
-    → HasRoom t.seat.me.0.key (length t.won.items) (length t.owed.items) (length t.todo.items) (vec_capacity t.won)
-room_told t k room terms capacity = subst (λ (p : Key × ℕ). HasRoom p.0 (length t.won.items) (length t.owed.items) (length t.todo.items) p.1) (λ j. (sym terms j, sym capacity j))
+room_told : (t : Inside) (k : Key) (room : ℕ) → t.seat.me.0.key ≡ k → vec_capacity t.won ≡ room → SeatHasRoom k (length t.won.items) (length t.owed.items) (length t.todo.items) room
+    → SeatHasRoom t.seat.me.0.key (length t.won.items) (length t.owed.items) (length t.todo.items) (vec_capacity t.won)
+room_told t k room terms capacity = subst (λ (p : Key × ℕ). SeatHasRoom p.0 (length t.won.items) (length t.owed.items) (length t.todo.items) p.1) (λ j. (sym terms j, sym capacity j))
 
 pub claimed_seat : (s t : Inside) (n : ℕ) → IsSeated s → 0 < length s.seat.me.0.has.owed → t.seat.me.0 ≡ claimed s.seat.me.0 n → t.seat.me.1 ≡ s.seat.me.1
     → t.todo.items ≡ s.todo.items → t.owed.items ≡ rest_of s.owed.items → deque_capacity t.owed ≡ deque_capacity s.owed

@@ -1,5 +1,5 @@
 -- What the clauses of this crate's own functions cite, and no public contract.
-pub mod Ends
+pub mod ClosedTable
 pub mod Openings
 pub mod Rounds
 pub mod Seats

@@ -1,4 +1,4 @@
 pub mod Shared
 pub mod Reasons
-pub mod Telling
+pub mod Calls
 pub mod Inside

@@ -19,7 +19,7 @@ impl Model for Closed {
 
     ghost Value = { Ended };
 
-    ghost use Rattle.claim_round.specs.Inside.Ends.{end_of, IsEnd};
+    ghost use Rattle.claim_round.specs.Inside.ClosedTable.{end_of, IsEnd};
 
     ghost view = { end_of };
 

@@ -3,7 +3,7 @@
 ghost use Rattle.std.specs.Prelude.{◌≡◌, ℕ, ◌<◌, ◌≤◌, [], length, false, IfOk, IfErr};
 ghost use Rattle.index_lists.specs.Lists.{times};
 ghost use Rattle.claim_round.specs.Shared.{IsOf, Stays, IsSplit, IsJoined, IsClosedBy, Finishes};
-ghost use Rattle.claim_round.specs.Telling.{Opens, HasStruck, HasClaimed};
+ghost use Rattle.claim_round.specs.Calls.{Opens, HasStruck, HasClaimed};
 ghost use Rattle.claim_round.specs.Reasons.{IsReason};
 
 use crate::closed::Closed;

@@ -47,9 +47,9 @@ impl<'a, S: ListStore> TableRule<(), Hand, Plan<'a, S>> for Rule {
 pub struct Strike;
 
 impl Play<(), Hand> for Strike {
-    ghost use Rattle.claim_round.specs.Inside.Shared.{Strikes};
+    ghost use Rattle.claim_round.specs.Inside.Shared.{TableStrikes};
 
-    ghost then = { Strikes };
+    ghost then = { TableStrikes };
 }
 
 pub struct Try;

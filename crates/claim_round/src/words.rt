@@ -3,7 +3,7 @@
 ghost use Rattle.std.specs.Prelude.{◌≡◌, ◌+◌, ◌<◌, ◌≤◌, false, length, vec_capacity, IfOk};
 ghost use Rattle.positions.specs.Ranks.{configurations};
 ghost use Rattle.positions.specs.Gaps.{gaps};
-ghost use Rattle.claim_round.specs.Inside.Openings.{AreFirstWords, HasCounts};
+ghost use Rattle.claim_round.specs.Inside.Openings.{AreOpeningWords, HasCounts};
 
 use board_text::Memory;
 use index_lists::ListStore;
@@ -36,7 +36,7 @@ pub(crate) fn first_words<S: ListStore>(
     solver: &Solver<S>,
 ) -> Result<Vec<u64>, Memory>
     requires { solver.now.is_done ≡ false }
-    ensures { IfOk result (λ words. AreFirstWords solver.now words.items (configurations solver.now.board)) }
+    ensures { IfOk result (λ words. AreOpeningWords solver.now words.items (configurations solver.now.board)) }
 {
     let mut words = first_counts(alloc, solver)?;
     for rank in 0..solver.space().configurations() {

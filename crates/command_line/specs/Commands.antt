@@ -5,7 +5,7 @@ use Rattle.clap.specs.Walk.{Rule, Text}
 use Rattle.clap.specs.Simple.{App, Shape, new_rule, new_shape}
 use Rattle.clap.specs.declared.builder.value_parser.ValueParser.TheVariants as vp
 use Rattle.board_text.specs.declared.board.TheConstants.{MAX_PEBBLES}
-use Rattle.nested_cycles.specs.declared.making.TheConstants.{MAX_BOARD_LEVELS}
+use Rattle.nested_cycles.specs.declared.nested_boards.TheConstants.{MAX_BOARD_LEVELS}
 use Rattle.nested_cycles.specs.declared.game.TheConstants.{MAX_LEVELS}
 
 -- a word that has to be there, and one that has to be a number from 1 to `most`

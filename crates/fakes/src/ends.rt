@@ -31,7 +31,7 @@ impl<'a> Drip<'a> {
 }
 
 impl Source for Drip<'_> {
-    ghost left = { λ s. Some s.rest.now };
+    ghost remaining = { λ s. Some s.rest.now };
 
     ghost has_failed = { λ s. s.has_failed };
 
@@ -95,7 +95,7 @@ impl<const ROOM: usize> Trickle<ROOM> {
 }
 
 impl<const ROOM: usize> Sink for Trickle<ROOM> {
-    ghost taken = { λ s. Some (take s.count s.bytes) };
+    ghost contents = { λ s. Some (take s.count s.bytes) };
 
     ghost has_failed = { λ s. s.has_failed };
 

@@ -3,7 +3,7 @@ use Rattle.std.proofs.Common.{◌≡◌, ◌≢◌, ℕ, ◌<◌, ◌≤◌, ◌
 use Rattle.std.proofs.lemmas.Bool.{cases_eq, cases_lt}
 use Rattle.std.specs.List.{filter}
 use Rattle.index_lists.specs.Lists.{times, without_node, IsFree, IsHome, AreLists, lists_of}
-use Rattle.index_lists.specs.Pairs.{Pairs}
+use Rattle.index_lists.specs.Pairs.{ListedPairs}
 use Rattle.index_lists.specs.Inside.Pairs.{nodes_of, paired, all_nodes, home_in, ArePlain}
 use Rattle.index_lists.proofs.Times.{same_is, differ_is, cond_same, cond_other, times-here, times-later, times-append, times-without_same, times-without_other, distinct-length}
 
@@ -131,7 +131,7 @@ length-all : (entries : List (ℕ × ℕ)) → length (all_nodes entries) ≡ le
 length-all [] = refl
 length-all (e ∷ entries) = ap suc (length-all entries)
 
-module _ (p : Pairs) (s : ArePlain p) where
+module _ (p : ListedPairs) (s : ArePlain p) where
   times-one : (node x : ℕ) → node ≢ x → times x (node ∷ []) ≡ 0
   times-one node x d = times-later node x [] d
 

@@ -2,7 +2,7 @@
 use Rattle.std.specs.Prelude.{ℕ, List}
 
 -- what a caller sees of the pairs
-pub record Pairs : Type 0 where
+pub record ListedPairs : Type 0 where
   pub nodes : ℕ
   pub lists : ℕ
   pub entries : List (ℕ × ℕ)

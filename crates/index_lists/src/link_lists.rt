@@ -71,23 +71,23 @@ impl ListStore for LinkLists {
     }
 
     fn first(&self, of: u32) -> Option<u32> {
-        known(self.none, self.links.ends[of as usize].first)
+        some_unless(self.none, self.links.ends[of as usize].first)
     }
 
     fn last(&self, of: u32) -> Option<u32> {
-        known(self.none, self.links.ends[of as usize].last)
+        some_unless(self.none, self.links.ends[of as usize].last)
     }
 
     fn next(&self, node: u32) -> Option<u32> {
-        known(self.none, self.links.nodes[node as usize].next)
+        some_unless(self.none, self.links.nodes[node as usize].next)
     }
 
     fn prev(&self, node: u32) -> Option<u32> {
-        known(self.none, self.links.nodes[node as usize].prev)
+        some_unless(self.none, self.links.nodes[node as usize].prev)
     }
 
     fn home(&self, node: u32) -> Option<u32> {
-        known(self.nowhere, self.links.nodes[node as usize].home)
+        some_unless(self.nowhere, self.links.nodes[node as usize].home)
     }
 
     fn len(&self, of: u32) -> u32 {
@@ -96,7 +96,7 @@ impl ListStore for LinkLists {
 }
 
 /// A number, unless it stands for none.
-fn known(none: u32, number: u32) -> Option<u32>
+fn some_unless(none: u32, number: u32) -> Option<u32>
     ensures { result ≡ unless_none none number }
 {
     if number == none { None } else { Some(number) }

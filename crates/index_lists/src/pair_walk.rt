@@ -23,9 +23,9 @@ pub(crate) struct PairWalk<'a> {
 
 impl<'a> Model for PairWalk<'a> {
     ghost use Rattle.std.specs.Prelude.{◌≤◌, length, drop};
-    ghost use Rattle.index_lists.specs.Inside.Runs.{Walk, IsWalk};
+    ghost use Rattle.index_lists.specs.Inside.Runs.{PairWalkState, IsWalk};
 
-    ghost Value = { Walk };
+    ghost Value = { PairWalkState };
 
     ghost view = { λ w. record { list = w.list; left = w.left; runs = drop w.begun w.runs.now; nodes = drop w.place w.nodes.now } };
 

@@ -26,11 +26,11 @@ pub struct PlainLists {
 
 impl Model for PlainLists {
     ghost use Rattle.std.specs.Prelude.{vec_capacity};
-    ghost use Rattle.index_lists.specs.Pairs.{Pairs};
+    ghost use Rattle.index_lists.specs.Pairs.{ListedPairs};
     ghost use Rattle.index_lists.specs.Inside.Pairs.{ArePlain};
     ghost use Rattle.index_lists.specs.Inside.Runs.{entries_of, AreRuns};
 
-    ghost Value = { Pairs };
+    ghost Value = { ListedPairs };
 
     ghost view = { λ s. record { nodes = s.node_count; lists = s.list_count; entries = entries_of s.runs.items s.nodes.items } };
 

@@ -1,6 +1,6 @@
 -- The lemmas that crates above cite, passed on from one place. Declares nothing.
 pub use Rattle.nested_cycles.proofs.Dominations.{each_other, one_of_two_labels}
-pub use Rattle.nested_cycles.proofs.Games.{fewer_others, in_others, others_are_good, others_are_labels, parts_after, same_words_are_good}
+pub use Rattle.nested_cycles.proofs.NestedGames.{fewer_others, in_others, others_are_good, others_are_labels, parts_after, same_words_are_good}
 pub use Rattle.nested_cycles.proofs.GoodReplies.{good_have_reply}
 pub use Rattle.nested_cycles.proofs.Levels.{good_with, reply_beats}
 pub use Rattle.nested_cycles.proofs.NestedPairs.{beats_exactly, next_pair, no_pair, pair_at, pairs_none}

@@ -4,7 +4,7 @@ use Rattle.std.specs.List.{list_any}
 use Rattle.std.proofs.lemmas.Bool.{false≢true, cases_eq, eqb-true, eq-eqb, or_cases}
 use Rattle.std.proofs.lemmas.List.Elements.{All-head, All-contains}
 use Rattle.nested_cycles.specs.GoodWords.{next_digit, AreInOneCopy, AreInTwoCopies}
-use Rattle.nested_cycles.proofs.Rests.{each_of, contains_here, contains_later, contains_cases, contains_none}
+use Rattle.nested_cycles.proofs.CopyRests.{each_of, contains_here, contains_later, contains_cases, contains_none}
 
 -- ---- whether some is
 

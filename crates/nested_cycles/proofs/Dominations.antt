@@ -4,38 +4,38 @@ use Rattle.std.proofs.lemmas.Bool.{cases_eq, cases_lt, cases_order}
 use Rattle.std.proofs.lemmas.List.{length-append, get_or_at, get_or_append_left, get_or-take}
 use Rattle.std.proofs.lemmas.List.Elements.{All-head, All-tail}
 use lib.Seq.{take-append-le, take-append_seam}
-use Rattle.nested_cycles.specs.Words.{IsWord, number_of, word_of}
-use Rattle.nested_cycles.specs.Domination.{Dominates}
+use Rattle.nested_cycles.specs.Words.{IsWord, word_number, word_of}
+use Rattle.nested_cycles.specs.Domination.{WordDominates}
 use Rattle.nested_cycles.proofs.WordNumbers.{word_of_is_word, word_of-push, number_of-word_of, third_below, length-word_of}
 
 -- ---- the first digit
 
-pub in_one_copy : (digit : ℕ) (word other : List ℕ) → Dominates word other → Dominates (digit ∷ word) (digit ∷ other)
+pub in_one_copy : (digit : ℕ) (word other : List ℕ) → WordDominates word other → WordDominates (digit ∷ word) (digit ∷ other)
 in_one_copy digit word other d = record { place = suc d.place; inside = omega (arith, d.inside); same_before = ap (λ (w : List ℕ). digit ∷ w) d.same_before; next_there = d.next_there }
 
 from_place : (digit : ℕ) (word other : List ℕ) (place : ℕ) → place < length (digit ∷ word) → take place (digit ∷ word) ≡ take place (digit ∷ other)
-    → get_or (digit ∷ word) place 0 ≡ (get_or (digit ∷ other) place 0 + 1) % 3 → Dominates word other
+    → get_or (digit ∷ word) place 0 ≡ (get_or (digit ∷ other) place 0 + 1) % 3 → WordDominates word other
 from_place digit word other zero inside same next = absurd (omega arith)
 from_place digit word other (suc place) inside same next = record { place = place; inside = omega arith; same_before = cc; next_there = next }
 
-pub from_one_copy : (digit : ℕ) (word other : List ℕ) → Dominates (digit ∷ word) (digit ∷ other) → Dominates word other
+pub from_one_copy : (digit : ℕ) (word other : List ℕ) → WordDominates (digit ∷ word) (digit ∷ other) → WordDominates word other
 from_one_copy digit word other d = from_place digit word other d.place d.inside d.same_before d.next_there
 
-pub of_two_copies : (digit other_digit : ℕ) (word other : List ℕ) → digit ≡ (other_digit + 1) % 3 → Dominates (digit ∷ word) (other_digit ∷ other)
+pub of_two_copies : (digit other_digit : ℕ) (word other : List ℕ) → digit ≡ (other_digit + 1) % 3 → WordDominates (digit ∷ word) (other_digit ∷ other)
 of_two_copies digit other_digit word other next = record { place = 0; inside = omega arith; same_before = refl; next_there = next }
 
-pub one_of_two : (count : ℕ) (word other : List ℕ) → IsWord count word → IsWord count other → word ≢ other → Dominates word other ⊎ Dominates other word
+pub one_of_two : (count : ℕ) (word other : List ℕ) → IsWord count word → IsWord count other → word ≢ other → WordDominates word other ⊎ WordDominates other word
 one_of_two count [] [] is is_other differ = absurd (differ refl)
 one_of_two count [] (e ∷ other) is is_other differ = absurd (omega (arith, is.0, is_other.0))
 one_of_two count (d ∷ word) [] is is_other differ = absurd (omega (arith, is.0, is_other.0))
 one_of_two count (d ∷ word) (e ∷ other) is is_other differ =
     elim (cases_eq d e) [
       | inl same ↦
-          let rest : Dominates word other ⊎ Dominates other word =
+          let rest : WordDominates word other ⊎ WordDominates other word =
           one_of_two (length word) word other (refl, All-tail (λ n. n < 3) d word is.1) (omega (arith, is.0, is_other.0), All-tail (λ n. n < 3) e other is_other.1) (λ f. differ (cc)) in
           elim rest [
-            | inl one ↦ inl (subst (λ (n : ℕ). Dominates (d ∷ word) (n ∷ other)) same (in_one_copy d word other one))
-            | inr two ↦ inr (subst (λ (n : ℕ). Dominates (n ∷ other) (d ∷ word)) same (in_one_copy d other word two))
+            | inl one ↦ inl (subst (λ (n : ℕ). WordDominates (d ∷ word) (n ∷ other)) same (in_one_copy d word other one))
+            | inr two ↦ inr (subst (λ (n : ℕ). WordDominates (n ∷ other) (d ∷ word)) same (in_one_copy d other word two))
           ]
       | inr apart ↦
           let low : d < 3 = All-head (λ n. n < 3) d word is.1 in
@@ -46,14 +46,14 @@ one_of_two count (d ∷ word) (e ∷ other) is is_other differ =
           ]
     ]
 
-pub one_of_two_labels : (count x y : ℕ) → x < 3 ^ count → y < 3 ^ count → x ≢ y → Dominates (word_of count x) (word_of count y) ⊎ Dominates (word_of count y) (word_of count x)
+pub one_of_two_labels : (count x y : ℕ) → x < 3 ^ count → y < 3 ^ count → x ≢ y → WordDominates (word_of count x) (word_of count y) ⊎ WordDominates (word_of count y) (word_of count x)
 one_of_two_labels count x y below_x below_y differ =
     one_of_two count (word_of count x) (word_of count y) (word_of_is_word count x below_x) (word_of_is_word count y below_y)
-    (λ same. differ (sym (number_of-word_of count x below_x) ∙ ap number_of same ∙ number_of-word_of count y below_y))
+    (λ same. differ (sym (number_of-word_of count x below_x) ∙ ap word_number same ∙ number_of-word_of count y below_y))
 
 -- ---- the last digit
 
-pub on_push : (word other : List ℕ) (digit other_digit : ℕ) → length word ≡ length other → Dominates word other → Dominates (word ++ digit ∷ []) (other ++ other_digit ∷ [])
+pub on_push : (word other : List ℕ) (digit other_digit : ℕ) → length word ≡ length other → WordDominates word other → WordDominates (word ++ digit ∷ []) (other ++ other_digit ∷ [])
 on_push word other digit other_digit same d = record {
   place = d.place;
   inside = omega (arith, d.inside, length-append word (digit ∷ []));
@@ -61,7 +61,7 @@ on_push word other digit other_digit same d = record {
   next_there = rw (get_or_append_left word (digit ∷ []) 0 d.place d.inside, get_or_append_left other (other_digit ∷ []) 0 d.place (omega (arith, d.inside))) d.next_there;
 }
 
-pub off_push : (word other : List ℕ) (digit other_digit : ℕ) → length word ≡ length other → word ≢ other → Dominates (word ++ digit ∷ []) (other ++ other_digit ∷ []) → Dominates word other
+pub off_push : (word other : List ℕ) (digit other_digit : ℕ) → length word ≡ length other → word ≢ other → WordDominates (word ++ digit ∷ []) (other ++ other_digit ∷ []) → WordDominates word other
 off_push word other digit other_digit same differ d =
     elim (cases_lt d.place (length word)) [
       | inl before ↦ record {
@@ -78,7 +78,7 @@ off_push word other digit other_digit same differ d =
           ))
     ]
 
-pub by_push : (word : List ℕ) (digit other_digit : ℕ) → digit ≡ (other_digit + 1) % 3 → Dominates (word ++ digit ∷ []) (word ++ other_digit ∷ [])
+pub by_push : (word : List ℕ) (digit other_digit : ℕ) → digit ≡ (other_digit + 1) % 3 → WordDominates (word ++ digit ∷ []) (word ++ other_digit ∷ [])
 by_push word digit other_digit next = record {
   place = length word;
   inside = omega (arith, length-append word (digit ∷ []));
@@ -86,7 +86,7 @@ by_push word digit other_digit next = record {
   next_there = rw (get_or_at word digit [] 0 (length word) refl, get_or_at word other_digit [] 0 (length word) refl) next;
 }
 
-pub from_push : (word : List ℕ) (digit other_digit : ℕ) → Dominates (word ++ digit ∷ []) (word ++ other_digit ∷ []) → digit ≡ (other_digit + 1) % 3
+pub from_push : (word : List ℕ) (digit other_digit : ℕ) → WordDominates (word ++ digit ∷ []) (word ++ other_digit ∷ []) → digit ≡ (other_digit + 1) % 3
 from_push word digit other_digit d =
     elim (cases_lt d.place (length word)) [
       | inl before ↦
@@ -102,7 +102,7 @@ from_push word digit other_digit d =
 
 -- Where the words differ before their last digits, those digits decide nothing.
 pub without_last : (count more a b : ℕ) → more ≡ suc count → a < 3 ^ more → b < 3 ^ more → a / 3 ≢ b / 3
-    → Dominates (word_of count (a / 3)) (word_of count (b / 3)) ↔ Dominates (word_of more a) (word_of more b)
+    → WordDominates (word_of count (a / 3)) (word_of count (b / 3)) ↔ WordDominates (word_of more a) (word_of more b)
 without_last count more a b e below_a below_b differ =
     let small_a : a < 3 ^ suc count = rw e at below_a in
     let small_b : b < 3 ^ suc count = rw e at below_b in
@@ -110,13 +110,13 @@ without_last count more a b e below_a below_b differ =
     let other = word_of count (b / 3) in
     let long : length word ≡ length other = length-word_of count (a / 3) ∙ sym (length-word_of count (b / 3)) in
     let apart : word ≢ other = λ same. differ (
-    sym (number_of-word_of count (a / 3) (third_below count a small_a)) ∙ ap number_of same ∙ number_of-word_of count (b / 3) (third_below count b small_b)
+    sym (number_of-word_of count (a / 3) (third_below count a small_a)) ∙ ap word_number same ∙ number_of-word_of count (b / 3) (third_below count b small_b)
     ) in
     rw (e, word_of-push count a small_a, word_of-push count b small_b) (on_push word other (a % 3) (b % 3) long, off_push word other (a % 3) (b % 3) long apart)
 
 -- Where they don't, the last digits decide.
 pub by_last : (count more a b : ℕ) → more ≡ suc count → a < 3 ^ more → b < 3 ^ more → a / 3 ≡ b / 3
-    → (a % 3 ≡ (b % 3 + 1) % 3) ↔ Dominates (word_of more a) (word_of more b)
+    → (a % 3 ≡ (b % 3 + 1) % 3) ↔ WordDominates (word_of more a) (word_of more b)
 by_last count more a b e below_a below_b same =
     let small_a : a < 3 ^ suc count = rw e at below_a in
     let small_b : b < 3 ^ suc count = rw e at below_b in
@@ -128,7 +128,7 @@ by_last count more a b e below_a below_b same =
 same_digit : (word other : List ℕ) (i n : ℕ) → i < n → take n word ≡ take n other → get_or word i 0 ≡ get_or other i 0
 same_digit word other i n lt same = sym (get_or-take n word i 0 lt) ∙ ap (λ (w : List ℕ). get_or w i 0) same ∙ get_or-take n other i 0 lt
 
-pub each_other : (word other : List ℕ) → Dominates word other → Dominates other word → ⊥
+pub each_other : (word other : List ℕ) → WordDominates word other → WordDominates other word → ⊥
 each_other word other d e =
     elim (cases_order d.place e.place) [
       | inl same ↦

@@ -4,11 +4,11 @@ use Rattle.std.proofs.lemmas.Bool.{cases_eq}
 use Rattle.std.proofs.lemmas.List.{length-append, length-replicate}
 use Rattle.std.proofs.lemmas.List.Elements.{All-head, All-tail, All-cons, All-nil, All-contains, All-weaker, All-replicate}
 use Rattle.nested_cycles.specs.Words.{IsWord}
-use Rattle.nested_cycles.specs.Domination.{Dominates}
+use Rattle.nested_cycles.specs.Domination.{WordDominates}
 use Rattle.nested_cycles.specs.GoodWords.{next_digit, first_digits, rests_in, AreInOneCopy, AreGood}
 use Rattle.nested_cycles.specs.Reply.{IsReply}
 use Rattle.nested_cycles.proofs.Dominations.{in_one_copy, of_two_copies}
-use Rattle.nested_cycles.proofs.Rests.{contains_here, contains_later, contains_cases, contains_none, contains_map, next_differs, rest_between, rest_not_between, rests-append, contains_rest, fewer_rests, no_rests, first_and_rest, rests_are_words}
+use Rattle.nested_cycles.proofs.CopyRests.{contains_here, contains_later, contains_cases, contains_none, contains_map, next_differs, rest_between, rest_not_between, rests-append, contains_rest, fewer_rests, no_rests, first_and_rest, rests_are_words}
 
 -- the first digit of a word among these
 first_of : (P : ℕ → Type 0) (words : List (List ℕ)) (word : List ℕ) → All P (first_digits words) → Contains words word → P (slice_index word 0)
@@ -16,18 +16,18 @@ first_of P words word each has = All-contains P (first_digits words) (slice_inde
 
 -- ---- the reply dominates
 
-by_first : (count digit : ℕ) (rest other : List ℕ) → IsWord (suc count) other → slice_index other 0 ≡ digit → Dominates (next_digit digit ∷ rest) other
+by_first : (count digit : ℕ) (rest other : List ℕ) → IsWord (suc count) other → slice_index other 0 ≡ digit → WordDominates (next_digit digit ∷ rest) other
 by_first count digit rest other is same =
-    subst (λ w. Dominates (next_digit digit ∷ rest) w) (sym (first_and_rest count other is))
+    subst (λ w. WordDominates (next_digit digit ∷ rest) w) (sym (first_and_rest count other is))
     (of_two_copies (next_digit digit) (slice_index other 0) rest (drop 1 other) (ap next_digit (sym same)))
 
-by_rest : (count digit : ℕ) (rest other : List ℕ) → IsWord (suc count) other → slice_index other 0 ≡ digit → Dominates rest (drop 1 other) → Dominates (digit ∷ rest) other
+by_rest : (count digit : ℕ) (rest other : List ℕ) → IsWord (suc count) other → slice_index other 0 ≡ digit → WordDominates rest (drop 1 other) → WordDominates (digit ∷ rest) other
 by_rest count digit rest other is same dominates =
-    subst (λ w. Dominates (digit ∷ rest) w) (ap (λ first. first ∷ drop 1 other) (sym same) ∙ sym (first_and_rest count other is))
+    subst (λ w. WordDominates (digit ∷ rest) w) (ap (λ first. first ∷ drop 1 other) (sym same) ∙ sym (first_and_rest count other is))
     (in_one_copy digit rest (drop 1 other) dominates)
 
 pub reply_dominates : (count : ℕ) (others : List (List ℕ)) (reply : List ℕ) → All (IsWord count) others → length others ≤ count → IsReply count others reply
-    → (other : List ℕ) → Contains others other → Dominates reply other
+    → (other : List ℕ) → Contains others other → WordDominates reply other
 reply_dominates zero others reply words few is other has = absurd (omega (arith, has.1))
 reply_dominates (suc count) others reply words few (inl none) other has = absurd (contains_none other (subst (λ ws. Contains ws other) none.0 has))
 reply_dominates (suc count) others reply words few (inr (inl one)) other has =

@@ -8,7 +8,7 @@ use Rattle.nested_cycles.specs.Domination.{labels_of, label_word, NestedBeats}
 use Rattle.nested_cycles.specs.GoodWords.{next_digit, first_digits, rests_in, AreInOneCopy, AreInTwoCopies, AreGood, label_words, NestedGood}
 use Rattle.nested_cycles.specs.Reply.{IsReply, NestedReply}
 use Rattle.nested_cycles.proofs.WordNumbers.{words_fit}
-use Rattle.nested_cycles.proofs.Rests.{each_of, contains_map, contains_none}
+use Rattle.nested_cycles.proofs.CopyRests.{each_of, contains_map, contains_none}
 use Rattle.nested_cycles.proofs.GoodReplies.{reply_dominates, good_with_reply}
 use Rattle.nested_cycles.proofs.WordLists.{words_of, number_rests, first_digits_of, rests_of_numbers, rests_below, firsts_below, are_words, none_of_firsts, fewer_number_rests, good_by_rests, good_in_one, good_of_none, not_in_three}
 

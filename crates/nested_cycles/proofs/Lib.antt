@@ -3,11 +3,11 @@ pub mod Dominations
 pub mod NestedPairs
 pub mod NestedBoards
 pub mod PairCounts
-pub mod Rests
+pub mod CopyRests
 pub mod GoodReplies
 pub mod CopyCases
 pub mod WordLists
 pub mod Levels
-pub mod Games
+pub mod NestedGames
 pub mod OneReply
 pub mod Cited

@@ -10,7 +10,7 @@ use Rattle.board_text.proofs.Cited.{board_from_parts}
 use Rattle.nested_cycles.specs.Domination.{labels_of}
 use Rattle.nested_cycles.specs.Inside.Pairs.{AreNestedPairs}
 use Rattle.nested_cycles.specs.NestedBoard.{IsNestedBoard}
-use Rattle.nested_cycles.specs.declared.making.TheConstants.{MAX_BOARD_LEVELS}
+use Rattle.nested_cycles.specs.declared.nested_boards.TheConstants.{MAX_BOARD_LEVELS}
 use Rattle.nested_cycles.proofs.NestedPairs.{are_pairs, beats_exactly}
 
 -- the words of so few digits have numbers of 16 bits

@@ -1,12 +1,12 @@
 -- Words have one reply at most.
 use Rattle.std.proofs.Common.{◌≡◌, ℕ, zero, suc, ◌<◌, ◌-◌, List, [], ◌∷◌, replicate, Contains, sym, ap, ◌∙◌, subst, inl, inr}
 use Rattle.std.proofs.lemmas.List.Elements.{All-contains}
-use Rattle.nested_cycles.specs.Words.{number_of}
+use Rattle.nested_cycles.specs.Words.{word_number}
 use Rattle.nested_cycles.specs.Domination.{labels_of, label_word}
 use Rattle.nested_cycles.specs.GoodWords.{next_digit, first_digits, rests_in, AreInOneCopy, AreInTwoCopies, label_words}
 use Rattle.nested_cycles.specs.Reply.{IsReply, NestedReply}
 use Rattle.nested_cycles.proofs.WordNumbers.{number_of-word_of}
-use Rattle.nested_cycles.proofs.Rests.{contains_none}
+use Rattle.nested_cycles.proofs.CopyRests.{contains_none}
 use Rattle.nested_cycles.proofs.GoodReplies.{some_first}
 use Rattle.nested_cycles.proofs.WordLists.{same_copies, not_one}
 
@@ -38,5 +38,5 @@ one_reply (suc count) others reply second (inr (inr two)) (inr (inr two_too)) =
 pub one_label : (levels : ℕ) (others : List ℕ) (reply second : ℕ) → reply < labels_of levels → second < labels_of levels → NestedReply levels others reply → NestedReply levels others second → reply ≡ second
 one_label levels others reply second below below_second is is_second =
     sym (number_of-word_of (levels - 1) reply below)
-    ∙ ap number_of (one_reply (levels - 1) (label_words levels others) (label_word levels reply) (label_word levels second) is is_second)
+    ∙ ap word_number (one_reply (levels - 1) (label_words levels others) (label_word levels reply) (label_word levels second) is is_second)
     ∙ number_of-word_of (levels - 1) second below_second

@@ -8,7 +8,7 @@ use Rattle.std.proofs.lemmas.List.Elements.{All-weaker, All-map, All-contains}
 use Rattle.nested_cycles.specs.Words.{IsWord, word_of}
 use Rattle.nested_cycles.specs.GoodWords.{next_digit, first_digits, rests_in, AreInOneCopy, AreInTwoCopies, AreGood}
 use Rattle.nested_cycles.proofs.WordNumbers.{word_of_is_word}
-use Rattle.nested_cycles.proofs.Rests.{contains_none, next_differs, fewer_rests}
+use Rattle.nested_cycles.proofs.CopyRests.{contains_none, next_differs, fewer_rests}
 
 -- the words of numbers
 abbrev pub words_of : ℕ → List ℕ → List (List ℕ)

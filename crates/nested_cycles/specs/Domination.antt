@@ -4,7 +4,7 @@ use Rattle.nested_cycles.specs.Words.{word_of}
 
 -- At the first place where two words of one length differ, the digit of the first comes next after that of the second round the
 -- three-cycle.
-pub record Dominates (word other : List ℕ) : Type 0 where
+pub record WordDominates (word other : List ℕ) : Type 0 where
   pub place : ℕ
   pub inside : place < length word
   pub same_before : take place word ≡ take place other
@@ -20,4 +20,4 @@ label_word levels label = word_of (levels - 1) label
 
 -- the label x dominates the label y on the nested board of a level
 abbrev pub NestedBeats : ℕ → ℕ → ℕ → Type 0
-NestedBeats levels x y = Dominates (label_word levels x) (label_word levels y)
+NestedBeats levels x y = WordDominates (label_word levels x) (label_word levels y)

@@ -7,9 +7,9 @@ abbrev pub IsWord : ℕ → List ℕ → Type 0
 IsWord count word = AreNumbers count 3 word
 
 -- the number of a word: it is read in base 3, its first digit most significant
-unfoldable pub number_of : List ℕ → ℕ
-number_of [] = 0
-number_of (digit ∷ others) = digit * 3 ^ length others + number_of others
+unfoldable pub word_number : List ℕ → ℕ
+word_number [] = 0
+word_number (digit ∷ others) = digit * 3 ^ length others + word_number others
 
 -- the word of so many digits that has this number
 unfoldable pub word_of : ℕ → ℕ → List ℕ

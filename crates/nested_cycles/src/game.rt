@@ -7,7 +7,7 @@ ghost use Rattle.nested_cycles.specs.NestedGame.{PlainGame, plain_game, IsGood, 
 ghost use Rattle.nested_cycles.specs.Reply.{NestedReply};
 
 use crate::copies::Words;
-use crate::replying::nested_reply;
+use crate::replies::nested_reply;
 use board_text::Memory;
 use std::alloc::Global;
 use std::marker::Model;

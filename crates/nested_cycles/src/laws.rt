@@ -2,38 +2,38 @@
 
 ghost use Rattle.std.specs.Prelude.{◌≡◌, ◌≢◌, ℕ, ◌+◌, ◌*◌, ◌%◌, ◌^◌, ◌<◌, ◌↔◌, ◌⊎◌, List, ◌∷◌, length};
 ghost use Rattle.board_text.specs.PlainBoard.{PlainBoard, AreLabels, IsAntisymmetric};
-ghost use Rattle.nested_cycles.specs.Words.{IsWord, number_of, word_of};
-ghost use Rattle.nested_cycles.specs.Domination.{Dominates, labels_of, NestedBeats};
+ghost use Rattle.nested_cycles.specs.Words.{IsWord, word_number, word_of};
+ghost use Rattle.nested_cycles.specs.Domination.{WordDominates, labels_of, NestedBeats};
 ghost use Rattle.nested_cycles.specs.NestedBoard.{IsNestedBoard};
 ghost use Rattle.nested_cycles.specs.Reply.{IsReply, NestedReply};
 
 /// Words and numbers belong to each other, one to one.
 pub fn words_and_numbers()
-    ensures number { (count : ℕ) → (number : ℕ) → number < 3 ^ count → number_of (word_of count number) ≡ number }
-    ensures word { (count : ℕ) → (word : List ℕ) → IsWord count word → word_of count (number_of word) ≡ word }
-    ensures is_number { (count : ℕ) → (word : List ℕ) → IsWord count word → number_of word < 3 ^ count }
+    ensures number { (count : ℕ) → (number : ℕ) → number < 3 ^ count → word_number (word_of count number) ≡ number }
+    ensures word { (count : ℕ) → (word : List ℕ) → IsWord count word → word_of count (word_number word) ≡ word }
+    ensures is_number { (count : ℕ) → (word : List ℕ) → IsWord count word → word_number word < 3 ^ count }
     ensures is_word { (count : ℕ) → (number : ℕ) → number < 3 ^ count → IsWord count (word_of count number) }
 {}
 
 /// The first digit of a label is its copy: in one copy the rest of the words decides, and of two copies the one dominates the other
 /// as in the three-cycle.
 pub fn copies_in_a_cycle()
-    ensures one_copy { (digit : ℕ) → (word : List ℕ) → (other : List ℕ) → Dominates (digit ∷ word) (digit ∷ other) ↔ Dominates word other }
+    ensures one_copy { (digit : ℕ) → (word : List ℕ) → (other : List ℕ) → WordDominates (digit ∷ word) (digit ∷ other) ↔ WordDominates word other }
     ensures two_copies { (digit : ℕ) → (other_digit : ℕ) → (word : List ℕ) → (other : List ℕ) → digit ≢ other_digit
-        → Dominates (digit ∷ word) (other_digit ∷ other) ↔ (digit ≡ (other_digit + 1) % 3) }
+        → WordDominates (digit ∷ word) (other_digit ∷ other) ↔ (digit ≡ (other_digit + 1) % 3) }
 {}
 
 /// No label dominates itself, and no two labels dominate each other, at any level.
 pub fn no_two_ways()
-    ensures itself { (word : List ℕ) → Dominates word word → ⊥ }
-    ensures each_other { (word : List ℕ) → (other : List ℕ) → Dominates word other → Dominates other word → ⊥ }
+    ensures itself { (word : List ℕ) → WordDominates word word → ⊥ }
+    ensures each_other { (word : List ℕ) → (other : List ℕ) → WordDominates word other → WordDominates other word → ⊥ }
     ensures board { (levels : ℕ) → (pebbles : ℕ) → (board : PlainBoard) → IsNestedBoard levels pebbles board → IsAntisymmetric board }
 {}
 
 /// Of two labels one dominates the other, at any level.
 pub fn one_of_two()
     ensures words { (count : ℕ) → (word : List ℕ) → (other : List ℕ) → IsWord count word → IsWord count other → word ≢ other
-        → Dominates word other ⊎ Dominates other word }
+        → WordDominates word other ⊎ WordDominates other word }
     ensures labels { (levels : ℕ) → (x : ℕ) → (y : ℕ) → AreLabels (labels_of levels) (x, y) → x ≢ y
         → NestedBeats levels x y ⊎ NestedBeats levels y x }
 {}

@@ -1,10 +1,10 @@
 -- What a check of a board and a document in two texts reads, answers and writes.
 use Rattle.std.specs.Prelude.{ℕ}
-use Rattle.pebbles.specs.Answer.{IsChecked}
+use Rattle.pebbles.specs.Verdicts.{IsChecked}
 use Rattle.pebbles.specs.BoardRun.{RanOn, FailsOn}
 use Rattle.pebbles.specs.Run.{Bytes, Ran, Fails}
 use Rattle.pebbles.specs.Texts.{BringsNoProof}
-use Rattle.pebbles.specs.declared.answering.Verdict.{Verdict}
+use Rattle.pebbles.specs.declared.verdicts.Verdict.{Verdict}
 use Rattle.pebbles.specs.declared.fault.RunFault.{RunFault}
 
 -- the board and the document were read, and the verdict's line was written

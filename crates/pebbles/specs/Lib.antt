@@ -2,7 +2,7 @@ pub mod Joined
 pub mod Output
 pub mod Texts
 pub mod Faults
-pub mod Answer
+pub mod Verdicts
 pub mod Run
 pub mod Meaning
 pub mod BoardRun

@@ -7,8 +7,8 @@ use Rattle.board_text.specs.BoardText.{board_text}
 use Rattle.positions.specs.Game.{LabellerTree}
 use Rattle.positions.specs.Table.{AnswerRow, Answers}
 use Rattle.proof_text.specs.declared.proof.TheConstants.{MOST_TURNS}
-use Rattle.pebbles.specs.Answer.{IsAnswered}
-use Rattle.pebbles.specs.declared.answering.Verdict.{Verdict}
+use Rattle.pebbles.specs.Verdicts.{IsAnswered}
+use Rattle.pebbles.specs.declared.verdicts.Verdict.{Verdict}
 
 -- the text was answered with the line `accepted least k`, k being a number that documents have
 abbrev pub AcceptsLeast : List ℕ → ℕ → Type 0

@@ -10,8 +10,8 @@ use Rattle.proof_check.specs.declared.fault.Side.{Side}
 use Rattle.proof_check.specs.declared.fault.Side.TheVariants.{Labeller, Adversary}
 use Rattle.proof_check.specs.declared.fault.CheckFault.{CheckFault}
 use Rattle.proof_check.specs.declared.fault.CheckFault.TheVariants as faults
-use Rattle.pebbles.specs.declared.answering.Verdict.{Verdict}
-use Rattle.pebbles.specs.declared.answering.Verdict.TheVariants.{Accepted, Refused}
+use Rattle.pebbles.specs.declared.verdicts.Verdict.{Verdict}
+use Rattle.pebbles.specs.declared.verdicts.Verdict.TheVariants.{Accepted, Refused}
 
 -- a side's name
 abbrev pub side_word : Side → List ℕ

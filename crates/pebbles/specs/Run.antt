@@ -1,7 +1,7 @@
 -- What a run reads, answers and writes.
 use Rattle.std.specs.Prelude.{◌≡◌, ℕ, ◌<◌, ◌≤◌, ◌⊎◌, List, Option, length}
 use Rattle.std.specs.Io.KnownBytes.{Consumes, Appends}
-use Rattle.board_text.specs.Ends.{GaveAll, AppendsFront}
+use Rattle.board_text.specs.Streams.{GaveAll, AppendsFront}
 use Rattle.pebbles.specs.declared.fault.RunFault.{RunFault}
 use Rattle.pebbles.specs.declared.fault.RunFault.TheVariants.{Memory, Read, Write, Limit}
 

@@ -19,13 +19,13 @@ pub record IsSmallBoard (text : List ℕ) (board : PlainBoard) : Type 0 where
 
 -- what is wrong with the text of a board
 abbrev pub IsWrongBoard : List ℕ → RunFault → Type 0
-IsWrongBoard text (Board fault) = board_faults.HasFault text fault.line fault.kind × (fault.kind ≢ board_kinds.Memory)
+IsWrongBoard text (Board fault) = board_faults.HasBoardFault text fault.line fault.kind × (fault.kind ≢ board_kinds.Memory)
 IsWrongBoard text TooLarge = (board : PlainBoard) × IsBoard board × (text ≡ board_text board) × (MAX_CONFIGURATIONS < configurations board)
 IsWrongBoard text fault = ⊥
 
 -- what is wrong with the text of a document for the board
 abbrev pub IsWrongProof : PlainBoard → List ℕ → RunFault → Type 0
-IsWrongProof board text (Proof fault) = proof_faults.HasFault board text fault.line fault.kind × (fault.kind ≢ proof_kinds.Memory)
+IsWrongProof board text (Proof fault) = proof_faults.HasProofFault board text fault.line fault.kind × (fault.kind ≢ proof_kinds.Memory)
 IsWrongProof board text fault = ⊥
 
 -- why a text brings no small board; memory may be wanting

@@ -1,14 +1,14 @@
 //! Checks, over readers and writers: of a board and a document one behind the other, and of two texts.
 
 ghost use Rattle.std.specs.Prelude.{◌≡◌, ◌≢◌, ◌↔◌, ◌⊎◌, true, false, Err, IfOk, IfErr};
-ghost use Rattle.pebbles.specs.Answer.{CannotAnswer, IsAnswered};
+ghost use Rattle.pebbles.specs.Verdicts.{CannotAnswer, IsAnswered};
 ghost use Rattle.pebbles.specs.CheckRun.{RanCheck, CheckFails};
 ghost use Rattle.pebbles.specs.Run.{Ran, Fails, bytes_of};
 ghost use Rattle.pebbles.specs.declared.fault.RunFault.TheVariants.{Read, Write};
 
-use crate::answering::{Verdict, check_joined_text, check_text};
 use crate::fault::RunFault;
 use crate::reading::{MAX_BOARD_BYTES, read_board, read_text};
+use crate::verdicts::{Verdict, check_joined_text, check_text};
 use board_text::{Sink, Source, write_all};
 use std::alloc::Global;
 use std::thread::Threads;
@@ -31,9 +31,9 @@ pub fn run_joined<R: Source, W: Sink>(
 ) -> Result<Verdict, RunFault>
     requires reader_ready { R.has_failed reader.old ≡ false }
     requires writer_ready { W.has_failed writer.old ≡ false }
-    ensures ok { IfOk result (Ran IsAnswered (bytes_of R.left reader.old reader.new) (bytes_of W.taken writer.old writer.new)) }
+    ensures ok { IfOk result (Ran IsAnswered (bytes_of R.remaining reader.old reader.new) (bytes_of W.contents writer.old writer.new)) }
     ensures fault { IfErr result (Fails IsAnswered CannotAnswer MAX_JOINED_BYTES
-        (bytes_of R.left reader.old reader.new) (bytes_of W.taken writer.old writer.new)) }
+        (bytes_of R.remaining reader.old reader.new) (bytes_of W.contents writer.old writer.new)) }
     ensures read { (R.has_failed reader.new ≡ true) ↔ (result ≡ Err Read) }
     ensures write { (W.has_failed writer.new ≡ true) ↔ (result ≡ Err Write) }
     ensures unwritten { IfErr result (λ fault. fault ≢ Write → writer.new ≡ writer.old) }
@@ -58,10 +58,10 @@ pub fn run_check<B: Source, P: Source, W: Sink>(
     requires board_ready { B.has_failed board.old ≡ false }
     requires proof_ready { P.has_failed proof.old ≡ false }
     requires writer_ready { W.has_failed writer.old ≡ false }
-    ensures ok { IfOk result (RanCheck (bytes_of B.left board.old board.new) (bytes_of P.left proof.old proof.new)
-        (bytes_of W.taken writer.old writer.new)) }
-    ensures fault { IfErr result (CheckFails MAX_BOARD_BYTES MAX_PROOF_BYTES (proof.new ≡ proof.old) (bytes_of B.left board.old board.new)
-        (bytes_of P.left proof.old proof.new) (bytes_of W.taken writer.old writer.new)) }
+    ensures ok { IfOk result (RanCheck (bytes_of B.remaining board.old board.new) (bytes_of P.remaining proof.old proof.new)
+        (bytes_of W.contents writer.old writer.new)) }
+    ensures fault { IfErr result (CheckFails MAX_BOARD_BYTES MAX_PROOF_BYTES (proof.new ≡ proof.old) (bytes_of B.remaining board.old board.new)
+        (bytes_of P.remaining proof.old proof.new) (bytes_of W.contents writer.old writer.new)) }
     ensures read { ((B.has_failed board.new ≡ true) ⊎ (P.has_failed proof.new ≡ true)) ↔ (result ≡ Err Read) }
     ensures write { (W.has_failed writer.new ≡ true) ↔ (result ≡ Err Write) }
     ensures unwritten { IfErr result (λ fault. fault ≢ Write → writer.new ≡ writer.old) }

@@ -9,7 +9,7 @@ ghost use Rattle.proof_text.specs.ProofText.{proof_text};
 ghost use Rattle.strategies.specs.Document.{claim_of};
 ghost use Rattle.proof_check.specs.declared.checking.Shown.{Shown as ShownClaim};
 ghost use Rattle.positions.specs.declared.value.Value.{Value as Worth};
-ghost use Rattle.pebbles.specs.Answer.{IsChecked, IsVerdict};
+ghost use Rattle.pebbles.specs.Verdicts.{IsChecked, IsVerdict};
 ghost use Rattle.pebbles.specs.Headline.{ShowsValue, IsAccepted};
 ghost use Rattle.pebbles.specs.Report.{Report as CountReport, IsReport, IsReportOf, IsReportOfText};
 ghost use Rattle.pebbles.specs.Run.{Bytes, Ran};
@@ -18,8 +18,8 @@ ghost use Rattle.pebbles.specs.Texts.{BringsNoBoard, BringsNoProof, IsMemory, Is
 ghost use Rattle.pebbles.specs.CheckRun.{RanCheck};
 ghost use Rattle.pebbles.specs.Meaning.{AcceptsLeast, CanAnswer};
 ghost use Rattle.pebbles.specs.declared.fault.RunFault.{RunFault as Fault};
-ghost use Rattle.pebbles.specs.declared.answering.Verdict.{Verdict as Judgement};
-ghost use Rattle.pebbles.specs.declared.answering.Verdict.TheVariants.{Accepted};
+ghost use Rattle.pebbles.specs.declared.verdicts.Verdict.{Verdict as Judgement};
+ghost use Rattle.pebbles.specs.declared.verdicts.Verdict.TheVariants.{Accepted};
 
 use positions::MAX_CONFIGURATIONS;
 

@@ -8,13 +8,12 @@
 //! 3 refused, 4 no memory or a worker that wasn't started, 5 a failed read or write, or an input that is too long.
 #![tactic(auto)]
 
-mod answering;
 mod boards;
 mod checking;
 mod fault;
 mod joined;
 mod laws;
-mod nesting;
+mod nested_text;
 mod output;
 mod playing;
 #[cfg(test)]
@@ -26,16 +25,16 @@ mod solving;
 mod solving_tests;
 #[cfg(test)]
 mod tests;
+mod verdicts;
 
 ghost use Rattle.std.specs.Prelude.{◌≡◌, false};
 ghost use Rattle.command_line.specs.Reading.{IsInRange};
 
-use answering::Verdict;
 use board_text::{Sink, Source, Through};
 use checking::{run_check, run_joined};
 use command_line::{Job, JobFault, Player, job};
 use fault::RunFault;
-use nesting::run_nested;
+use nested_text::run_nested;
 use player::play_nested;
 use playing::run_play;
 use proof_check::Side;
@@ -47,6 +46,7 @@ use std::process::ExitCode;
 use std::sync::Wait;
 use std::thread::Threads;
 use std::{env, fs, io};
+use verdicts::Verdict;
 
 fn main(rt: HostRuntime) -> ExitCode {
     let alloc = rt.alloc();

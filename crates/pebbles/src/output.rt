@@ -4,9 +4,9 @@ ghost use Rattle.std.specs.Prelude.{◌≡◌, ◌<◌, ◌++◌, IfOk, OnOk, st
 ghost use Rattle.positions.specs.Ranks.{configurations};
 ghost use Rattle.proof_check.specs.CheckFaults.{NamesRanks};
 ghost use Rattle.pebbles.specs.Output.{line_of, side_word as word_of_side, turn_word as word_of_turn, row_words, fault_words};
-ghost use Rattle.pebbles.specs.Inside.Answer.{NamesRanksOf};
+ghost use Rattle.pebbles.specs.Inside.Verdicts.{NamesRanksOf};
 
-use crate::answering::Verdict;
+use crate::verdicts::Verdict;
 use board_text::Memory;
 use positions::{Space, write_labels};
 use proof_check::{CheckFault, Side};

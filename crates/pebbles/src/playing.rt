@@ -34,10 +34,10 @@ pub fn run_play<B: Source, L: Source, W: Sink>(
     requires board_ready { B.has_failed board.old ≡ false }
     requires lines_ready { L.has_failed lines.old ≡ false }
     requires writer_ready { W.has_failed writer.old ≡ false }
-    ensures ok { IfOk result (RanPlay side (bytes_of B.left board.old board.new) (bytes_of L.left lines.old lines.new)
-        (bytes_of W.taken writer.old writer.new)) }
+    ensures ok { IfOk result (RanPlay side (bytes_of B.remaining board.old board.new) (bytes_of L.remaining lines.old lines.new)
+        (bytes_of W.contents writer.old writer.new)) }
     ensures fault { IfErr result (PlayFails side MAX_BOARD_BYTES ((lines.new ≡ lines.old) × (writer.new ≡ writer.old))
-        (bytes_of B.left board.old board.new) (bytes_of L.left lines.old lines.new) (bytes_of W.taken writer.old writer.new)) }
+        (bytes_of B.remaining board.old board.new) (bytes_of L.remaining lines.old lines.new) (bytes_of W.contents writer.old writer.new)) }
     ensures read { ((B.has_failed board.new ≡ true) ⊎ (L.has_failed lines.new ≡ true)) ↔ (result ≡ Err Read) }
     ensures write { (W.has_failed writer.new ≡ true) ↔ (result ≡ Err Write) }
 {
@@ -58,10 +58,10 @@ fn play<L: Source, W: Sink>(
     requires same_board { values.now ≡ board.now }
     requires lines_ready { L.has_failed lines.old ≡ false }
     requires writer_ready { W.has_failed writer.old ≡ false }
-    ensures ok { IfOk result (HasEnded (IsPlayed (game_of side board.now)) (L.left lines.old) (L.left lines.new)
-        (W.taken writer.old) (W.taken writer.new)) }
-    ensures fault { IfErr result (BreaksOff (IsPlayed (game_of side board.now)) (L.left lines.old) (L.left lines.new)
-        (W.taken writer.old) (W.taken writer.new)) }
+    ensures ok { IfOk result (HasEnded (IsPlayed (game_of side board.now)) (L.remaining lines.old) (L.remaining lines.new)
+        (W.contents writer.old) (W.contents writer.new)) }
+    ensures fault { IfErr result (BreaksOff (IsPlayed (game_of side board.now)) (L.remaining lines.old) (L.remaining lines.new)
+        (W.contents writer.old) (W.contents writer.new)) }
     ensures value { IfOk result (KeepsToValue (game_of side board.now)) }
     ensures read { (L.has_failed lines.new ≡ true) ↔ (result ≡ Err play_faults.Read) }
     ensures write { (W.has_failed writer.new ≡ true) ↔ (result ≡ Err play_faults.Write) }

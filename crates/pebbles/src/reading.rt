@@ -22,8 +22,8 @@ pub(crate) fn read_text<R: Source>(
 ) -> Result<Vec<u8>, RunFault>
     requires ready { R.has_failed reader.old ≡ false }
     requires countable { limit < usize.MAX }
-    ensures ok { IfOk result (λ text. Gave (bytes_of R.left reader.old reader.new) text.items) }
-    ensures fault { IfErr result (IsUnread limit (bytes_of R.left reader.old reader.new)) }
+    ensures ok { IfOk result (λ text. Gave (bytes_of R.remaining reader.old reader.new) text.items) }
+    ensures fault { IfErr result (IsUnread limit (bytes_of R.remaining reader.old reader.new)) }
     ensures read { (R.has_failed reader.new ≡ true) ↔ (result ≡ Err Read) }
 {
     Ok(read_all(alloc, reader, limit)?)
@@ -35,8 +35,8 @@ pub(crate) fn read_board<R: Source>(
     reader: &mut R,
 ) -> Result<(Board, Space), RunFault>
     requires { R.has_failed reader.old ≡ false }
-    ensures found { IfOk result (λ p. GaveBoard (bytes_of R.left reader.old reader.new) p.0 × (p.1 ≡ p.0)) }
-    ensures fault { IfErr result (GaveNoBoard MAX_BOARD_BYTES (bytes_of R.left reader.old reader.new)) }
+    ensures found { IfOk result (λ p. GaveBoard (bytes_of R.remaining reader.old reader.new) p.0 × (p.1 ≡ p.0)) }
+    ensures fault { IfErr result (GaveNoBoard MAX_BOARD_BYTES (bytes_of R.remaining reader.old reader.new)) }
     ensures read { (R.has_failed reader.new ≡ true) ↔ (result ≡ Err Read) }
     ensures unwritten { result ≢ Err Write }
 {

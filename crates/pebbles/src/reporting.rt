@@ -39,9 +39,9 @@ pub fn run_report<R: Source, W: Sink>(
     requires workers { InRange 1 16 workers }
     requires reader_ready { R.has_failed reader.old ≡ false }
     requires writer_ready { W.has_failed writer.old ≡ false }
-    ensures ok { IfOk result (Ran Reports (bytes_of R.left reader.old reader.new) (bytes_of W.taken writer.old writer.new)) }
+    ensures ok { IfOk result (Ran Reports (bytes_of R.remaining reader.old reader.new) (bytes_of W.contents writer.old writer.new)) }
     ensures fault { IfErr result (Fails Reports (CannotSolve workers) MAX_BOARD_BYTES
-        (bytes_of R.left reader.old reader.new) (bytes_of W.taken writer.old writer.new)) }
+        (bytes_of R.remaining reader.old reader.new) (bytes_of W.contents writer.old writer.new)) }
     ensures read { (R.has_failed reader.new ≡ true) ↔ (result ≡ Err Read) }
     ensures write { (W.has_failed writer.new ≡ true) ↔ (result ≡ Err Write) }
     ensures unwritten { IfErr result (λ fault. fault ≢ Write → writer.new ≡ writer.old) }

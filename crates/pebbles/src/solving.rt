@@ -40,11 +40,11 @@ pub fn run_solve<R: Source, W: Sink>(
     requires workers { InRange 1 16 workers }
     requires reader_ready { R.has_failed reader.old ≡ false }
     requires writer_ready { W.has_failed writer.old ≡ false }
-    ensures ok { IfOk result (Ran IsSolution (bytes_of R.left reader.old reader.new) (bytes_of W.taken writer.old writer.new)) }
-    ensures shows { IfOk result (Ran ShowsValue (bytes_of R.left reader.old reader.new) (bytes_of W.taken writer.old writer.new)) }
-    ensures accepted { IfOk result (Ran IsAccepted (bytes_of R.left reader.old reader.new) (bytes_of W.taken writer.old writer.new)) }
+    ensures ok { IfOk result (Ran IsSolution (bytes_of R.remaining reader.old reader.new) (bytes_of W.contents writer.old writer.new)) }
+    ensures shows { IfOk result (Ran ShowsValue (bytes_of R.remaining reader.old reader.new) (bytes_of W.contents writer.old writer.new)) }
+    ensures accepted { IfOk result (Ran IsAccepted (bytes_of R.remaining reader.old reader.new) (bytes_of W.contents writer.old writer.new)) }
     ensures fault { IfErr result (Fails IsSolution (CannotSolve workers) MAX_BOARD_BYTES
-        (bytes_of R.left reader.old reader.new) (bytes_of W.taken writer.old writer.new)) }
+        (bytes_of R.remaining reader.old reader.new) (bytes_of W.contents writer.old writer.new)) }
     ensures read { (R.has_failed reader.new ≡ true) ↔ (result ≡ Err Read) }
     ensures write { (W.has_failed writer.new ≡ true) ↔ (result ≡ Err Write) }
     ensures unwritten { IfErr result (λ fault. fault ≢ Write → writer.new ≡ writer.old) }

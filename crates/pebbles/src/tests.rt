@@ -1,11 +1,11 @@
 //! Runs over readers and writers that are slow, that fail, and that are refused memory.
 
-use crate::answering::{Answer as Answered, Verdict, check_joined_text, check_text};
 use crate::boards::small_board;
 use crate::checking::{run_check, run_joined};
 use crate::fault::RunFault;
 use crate::joined::front_len;
-use crate::nesting::{nested_text, run_nested};
+use crate::nested_text::{nested_text, run_nested};
+use crate::verdicts::{Verdict, VerdictLine, check_joined_text, check_text};
 use board_text::{BoardFault, BoardKind, Sink, Source};
 use fakes::{Drip, Failing, Outcome, Trickle, comes_right};
 use proof_check::{CheckFault, Shown, Side};
@@ -33,9 +33,9 @@ const MISSING: &[u8] =
 
 const REFUSED: &[u8] = b"refused labeller start missing\n";
 
-type Answer = Result<Verdict, RunFault>;
+type Checked = Result<Verdict, RunFault>;
 
-const SHOWN: Answer = Ok(Verdict::Accepted(Shown {
+const SHOWN: Checked = Ok(Verdict::Accepted(Shown {
     claim: Claim::AtLeast(2),
 }));
 
@@ -60,7 +60,7 @@ fn serves(
     rt: &(impl Threads + Sync),
     alloc: Global,
     joined: Joined,
-    wanted: Answer,
+    wanted: Checked,
     written: &[u8],
 ) -> bool {
     comes_right(|| joined_outcome(rt, alloc, joined, wanted, written))
@@ -71,7 +71,7 @@ fn joined_outcome(
     rt: &(impl Threads + Sync),
     alloc: Global,
     joined: Joined,
-    wanted: Answer,
+    wanted: Checked,
     written: &[u8],
 ) -> Outcome {
     let mut reader = Drip::new(joined.text, joined.reads);
@@ -318,7 +318,7 @@ fn checks(
     rt: &(impl Threads + Sync),
     alloc: Global,
     ends: Ends,
-    wanted: Answer,
+    wanted: Checked,
     written: &[u8],
     left: &[u8],
 ) -> bool {
@@ -331,7 +331,7 @@ fn check_outcome(
     rt: &(impl Threads + Sync),
     alloc: Global,
     ends: Ends,
-    wanted: Answer,
+    wanted: Checked,
     written: &[u8],
     left: &[u8],
 ) -> Outcome {
@@ -455,7 +455,7 @@ fn nested_text_outcome(alloc: Global) -> Outcome {
 }
 
 /// Whether the answer to a text is this one with its line, or memory was refused.
-fn answer_outcome(answer: Result<Answered, RunFault>, wanted: Answer, line: &[u8]) -> Outcome {
+fn answer_outcome(answer: Result<VerdictLine, RunFault>, wanted: Checked, line: &[u8]) -> Outcome {
     match answer {
         Ok(answer) => {
             let is_right = Ok(answer.verdict) == wanted && answer.line.as_bytes() == line;
@@ -474,7 +474,7 @@ fn check_both_texts(
     alloc: Global,
     board: &[u8],
     proof: &[u8],
-) -> Result<Answered, RunFault> {
+) -> Result<VerdictLine, RunFault> {
     let (board, space) = small_board(alloc, board)?;
     check_text(rt, alloc, &board, &space, proof)
 }

@@ -6,7 +6,7 @@ use Rattle.std.proofs.lemmas.List.{length-set, length-replicate}
 use Rattle.std.proofs.lemmas.List.Elements.{All-set, All-replicate, All-contains}
 use Rattle.board_text.specs.PlainBoard.{PlainBoard, plain_board, AreLabels}
 use Rattle.positions.specs.Game.{Legal, LabellerTree, moved}
-use Rattle.nested_cycles.specs.Words.{number_of}
+use Rattle.nested_cycles.specs.Words.{word_number}
 use Rattle.nested_cycles.specs.Domination.{labels_of, label_word, NestedBeats}
 use Rattle.nested_cycles.specs.Inside.Pairs.{AreNestedPairs}
 use Rattle.nested_cycles.specs.NestedBoard.{IsNestedBoard}
@@ -31,7 +31,7 @@ pub has_label : (levels : ℕ) (others : List ℕ) → NestedGood levels others 
 has_label levels others good =
     let found = good_have_reply (levels - 1) (label_words levels others) good in
     record {
-      label = number_of found.0;
+      label = word_number found.0;
       is_label = number_of_word (levels - 1) found.0 found.2;
       reply = subst (λ word. IsReply (levels - 1) (label_words levels others) word) (sym (word_of-number_of (levels - 1) found.0 found.2)) found.1;
     }

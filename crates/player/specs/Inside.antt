@@ -1,6 +1,6 @@
 -- What the clauses of this crate's own functions cite, and no public contract.
-pub mod Reading
-pub mod Seats
+pub mod LineInput
+pub mod PlayState
 pub mod Transcript
-pub mod Turns
+pub mod Steps
 pub mod Words

@@ -2,7 +2,7 @@
 use Rattle.std.specs.Prelude.{◌≡◌, ◌≢◌, ℕ, ◌≤◌, ◌⊎◌, List, [], ◌∷◌, ◌++◌, length, All, Option}
 use Rattle.std.specs.List.{flat_map}
 use Rattle.std.specs.Io.KnownBytes.{Appends, Consumes, IsAtEnd}
-use Rattle.board_text.specs.Ends.{GaveAll, AppendsFront}
+use Rattle.board_text.specs.Streams.{GaveAll, AppendsFront}
 use Rattle.board_text.specs.LineForms.{closed}
 use Rattle.player.specs.Words.{IsLine, BeginsTooLong}
 use Rattle.player.specs.Transcript.{Standing, Going, Over, Stops}

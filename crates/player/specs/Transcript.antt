@@ -144,14 +144,14 @@ AsksAfterLine board at requests line said to =
 
 -- what is written before a line is read: the value or the level, the start, and where the person is the labeller the first request,
 -- or that there is no strategy
-abbrev pub Opens : Game → List ℕ → Standing → Type 0
-Opens (PersonAsks board) said to =
+abbrev pub BeginsPlay : Game → List ℕ → Standing → Type 0
+BeginsPlay (PersonAsks board) said to =
     (value : Value) × HasValue board board.start value × (said ≡ opening_lines board value board.start) × (to ≡ Going board.start 0)
-Opens (PersonAnswers board) said to =
+BeginsPlay (PersonAnswers board) said to =
     (HasValue board board.start Forever × (said ≡ opening_lines board Forever board.start ++ no_strategy_line) × (to ≡ Over NoStrategy))
     ⊎ ((number : ℕ) × (asked : List ℕ) × HasValue board board.start (Finite number)
     × (said ≡ opening_lines board (Finite number) board.start ++ asked) × Asks board board.start 0 asked to)
-Opens (PersonClimbs levels) said to = (said ≡ nested_opening_lines levels) × (to ≡ Going (replicate levels 0) 0)
+BeginsPlay (PersonClimbs levels) said to = (said ≡ nested_opening_lines levels) × (to ≡ Going (replicate levels 0) 0)
 
 -- what one line brings; nothing where the play is over
 abbrev pub Brings : Game → Standing → List ℕ → List ℕ → Standing → Type 0
@@ -173,7 +173,7 @@ pub record IsPlayed (game : Game) (lines : List (List ℕ)) (text : List ℕ) (t
   pub opening : List ℕ
   pub first : Standing
   pub more : List ℕ
-  pub opens : Opens game opening first
+  pub opens : BeginsPlay game opening first
   pub brings : BringInTurn game first lines more to
   pub text_is : text ≡ opening ++ more
 

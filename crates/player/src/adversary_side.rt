@@ -4,15 +4,15 @@ ghost use Rattle.std.specs.Prelude.{◌≡◌, ◌↔◌, ◌+◌, ◌<◌, ◌�
 ghost use Rattle.positions.specs.Ranks.{configurations};
 ghost use Rattle.player.specs.Laws.{KeepsToValue};
 ghost use Rattle.player.specs.Play.{HasEnded, BreaksOff};
-ghost use Rattle.player.specs.Inside.Seats.{at};
+ghost use Rattle.player.specs.Inside.PlayState.{at};
 ghost use Rattle.player.specs.Transcript.{Going, IsPlayed, PersonAsks, Replies};
 ghost use Rattle.player.specs.Inside.Transcript.{standing};
-ghost use Rattle.player.specs.Inside.Turns.{Says};
+ghost use Rattle.player.specs.Inside.Steps.{AddsText};
 ghost use Rattle.player.specs.declared.end.PlayFault.TheVariants.{Read, Write};
 
 use crate::end::{PlayEnd, PlayFault};
 use crate::play::{Play, play_on};
-use crate::showing::show;
+use crate::text_buffer::flush;
 use crate::word::Word;
 use crate::writing::{refused, stopped, write_opening, write_reply, write_stuck};
 use board_text::{Board, Sink, Source};
@@ -37,10 +37,10 @@ pub fn play_adversary_side<R: Source, W: Sink>(
     requires same_board { values.now ≡ board.now }
     requires reader_ready { R.has_failed reader.old ≡ false }
     requires writer_ready { W.has_failed writer.old ≡ false }
-    ensures ok { IfOk result (HasEnded (IsPlayed (PersonAsks board.now)) (R.left reader.old) (R.left reader.new)
-        (W.taken writer.old) (W.taken writer.new)) }
-    ensures fault { IfErr result (BreaksOff (IsPlayed (PersonAsks board.now)) (R.left reader.old) (R.left reader.new)
-        (W.taken writer.old) (W.taken writer.new)) }
+    ensures ok { IfOk result (HasEnded (IsPlayed (PersonAsks board.now)) (R.remaining reader.old) (R.remaining reader.new)
+        (W.contents writer.old) (W.contents writer.new)) }
+    ensures fault { IfErr result (BreaksOff (IsPlayed (PersonAsks board.now)) (R.remaining reader.old) (R.remaining reader.new)
+        (W.contents writer.old) (W.contents writer.new)) }
     ensures value { IfOk result (KeepsToValue (PersonAsks board.now)) }
     ensures read { (R.has_failed reader.new ≡ true) ↔ (result ≡ Err Read) }
     ensures write { (W.has_failed writer.new ≡ true) ↔ (result ≡ Err Write) }
@@ -51,7 +51,7 @@ pub fn play_adversary_side<R: Source, W: Sink>(
     let Ok(()) = write_opening(&mut text, space, values.of(start), start) else {
         return Err(PlayFault::Memory);
     };
-    show(&mut text, writer)?;
+    flush(&mut text, writer)?;
     let mut play = AdversarySide::new(board, values, start);
     play_on(&mut play, &mut text, reader, writer)
 }
@@ -70,9 +70,9 @@ struct AdversarySide<'a> {
 impl<'a> Model for AdversarySide<'a> {
     ghost use Rattle.std.specs.Prelude.{◌≡◌, ◌<◌};
     ghost use Rattle.positions.specs.Ranks.{configurations};
-    ghost use Rattle.player.specs.Inside.Seats.{Seat};
+    ghost use Rattle.player.specs.Inside.PlayState.{PlayState};
 
-    ghost Value = { Seat };
+    ghost Value = { PlayState };
 
     ghost view = { λ s. record { board = s.board.now; rank = s.rank; requests = s.requests } };
 
@@ -100,7 +100,7 @@ impl<'a> AdversarySide<'a> {
         requires few { self.old.requests + 1 < 2 ^ 32 }
         ensures board { self.new.board ≡ self.old.board }
         ensures count { self.new.requests ≤ self.old.requests + 1 }
-        ensures said { IfOk result (λ end. Says (string_bytes text.old) (string_bytes text.new)
+        ensures said { IfOk result (λ end. AddsText (string_bytes text.old) (string_bytes text.new)
             (λ said. Replies self.old.board (at self.old) self.old.requests pebble said (standing end (at self.new) self.new.requests))) }
     {
         let space = self.values.space();
@@ -128,7 +128,7 @@ impl Play for AdversarySide<'_> {
 
     ghost requests = { λ s. s.requests };
 
-    fn answer(&mut self, word: Word, text: &mut String) -> Result<Option<PlayEnd>, AllocError> {
+    fn reply(&mut self, word: Word, text: &mut String) -> Result<Option<PlayEnd>, AllocError> {
         let pebbles = u32::from(self.values.space().pebbles());
         match word {
             Word::Number(number) => {

@@ -7,13 +7,13 @@ ghost use Rattle.player.specs.Laws.{KeepsToValue};
 ghost use Rattle.player.specs.Play.{HasEnded, BreaksOff};
 ghost use Rattle.player.specs.Transcript.{IsPlayed, NestedReplies, PersonClimbs};
 ghost use Rattle.player.specs.Inside.Transcript.{standing};
-ghost use Rattle.player.specs.Inside.Turns.{Says};
+ghost use Rattle.player.specs.Inside.Steps.{AddsText};
 ghost use Rattle.player.specs.declared.end.PlayFault.TheVariants.{Read, Write};
 
 use crate::end::{PlayEnd, PlayFault};
 use crate::nested_writing::{write_levels, write_nested_reply};
 use crate::play::{Play, play_on};
-use crate::showing::show;
+use crate::text_buffer::flush;
 use crate::word::Word;
 use crate::writing::{refused, stopped};
 use board_text::{Memory, Sink, Source};
@@ -36,10 +36,10 @@ pub fn play_nested<R: Source, W: Sink>(
     requires level { InRange 1 MAX_LEVELS levels }
     requires reader_ready { R.has_failed reader.old ≡ false }
     requires writer_ready { W.has_failed writer.old ≡ false }
-    ensures ok { IfOk result (HasEnded (IsPlayed (PersonClimbs levels)) (R.left reader.old) (R.left reader.new)
-        (W.taken writer.old) (W.taken writer.new)) }
-    ensures fault { IfErr result (BreaksOff (IsPlayed (PersonClimbs levels)) (R.left reader.old) (R.left reader.new)
-        (W.taken writer.old) (W.taken writer.new)) }
+    ensures ok { IfOk result (HasEnded (IsPlayed (PersonClimbs levels)) (R.remaining reader.old) (R.remaining reader.new)
+        (W.contents writer.old) (W.contents writer.new)) }
+    ensures fault { IfErr result (BreaksOff (IsPlayed (PersonClimbs levels)) (R.remaining reader.old) (R.remaining reader.new)
+        (W.contents writer.old) (W.contents writer.new)) }
     ensures value { IfOk result (KeepsToValue (PersonClimbs levels)) }
     ensures read { (R.has_failed reader.new ≡ true) ↔ (result ≡ Err Read) }
     ensures write { (W.has_failed writer.new ≡ true) ↔ (result ≡ Err Write) }
@@ -51,7 +51,7 @@ pub fn play_nested<R: Source, W: Sink>(
     let Ok(()) = write_levels(&mut text, levels, play.nested.words()) else {
         return Err(PlayFault::Memory);
     };
-    show(&mut text, writer)?;
+    flush(&mut text, writer)?;
     play_on(&mut play, &mut text, reader, writer)
 }
 
@@ -82,7 +82,7 @@ impl Climb {
         requires few { self.old.requests + 1 < 2 ^ 32 }
         ensures levels { self.new.nested.levels ≡ self.old.nested.levels }
         ensures count { self.new.requests ≡ self.old.requests + 1 }
-        ensures said { IfOk result (λ end. Says (string_bytes text.old) (string_bytes text.new)
+        ensures said { IfOk result (λ end. AddsText (string_bytes text.old) (string_bytes text.new)
             (λ said. NestedReplies self.old.nested.levels self.old.nested.words self.old.requests pebble said
             (standing end self.new.nested.words self.new.requests))) }
     {
@@ -101,7 +101,7 @@ impl Play for Climb {
 
     ghost requests = { λ s. s.requests };
 
-    fn answer(&mut self, word: Word, text: &mut String) -> Result<Option<PlayEnd>, AllocError> {
+    fn reply(&mut self, word: Word, text: &mut String) -> Result<Option<PlayEnd>, AllocError> {
         let pebbles = u32::from(self.nested.levels());
         match word {
             Word::Number(number) => {

@@ -8,15 +8,15 @@ ghost use Rattle.positions.specs.Value.{HasValue};
 ghost use Rattle.positions.specs.declared.value.Value.TheVariants.{Finite};
 ghost use Rattle.player.specs.Laws.{KeepsToValue};
 ghost use Rattle.player.specs.Play.{HasEnded, BreaksOff};
-ghost use Rattle.player.specs.Inside.Seats.{HasAsked, IsRequestAt, NextStands, IsLegalAt, IsSeated, at};
-ghost use Rattle.player.specs.Transcript.{Standing, IsPlayed, Opens, PersonAnswers, AsksAfterLine, no_answer_line};
+ghost use Rattle.player.specs.Inside.PlayState.{HasAsked, IsRequestAt, NextStands, IsLegalAt, IsPlayState, at};
+ghost use Rattle.player.specs.Transcript.{Standing, IsPlayed, BeginsPlay, PersonAnswers, AsksAfterLine, no_answer_line};
 ghost use Rattle.player.specs.Inside.Transcript.{standing};
-ghost use Rattle.player.specs.Inside.Turns.{Says};
+ghost use Rattle.player.specs.Inside.Steps.{AddsText};
 ghost use Rattle.player.specs.declared.end.PlayFault.TheVariants.{Read, Write};
 
 use crate::end::{PlayEnd, PlayFault};
 use crate::play::{Play, play_on};
-use crate::showing::show;
+use crate::text_buffer::flush;
 use crate::word::Word;
 use crate::writing::{stopped, write_at, write_opening, write_stuck};
 use board_text::{Board, Sink, Source};
@@ -44,10 +44,10 @@ pub fn play_labeller_side<R: Source, W: Sink>(
     requires same_board { values.now ≡ board.now }
     requires reader_ready { R.has_failed reader.old ≡ false }
     requires writer_ready { W.has_failed writer.old ≡ false }
-    ensures ok { IfOk result (HasEnded (IsPlayed (PersonAnswers board.now)) (R.left reader.old) (R.left reader.new)
-        (W.taken writer.old) (W.taken writer.new)) }
-    ensures fault { IfErr result (BreaksOff (IsPlayed (PersonAnswers board.now)) (R.left reader.old) (R.left reader.new)
-        (W.taken writer.old) (W.taken writer.new)) }
+    ensures ok { IfOk result (HasEnded (IsPlayed (PersonAnswers board.now)) (R.remaining reader.old) (R.remaining reader.new)
+        (W.contents writer.old) (W.contents writer.new)) }
+    ensures fault { IfErr result (BreaksOff (IsPlayed (PersonAnswers board.now)) (R.remaining reader.old) (R.remaining reader.new)
+        (W.contents writer.old) (W.contents writer.new)) }
     ensures value { IfOk result (KeepsToValue (PersonAnswers board.now)) }
     ensures read { (R.has_failed reader.new ≡ true) ↔ (result ≡ Err Read) }
     ensures write { (W.has_failed writer.new ≡ true) ↔ (result ≡ Err Write) }
@@ -57,7 +57,7 @@ pub fn play_labeller_side<R: Source, W: Sink>(
     let Ok(next) = open(&mut text, board, values, start) else {
         return Err(PlayFault::Memory);
     };
-    show(&mut text, writer)?;
+    flush(&mut text, writer)?;
     match next {
         Next::Asks(pebble) => {
             let mut play = LabellerSide::new(board, values, start, pebble);
@@ -90,8 +90,8 @@ fn open(text: &mut String, board: &Board, values: &Values, start: u32) -> Result
     requires board { IsBoard board.now }
     requires start { start ≡ rank_of board.now board.now.start }
     requires rank { start < configurations board.now }
-    ensures { IfOk result (λ next. Says (string_bytes text.old) (string_bytes text.new)
-        (λ said. (to : Standing) × Opens (PersonAnswers board.now) said to
+    ensures { IfOk result (λ next. AddsText (string_bytes text.old) (string_bytes text.new)
+        (λ said. (to : Standing) × BeginsPlay (PersonAnswers board.now) said to
         × NextStands board.now (configuration_at board.now start) 0 next to)) }
 {
     let value = values.of(start);
@@ -119,7 +119,7 @@ fn request_at(board: &Board, values: &Values, rank: u32) -> Request
 
 /// Writes a request, and that the play is over where no label is legal.
 fn write_request(text: &mut String, request: Request, requests: u32) -> Result<Next, AllocError>
-    ensures { IfOk result (λ next. Says (string_bytes text.old) (string_bytes text.new) (HasAsked request requests next)) }
+    ensures { IfOk result (λ next. AddsText (string_bytes text.old) (string_bytes text.new) (HasAsked request requests next)) }
 {
     write!(text, "ask {}\n", request.pebble)?;
     if request.is_stuck {
@@ -143,19 +143,19 @@ struct LabellerSide<'a> {
 }
 
 impl<'a> Model for LabellerSide<'a> {
-    ghost use Rattle.player.specs.Inside.Seats.{Seat, IsSeated};
+    ghost use Rattle.player.specs.Inside.PlayState.{PlayState, IsPlayState};
 
-    ghost Value = { Seat };
+    ghost Value = { PlayState };
 
     ghost view = { λ s. record { board = s.board.now; rank = s.rank; requests = s.requests } };
 
-    ghost invariant = { λ s. IsSeated s.board.now s.values.now s.rank s.asked };
+    ghost invariant = { λ s. IsPlayState s.board.now s.values.now s.rank s.asked };
 }
 
 impl<'a> LabellerSide<'a> {
     /// No request was answered yet, and the pebble is asked for at the configuration of this rank.
     fn new(board: &'a Board, values: &'a Values, rank: u32, asked: u8) -> LabellerSide<'a>
-        requires { IsSeated board.now values.now rank asked }
+        requires { IsPlayState board.now values.now rank asked }
         ensures { result ≡ record { board = board.now; rank = rank; requests = 0 } }
     {
         LabellerSide {
@@ -177,12 +177,16 @@ impl<'a> LabellerSide<'a> {
     }
 
     /// Puts the pebble that is asked for on a legal label, and makes the next request.
-    fn put(&mut self, label: u16, text: &mut String) -> Result<Option<PlayEnd>, AllocError>
+    fn move_to_label(
+        &mut self,
+        label: u16,
+        text: &mut String,
+    ) -> Result<Option<PlayEnd>, AllocError>
         requires legal { IsLegalAt self.old label }
         requires few { self.old.requests + 1 < 2 ^ 32 }
         ensures board { self.new.board ≡ self.old.board }
         ensures count { self.new.requests ≤ self.old.requests + 1 }
-        ensures said { IfOk result (λ end. Says (string_bytes text.old) (string_bytes text.new)
+        ensures said { IfOk result (λ end. AddsText (string_bytes text.old) (string_bytes text.new)
             (λ said. (line : List ℕ) → line ≡ decimal label → AsksAfterLine self.old.board (at self.old) self.old.requests line said
             (standing end (at self.new) self.new.requests))) }
     {
@@ -210,12 +214,12 @@ impl Play for LabellerSide<'_> {
 
     ghost requests = { λ s. s.requests };
 
-    fn answer(&mut self, word: Word, text: &mut String) -> Result<Option<PlayEnd>, AllocError> {
+    fn reply(&mut self, word: Word, text: &mut String) -> Result<Option<PlayEnd>, AllocError> {
         let labels = u32::from(self.values.space().labels());
         match word {
             Word::Number(number) => {
                 if number < labels && self.is_legal(number as u16) {
-                    self.put(number as u16, text)
+                    self.move_to_label(number as u16, text)
                 } else {
                     refuse(text)
                 }
@@ -230,7 +234,7 @@ impl Play for LabellerSide<'_> {
     }
 }
 
-/// Says that a line is no answer.
+/// AddsText that a line is no answer.
 fn refuse(text: &mut String) -> Result<Option<PlayEnd>, AllocError>
     ensures { IfOk result (λ end. (end ≡ None) × (string_bytes text.new ≡ string_bytes text.old ++ no_answer_line)) }
 {

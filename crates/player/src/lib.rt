@@ -10,7 +10,7 @@ mod lines;
 mod nested_laws;
 mod nested_writing;
 mod play;
-mod showing;
+mod text_buffer;
 mod word;
 mod writing;
 

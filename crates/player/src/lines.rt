@@ -5,7 +5,7 @@ ghost use Rattle.std.specs.Prelude.{OnOk, OnErr, MatchOption};
 ghost use Rattle.std.specs.Io.KnownBytes.{Keeps};
 ghost use Rattle.player.specs.Words.{HasNoFeed};
 ghost use Rattle.player.specs.Inside.Words.{Spells};
-ghost use Rattle.player.specs.Inside.Reading.{IsEmptyAtEnd, GivesLine, GivesNoLine, IsFilled};
+ghost use Rattle.player.specs.Inside.LineInput.{IsEmptyAtEnd, GivesLine, GivesNoLine, IsFilled};
 ghost use Rattle.player.specs.declared.lines.LineFault.TheVariants.{Read};
 
 use crate::word::Word;
@@ -40,7 +40,7 @@ pub(crate) struct Lines {
 
 impl Model for Lines {
     ghost use Rattle.std.specs.Prelude.{drop, take, length};
-    ghost use Rattle.player.specs.Inside.Reading.{Unread, IsPart};
+    ghost use Rattle.player.specs.Inside.LineInput.{Unread, IsPart};
 
     ghost Value = { Unread };
 
@@ -65,10 +65,10 @@ impl Lines {
     /// What the next line says, if there is one. The reader is asked only where no whole line is left.
     pub(crate) fn next<R: Source>(&mut self, reader: &mut R) -> Result<Option<Word>, LineFault>
         requires ready { R.has_failed reader.old ≡ false }
-        requires end { IsEmptyAtEnd self.old (R.left reader.old) }
-        ensures line { IfOk result (GivesLine self.old self.new (R.left reader.old) (R.left reader.new)) }
+        requires end { IsEmptyAtEnd self.old (R.remaining reader.old) }
+        ensures line { IfOk result (GivesLine self.old self.new (R.remaining reader.old) (R.remaining reader.new)) }
         ensures unfailed { OnOk result (R.has_failed reader.new ≡ false) }
-        ensures fault { IfErr result (GivesNoLine self.old (R.left reader.old) (R.left reader.new)) }
+        ensures fault { IfErr result (GivesNoLine self.old (R.remaining reader.old) (R.remaining reader.new)) }
         ensures read { (R.has_failed reader.new ≡ true) ↔ (result ≡ Err Read) }
     {
         if self.has_ended {
@@ -127,9 +127,9 @@ impl Lines {
     fn fill<R: Source>(&mut self, reader: &mut R) -> Result<bool, LineFault>
         requires short { length self.old.bytes ≤ MOST_BYTES }
         requires goes_on { self.old.has_ended ≡ false }
-        ensures filled { IfOk result (IsFilled self.old self.new (R.left reader.old) (R.left reader.new)) }
+        ensures filled { IfOk result (IsFilled self.old self.new (R.remaining reader.old) (R.remaining reader.new)) }
         ensures unfailed { OnOk result (R.has_failed reader.new ≡ R.has_failed reader.old) }
-        ensures kept { OnErr result (Keeps (R.left reader.old) (R.left reader.new)) }
+        ensures kept { OnErr result (Keeps (R.remaining reader.old) (R.remaining reader.new)) }
         ensures read { IfErr result (λ fault. (fault ≡ Read) × (R.has_failed reader.new ≡ true)) }
     {
         self.buffer.copy_within(self.from..self.to, 0);

@@ -2,17 +2,17 @@
 
 ghost use Rattle.std.specs.Prelude.{◌≡◌, ◌↔◌, ◌+◌, ◌≤◌, ◌<◌, ◌^◌, ℕ, List, [], true, false, Err, IfOk, IfErr, OnOk, OnErr, string_bytes};
 ghost use Rattle.std.specs.Io.KnownBytes.{Appends};
-ghost use Rattle.board_text.specs.Ends.{AppendsFront};
+ghost use Rattle.board_text.specs.Streams.{AppendsFront};
 ghost use Rattle.player.specs.Transcript.{Game, Standing, Going, BringInTurn, stopped_line};
 ghost use Rattle.player.specs.Inside.Transcript.{standing};
 ghost use Rattle.player.specs.Play.{HasEnded, BreaksOff};
-ghost use Rattle.player.specs.Inside.Turns.{BringsAll, Says, Writes, FailsToWrite};
+ghost use Rattle.player.specs.Inside.Steps.{BringsAll, AddsText, Writes, FailsToWrite};
 ghost use Rattle.player.specs.declared.end.PlayEnd.TheVariants.{Stopped};
 ghost use Rattle.player.specs.declared.end.PlayFault.TheVariants.{Read, Write};
 
 use crate::end::{PlayEnd, PlayFault};
 use crate::lines::{LineFault, Lines};
-use crate::showing::show;
+use crate::text_buffer::flush;
 use crate::word::Word;
 use crate::writing::write_stopped;
 use board_text::{Sink, Source};
@@ -33,11 +33,11 @@ pub(crate) trait Play {
     ghost requests: { Self → ℕ };
 
     /// Writes what a word brings behind the text, and gives the end of the play, if it is over.
-    fn answer(&mut self, word: Word, text: &mut String) -> Result<Option<PlayEnd>, AllocError>
+    fn reply(&mut self, word: Word, text: &mut String) -> Result<Option<PlayEnd>, AllocError>
         requires { requests self.old + 1 < 2 ^ 32 }
         ensures game { game self.new ≡ game self.old }
         ensures count { requests self.new ≤ requests self.old + 1 }
-        ensures said { IfOk result (λ end. Says (string_bytes text.old) (string_bytes text.new)
+        ensures said { IfOk result (λ end. AddsText (string_bytes text.old) (string_bytes text.new)
             (λ said. BringsAll (game self.old) (Going (at self.old) (requests self.old)) word said
             (standing end (at self.new) (requests self.new)))) };
 
@@ -57,10 +57,10 @@ pub(crate) fn play_on<P: Play, R: Source, W: Sink>(
     requires empty { string_bytes text.old ≡ [] }
     requires reader_ready { R.has_failed reader.old ≡ false }
     requires writer_ready { W.has_failed writer.old ≡ false }
-    ensures ok { IfOk result (HasEnded (BringInTurn (P.game play.old) (Going (P.at play.old) 0)) (R.left reader.old) (R.left reader.new)
-        (W.taken writer.old) (W.taken writer.new)) }
-    ensures fault { IfErr result (BreaksOff (BringInTurn (P.game play.old) (Going (P.at play.old) 0)) (R.left reader.old) (R.left reader.new)
-        (W.taken writer.old) (W.taken writer.new)) }
+    ensures ok { IfOk result (HasEnded (BringInTurn (P.game play.old) (Going (P.at play.old) 0)) (R.remaining reader.old) (R.remaining reader.new)
+        (W.contents writer.old) (W.contents writer.new)) }
+    ensures fault { IfErr result (BreaksOff (BringInTurn (P.game play.old) (Going (P.at play.old) 0)) (R.remaining reader.old) (R.remaining reader.new)
+        (W.contents writer.old) (W.contents writer.new)) }
     ensures read { (R.has_failed reader.new ≡ true) ↔ (result ≡ Err Read) }
     ensures write { (W.has_failed writer.new ≡ true) ↔ (result ≡ Err Write) }
 {
@@ -95,17 +95,17 @@ fn turn<P: Play, W: Sink>(
     ensures count { P.requests play.new ≤ P.requests play.old + 1 }
     ensures empty { OnOk result (string_bytes text.new ≡ []) }
     ensures unfailed { OnOk result (W.has_failed writer.new ≡ false) }
-    ensures written { IfOk result (λ end. Writes (W.taken writer.old) (W.taken writer.new)
+    ensures written { IfOk result (λ end. Writes (W.contents writer.old) (W.contents writer.new)
         (λ said. BringsAll (P.game play.old) (Going (P.at play.old) (P.requests play.old)) word said
         (standing end (P.at play.new) (P.requests play.new)))) }
-    ensures fault { IfErr result (FailsToWrite (W.taken writer.old) (W.taken writer.new)
+    ensures fault { IfErr result (FailsToWrite (W.contents writer.old) (W.contents writer.new)
         (λ said. (to : Standing) × BringsAll (P.game play.old) (Going (P.at play.old) (P.requests play.old)) word said to)) }
     ensures write { (W.has_failed writer.new ≡ true) ↔ (result ≡ Err Write) }
 {
-    let Ok(end) = play.answer(word, text) else {
+    let Ok(end) = play.reply(word, text) else {
         return Err(PlayFault::Memory);
     };
-    show(text, writer)?;
+    flush(text, writer)?;
     Ok(end)
 }
 
@@ -114,8 +114,8 @@ fn stop<P: Play, W: Sink>(play: &P, text: &mut String, writer: &mut W) -> Result
     requires empty { string_bytes text.old ≡ [] }
     requires ready { W.has_failed writer.old ≡ false }
     ensures end { IfOk result (λ end. end ≡ Stopped (P.requests play.now)) }
-    ensures written { OnOk result (Appends (W.taken writer.old) (W.taken writer.new) (stopped_line (P.requests play.now))) }
-    ensures fault { IfErr result (FailsToWrite (W.taken writer.old) (W.taken writer.new)
+    ensures written { OnOk result (Appends (W.contents writer.old) (W.contents writer.new) (stopped_line (P.requests play.now))) }
+    ensures fault { IfErr result (FailsToWrite (W.contents writer.old) (W.contents writer.new)
         (λ said. said ≡ stopped_line (P.requests play.now))) }
     ensures write { (W.has_failed writer.new ≡ true) ↔ (result ≡ Err Write) }
 {
@@ -123,6 +123,6 @@ fn stop<P: Play, W: Sink>(play: &P, text: &mut String, writer: &mut W) -> Result
     if write_stopped(text, requests).is_err() {
         return Err(PlayFault::Memory);
     }
-    show(text, writer)?;
+    flush(text, writer)?;
     Ok(PlayEnd::Stopped { requests })
 }

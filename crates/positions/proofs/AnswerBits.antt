@@ -10,9 +10,9 @@ use Rattle.board_text.specs.declared.board.TheConstants.{MAX_LABELS}
 use Rattle.positions.specs.Gaps.{gaps, others_of, IsAnswer}
 use Rattle.positions.specs.Inside.Weights.{weight_of}
 use Rattle.positions.specs.Counts.{IsSmallest}
-use Rattle.positions.proofs.Counting.{smallest_of}
+use Rattle.positions.proofs.CountsBelow.{smallest_of}
 use Rattle.positions.proofs.LabelBits.{HasBitFrom}
-use Rattle.positions.proofs.Rests.{IsRest, IsNextRest, rest_next}
+use Rattle.positions.proofs.DigitRests.{IsRest, IsNextRest, rest_next}
 use Rattle.positions.proofs.GapLaws.{others_of_gap, answer_beats_others}
 
 -- the bits of the labels that beat those of the first other pebbles, and the rest of the gap

@@ -8,7 +8,7 @@ use Rattle.std.proofs.lemmas.Nat.Bits.{bit_at_set_same, bit_at_set_other, bit_at
 use Rattle.board_text.specs.Domination.{has_bit}
 use Rattle.board_text.specs.declared.board.TheConstants.{MAX_LABELS}
 use Rattle.positions.specs.Counts.{HasSize, IsSmallest}
-use Rattle.positions.proofs.Counting.{count_below, count_below-same, count_below-add, count_below-le, count_ones-is, size_of}
+use Rattle.positions.proofs.CountsBelow.{count_below, count_below-same, count_below-add, count_below-le, count_ones-is, size_of}
 
 -- the words with the bit of a label set
 abbrev pub with_bit : List ℕ → ℕ → List ℕ

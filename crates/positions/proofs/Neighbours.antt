@@ -8,7 +8,7 @@ use Rattle.positions.specs.Ranks.{rank_of}
 use Rattle.positions.specs.Gaps.{gaps_each, gaps, pebble_of, member_of}
 use Rattle.positions.specs.Inside.Weights.{AreNumbersOf, weight_of}
 use Rattle.positions.proofs.GapLaws.{positive_each, pebble_below}
-use Rattle.positions.proofs.GapTurning.{first_weight, member_is_rank}
+use Rattle.positions.proofs.GapTurns.{first_weight, member_is_rank}
 
 -- a number with less than the rest of a part added
 pub record IsBehind (each part number more : ℕ) : Type 0 where

@@ -15,7 +15,7 @@ use Rattle.board_text.proofs.Cited.{some_places}
 use Rattle.positions.specs.Ranks.{configurations, digits_of}
 use Rattle.positions.specs.Gaps.{gaps, gaps_each, IsAnswer}
 use Rattle.positions.specs.Tuples.{tuple_of}
-use Rattle.positions.specs.Inside.Tuples.{AreBeating, AreWords, AreAllWords, IsColumn, AreColumns}
+use Rattle.positions.specs.Inside.Tuples.{AreBeating, AreTupleWords, AreAllWords, IsColumn, AreColumns}
 use Rattle.positions.specs.declared.space.TheConstants.{MAX_CONFIGURATIONS}
 use Rattle.positions.proofs.GapLaws.{answer_beats_others}
 
@@ -102,8 +102,8 @@ one_more_place board number held word beating place before beats bit small = (
 
 -- one more word
 pub one_more_word : (board : PlainBoard) (number count : ℕ) (fewer more : List ℕ) (place at beating : ℕ)
-    → AreAllWords board number count fewer → AreWords board number (suc count) more → length more ≡ place * length fewer + at → at < length fewer
-    → BeatsOne board number place beating → AreWords board number (suc count) (more ++ bit_and (get_or fewer at 0) beating ∷ [])
+    → AreAllWords board number count fewer → AreTupleWords board number (suc count) more → length more ≡ place * length fewer + at → at < length fewer
+    → BeatsOne board number place beating → AreTupleWords board number (suc count) (more ++ bit_and (get_or fewer at 0) beating ∷ [])
 one_more_word board number count fewer more place at beating all so_far size inside beats tuple below = elim (cases_lt tuple (length more)) [
   | inl old ↦ subst (λ (w : ℕ). AreBeating board number (digits_of (places board) (suc count) tuple) w) (sym (get_or_append_left more (new ∷ []) 0 tuple old)) (so_far tuple old)
   | inr late ↦
@@ -125,7 +125,7 @@ one_more_word board number count fewer more place at beating all so_far size ins
   new = bit_and (get_or fewer at 0) beating
 
 -- all places have come first
-pub all_places : (board : PlainBoard) (number count : ℕ) (fewer more : List ℕ) → AreAllWords board number count fewer → AreWords board number (suc count) more
+pub all_places : (board : PlainBoard) (number count : ℕ) (fewer more : List ℕ) → AreAllWords board number count fewer → AreTupleWords board number (suc count) more
     → length more ≡ places board * length fewer → AreAllWords board number (suc count) more
 all_places board number count fewer more all words size = record {
   each = words;

@@ -9,8 +9,8 @@ use Rattle.proof_text.specs.Rules.{IsListedBelow, MeetsRequests, MeetsAnswers}
 use Rattle.proof_check.specs.declared.fault.Side.TheVariants.{Adversary}
 use Rattle.proof_check.specs.declared.fault.CheckFault.{CheckFault}
 use Rattle.proof_check.specs.declared.fault.CheckFault.TheVariants as faults
-use Rattle.proof_check.specs.CheckFaults.{FirstWrong, HasRow, IsUnserved, IsFirstFault, IsCheckFault, IsWrongAnswer, IsWrongRequest, LabellerFault, AdversaryFault, bound_of}
-use Rattle.proof_check.proofs.Refusing.{bound_right, it_meets, start_right}
+use Rattle.proof_check.specs.CheckFaults.{FirstWrong, HasRow, IsUnserved, IsFirstFault, IsCheckFault, IsWrongAnswer, IsWrongRequest, LabellerBreach, AdversaryBreach, bound_of}
+use Rattle.proof_check.proofs.StepFaults.{bound_right, it_meets, start_right}
 use Rattle.proof_check.proofs.Turns.{one_unserved, answers_right, requests_right, one_answer_fault, one_request_fault}
 
 -- ---- the first of all
@@ -34,23 +34,23 @@ module _ {X : Type 0} (IsRight : X → Type 0) where
 -- ---- the document
 
 module _ (board : PlainBoard) (proof : PlainProof) where
-  labeller_wrong : (fault : CheckFault) (w : LabellerFault board proof.labeller fault) → MeetsRequests board proof.labeller w.row → ⊥
+  labeller_wrong : (fault : CheckFault) (w : LabellerBreach board proof.labeller fault) → MeetsRequests board proof.labeller w.row → ⊥
   labeller_wrong fault w meets = answers_right board proof.labeller w.row fault meets w.wrong
 
-  adversary_wrong : (fault : CheckFault) (w : AdversaryFault board proof.adversary fault) → MeetsAnswers board proof.adversary w.row → ⊥
+  adversary_wrong : (fault : CheckFault) (w : AdversaryBreach board proof.adversary fault) → MeetsAnswers board proof.adversary w.row → ⊥
   adversary_wrong fault w meets = requests_right board proof.adversary w.row fault meets w.wrong
 
-  one_labeller : (fault other : CheckFault) → LabellerFault board proof.labeller fault → LabellerFault board proof.labeller other → fault ≡ other
+  one_labeller : (fault other : CheckFault) → LabellerBreach board proof.labeller fault → LabellerBreach board proof.labeller other → fault ≡ other
   one_labeller fault other a b =
       let e = one_row (MeetsRequests board proof.labeller) proof.labeller a.row b.row (labeller_wrong fault a) (labeller_wrong other b) a.first b.first in
       one_answer_fault board proof.labeller a.row fault other a.wrong (subst (λ (r : AnswerRow). IsWrongAnswer board proof.labeller r other) (sym e) b.wrong)
 
-  one_adversary : (fault other : CheckFault) → AdversaryFault board proof.adversary fault → AdversaryFault board proof.adversary other → fault ≡ other
+  one_adversary : (fault other : CheckFault) → AdversaryBreach board proof.adversary fault → AdversaryBreach board proof.adversary other → fault ≡ other
   one_adversary fault other a b =
       let e = one_row (MeetsAnswers board proof.adversary) proof.adversary a.row b.row (adversary_wrong fault a) (adversary_wrong other b) a.first b.first in
       one_request_fault board proof.adversary a.row fault other a.wrong (subst (λ (r : RequestRow). IsWrongRequest board proof.adversary r other) (sym e) b.wrong)
 
-  all_meet : (fault : CheckFault) → LabellerFault board proof.labeller fault → All (MeetsRequests board proof.labeller) proof.labeller → ⊥
+  all_meet : (fault : CheckFault) → LabellerBreach board proof.labeller fault → All (MeetsRequests board proof.labeller) proof.labeller → ⊥
   all_meet fault w all = labeller_wrong fault w (it_meets (MeetsRequests board proof.labeller) proof.labeller w.row w.first all)
 
   same_bound : (number other : ℕ) → bound_of proof.claim ≡ Some number → bound_of proof.claim ≡ Some other → number ≡ other

@@ -79,12 +79,12 @@ abbrev pub IsWrongRequest : PlainBoard → List RequestRow → RequestRow → Ch
 IsWrongRequest board rows row = FirstTurn (Legal board row.at row.request) (MeetsAnswer board rows row) (IsWrongAfter board rows row)
 
 -- the first faulty labeller's row has the fault
-abbrev pub LabellerFault : PlainBoard → List AnswerRow → CheckFault → Type 0
-LabellerFault board rows = FirstFault (MeetsRequests board rows) (IsWrongAnswer board rows) rows
+abbrev pub LabellerBreach : PlainBoard → List AnswerRow → CheckFault → Type 0
+LabellerBreach board rows = FirstFault (MeetsRequests board rows) (IsWrongAnswer board rows) rows
 
 -- the first faulty adversary's row has the fault
-abbrev pub AdversaryFault : PlainBoard → List RequestRow → CheckFault → Type 0
-AdversaryFault board rows = FirstFault (MeetsAnswers board rows) (IsWrongRequest board rows) rows
+abbrev pub AdversaryBreach : PlainBoard → List RequestRow → CheckFault → Type 0
+AdversaryBreach board rows = FirstFault (MeetsAnswers board rows) (IsWrongRequest board rows) rows
 
 -- ---- the start
 
@@ -120,8 +120,8 @@ abbrev pub IsFirstFault : PlainBoard → PlainProof → CheckFault → Type 0
 IsFirstFault board proof fault =
     IsWrongStart board proof fault
     ⊎ (Serves proof.labeller board.start (wanted_of proof.claim) × IsWrongBound board proof fault)
-    ⊎ (StartServes board proof × LabellerFault board proof.labeller fault)
-    ⊎ (StartServes board proof × LabellerObeys board proof.labeller × AdversaryFault board proof.adversary fault)
+    ⊎ (StartServes board proof × LabellerBreach board proof.labeller fault)
+    ⊎ (StartServes board proof × LabellerObeys board proof.labeller × AdversaryBreach board proof.adversary fault)
 
 -- The fault is the first one, or memory was wanting, at any place.
 abbrev pub IsCheckFault : PlainBoard → PlainProof → CheckFault → Type 0

@@ -6,7 +6,7 @@ ghost use Rattle.positions.specs.Ranks.{configuration_at, rank_of};
 ghost use Rattle.proof_text.specs.Proof.{request_row};
 ghost use Rattle.proof_text.specs.Rules.{MeetsAnswer, MeetsAnswers, AdversaryObeys, StartIsBelow};
 ghost use Rattle.proof_check.specs.CheckFaults as faults;
-ghost use Rattle.proof_check.specs.CheckFaults.{IsWrongAfter, IsWrongRequest, IsWrongBound, AdversaryFault};
+ghost use Rattle.proof_check.specs.CheckFaults.{IsWrongAfter, IsWrongRequest, IsWrongBound, AdversaryBreach};
 ghost use Rattle.proof_check.specs.Inside.Checker.{IsRequesting};
 
 use crate::checked_row::{CheckedRow, first_fault};
@@ -75,7 +75,7 @@ impl Checker<'_> {
     /// The fault of the adversary's first faulty row, if there is one.
     pub(crate) fn adversary_fault(&self, rt: &(impl Threads + Sync)) -> Option<CheckFault>
         ensures { MatchOption result (AdversaryObeys self.now.board self.now.proof.adversary)
-            (AdversaryFault self.now.board self.now.proof.adversary) }
+            (AdversaryBreach self.now.board self.now.proof.adversary) }
     {
         first_fault(rt, self, self.adversary_rows())
     }

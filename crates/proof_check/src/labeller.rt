@@ -5,7 +5,7 @@ ghost use Rattle.positions.specs.Position.{position_at};
 ghost use Rattle.proof_text.specs.Proof.{answer_row};
 ghost use Rattle.proof_text.specs.Rules as rules;
 ghost use Rattle.proof_text.specs.Rules.{IsEnough, IsWanted, one_less, Serves, MeetsRequest, MeetsRequests, LabellerObeys};
-ghost use Rattle.proof_check.specs.CheckFaults.{IsWrongAnswer, IsWrongAt, IsWrongStart, LabellerFault};
+ghost use Rattle.proof_check.specs.CheckFaults.{IsWrongAnswer, IsWrongAt, IsWrongStart, LabellerBreach};
 ghost use Rattle.proof_check.specs.Inside.Checker.{IsAnswering};
 
 use crate::checked_row::{CheckedRow, first_fault};
@@ -111,7 +111,7 @@ impl Checker<'_> {
     /// The fault of the labeller's first faulty row, if there is one.
     pub(crate) fn labeller_fault(&self, rt: &(impl Threads + Sync)) -> Option<CheckFault>
         ensures { MatchOption result (LabellerObeys self.now.board self.now.proof.labeller)
-            (LabellerFault self.now.board self.now.proof.labeller) }
+            (LabellerBreach self.now.board self.now.proof.labeller) }
     {
         first_fault(rt, self, self.labeller_rows())
     }

@@ -15,7 +15,7 @@ use Rattle.proof_text.specs.declared.proof.AdversaryRow.{AdversaryRow}
 use Rattle.proof_text.specs.Proof.{PlainProof, IsProof, IsClaim, AreRows, IsAnswerRow, IsRequestRow, asks_labeller, asks_adversary, answer_row, request_row, answer_rows, request_rows}
 use Rattle.board_text.specs.BoardText.{end_line}
 use Rattle.proof_text.specs.ProofText.{version_line, claim_words, claim_line, head, labeller_section, adversary_section, front, labeller_lines, adversary_lines, answer_line, request_line}
-use Rattle.proof_text.specs.ProofFaults.{LabellerFault, AdversaryFault, HasFault, InLabeller, InAdversary, AnswerMisread, RequestMisread, end_number}
+use Rattle.proof_text.specs.ProofFaults.{LabellerFault, AdversaryFault, HasProofFault, InLabeller, InAdversary, AnswerMisread, RequestMisread, end_number}
 use Rattle.proof_text.specs.Inside.RowForm.{PartRead, SectionFault, section_text, labeller_form, adversary_form}
 use Rattle.proof_text.proofs.SectionLemmas.{rows_seen, fault_seen}
 
@@ -23,7 +23,7 @@ pub head_taken : (claim : Claim) (text a b : List ℕ) → text ≡ version_line
 head_taken claim text a b e f = e ∙ ap (λ (t : List ℕ). version_line ++ t) f ∙ sym (append_assoc version_line (claim_line claim) b)
 
 pub has_part_fault : (board : PlainBoard) (text : List ℕ) (line : ℕ) (kind : ProofKind) → LabellerFault board text line kind ⊎ AdversaryFault board text line kind
-    → HasFault board text line kind
+    → HasProofFault board text line kind
 has_part_fault board text line kinds.Version f = elim f [ inl l ↦ absurd l.fault.6 | inr a ↦ absurd a.fault.6 ]
 has_part_fault board text line kinds.Claim f = elim f [ inl l ↦ absurd l.fault.6 | inr a ↦ absurd a.fault.6 ]
 has_part_fault board text line kinds.Section f = f
@@ -116,7 +116,7 @@ labeller_lines_are board claim rows asked n lines e f g = rw (length-map rows (a
 pub adversary_lines_are : (board : PlainBoard) (claim : Claim) (rows : List AdversaryRow) (asked : Bool) (n lines : ℕ) → asked ≡ asks_adversary claim → n ≡ length rows → lines ≡ cond asked (1 + n) 0 → lines ≡ adversary_lines claim (request_rows board rows)
 adversary_lines_are board claim rows asked n lines e f g = rw (length-map rows (request_row board), ← f, ← e) g
 
-pub has_trailing : (board : PlainBoard) (proof : PlainProof) (text a b : List ℕ) (line : ℕ) → IsProof board proof → text ≡ front board proof ++ a → a ≡ end_line ++ b → (b ≡ [] → ⊥) → line ≡ 1 + end_number proof → HasFault board text line kinds.Trailing
+pub has_trailing : (board : PlainBoard) (proof : PlainProof) (text a b : List ℕ) (line : ℕ) → IsProof board proof → text ≡ front board proof ++ a → a ≡ end_line ++ b → (b ≡ [] → ⊥) → line ≡ 1 + end_number proof → HasProofFault board text line kinds.Trailing
 has_trailing board proof text a [] line is e f some n = absurd (some refl)
 has_trailing board proof text a (c ∷ more) line is e f some n =
     (proof, c, more, is, e ∙ ap (λ (t : List ℕ). front board proof ++ t) f ∙ sym (append_assoc (front board proof) end_line (c ∷ more)), n)

@@ -1,5 +1,5 @@
-pub mod Words
-pub mod Spelled
+pub mod RowWords
+pub mod SpelledRows
 pub mod SectionLemmas
 pub mod RowLemmas
 pub mod DocumentFaults

@@ -17,7 +17,7 @@ use Rattle.proof_text.specs.declared.proof.Proof.{Proof}
 use Rattle.proof_text.specs.Proof.{PlainProof, IsProof, IsDocument, plain_proof, IsClaim, IsBefore, AreRows, AreAnswerRows, AreRequestRows, IsAnswerRow, IsRequestRow, asks_labeller, asks_adversary}
 use Rattle.board_text.specs.BoardText.{end_line}
 use Rattle.proof_text.specs.ProofText.{version_line, claim_line, head, answer_line, request_line, labeller_section, adversary_section, front, proof_text}
-use Rattle.proof_text.specs.ProofFaults.{MayFollow, RowsCome, InSection, AnswerRowFault, RequestRowFault, LabellerFault, AdversaryFault, HasFault}
+use Rattle.proof_text.specs.ProofFaults.{MayFollow, RowsCome, InSection, AnswerRowFault, RequestRowFault, LabellerFault, AdversaryFault, HasProofFault}
 use Rattle.proof_text.proofs.OneRow.{answer_unique, request_unique, no_answer_fault, no_request_fault}
 
 -- ---- the claim
@@ -219,7 +219,7 @@ no_trailing : (c : ℕ) (cs : List ℕ) → end_line ++ c ∷ cs ≡ end_line �
 no_trailing c cs e = omega (arith, ap length e, length-append end_line (c ∷ cs))
 
 -- In the text of a document no line has a fault.
-pub no_fault : (board : PlainBoard) (text : List ℕ) (l : ℕ) (kind : ProofKind) (b : PlainProof) → IsBoard board → IsProof board b → text ≡ proof_text board b → HasFault board text l kind → kind ≡ kinds.Memory
+pub no_fault : (board : PlainBoard) (text : List ℕ) (l : ℕ) (kind : ProofKind) (b : PlainProof) → IsBoard board → IsProof board b → text ≡ proof_text board b → HasProofFault board text l kind → kind ≡ kinds.Memory
 no_fault board text l kinds.Version b is_board is e h =
     absurd (h.1 tt (claim_line b.claim ++ (labeller_section board b.claim b.labeller ++ (adversary_section board b.claim b.adversary ++ end_line))) tt
     (e ∙ opened board b ∙ append_assoc version_line (claim_line b.claim) (labeller_section board b.claim b.labeller ++ (adversary_section board b.claim b.adversary ++ end_line))))
@@ -240,7 +240,7 @@ no_fault board text l kinds.Number b is_board is e h = elim h [ inl f ↦ no_lab
 no_fault board text l kinds.Order b is_board is e h = elim h [ inl f ↦ no_labeller_fault board text l kinds.Order b is_board is e f | inr f ↦ no_adversary_fault board text l kinds.Order b is_board is e f ]
 no_fault board text l kinds.Memory b is_board is e h = elim h [ inl f ↦ no_labeller_fault board text l kinds.Memory b is_board is e f | inr f ↦ no_adversary_fault board text l kinds.Memory b is_board is e f ]
 
-pub only : (board : PlainBoard) (text : List ℕ) (b : PlainProof) (r : Result Proof ProofFault) → IsBoard board → IfOk r (λ a. IsDocument board a × (text ≡ proof_text board (plain_proof board a))) → IfErr r (λ f. HasFault board text f.line f.kind)
+pub only : (board : PlainBoard) (text : List ℕ) (b : PlainProof) (r : Result Proof ProofFault) → IsBoard board → IfOk r (λ a. IsDocument board a × (text ≡ proof_text board (plain_proof board a))) → IfErr r (λ f. HasProofFault board text f.line f.kind)
     → IsProof board b → text ≡ proof_text board b → MatchResult r (λ a. plain_proof board a ≡ b) (λ f. f.kind ≡ kinds.Memory)
 only board text b (Ok a) is_board found fault is e = one_document board (plain_proof board a) b is_board found.0.is_proof is (sym found.1 ∙ e)
 only board text b (Err f) is_board found fault is e = no_fault board text f.line f.kind b is_board is e fault

@@ -17,7 +17,7 @@ use Rattle.proof_text.specs.declared.fault.ProofKind.TheVariants as kinds
 use Rattle.proof_text.specs.Proof.{AreAnswerRows, IsAnswerRow, IsClaim, IsProof, asks_adversary, asks_labeller, IsRequestRow, PlainProof}
 use Rattle.board_text.specs.BoardText.{end_line}
 use Rattle.proof_text.specs.ProofText.{adversary_section, answer_line, claim_line, front, head, labeller_lines, labeller_section, request_line, version_line}
-use Rattle.proof_text.specs.ProofFaults.{AdversaryFault, AnswerRowFault, HasFault, HasRequestWords, InAdversary, InLabeller, InSection, LabellerFault, MayFollow, RequestRowFault, RowsCome, SpellConfiguration, SpellLabels, end_number}
+use Rattle.proof_text.specs.ProofFaults.{AdversaryFault, AnswerRowFault, HasProofFault, HasRequestWords, InAdversary, InLabeller, InSection, LabellerFault, MayFollow, RequestRowFault, RowsCome, SpellConfiguration, SpellLabels, end_number}
 use Rattle.proof_text.specs.RowWords.{RequestWords}
 use Rattle.proof_text.proofs.OneDocument.{OneReading, asked_section, head_unique, labeller_unique, next_row, no_section_fault, regroup, rows_split, same_front, same_proof}
 use Rattle.proof_text.proofs.OneRow.{SameRequestWords, answer_unique, answer_words_unique, no_answer_fault, no_request_fault, request_unique, request_words_unique}
@@ -225,12 +225,12 @@ module _ {X : Type 0} (board : PlainBoard) (IsRow : X → Type 0) (at : X → Li
 
 -- where the fault of a text is
 data TextKind (board : PlainBoard) (text : List ℕ) (line : ℕ) (kind : ProofKind) : Type 0 where
-  at_version : kind ≡ kinds.Version → HasFault board text line kinds.Version → TextKind board text line kind
-  at_claim : kind ≡ kinds.Claim → HasFault board text line kinds.Claim → TextKind board text line kind
+  at_version : kind ≡ kinds.Version → HasProofFault board text line kinds.Version → TextKind board text line kind
+  at_claim : kind ≡ kinds.Claim → HasProofFault board text line kinds.Claim → TextKind board text line kind
   in_labeller : LabellerFault board text line kind → TextKind board text line kind
   in_adversary : AdversaryFault board text line kind → TextKind board text line kind
-  at_end : kind ≡ kinds.End → HasFault board text line kinds.End → TextKind board text line kind
-  behind : kind ≡ kinds.Trailing → HasFault board text line kinds.Trailing → TextKind board text line kind
+  at_end : kind ≡ kinds.End → HasProofFault board text line kinds.End → TextKind board text line kind
+  behind : kind ≡ kinds.Trailing → HasProofFault board text line kinds.Trailing → TextKind board text line kind
 
 -- the first two lines stand here
 record HeadStands (text : List ℕ) : Type 0 where
@@ -251,7 +251,7 @@ module _ (board : PlainBoard) (is_board : IsBoard board) (text : List ℕ) where
   in_section line kind (inl f) = in_labeller f
   in_section line kind (inr f) = in_adversary f
 
-  text_kind : (line : ℕ) (kind : ProofKind) → kind ≢ kinds.Memory → HasFault board text line kind → TextKind board text line kind
+  text_kind : (line : ℕ) (kind : ProofKind) → kind ≢ kinds.Memory → HasProofFault board text line kind → TextKind board text line kind
   text_kind line kinds.Version not h = at_version refl h
   text_kind line kinds.Claim not h = at_claim refl h
   text_kind line kinds.End not h = at_end refl h
@@ -264,10 +264,10 @@ module _ (board : PlainBoard) (is_board : IsBoard board) (text : List ℕ) where
   text_kind line kinds.Order not h = in_section line kinds.Order h
   text_kind line kinds.Memory not h = absurd (not refl)
 
-  abbrev front_of_end : (line : ℕ) → HasFault board text line kinds.End → FrontStands board text
+  abbrev front_of_end : (line : ℕ) → HasProofFault board text line kinds.End → FrontStands board text
   front_of_end line h = record { proof = h.0; rest = h.1; is_proof = h.2; spelled = h.3 }
 
-  abbrev front_of_trailing : (line : ℕ) → HasFault board text line kinds.Trailing → FrontStands board text
+  abbrev front_of_trailing : (line : ℕ) → HasProofFault board text line kinds.Trailing → FrontStands board text
   front_of_trailing line (proof, first, more, is, e, n) =
       record { proof = proof; rest = end_line ++ first ∷ more; is_proof = is; spelled = e ∙ append_assoc (front board proof) end_line (first ∷ more) }
 
@@ -286,13 +286,13 @@ module _ (board : PlainBoard) (is_board : IsBoard board) (text : List ℕ) where
 
   -- ---- no two of different places
 
-  version_and_head : (line : ℕ) → HasFault board text line kinds.Version → HeadStands text → ⊥
+  version_and_head : (line : ℕ) → HasProofFault board text line kinds.Version → HeadStands text → ⊥
   version_and_head line h stands = h.1 tt (claim_line stands.claim ++ stands.rest) tt (stands.spelled ∙ append_assoc version_line (claim_line stands.claim) stands.rest)
 
-  version_and_claim : (line other : ℕ) → HasFault board text line kinds.Version → HasFault board text other kinds.Claim → ⊥
+  version_and_claim : (line other : ℕ) → HasProofFault board text line kinds.Version → HasProofFault board text other kinds.Claim → ⊥
   version_and_claim line other h g = h.1 tt g.1 tt g.2
 
-  claim_and_head : (line : ℕ) → HasFault board text line kinds.Claim → HeadStands text → ⊥
+  claim_and_head : (line : ℕ) → HasProofFault board text line kinds.Claim → HeadStands text → ⊥
   claim_and_head line h stands =
       h.3 stands.claim stands.rest stands.is_claim
       (append_cancel_left version_line h.1 (claim_line stands.claim ++ stands.rest) (sym h.2 ∙ stands.spelled ∙ append_assoc version_line (claim_line stands.claim) stands.rest))
@@ -330,7 +330,7 @@ module _ (board : PlainBoard) (is_board : IsBoard board) (text : List ℕ) where
   labeller_and_adversary : (line other_line : ℕ) (kind other : ProofKind) → kind ≢ kinds.Memory → LabellerFault board text line kind → AdversaryFault board text other_line other → ⊥
   labeller_and_adversary line other_line kind other not f g = labeller_and_rows line kind g.claim g.labeller g.rest not f g.is_claim g.are_rows g.spelled
 
-  end_and_trailing : (line other : ℕ) → HasFault board text line kinds.End → HasFault board text other kinds.Trailing → ⊥
+  end_and_trailing : (line other : ℕ) → HasProofFault board text line kinds.End → HasProofFault board text other kinds.Trailing → ⊥
   end_and_trailing line other h (proof, first, more, is, e, n) =
       let s = same_front board h.0 proof h.1 (end_line ++ first ∷ more) is_board h.2 is (sym h.3 ∙ e ∙ append_assoc (front board proof) end_line (first ∷ more)) in
       h.5 tt (first ∷ more) tt s.rest
@@ -411,6 +411,6 @@ module _ (board : PlainBoard) (is_board : IsBoard board) (text : List ℕ) where
         (h.5 ∙ ap (λ n. 1 + n) (same_end a.proof b.proof a.rest b.rest a.is_proof b.is_proof a.spelled b.spelled) ∙ sym g.5, e ∙ sym f)
 
 pub one_fault : (board : PlainBoard) (text : List ℕ) (line other_line : ℕ) (kind other : ProofKind) → IsBoard board → kind ≢ kinds.Memory → other ≢ kinds.Memory
-    → HasFault board text line kind → HasFault board text other_line other → (line ≡ other_line) × (kind ≡ other)
+    → HasProofFault board text line kind → HasProofFault board text other_line other → (line ≡ other_line) × (kind ≡ other)
 one_fault board text line other_line kind other is_board not not_too h g =
     one_of_text board is_board text line other_line kind other not not_too (text_kind board is_board text line kind not h) (text_kind board is_board text other_line other not_too g)

@@ -19,8 +19,8 @@ use Rattle.proof_text.specs.Proof.{AreTurns, IsAnswerRow, IsRequestRow}
 use Rattle.proof_text.specs.ProofText.{turns_text, answer_line, request_line}
 use Rattle.proof_text.specs.RowWords.{AnswerWords, RequestWords, IsTurnsText, AreAnswerWords, AreRequestWords, answer_words_line, request_words_line}
 use Rattle.proof_text.specs.ProofFaults.{AnswerRowFault, RequestRowFault}
-use Rattle.proof_text.proofs.Words.{no_digit_space, no_digit_lf, turns_unique, position_unique, numerals_unique, answer_parts, request_parts}
-use Rattle.proof_text.proofs.Spelled.{count_small, star_is_no_number}
+use Rattle.proof_text.proofs.RowWords.{no_digit_space, no_digit_lf, turns_unique, position_unique, numerals_unique, answer_parts, request_parts}
+use Rattle.proof_text.proofs.SpelledRows.{count_small, star_is_no_number}
 
 -- ---- the words of a row that was written
 

@@ -148,13 +148,13 @@ abbrev pub end_number : PlainProof → ℕ
 end_number proof = 3 + labeller_lines proof.claim proof.labeller + adversary_lines proof.claim proof.adversary
 
 -- All lines before this one are faultless, and this one has the fault and none before it in the order.
-abbrev pub HasFault : PlainBoard → List ℕ → ℕ → ProofKind → Type 0
-HasFault board text line kinds.Version = (line ≡ 1) × Lacks (λ (u : Unit {0}). Unit {0}) (λ u. version_line) text
-HasFault board text line kinds.Claim = (line ≡ 2) × (rest : List ℕ) × (text ≡ version_line ++ rest) × Lacks IsClaim claim_line rest
-HasFault board text line kinds.End =
+abbrev pub HasProofFault : PlainBoard → List ℕ → ℕ → ProofKind → Type 0
+HasProofFault board text line kinds.Version = (line ≡ 1) × Lacks (λ (u : Unit {0}). Unit {0}) (λ u. version_line) text
+HasProofFault board text line kinds.Claim = (line ≡ 2) × (rest : List ℕ) × (text ≡ version_line ++ rest) × Lacks IsClaim claim_line rest
+HasProofFault board text line kinds.End =
     (proof : PlainProof) × (rest : List ℕ) × IsProof board proof × (text ≡ front board proof ++ rest) × (line ≡ end_number proof)
     × Lacks (λ (u : Unit {0}). Unit {0}) (λ u. end_line) rest
-HasFault board text line kinds.Trailing =
+HasProofFault board text line kinds.Trailing =
     (proof : PlainProof) × (first : ℕ) × (more : List ℕ) × IsProof board proof × (text ≡ proof_text board proof ++ first ∷ more)
     × (line ≡ 1 + end_number proof)
-HasFault board text line kind = LabellerFault board text line kind ⊎ AdversaryFault board text line kind
+HasProofFault board text line kind = LabellerFault board text line kind ⊎ AdversaryFault board text line kind

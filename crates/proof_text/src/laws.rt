@@ -5,7 +5,7 @@ ghost use Rattle.board_text.specs.PlainBoard.{PlainBoard, IsBoard};
 ghost use Rattle.positions.specs.Ranks.{configurations};
 ghost use Rattle.proof_text.specs.Proof.{PlainProof, IsProof, IsPadded, answer_row, request_row};
 ghost use Rattle.proof_text.specs.ProofText.{proof_text};
-ghost use Rattle.proof_text.specs.ProofFaults.{HasFault};
+ghost use Rattle.proof_text.specs.ProofFaults.{HasProofFault};
 ghost use Rattle.proof_text.specs.declared.fault.ProofKind.{ProofKind as Kind};
 ghost use Rattle.proof_text.specs.declared.fault.ProofKind.TheVariants.{Memory as OutOfMemory};
 ghost use Rattle.proof_text.specs.declared.proof.LabellerRow.{LabellerRow as RankedAnswers};
@@ -21,13 +21,13 @@ pub fn one_document()
 /// No line of a document's text has a fault: all that can be wanting is memory.
 pub fn documents_have_no_fault()
     ensures { (board : PlainBoard) → (document : PlainProof) → (line : ℕ) → (kind : Kind) → IsBoard board → IsProof board document
-        → HasFault board (proof_text board document) line kind → kind ≡ OutOfMemory }
+        → HasProofFault board (proof_text board document) line kind → kind ≡ OutOfMemory }
 {}
 
 /// For one board a text has one fault at most, want of memory aside.
 pub fn one_fault()
     ensures { (board : PlainBoard) → (text : List ℕ) → (line : ℕ) → (other_line : ℕ) → (kind : Kind) → (other_kind : Kind) → IsBoard board
-        → kind ≢ OutOfMemory → other_kind ≢ OutOfMemory → HasFault board text line kind → HasFault board text other_line other_kind
+        → kind ≢ OutOfMemory → other_kind ≢ OutOfMemory → HasProofFault board text line kind → HasProofFault board text other_line other_kind
         → (line ≡ other_line) × (kind ≡ other_kind) }
 {}
 

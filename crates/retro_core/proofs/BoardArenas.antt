@@ -19,7 +19,7 @@ use Rattle.positions.proofs.Cited.{label_of_member, gap_of-member_of, legal_is_a
 use Rattle.retro_core.specs.Inside.Arena.{IsArena, lasts, Dominant}
 use Rattle.retro_core.specs.Inside.BoardArena.{beats, beats_place, answers, arena_of}
 use Rattle.retro_core.proofs.Counts.{some_below, count_below-some}
-use Rattle.retro_core.proofs.Lasting.{both_true, and_true, true_or_false, true_not_false, next-gives, next-from, same_is}
+use Rattle.retro_core.proofs.LastingRanks.{both_true, and_true, true_or_false, true_not_false, next-gives, next-from, same_is}
 
 -- ---- tests
 

@@ -1,12 +1,12 @@
 -- The lemmas that crates above cite, passed on from one place. Declares nothing.
-pub use Rattle.retro_core.proofs.Entered.{count-same}
+pub use Rattle.retro_core.proofs.EnteredAnswers.{count-same}
 pub use Rattle.retro_core.proofs.Homes.{times-filter-le, times-filter-true}
-pub use Rattle.retro_core.proofs.Lasting.{same_or_not}
-pub use Rattle.retro_core.proofs.Owing.{IsOwing}
+pub use Rattle.retro_core.proofs.LastingRanks.{same_or_not}
+pub use Rattle.retro_core.proofs.OwedWalks.{IsOwing}
 pub use Rattle.retro_core.proofs.RoundLaws.{source-once, source-rank}
 pub use Rattle.retro_core.proofs.RoundStart.{has-home-tells}
 pub use Rattle.retro_core.proofs.RoundSteps.{join-lawful, opening-lawful, split-lawful, worked-off}
 pub use Rattle.retro_core.proofs.SharedSteps.{IsWordStruck, word-strike, word-try}
-pub use Rattle.retro_core.proofs.Sharing.{solver_sync}
-pub use Rattle.retro_core.proofs.Steps.{split_first, times_here}
-pub use Rattle.retro_core.proofs.Sums.{times-cut, times-together}
+pub use Rattle.retro_core.proofs.Lending.{solver_sync}
+pub use Rattle.retro_core.proofs.SeatSteps.{split_first, times_here}
+pub use Rattle.retro_core.proofs.SeatSums.{times-cut, times-together}

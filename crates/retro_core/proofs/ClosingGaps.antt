@@ -9,9 +9,9 @@ use Rattle.retro_core.specs.Inside.BoardArena.{arena_of}
 use Rattle.retro_core.specs.Inside.Stage.{PlainStage, filed, IsFiled, IsKept, Closes}
 use Rattle.retro_core.specs.Inside.Tables.{is_open, IsClosing}
 use Rattle.retro_core.proofs.BoardArenas.{arena_is}
-use Rattle.retro_core.proofs.Filing.{listed-away, filed-once}
-use Rattle.retro_core.proofs.Striking.{kept-self}
-use Rattle.retro_core.proofs.Listed.{closing-start, closing-step, closing-end, shut-more, shut-same, all-shut}
+use Rattle.retro_core.proofs.FiledRanks.{listed-away, filed-once}
+use Rattle.retro_core.proofs.StageStrikes.{kept-self}
+use Rattle.retro_core.proofs.ListedWords.{closing-start, closing-step, closing-end, shut-more, shut-same, all-shut}
 
 -- a board with few configurations, a value that is a word, and one of the board's gaps
 pub record IsToClose (s : PlainStage) (gap : ℕ) : Type 0 where

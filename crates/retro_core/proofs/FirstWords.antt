@@ -4,11 +4,11 @@ use Rattle.std.proofs.Math.ListN.{length-set}
 use Rattle.std.proofs.lemmas.Bool.{cases_lt}
 use Rattle.std.proofs.lemmas.List.{length-replicate, get_or-replicate}
 use Rattle.retro_core.specs.Inside.Arena.{Arena, IsArena, next, lasts}
-use Rattle.retro_core.specs.Inside.Opening.{IsRun, IsStopped, AreStopping, IsWritten}
+use Rattle.retro_core.specs.Inside.Opening.{IsRun, IsStoppedMember, AreStopping, IsWritten}
 use Rattle.retro_core.specs.Inside.Tables.{IsCounted, AreFirstWords}
 use Rattle.retro_core.specs.declared.stage.TheConstants.{OPEN}
 use Rattle.index_lists.proofs.Cited.{cond_same, cond_other}
-use Rattle.retro_core.proofs.Lasting.{true_or_false, same_or_not, next-gives, next-fails}
+use Rattle.retro_core.proofs.LastingRanks.{true_or_false, same_or_not, next-gives, next-fails}
 
 -- ---- the members of a run of gaps
 
@@ -136,7 +136,7 @@ stopped-more a is counts part gap words new run part_is stopping so_far = record
         let at : gap + k ≡ a.gap x p = omega arith in
         let below : k < length part = omega arith in
         let pebble_is : a.pebble (gap + k) ≡ p = ap a.pebble at ∙ is.pebble_of_gap x p i j in
-        let stop : IsStopped a gap part x = record {
+        let stop : IsStoppedMember a gap part x = record {
           more = k;
           low = below;
           none = part_is k below ∙ ap (slice_index counts) at ∙ none;

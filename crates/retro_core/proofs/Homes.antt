@@ -7,7 +7,7 @@ use Rattle.index_lists.proofs.Cited.{times-here, times-later, cond_same, cond_ot
 use Rattle.retro_core.specs.Inside.Arena.{Arena, IsArena, count_below, live, without, Dominant}
 use Rattle.retro_core.specs.Inside.Rules.{tally, home_among}
 use Rattle.retro_core.proofs.Counts.{count_below-none}
-use Rattle.retro_core.proofs.Lasting.{live-same, true_or_false, true_not_false, same_or_not, same_is, differ_is, zero_is, positive_is}
+use Rattle.retro_core.proofs.LastingRanks.{live-same, true_or_false, true_not_false, same_or_not, same_is, differ_is, zero_is, positive_is}
 use Rattle.retro_core.proofs.Strikes.{strike-home, strike-other, strike-none}
 
 -- ---- homes

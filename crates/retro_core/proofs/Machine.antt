@@ -14,7 +14,7 @@ use Rattle.retro_core.specs.declared.step.Step.TheVariants as steps
 use Rattle.retro_core.specs.declared.step.StepFault.TheVariants as faults
 use Rattle.retro_core.specs.Stepping.{Strikes, Tries, Splits, Joins, ClosesGap, Refuses}
 use Rattle.index_lists.proofs.Cited.{cond_other}
-use Rattle.retro_core.proofs.Sums.{total-set, total-at, get-elsewhere, width-total}
+use Rattle.retro_core.proofs.SeatSums.{total-set, total-at, get-elsewhere, width-total}
 use Rattle.retro_core.proofs.RoundLaws.{seat-there}
 use Rattle.retro_core.proofs.RoundSteps.{first-due, strike-lawful, try-lawful, split-lawful, join-lawful}
 

@@ -5,8 +5,8 @@ use Rattle.retro_core.specs.Inside.BoardArena.{arena_of}
 use Rattle.retro_core.specs.Inside.SourceWalk.{open_from}
 use Rattle.retro_core.specs.Inside.Tables.{is_open, members_from}
 use Rattle.retro_core.specs.declared.stage.TheConstants.{OPEN}
-use Rattle.retro_core.proofs.Lasting.{same_is}
-use Rattle.retro_core.proofs.Listed.{shut_word}
+use Rattle.retro_core.proofs.LastingRanks.{same_is}
+use Rattle.retro_core.proofs.ListedWords.{shut_word}
 use Rattle.retro_core.proofs.Sources.{members-skip, members-take}
 
 module _ (b : PlainBoard) (values : List ℕ) (gap place rank : ℕ) (low : place < places b) (rank_is : rank ≡ (arena_of b).member gap place) where

@@ -15,12 +15,12 @@ use Rattle.retro_core.specs.Inside.BoardArena.{arena_of}
 use Rattle.retro_core.specs.Solving.{Solving, IsSolving, AnswerLasts, source}
 use Rattle.retro_core.specs.Round.{PlainSeat, Round, spent, all_todo, all_owed, all_won, IsWorth, IsDue, IsLawful}
 use Rattle.retro_core.specs.Inside.Rules.{tally, total, home_among, value_before, rules_of, held_in, AreKept}
-use Rattle.retro_core.proofs.Lasting.{same_or_not}
+use Rattle.retro_core.proofs.LastingRanks.{same_or_not}
 use Rattle.retro_core.proofs.BoardArenas.{arena_is, at_member, tree_of_lasts, lasts_of_tree}
-use Rattle.retro_core.proofs.Entered.{live-size}
+use Rattle.retro_core.proofs.EnteredAnswers.{live-size}
 use Rattle.retro_core.proofs.Homes.{stands, stands-true, stands-some, live-tally}
-use Rattle.retro_core.proofs.Sums.{total-sum, times-together, tally-together, width-total}
-use Rattle.retro_core.proofs.Steps.{word_none, word_some}
+use Rattle.retro_core.proofs.SeatSums.{total-sum, times-together, tally-together, width-total}
+use Rattle.retro_core.proofs.SeatSteps.{word_none, word_some}
 use Rattle.retro_core.proofs.RoundStart.{base-is, to-win-is, struck-in-is}
 
 -- ---- seats by their numbers

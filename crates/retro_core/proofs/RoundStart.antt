@@ -15,10 +15,10 @@ use Rattle.retro_core.specs.Inside.Arena.{Arena, IsArena, count_below, live, las
 use Rattle.retro_core.specs.Inside.BoardArena.{arena_of}
 use Rattle.retro_core.specs.Solving.{Solving, IsSolving, AnswerLasts, bucket, source}
 use Rattle.retro_core.specs.Round.{IsWorth, IsDue, TellsDominated, AreToStrike}
-use Rattle.retro_core.specs.Inside.Rules.{tally, home_among, has_home, value_before, rules_of, IsStruckIn, IsToWin, AreSound, AreReady}
-use Rattle.retro_core.proofs.Lasting.{true_or_false, true_not_false, same_is, differ_is, lasts-less, lasts-at-most, next-gives, next-closed, next-fails}
+use Rattle.retro_core.specs.Inside.Rules.{tally, home_among, has_home, value_before, rules_of, IsStruckIn, IsToWin, AreSound, AreReadyLists}
+use Rattle.retro_core.proofs.LastingRanks.{true_or_false, true_not_false, same_is, differ_is, lasts-less, lasts-at-most, next-gives, next-closed, next-fails}
 use Rattle.retro_core.proofs.BoardArenas.{arena_is, at_member, tree_of_lasts, lasts_of_tree, value_of_lasts, lasts_of_value, dominant_is}
-use Rattle.retro_core.proofs.Entered.{live-size}
+use Rattle.retro_core.proofs.EnteredAnswers.{live-size}
 use Rattle.retro_core.proofs.Homes.{home-cases, home-of, stands, stands-true, stands-false, live-tally, live-sum, times-filter-true, times-filter-le, tally-filter}
 
 -- ---- the value before a round
@@ -251,7 +251,7 @@ first-count s sol g count i size =
 pub ready-is : (s : Solving) → IsSolving s → (width : ℕ) (count : ℕ → ℕ) (value : ℕ → Option ℕ) (todo : List ℕ) → 0 < width
     → ((gap : ℕ) → gap < gaps s.board → HasSize (AnswerLasts s.board gap s.rounds) (count gap))
     → ((rank word : ℕ) → rank < configurations s.board → (value rank ≡ Some word) ↔ ((word ≤ s.rounds) × HasValue s.board (configuration_at s.board rank) (Finite word)))
-    → AreToStrike s todo → AreReady (rules_of s width) count value todo
+    → AreToStrike s todo → AreReadyLists (rules_of s width) count value todo
 ready-is s sol width count value todo some_width counts values to_strike =
     let b = s.board in
     let a = arena_of b in

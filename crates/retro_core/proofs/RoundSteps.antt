@@ -21,10 +21,10 @@ use Rattle.retro_core.specs.declared.step.Seen.{Seen}
 use Rattle.retro_core.specs.declared.step.Seen.TheVariants as seen
 use Rattle.retro_core.specs.Stepping.{Does, LeadTo}
 use Rattle.retro_core.specs.Inside.Rules.{total, rules_of}
-use Rattle.retro_core.proofs.Lasting.{next-fails}
+use Rattle.retro_core.proofs.LastingRanks.{next-fails}
 use Rattle.retro_core.proofs.BoardArenas.{arena_is, at_member, tree_of_lasts, lasts_of_value}
-use Rattle.retro_core.proofs.Sums.{total-at, times-together}
-use Rattle.retro_core.proofs.Steps.{strikes, tries, first-known, splits, joins, opens, split_first, times_here}
+use Rattle.retro_core.proofs.SeatSums.{total-at, times-together}
+use Rattle.retro_core.proofs.SeatSteps.{strikes, tries, first-known, splits, joins, opens, split_first, times_here}
 use Rattle.retro_core.proofs.RoundStart.{home-is, sound-is, ready-is}
 use Rattle.retro_core.proofs.RoundLaws.{word_at, seat-there, lawful-of, kept-of, above-size}
 

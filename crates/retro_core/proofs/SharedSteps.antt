@@ -11,7 +11,7 @@ use Rattle.retro_core.specs.Solving.{Solving, IsSolving}
 use Rattle.retro_core.specs.Round.{PlainSeat, spent, all_won, IsLawful, first_of, seat_struck, seat_tried, first_is_open}
 use Rattle.retro_core.specs.Inside.Round.{round_of}
 use Rattle.retro_core.specs.Inside.Words.{open_word, value_of_word, round_of_words}
-use Rattle.retro_core.proofs.Lasting.{same_or_not}
+use Rattle.retro_core.proofs.LastingRanks.{same_or_not}
 use Rattle.retro_core.proofs.RoundSteps.{strike-lawful, try-lawful}
 
 module _ (s : Solving) (w : ℕ) (words : List ℕ) (seats : List PlainSeat) (sol : IsSolving s) (law : IsLawful (round_of_words s w words seats)) (id : ℕ) where

@@ -4,7 +4,7 @@ use Rattle.index_lists.specs.Lists.{times}
 use Rattle.index_lists.proofs.Cited.{times-later, some_is}
 use Rattle.retro_core.specs.Inside.Arena.{Arena, IsArena}
 use Rattle.retro_core.specs.Inside.Tables.{members_from}
-use Rattle.retro_core.proofs.Lasting.{both_true, and_true, true_or_false, true_not_false, same_or_not, same_is, differ_is}
+use Rattle.retro_core.proofs.LastingRanks.{both_true, and_true, true_or_false, true_not_false, same_or_not, same_is, differ_is}
 
 -- a member is left out or comes first
 pub members-skip : (a : Arena) (test : ℕ → Bool) (g from n : ℕ) → test (a.member g from) ≡ false → members_from a test g from (suc n) ≡ members_from a test g (from + 1) n

@@ -22,16 +22,16 @@ use Rattle.retro_core.specs.Inside.Solving.{first_lists}
 use Rattle.retro_core.specs.Inside.Stage.{PlainStage, filed_at, turned, IsFiled, IsStage, IsKept, IsStriking, IsUnstruck, IsOpened, IsState}
 use Rattle.retro_core.specs.Inside.Tables.{is_open, open_members, alive, struck_rounds, AreWords, AreValues}
 use Rattle.retro_core.proofs.Counts.{count_below-some, count_below-less, count_below-bound}
-use Rattle.retro_core.proofs.Lasting.{both_true, true_or_false, true_not_false, same_or_not, same_is, lasts-less, lasts-at-most}
+use Rattle.retro_core.proofs.LastingRanks.{both_true, true_or_false, true_not_false, same_or_not, same_is, lasts-less, lasts-at-most}
 use Rattle.retro_core.proofs.Strikes.{lasts-forever}
 use Rattle.retro_core.proofs.BoardArenas.{at_member, arena_is, tree_of_lasts, lasts_of_tree, value_of_lasts, lasts_of_value}
-use Rattle.retro_core.proofs.Dominated.{tells-dominated, same-filter, counted-alike, words-alike, filtered-times}
-use Rattle.retro_core.proofs.Entered.{live-size}
-use Rattle.retro_core.proofs.Filing.{past}
+use Rattle.retro_core.proofs.DominatedRanks.{tells-dominated, same-filter, counted-alike, words-alike, filtered-times}
+use Rattle.retro_core.proofs.EnteredAnswers.{live-size}
+use Rattle.retro_core.proofs.FiledRanks.{past}
 use Rattle.retro_core.proofs.Homes.{times-filter-true, times-filter-le}
-use Rattle.retro_core.proofs.Listed.{shut_word, times_true}
+use Rattle.retro_core.proofs.ListedWords.{shut_word, times_true}
 use Rattle.retro_core.proofs.Sources.{waits-times, members-are}
-use Rattle.retro_core.proofs.Striking.{alive-lasts, alive-fails, some_times, no_times}
+use Rattle.retro_core.proofs.StageStrikes.{alive-lasts, alive-fails, some_times, no_times}
 
 -- ---- words
 

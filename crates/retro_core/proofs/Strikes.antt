@@ -3,7 +3,7 @@ use Rattle.std.proofs.Common.{◌≡◌, ℕ, ◌+◌, ◌<◌, ◌≢◌, ◌&&
 use Rattle.std.proofs.lemmas.Bool.Decides.{nat_tests}
 use Rattle.retro_core.specs.Inside.Arena.{Arena, IsArena, live, next, lasts, without, Dominant}
 use Rattle.retro_core.proofs.Counts.{count_below-same, count_below-without}
-use Rattle.retro_core.proofs.Lasting.{both_true, and_true, same_test, true_or_false, next-gives, next-from, next-closed, next-le}
+use Rattle.retro_core.proofs.LastingRanks.{both_true, and_true, same_test, true_or_false, next-gives, next-from, next-closed, next-le}
 
 -- the test loses c
 without-here : (above : ℕ → Bool) (c x : ℕ) → x ≡ c → without above c x ≡ false

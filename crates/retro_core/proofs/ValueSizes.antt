@@ -19,13 +19,13 @@ use Rattle.positions.proofs.Cited.{size_of, smaller_occurs, rank_below, configur
 use Rattle.positions.proofs.Cited.{same_value}
 use Rattle.retro_core.specs.Inside.Arena.{count_below}
 use Rattle.retro_core.specs.Sizes.{HasCount, IsGreatest}
-use Rattle.retro_core.specs.Inside.Sizes.{AreSizes, AreCounts}
+use Rattle.retro_core.specs.Inside.Sizes.{AreSizes, AreValueSizes}
 use Rattle.retro_core.specs.Inside.Stage.{PlainStage, filed_at, turned, IsFiled, IsKept, IsState}
 use Rattle.retro_core.specs.Inside.Tables.{is_open, AreValues}
 use Rattle.retro_core.proofs.Counts.{some_below, count_below-none, count_below-same, count_below-some, count_below-without}
-use Rattle.retro_core.proofs.Entered.{count-same}
-use Rattle.retro_core.proofs.Lasting.{true_or_false, same_or_not, same_is, differ_is}
-use Rattle.retro_core.proofs.Listed.{open_word, shut_word}
+use Rattle.retro_core.proofs.EnteredAnswers.{count-same}
+use Rattle.retro_core.proofs.LastingRanks.{true_or_false, same_or_not, same_is, differ_is}
+use Rattle.retro_core.proofs.ListedWords.{open_word, shut_word}
 use Rattle.retro_core.proofs.States.{word-few, filed-few, filed-there}
 
 -- ---- lists without repetitions
@@ -107,7 +107,7 @@ sizes-room s round capacity sizes are low = let sized = are.sized in let room = 
 -- ---- the counts of a solver that is done
 
 pub counts-are : (s : PlainStage) (round capacity : ℕ) (is_done : Bool) (sizes : List ℕ) → IsState s round is_done → AreSizes s round capacity sizes
-    → AreCounts (configurations s.board) s.values sizes (count_below (configurations s.board) (is_open s.values))
+    → AreValueSizes (configurations s.board) s.values sizes (count_below (configurations s.board) (is_open s.values))
 counts-are s round capacity is_done sizes st are =
     let sized = are.sized in
     let some = st.some in
@@ -138,7 +138,7 @@ less_or_same : (w v : ℕ) → cond {A = ℕ} (nat_lt w v) 1 0 + cond (w == v) 1
 less_or_same w v = grind (arith, nat_tests)
 
 -- the first sizes add up to how many words are less than their number
-first-sizes : (n forever : ℕ) (values sizes : List ℕ) → AreCounts n values sizes forever → (v : ℕ) → v ≤ length sizes → sum (take v sizes) ≡ count_below n (λ x. nat_lt (slice_index values x) v)
+first-sizes : (n forever : ℕ) (values sizes : List ℕ) → AreValueSizes n values sizes forever → (v : ℕ) → v ≤ length sizes → sum (take v sizes) ≡ count_below n (λ x. nat_lt (slice_index values x) v)
 first-sizes n forever values sizes counts zero low = sym (count_below-none n (λ x. nat_lt (slice_index values x) 0) (λ x i. never (slice_index values x)))
   where
     never : (w : ℕ) → nat_lt w 0 ≡ false
@@ -153,7 +153,7 @@ first-sizes n forever values sizes counts (suc v) low =
     ∙ ap (λ m. count_below n (λ x. nat_lt (slice_index values x) m)) (sym next)
 
 -- all sizes and what is worth forever
-pub all-sizes : (n forever : ℕ) (values sizes : List ℕ) → n ≤ MAX_CONFIGURATIONS → AreCounts n values sizes forever → sum sizes + forever ≡ n
+pub all-sizes : (n forever : ℕ) (values sizes : List ℕ) → n ≤ MAX_CONFIGURATIONS → AreValueSizes n values sizes forever → sum sizes + forever ≡ n
 all-sizes n forever values sizes few counts =
     let k : ℕ = length sizes in
     let total : sum sizes ≡ count_below n (λ x. nat_lt (slice_index values x) k) = ap sum (sym (take_all k sizes (omega arith))) ∙ first-sizes n forever values sizes counts k (omega arith) in
@@ -180,7 +180,7 @@ finite_same j k e = cc
 finite_not_forever : (j : ℕ) → Finite j ≡ Forever → ⊥
 finite_not_forever j e = cc
 
-module _ (b : PlainBoard) (values sizes : List ℕ) (forever : ℕ) (few : configurations b ≤ MAX_CONFIGURATIONS) (are : AreValues b values) (counts : AreCounts (configurations b) values sizes forever) where
+module _ (b : PlainBoard) (values sizes : List ℕ) (forever : ℕ) (few : configurations b ≤ MAX_CONFIGURATIONS) (are : AreValues b values) (counts : AreValueSizes (configurations b) values sizes forever) where
   -- a finite value is the word
   finite-word : (v x : ℕ) → x < configurations b → HasValue b (configuration_at b x) (Finite v) → (is_open values x ≡ false) × (slice_index values x ≡ v)
   finite-word v x i value = elim (true_or_false (is_open values x)) [

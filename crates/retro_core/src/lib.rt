@@ -1,21 +1,21 @@
 //! Values of configurations, found backwards in rounds.
 #![tactic(auto)]
 
-mod answering;
 mod end;
+mod ended_round;
 mod fault;
-mod finishing;
+mod gap_answers;
 mod laws_of_rounds;
 mod next_value;
 mod opening;
 mod progress;
 mod queue;
-mod reading;
 mod round_state;
 mod seat;
 mod solver;
 mod source_walk;
 mod stage;
+mod stage_parts;
 mod step;
 mod values;
 

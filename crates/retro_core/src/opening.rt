@@ -10,7 +10,7 @@ ghost use Rattle.retro_core.specs.Inside.Opening.{IsRun, AreStopping, IsWritten}
 ghost use Rattle.retro_core.specs.Inside.Tables.{IsCounted, AreFirstWords};
 ghost use Rattle.retro_core.specs.Inside.Stage.{IsUnlisted, IsOpened};
 
-use crate::answering::Answering;
+use crate::gap_answers::GapAnswers;
 use crate::stage::{OPEN, Stage};
 use board_text::{Board, Memory};
 use index_lists::ListStore;
@@ -25,7 +25,7 @@ impl<S: ListStore + Drop> Stage<S> {
         ensures opened { IfOk result (λ stage. IsOpened stage) }
     {
         let size = space.configurations();
-        let Answering { counts, dominators } = Answering::of(alloc, &space, board)?;
+        let GapAnswers { counts, dominators } = GapAnswers::of(alloc, &space, board)?;
         let values = first_words(alloc, &space, &counts)?;
         let buckets = S::new(alloc, size, size + 1)?;
         let strikes = Vec::with_capacity(alloc, size as usize)?;

@@ -9,7 +9,7 @@ ghost use Rattle.retro_core.specs.Solving.{AnswerForever};
 ghost use Rattle.positions.specs.declared.value.Value.TheVariants.{Finite};
 ghost use Rattle.positions.specs.Laws.{Occurs};
 ghost use Rattle.retro_core.specs.Sizes.{HasCount, IsGreatest};
-ghost use Rattle.retro_core.specs.Inside.Sizes.{AreCounts};
+ghost use Rattle.retro_core.specs.Inside.Sizes.{AreValueSizes};
 ghost use Rattle.retro_core.specs.Inside.Arena.{count_below};
 ghost use Rattle.retro_core.specs.Inside.Stored.{AreDominators};
 ghost use Rattle.retro_core.specs.Inside.Tables.{is_open, AreValues};
@@ -39,7 +39,7 @@ impl Model for Values {
     ghost use Rattle.std.specs.Prelude.{◌≤◌};
     ghost use Rattle.positions.specs.Ranks.{configurations};
     ghost use Rattle.positions.specs.declared.space.TheConstants.{MAX_CONFIGURATIONS};
-    ghost use Rattle.retro_core.specs.Inside.Sizes.{AreCounts};
+    ghost use Rattle.retro_core.specs.Inside.Sizes.{AreValueSizes};
     ghost use Rattle.retro_core.specs.Inside.Stored.{AreDominators};
     ghost use Rattle.retro_core.specs.Inside.Tables.{AreValues};
 
@@ -47,7 +47,7 @@ impl Model for Values {
 
     ghost view = { λ s. s.space };
 
-    ghost invariant = { λ s. AreValues s.space s.values.items × AreDominators s.space s.dominators.items × AreCounts (configurations s.space) s.values.items s.sizes.items s.forever × (configurations s.space ≤ MAX_CONFIGURATIONS) };
+    ghost invariant = { λ s. AreValues s.space s.values.items × AreDominators s.space s.dominators.items × AreValueSizes (configurations s.space) s.values.items s.sizes.items s.forever × (configurations s.space ≤ MAX_CONFIGURATIONS) };
 }
 
 impl Values {
@@ -60,7 +60,7 @@ impl Values {
     ) -> Values
         requires values { AreValues space values.items }
         requires dominators { AreDominators space dominators.items }
-        requires counts { AreCounts (configurations space) values.items sizes.items (count_below (configurations space) (is_open values.items)) }
+        requires counts { AreValueSizes (configurations space) values.items sizes.items (count_below (configurations space) (is_open values.items)) }
         ensures { result ≡ space }
     {
         let forever = space.configurations() - total(&sizes);

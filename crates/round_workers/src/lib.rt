@@ -3,10 +3,10 @@
 
 mod fault;
 mod gate;
-mod sharing;
+mod shared_seats;
 mod solving;
 mod tree;
-mod working;
+mod worker;
 
 pub use gate::{Gate, NoGate};
 pub use solving::solve_values;

@@ -7,7 +7,7 @@ ghost use Rattle.round_workers.specs.Work.{IsWorked};
 
 use crate::fault::WorkFault;
 use crate::gate::Gate;
-use crate::sharing::Sharing;
+use crate::shared_seats::Sharing;
 use claim_round::RoundSeat;
 use std::snapshot::Snapshot;
 use std::sync::Wait;

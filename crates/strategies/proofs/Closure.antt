@@ -13,16 +13,16 @@ use Rattle.positions.specs.Ranks.{configurations, rank_of, configuration_at}
 use Rattle.positions.proofs.Cited.{dominates_or_not, moved_is_configuration, some_value, configuration_at_is, same_value}
 use Rattle.strategies.specs.Best.{IsBestAnswer, IsBestRequest}
 use Rattle.strategies.specs.Document.{IsAnswerable}
-use Rattle.strategies.specs.Inside.Spreading.{IsAnswerStep, AnswerLeads, IsRequestStep, RequestLeads, IsWith, IsWithAll}
-use Rattle.strategies.specs.Inside.Spreading.{IsReachedBy, IsReachedByAnswers, IsReachedByRequests, AreRanksOf}
-use Rattle.strategies.proofs.Added.{contains_or_not, few_apart, added_known, added_one, added_same}
-use Rattle.strategies.proofs.Added.{Below, added_start, added_more, below_all}
-use Rattle.strategies.proofs.Answers.{best_answer, same_answer}
-use Rattle.strategies.proofs.Formed.{not_answerable}
-use Rattle.strategies.proofs.Requests.{best_request, same_request, finite_from_request}
-use Rattle.strategies.proofs.Rows.{answers_one}
-use Rattle.strategies.proofs.Spread.{get_there, somewhere, AreMoves, answer_moves, request_moves}
-use Rattle.strategies.proofs.Spread.{IsSpreadBy, spread_begins, spread_none, spread_more, spread_ends}
+use Rattle.strategies.specs.Inside.ReachedRanks.{IsAnswerStep, AnswerLeads, IsRequestStep, RequestLeads, IsWith, IsWithAll}
+use Rattle.strategies.specs.Inside.ReachedRanks.{IsReachedBy, IsReachedByAnswers, IsReachedByRequests, AreRanksOf}
+use Rattle.strategies.proofs.AddedRanks.{contains_or_not, few_apart, added_known, added_one, added_same}
+use Rattle.strategies.proofs.AddedRanks.{Below, added_start, added_more, below_all}
+use Rattle.strategies.proofs.BestAnswers.{best_answer, same_answer}
+use Rattle.strategies.proofs.DocumentForm.{not_answerable}
+use Rattle.strategies.proofs.BestRequests.{best_request, same_request, finite_from_request}
+use Rattle.strategies.proofs.DocumentRows.{answers_one}
+use Rattle.strategies.proofs.SpreadRanks.{get_there, somewhere, AreMoves, answer_moves, request_moves}
+use Rattle.strategies.proofs.SpreadRanks.{IsSpreadBy, spread_begins, spread_none, spread_more, spread_ends}
 
 -- ---- what each number below a bound leads to is added
 

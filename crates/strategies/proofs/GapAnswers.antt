@@ -14,8 +14,8 @@ use Rattle.positions.proofs.Cited.{moved_is_configuration, member_of-gap_of, leg
 use Rattle.strategies.specs.declared.gap_best.Best.{Best}
 use Rattle.strategies.specs.Best.{IsLess}
 use Rattle.strategies.specs.Inside.GapBest.{IsBestFor}
-use Rattle.strategies.proofs.Comparing.{cases_value, not_above}
-use Rattle.strategies.proofs.Answers.{IsBestBelow, NoneBelow, first_next, better_next, as_good_next, best_of_all}
+use Rattle.strategies.proofs.ValueOrder.{cases_value, not_above}
+use Rattle.strategies.proofs.BestAnswers.{IsBestBelow, NoneBelow, first_next, better_next, as_good_next, best_of_all}
 
 -- answers are few
 pub answer_few : (board : PlainBoard) (gap : ℕ) → board.labels ≤ MAX_LABELS → (label : ℕ) → IsAnswer board gap label → label < MAX_LABELS

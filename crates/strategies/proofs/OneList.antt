@@ -12,8 +12,8 @@ use Rattle.positions.proofs.Cited.{same_value}
 use Rattle.proof_text.specs.Proof.{PlainProof}
 use Rattle.strategies.specs.Best.{IsBestAnswer, IsBestRequest}
 use Rattle.strategies.specs.Document.{IsLabellerRow, IsAdversaryRow, AsksAdversary, AreExactly, IsDocumentOf, claim_of, turns_of}
-use Rattle.strategies.proofs.Answers.{same_answer}
-use Rattle.strategies.proofs.Requests as requests
+use Rattle.strategies.proofs.BestAnswers.{same_answer}
+use Rattle.strategies.proofs.BestRequests as requests
 
 -- ---- ascending lists with the same members
 

@@ -3,4 +3,4 @@ pub mod GapBest
 pub mod Listed
 pub mod Marks
 pub mod Side
-pub mod Spreading
+pub mod ReachedRanks

@@ -2,7 +2,7 @@
 #![tactic(auto)]
 
 mod best_moves;
-mod choosing;
+mod best_of_position;
 mod documents;
 mod gap_best;
 mod laws;
@@ -10,10 +10,10 @@ mod laws_of_documents;
 mod listed;
 mod marks;
 mod reached;
+mod reached_ranks;
 mod sections;
-mod spreading;
 
-pub use choosing::{best_answer, best_request};
+pub use best_of_position::{best_answer, best_request};
 pub use documents::{claim, document};
 pub use laws::{best_answers_last, best_requests_end, one_best_answer, one_best_request};
 pub use laws_of_documents::{

@@ -2,7 +2,7 @@
 
 ghost use Rattle.std.specs.Prelude.{◌≡◌, ◌<◌, ◌≤◌, [], length, Contains, IfOk, slice_get};
 ghost use Rattle.positions.specs.Counts.{IsSmallest};
-ghost use Rattle.strategies.specs.Inside.Spreading.{IsWith};
+ghost use Rattle.strategies.specs.Inside.ReachedRanks.{IsWith};
 
 use crate::marks::Marks;
 use board_text::Memory;
@@ -19,7 +19,7 @@ pub(crate) struct Reached {
 
 impl Model for Reached {
     ghost use Rattle.std.specs.Prelude.{length};
-    ghost use Rattle.strategies.specs.Inside.Spreading.{ReachedRanks, AreMarked};
+    ghost use Rattle.strategies.specs.Inside.ReachedRanks.{ReachedRanks, AreMarked};
 
     ghost Value = { ReachedRanks };
 

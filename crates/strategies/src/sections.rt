@@ -6,7 +6,7 @@ ghost use Rattle.positions.specs.Ranks.{configurations};
 ghost use Rattle.positions.specs.declared.value.Value.{Value as Worth};
 ghost use Rattle.strategies.specs.Document.{turns_of};
 ghost use Rattle.strategies.specs.Inside.Side.{Side, AreOfReached, AreSection, IsRowAt, adversary_side, labeller_side};
-ghost use Rattle.strategies.specs.Inside.Spreading.{AreRanksOf};
+ghost use Rattle.strategies.specs.Inside.ReachedRanks.{AreRanksOf};
 
 use crate::best_moves::BestMoves;
 use crate::reached::Reached;

@@ -37,7 +37,7 @@ abbrev pub ClearFrom : ℕ → List ℕ → ℕ → Type 0
 ClearFrom labels rows next = (x y : ℕ) → x < MAX_LABELS → y < labels → next ≤ x * labels + y → beats_in rows x y ≡ false
 
 -- four words for each label, and the place where the next pair may stand
-pub record AreRows (labels : ℕ) (rows : List ℕ) (next : ℕ) : Type 0 where
+pub record AreBitRows (labels : ℕ) (rows : List ℕ) (next : ℕ) : Type 0 where
   pub in_range : InRange 1 MAX_LABELS labels
   pub sized : length rows ≡ 4 * labels
   pub clear : ClearFrom labels rows next

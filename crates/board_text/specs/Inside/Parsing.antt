@@ -4,7 +4,7 @@ use Rattle.std.specs.List.{flat_map}
 use Rattle.board_text.specs.Ranges.{InRange}
 use Rattle.board_text.specs.PlainBoard.{ArePairs, AreLabels, IsNext}
 use Rattle.board_text.specs.BoardText.{version_line, labels_line, pebbles_line, beats_line, end_line}
-use Rattle.board_text.specs.BoardFaults.{PairFault, HasFault}
+use Rattle.board_text.specs.BoardFaults.{PairFault, HasBoardFault}
 use Rattle.board_text.specs.declared.fault.BoardFault.{BoardFault}
 use Rattle.board_text.specs.declared.fault.BoardKind.{BoardKind}
 use Rattle.board_text.specs.declared.board.TheConstants.{MAX_LABELS, MAX_PEBBLES}
@@ -37,4 +37,4 @@ abbrev pub HeadRead : Result (ℕ × ℕ × ℕ) BoardFault → List ℕ → Lis
 HeadRead (Ok (version, labels, pebbles)) old new =
     InRange 1 2 version × InRange 1 MAX_LABELS labels × InRange 1 MAX_PEBBLES pebbles
     × (old ≡ version_line version ++ (labels_line labels ++ (pebbles_line pebbles ++ new)))
-HeadRead (Err fault) old new = HasFault old fault.line fault.kind
+HeadRead (Err fault) old new = HasBoardFault old fault.line fault.kind

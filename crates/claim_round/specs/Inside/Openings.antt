@@ -14,7 +14,7 @@ pub record HasCounts (s : Solving) (words : List ℕ) (count : ℕ) : Type 0 whe
   pub counted : (gap : ℕ) → gap < count → HasSize (AnswerLasts s.board gap s.rounds) (slice_index words gap)
 
 -- the counts of all gaps, and behind them the values of so many configurations
-pub record AreFirstWords (s : Solving) (words : List ℕ) (count : ℕ) : Type 0 where
+pub record AreOpeningWords (s : Solving) (words : List ℕ) (count : ℕ) : Type 0 where
   pub size : length words ≡ gaps s.board + count
   pub counted : (gap : ℕ) → gap < gaps s.board → HasSize (AnswerLasts s.board gap s.rounds) (slice_index words gap)
   pub valued : (rank value : ℕ) → rank < count → (value_of_word (slice_index words (gaps s.board + rank)) ≡ Some value)

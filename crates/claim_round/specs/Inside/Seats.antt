@@ -10,7 +10,7 @@ abbrev pub place_of : Inside → Place
 place_of s = record { table = s.seat.table_id; view = s.seat.me.0 }
 
 -- there is room for what may be won: for all configurations, or for all that may be owed. What may be owed is a small number
-pub record HasRoom (k : Key) (won owed todo room : ℕ) : Type 0 where
+pub record SeatHasRoom (k : Key) (won owed todo room : ℕ) : Type 0 where
   pub places : (size k ≤ room) ⊎ (won + owed + most k * todo ≤ room)
   pub few : owed + most k * todo ≤ most k * size k
   pub narrow : most k * size k < 2 ^ 32
@@ -26,4 +26,4 @@ pub record IsSeated (s : Inside) : Type 0 where
   pub due : (c : ℕ) → 0 < times c s.seat.me.0.has.todo → IsDueIn s.seat.me.0.key c
   pub inside : (c : ℕ) → 0 < times c s.seat.me.0.has.owed → c < size s.seat.me.0.key
   pub room_owed : most s.seat.me.0.key ≤ deque_capacity s.owed
-  pub room : HasRoom s.seat.me.0.key (length s.won.items) (length s.owed.items) (length s.todo.items) (vec_capacity s.won)
+  pub room : SeatHasRoom s.seat.me.0.key (length s.won.items) (length s.owed.items) (length s.todo.items) (vec_capacity s.won)

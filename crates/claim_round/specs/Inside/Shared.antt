@@ -107,8 +107,8 @@ spent = record { key = no_key; has = spent_seat; lost = []; shut = [] }
 
 -- ---- what the steps tell
 
-abbrev pub Strikes : Step Unit0 → Me Unit0 View → ℕ → Me Unit0 View → Type 0
-Strikes s m n m' = (m'.0 ≡ struck m.0 s.word n) × (m'.1 ≡ m.1) × (0 < n)
+abbrev pub TableStrikes : Step Unit0 → Me Unit0 View → ℕ → Me Unit0 View → Type 0
+TableStrikes s m n m' = (m'.0 ≡ struck m.0 s.word n) × (m'.1 ≡ m.1) × (0 < n)
 
 abbrev pub Claims : Step Unit0 → Me Unit0 View → ℕ → Me Unit0 View → Type 0
 Claims s m n m' = (m'.0 ≡ claimed m.0 n) × (m'.1 ≡ m.1) × (length m'.0.has.won ≤ size m'.0.key)

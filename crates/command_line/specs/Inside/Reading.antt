@@ -7,7 +7,7 @@ use Rattle.std.specs.Option.{option_map_or}
 use Rattle.clap.specs.ValueTests.{is_unsigned_in}
 use Rattle.clap.specs.Walk.{Row, Text, first_of, one_of}
 use Rattle.board_text.specs.declared.board.TheConstants.{MAX_PEBBLES}
-use Rattle.nested_cycles.specs.declared.making.TheConstants.{MAX_BOARD_LEVELS}
+use Rattle.nested_cycles.specs.declared.nested_boards.TheConstants.{MAX_BOARD_LEVELS}
 use Rattle.nested_cycles.specs.declared.game.TheConstants.{MAX_LEVELS}
 use Rattle.command_line.specs.Commands.{side_words}
 

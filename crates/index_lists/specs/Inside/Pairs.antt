@@ -1,13 +1,13 @@
--- What this crate's own functions say beside `Pairs`.
+-- What this crate's own functions say beside `ListedPairs`.
 use Rattle.std.specs.Prelude.{◌≡◌, ℕ, ◌^◌, ◌<◌, ◌≤◌, ◌==◌, Bool, List, [], ◌∷◌, Option, None, Some, if◌then◌else◌, map, filter, slice_get}
 use Rattle.index_lists.specs.Lists.{Lists, times, lists_of}
-use Rattle.index_lists.specs.Pairs.{Pairs}
+use Rattle.index_lists.specs.Pairs.{ListedPairs}
 
 -- the nodes of the list l, in order
 abbrev pub nodes_of : List (ℕ × ℕ) → ℕ → List ℕ
 nodes_of entries l = map (λ e. e.1) (filter (λ e. e.0 == l) entries)
 
-abbrev pub paired : Pairs → Lists
+abbrev pub paired : ListedPairs → Lists
 paired p = lists_of p.nodes p.lists (nodes_of p.entries)
 
 -- all nodes that stand in lists
@@ -15,7 +15,7 @@ abbrev pub all_nodes : List (ℕ × ℕ) → List ℕ
 all_nodes entries = map (λ e. e.1) entries
 
 -- each node once, each of them a node of a list that there is, and as many nodes as an index counts
-pub record ArePlain (p : Pairs) : Type 0 where
+pub record ArePlain (p : ListedPairs) : Type 0 where
   pub few : p.nodes < 2 ^ 32
   pub once : (x : ℕ) → times x (all_nodes p.entries) ≤ 1
   pub below : (x : ℕ) → p.nodes ≤ x → times x (all_nodes p.entries) ≡ 0

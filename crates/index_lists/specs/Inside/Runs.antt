@@ -30,17 +30,17 @@ pub record AreRuns (node_count run_room node_room : ℕ) (runs : List Run) (node
   pub for_nodes : node_count ≤ node_room
 
 -- what is left of a walk over pairs: places of a list, and behind them runs; and the nodes of all of them
-pub record Walk : Type 0 where
+pub record PairWalkState : Type 0 where
   pub list : ℕ
   pub left : ℕ
   pub runs : List Run
   pub nodes : List ℕ
 
 -- the pairs that are left
-abbrev pub pairs_left : Walk → List (ℕ × ℕ)
+abbrev pub pairs_left : PairWalkState → List (ℕ × ℕ)
 pairs_left walk = zip (replicate walk.left walk.list ++ spread walk.runs) walk.nodes
 
 -- no run is empty, and each place has a node
-pub record IsWalk (walk : Walk) : Type 0 where
+pub record IsWalk (walk : PairWalkState) : Type 0 where
   pub filled : AreFilled walk.runs
   pub fits : length (replicate walk.left walk.list ++ spread walk.runs) ≡ length walk.nodes

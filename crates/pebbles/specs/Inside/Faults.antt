@@ -2,8 +2,8 @@
 use Rattle.std.specs.Prelude.{◌≡◌, ◌≢◌, ◌⊎◌}
 use Rattle.board_text.specs.declared.fault.BoardFault.{BoardFault}
 use Rattle.board_text.specs.declared.fault.BoardKind.TheVariants as board_kinds
-use Rattle.board_text.specs.declared.whole.ReadFault.{ReadFault}
-use Rattle.board_text.specs.declared.whole.ReadFault.TheVariants as read_faults
+use Rattle.board_text.specs.declared.read_write.ReadFault.{ReadFault}
+use Rattle.board_text.specs.declared.read_write.ReadFault.TheVariants as read_faults
 use Rattle.proof_text.specs.declared.fault.ProofFault.{ProofFault}
 use Rattle.proof_text.specs.declared.fault.ProofKind.TheVariants as proof_kinds
 use Rattle.retro_core.specs.declared.fault.SolveFault.{SolveFault}

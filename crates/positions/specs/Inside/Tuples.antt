@@ -15,13 +15,13 @@ abbrev pub AreBeating : PlainBoard → ℕ → List ℕ → ℕ → Type 0
 AreBeating board number held word = (bit : ℕ) → bit < 64 → (bit_at word bit ≡ 1) ↔ BeatsAll board held (64 * number + bit)
 
 -- the first words are those of tuples of so many places, in order
-abbrev pub AreWords : PlainBoard → ℕ → ℕ → List ℕ → Type 0
-AreWords board number count words = (tuple : ℕ) → tuple < length words
+abbrev pub AreTupleWords : PlainBoard → ℕ → ℕ → List ℕ → Type 0
+AreTupleWords board number count words = (tuple : ℕ) → tuple < length words
     → AreBeating board number (digits_of (places board) count tuple) (slice_index_or words tuple 0)
 
 -- there is a word for each tuple of so many places
 pub record AreAllWords (board : PlainBoard) (number count : ℕ) (words : List ℕ) : Type 0 where
-  pub each : AreWords board number count words
+  pub each : AreTupleWords board number count words
   pub so_many : length words ≡ places board ^ count
 
 -- the words, or 0 where there is none, are those of all tuples of the pebbles but one

@@ -58,7 +58,7 @@ pub record AreSound (k : Rules) : Type 0 where
   pub opened : (gap rank : ℕ) → gap < k.gaps → 0 < times rank (k.opens gap) → (rank < k.size) × (k.base rank ≡ None)
 
 -- what is known of the words and of the list to strike before the first step
-pub record AreReady (k : Rules) (count : ℕ → ℕ) (value : ℕ → Option ℕ) (todo : List ℕ) : Type 0 where
+pub record AreReadyLists (k : Rules) (count : ℕ → ℕ) (value : ℕ → Option ℕ) (todo : List ℕ) : Type 0 where
   pub counts : (gap : ℕ) → gap < k.gaps → count gap ≡ k.live gap + tally k.home gap todo
   pub values : (rank : ℕ) → rank < k.size → value rank ≡ k.base rank
   pub due : (rank : ℕ) → 0 < times rank todo → IsStruckIn k rank

@@ -13,7 +13,7 @@ pub record AreSizes (s : PlainStage) (round capacity : ℕ) (sizes : List ℕ) :
   pub room : configurations s.board ≤ capacity
 
 -- how many of n words are each finite value that there is, and how many stand for Forever
-pub record AreCounts (n : ℕ) (values sizes : List ℕ) (forever : ℕ) : Type 0 where
+pub record AreValueSizes (n : ℕ) (values sizes : List ℕ) (forever : ℕ) : Type 0 where
   pub made : 0 < length sizes
   pub few : length sizes ≤ n
   pub counted : (v : ℕ) → v < length sizes → slice_index sizes v ≡ count_below n (λ x. slice_index values x == v)

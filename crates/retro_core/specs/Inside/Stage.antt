@@ -10,7 +10,7 @@ use Rattle.retro_core.specs.Inside.BoardArena.{arena_of}
 use Rattle.retro_core.specs.Solving.{Solving}
 use Rattle.retro_core.specs.Inside.Solving.{first_lists}
 use Rattle.retro_core.specs.Inside.Stored.{IsSmall}
-use Rattle.retro_core.specs.Inside.Tables.{alive, struck_rounds, open_members, IsCounted, AreWords, AreFirstWords, IsClosed}
+use Rattle.retro_core.specs.Inside.Tables.{alive, struck_rounds, open_members, IsCounted, AreWords, AreFirstWords, GapIsClosed}
 
 -- a board, the value that configurations are filed at, a word for each configuration, a count for each gap,
 -- the configurations filed at each value, and those that are struck in the round
@@ -78,7 +78,7 @@ pub record IsKept (s s' : PlainStage) : Type 0 where
 pub record Closes (s : PlainStage) (gap : ℕ) (s' : PlainStage) : Type 0 where
   pub kept : IsKept s s'
   pub counts_is : s'.counts ≡ s.counts
-  pub words : IsClosed (arena_of s.board) gap s.value s.values s'.values
+  pub words : GapIsClosed (arena_of s.board) gap s.value s.values s'.values
   pub filed_are : IsFiled s'
 
 -- the configuration lasts r requests and no more, and a pebble dominates there

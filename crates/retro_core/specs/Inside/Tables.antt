@@ -48,7 +48,7 @@ abbrev pub alive : Arena → ℕ → List ℕ → ℕ → Bool
 alive a r todo x = cond (lasts a (suc r) x) true (not (times x todo == 0))
 
 -- the open members of a gap are filed at a value, and nothing else changes
-pub record IsClosed (a : Arena) (g value : ℕ) (values values' : List ℕ) : Type 0 where
+pub record GapIsClosed (a : Arena) (g value : ℕ) (values values' : List ℕ) : Type 0 where
   pub same_length : length values' ≡ length values
   pub filed : (x : ℕ) → x < a.configurations → a.gap x (a.pebble g) ≡ g → is_open values x ≡ true → slice_index values' x ≡ value
   pub outside : (x : ℕ) → x < a.configurations → a.gap x (a.pebble g) ≢ g → slice_index values' x ≡ slice_index values x

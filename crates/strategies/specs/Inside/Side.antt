@@ -8,7 +8,7 @@ use Rattle.proof_text.specs.declared.proof.LabellerRow.{LabellerRow}
 use Rattle.proof_text.specs.declared.proof.AdversaryRow.{AdversaryRow}
 use Rattle.proof_text.specs.Proof.{IsPadded, answer_row, request_row}
 use Rattle.strategies.specs.Document.{AreExactly, IsLabellerRow, IsAdversaryRow}
-use Rattle.strategies.specs.Inside.Spreading.{IsReachedByAnswers, IsReachedByRequests}
+use Rattle.strategies.specs.Inside.ReachedRanks.{IsReachedByAnswers, IsReachedByRequests}
 
 -- the rows of one side, which name their configurations by ranks
 pub record Side (R : Type 0) : Type 1 where

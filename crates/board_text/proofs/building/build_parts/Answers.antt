@@ -4,7 +4,7 @@ use Rattle.std.proofs.lemmas.List.Elements.{All-from_get_or}
 use Rattle.std.proofs.lemmas.Result.{err_from_is_err_and}
 use Rattle.board_text.specs.PlainBoard.{plain_board}
 use Rattle.board_text.proofs.Places.{board_from_parts}
-use Rattle.board_text.proofs.Misfitting.{labels_fault, pebbles_fault, memory_fault, start_fault, parts_fault}
+use Rattle.board_text.proofs.PairFaults.{labels_fault, pebbles_fault, memory_fault, start_fault, parts_fault}
 use Rattle.board_text.proofs.building.build_parts.Goals.{then-labels-eq0-via-then-labels-eq0, then-labels-eq0-via-else-labels-eq0+then-labels-gt-MAX_LABELS, then-pebbles-eq0-via-then-pebbles-eq0, then-pebbles-eq0-via-else-pebbles-eq0+then-pebbles-gt-MAX_PEBBLES}
 use Rattle.board_text.proofs.building.build_parts.Goals as goal
 

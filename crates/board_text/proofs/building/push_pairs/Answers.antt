@@ -3,7 +3,7 @@ use Rattle.std.proofs.lemmas.List.{take_more}
 use Rattle.board_text.specs.PlainBoard.{AreLabels}
 use Rattle.board_text.specs.declared.fault.BoardKind.TheVariants.{Beats}
 use Rattle.board_text.proofs.PairLemmas.{pairs_push}
-use Rattle.board_text.proofs.Misfitting.{misfit_at}
+use Rattle.board_text.proofs.PairFaults.{misfit_at}
 use Rattle.board_text.proofs.building.push_pairs.Goals as goal
 
 pub returns-then-x-labels-clause-fault : goal.returns-then-x-labels-clause-fault

@@ -1,7 +1,7 @@
 use Rattle.std.proofs.Common.{◌≡◌, ◌++◌, rules}
 use Rattle.board_text.specs.PlainBoard.{AreLabels}
 use Rattle.board_text.specs.BoardText.{beats_line}
-use Rattle.board_text.proofs.Misfitting.{misfit_fault}
+use Rattle.board_text.proofs.PairFaults.{misfit_fault}
 use Rattle.board_text.proofs.parsing.next_pair.Goals as goal
 
 pub returns-in-Some-pair_fault : goal.returns-in-Some-pair_fault

@@ -1,5 +1,5 @@
 use Rattle.std.proofs.Common.{ℕ, List, ◌++◌, string_bytes, ap, ◌∙◌, inl, inr, arith}
-use Rattle.board_text.proofs.Spelling.{digits_pushed, on_ok}
+use Rattle.board_text.proofs.WrittenNumbers.{digits_pushed, on_ok}
 use Rattle.board_text.proofs.writing.write_number.Goals as goal
 use Rattle.board_text.proofs.writing.write_number.Goals.{then-number-ge100+in_ok-push_digit, else-number-ge100}
 use Rattle.board_text.proofs.writing.write_number.Goals.{then-number-ge10+in_ok-push_digit-2, else-number-ge10}

@@ -3,7 +3,7 @@ use Rattle.positions.specs.Gaps.{gaps}
 use Rattle.positions.specs.Counts.{HasSize}
 use Rattle.retro_core.specs.Solving.{AnswerLasts}
 use Rattle.claim_round.specs.Inside.Openings.{HasCounts}
-use Rattle.claim_round.proofs.Openings.{count_more}
+use Rattle.claim_round.proofs.OpeningWords.{count_more}
 use Rattle.claim_round.proofs.words.first_counts.Goals as goal
 
 pub loop-gap-preserved : goal.loop-gap-preserved

@@ -3,8 +3,8 @@ use Rattle.positions.specs.declared.value.Value.TheVariants.{Finite}
 use Rattle.positions.specs.Value.{HasValue}
 use Rattle.positions.specs.Ranks.{configurations, configuration_at}
 use Rattle.retro_core.specs.Inside.Words.{value_of_word}
-use Rattle.claim_round.specs.Inside.Openings.{AreFirstWords}
-use Rattle.claim_round.proofs.Openings.{words_more, word_some, word_none}
+use Rattle.claim_round.specs.Inside.Openings.{AreOpeningWords}
+use Rattle.claim_round.proofs.OpeningWords.{words_more, word_some, word_none}
 use Rattle.claim_round.proofs.words.first_words.Goals.{in-Some, in-None}
 use Rattle.claim_round.proofs.words.first_words.Goals as goal
 
@@ -29,4 +29,4 @@ returns g c =
     let same = ap configurations c.space.ensures in
     let past = c.loop-rank-test.false in
     let fits = c.loop-rank.auto.rank-end in
-    subst (AreFirstWords c.args.solver.now c.loop-rank.words.items) (let e : c.loop-rank.rank ≡ configurations c.args.solver.now.board = omega arith in e) c.loop-rank.invariant.words
+    subst (AreOpeningWords c.args.solver.now c.loop-rank.words.items) (let e : c.loop-rank.rank ≡ configurations c.args.solver.now.board = omega arith in e) c.loop-rank.invariant.words

@@ -5,7 +5,7 @@ use Rattle.clap.specs.Walk.{texts}
 use Rattle.clap.specs.Words.{fault_of, is_simple, is_simple_and_free, subcommand_of, takes}
 use Rattle.command_line.specs.Commands.{side_words}
 use Rattle.command_line.proofs.SameProgram.{faults_as_program, reads_as_program, takes_as_program}
-use Rattle.command_line.proofs.Taken.{simple, simple_and_free}
+use Rattle.command_line.proofs.TakenWords.{simple, simple_and_free}
 use Rattle.command_line.proofs.commands.program.Goals as goal
 
 pub returns : goal.returns

@@ -1,7 +1,7 @@
 use Rattle.std.proofs.Common.{◌∙◌, ap, sym, refl, true≢false}
 use Rattle.clap.specs.Walk.{texts}
 use Rattle.command_line.specs.Inside.Reading.{is_read}
-use Rattle.command_line.proofs.Taken.{taken}
+use Rattle.command_line.proofs.TakenWords.{taken}
 use Rattle.command_line.proofs.words.named_job.Goals as goal
 
 pub returns-in-Err-clause-takes : goal.returns-in-Err-clause-takes

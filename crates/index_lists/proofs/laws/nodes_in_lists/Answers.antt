@@ -1,4 +1,4 @@
-use Rattle.index_lists.proofs.Kept.{fits, home-of_in, elsewhere-same}
+use Rattle.index_lists.proofs.KeptLists.{fits, home-of_in, elsewhere-same}
 use Rattle.index_lists.proofs.laws.nodes_in_lists.Goals as goal
 
 pub returns : goal.returns

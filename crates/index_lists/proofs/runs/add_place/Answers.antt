@@ -2,7 +2,7 @@ use Rattle.std.proofs.Common.{◌<◌, ◌∙◌, ◌++◌, ◌∷◌, [], ap, a
 use Rattle.std.proofs.lemmas.List.Elements.{All-push}
 use Rattle.index_lists.specs.declared.runs.Run.{Run}
 use Rattle.index_lists.specs.Inside.Runs.{spread}
-use Rattle.index_lists.proofs.Spread.{spread-append, spread-longer, few-runs, run-most, same-run}
+use Rattle.index_lists.proofs.RunPlaces.{spread-append, spread-longer, few-runs, run-most, same-run}
 use Rattle.index_lists.proofs.runs.add_place.Goals as goal
 
 pub overflow_add-index_mut : goal.overflow_add-index_mut

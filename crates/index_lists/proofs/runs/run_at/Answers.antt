@@ -1,5 +1,5 @@
 use Rattle.std.proofs.Common.{refl}
-use Rattle.index_lists.proofs.Spread.{sought-later, sought-found}
+use Rattle.index_lists.proofs.RunPlaces.{sought-later, sought-found}
 use Rattle.index_lists.proofs.runs.run_at.Goals as goal
 
 pub returns-then-left-run : goal.returns-then-left-run

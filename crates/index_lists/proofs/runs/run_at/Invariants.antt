@@ -1,5 +1,5 @@
 use Rattle.std.proofs.Common.{◌-◌, length}
-use Rattle.index_lists.proofs.Spread.{IsSought}
+use Rattle.index_lists.proofs.RunPlaces.{IsSought}
 use Rattle.index_lists.proofs.runs.run_at.Given as goal
 
 abbrev pub invariant-loop-left : goal.invariant-loop-left

@@ -1,6 +1,6 @@
 use Rattle.std.proofs.Common.{◌-◌, ◌∙◌, ap, arith, subst}
 use Rattle.index_lists.specs.Inside.Runs.{IsRunOf, spread}
-use Rattle.index_lists.proofs.Spread.{same-run, run-in, run-some, spread-shorter, spread-without}
+use Rattle.index_lists.proofs.RunPlaces.{same-run, run-in, run-some, spread-shorter, spread-without}
 use Rattle.index_lists.proofs.runs.take_place.Goals as goal
 use Rattle.index_lists.proofs.runs.take_place.Goals.{After-run_at-at}
 

@@ -1,18 +1,18 @@
 use Rattle.std.proofs.Common.{inr}
 use Rattle.std.proofs.lemmas.Result.{err_from_is_err_and}
-use Rattle.pebbles.specs.Answer.{IsChecked}
+use Rattle.pebbles.specs.Verdicts.{IsChecked}
 use Rattle.pebbles.specs.Run.{bytes_of}
 use Rattle.pebbles.specs.Texts.{BringsNoProof}
 use Rattle.pebbles.specs.declared.checking.TheConstants.{MAX_PROOF_BYTES}
-use Rattle.pebbles.proofs.Failing.{cut_short}
+use Rattle.pebbles.proofs.FailedRuns.{cut_short}
 use Rattle.pebbles.proofs.checking.run_check.Goals as goal
 
 pub returns-in_err-write_all-clause-fault : goal.returns-in_err-write_all-clause-fault
 returns-in_err-write_all-clause-fault g c =
     let p = err_from_is_err_and c.from_residual-in_err-write_all.result c.from_residual-in_err-write_all.ensures.1 in
     let board = c.in_ok-board.board in
-    let proof = bytes_of g.P.Source.left c.args.proof.now c.read_text.new.reader in
-    let written = bytes_of g.W.Sink.taken c.args.writer.now c.write_all.new.sink in
+    let proof = bytes_of g.P.Source.remaining c.args.proof.now c.read_text.new.reader in
+    let written = bytes_of g.W.Sink.contents c.args.writer.now c.write_all.new.sink in
     rw (p.1, p.2) (inr (
       board,
       c.in_ok-board.ensures.found.0,

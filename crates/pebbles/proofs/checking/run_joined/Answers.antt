@@ -1,15 +1,15 @@
 use Rattle.std.proofs.lemmas.Result.{err_from_is_err_and}
-use Rattle.pebbles.specs.Answer.{CannotAnswer, IsAnswered}
+use Rattle.pebbles.specs.Verdicts.{CannotAnswer, IsAnswered}
 use Rattle.pebbles.specs.Run.{bytes_of}
 use Rattle.pebbles.specs.declared.checking.TheConstants.{MAX_JOINED_BYTES}
-use Rattle.pebbles.proofs.Failing.{cut_short}
+use Rattle.pebbles.proofs.FailedRuns.{cut_short}
 use Rattle.pebbles.proofs.checking.run_joined.Goals as goal
 
 pub returns-in_err-write_all-clause-fault : goal.returns-in_err-write_all-clause-fault
 returns-in_err-write_all-clause-fault g c =
     let p = err_from_is_err_and c.from_residual-in_err-write_all.result c.from_residual-in_err-write_all.ensures.1 in
-    let read = bytes_of g.R.Source.left c.args.reader.now c.read_text.new.reader in
-    let written = bytes_of g.W.Sink.taken c.args.writer.now c.write_all.new.sink in
+    let read = bytes_of g.R.Source.remaining c.args.reader.now c.read_text.new.reader in
+    let written = bytes_of g.W.Sink.contents c.args.writer.now c.write_all.new.sink in
     rw (p.1, p.2) (cut_short IsAnswered CannotAnswer MAX_JOINED_BYTES read written c.in_ok-text.text.items c.in_ok-text.ensures.ok
     c.in_ok-answer.answer.verdict _ (rw c.as_slice.ensures.value at c.in_ok-answer.ensures.answered)
     (rw c.as_bytes.ensures.value at c.in_err-write_all.ensures.front))

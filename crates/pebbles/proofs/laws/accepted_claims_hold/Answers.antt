@@ -1,4 +1,4 @@
-use Rattle.pebbles.proofs.Meanings.{can_answer, claim_holds}
+use Rattle.pebbles.proofs.AcceptedLines.{can_answer, claim_holds}
 use Rattle.pebbles.proofs.laws.accepted_claims_hold.Goals as goal
 
 pub returns : goal.returns

@@ -1,4 +1,4 @@
-use Rattle.pebbles.proofs.Accepting.{accepts, accepts_text, no_fault_of_board, no_fault_of_document, runs_agree}
+use Rattle.pebbles.proofs.AcceptedDocuments.{accepts, accepts_text, no_fault_of_board, no_fault_of_document, runs_agree}
 use Rattle.pebbles.proofs.laws.printed_documents_are_accepted.Goals as goal
 
 pub returns-clause-verdict : goal.returns-clause-verdict

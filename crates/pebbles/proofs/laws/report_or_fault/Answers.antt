@@ -1,5 +1,5 @@
-use Rattle.pebbles.proofs.Accepting.{not_wrong}
-use Rattle.pebbles.proofs.Existing.{report_exists, report_or_wrong}
+use Rattle.pebbles.proofs.AcceptedDocuments.{not_wrong}
+use Rattle.pebbles.proofs.Solutions.{report_exists, report_or_wrong}
 use Rattle.pebbles.proofs.OneOutcome.{one_report}
 use Rattle.pebbles.proofs.laws.report_or_fault.Goals as goal
 

@@ -1,5 +1,5 @@
-use Rattle.pebbles.proofs.Accepting.{not_wrong}
-use Rattle.pebbles.proofs.Existing.{solution_exists, solution_or_wrong}
+use Rattle.pebbles.proofs.AcceptedDocuments.{not_wrong}
+use Rattle.pebbles.proofs.Solutions.{solution_exists, solution_or_wrong}
 use Rattle.pebbles.proofs.OneOutcome.{one_solution, one_wrong}
 use Rattle.pebbles.proofs.laws.solution_or_fault.Goals as goal
 

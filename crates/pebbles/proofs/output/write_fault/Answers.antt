@@ -1,7 +1,7 @@
 use Rattle.std.proofs.Common.{string_bytes, codes}
 use Rattle.proof_check.specs.declared.fault.Side.TheVariants.{Labeller}
 use Rattle.pebbles.specs.Output.{row_words}
-use Rattle.pebbles.proofs.Pushing.{pushed}
+use Rattle.pebbles.proofs.WrittenWords.{pushed}
 use Rattle.pebbles.proofs.output.write_fault.Goals as goal
 
 pub returns-in_ok-write_row-in-IllegalAnswer : goal.returns-in_ok-write_row-in-IllegalAnswer

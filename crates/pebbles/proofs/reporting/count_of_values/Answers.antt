@@ -1,4 +1,4 @@
-use Rattle.pebbles.proofs.Counting.{values_to, no_values, value_fits}
+use Rattle.pebbles.proofs.ReportCounts.{values_to, no_values, value_fits}
 use Rattle.pebbles.proofs.reporting.count_of_values.Goals as goal
 
 pub overflow_add-result : goal.overflow_add-result

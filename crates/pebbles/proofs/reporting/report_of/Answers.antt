@@ -1,5 +1,5 @@
 use Rattle.strategies.proofs.Cited.{start_value}
-use Rattle.pebbles.proofs.Counting.{whole_report}
+use Rattle.pebbles.proofs.ReportCounts.{whole_report}
 use Rattle.pebbles.proofs.reporting.report_of.Goals as goal
 
 pub returns : goal.returns

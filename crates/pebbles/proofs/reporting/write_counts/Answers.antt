@@ -1,5 +1,5 @@
 use Rattle.std.proofs.Common.{arith}
-use Rattle.pebbles.proofs.Counting.{counted_more, counted_all}
+use Rattle.pebbles.proofs.ReportCounts.{counted_more, counted_all}
 use Rattle.pebbles.proofs.reporting.write_counts.Goals as goal
 
 pub loop-value-preserved : goal.loop-value-preserved

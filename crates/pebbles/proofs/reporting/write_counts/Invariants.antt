@@ -1,4 +1,4 @@
-use Rattle.pebbles.proofs.Counting.{IsCountedTo}
+use Rattle.pebbles.proofs.ReportCounts.{IsCountedTo}
 use Rattle.std.specs.Prelude.{string_bytes}
 use Rattle.pebbles.proofs.reporting.write_counts.Given as goal
 

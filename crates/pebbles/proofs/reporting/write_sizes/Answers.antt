@@ -1,7 +1,7 @@
 use Rattle.std.proofs.Common.{codes, string_bytes}
 use Rattle.board_text.specs.LineForms.{closed}
 use Rattle.pebbles.specs.Report.{size_line}
-use Rattle.pebbles.proofs.Counting.{four_parts}
+use Rattle.pebbles.proofs.ReportCounts.{four_parts}
 use Rattle.pebbles.proofs.reporting.write_sizes.Goals as goal
 
 pub returns : goal.returns

@@ -2,22 +2,22 @@ use Rattle.std.proofs.lemmas.Result.{err_from_is_err_and}
 use Rattle.pebbles.specs.Run.{bytes_of}
 use Rattle.pebbles.specs.SolveRun.{CannotSolve, IsSolution}
 use Rattle.pebbles.specs.declared.reading.TheConstants.{MAX_BOARD_BYTES}
-use Rattle.pebbles.proofs.Failing.{cut_short, nothing_to_write}
+use Rattle.pebbles.proofs.FailedRuns.{cut_short, nothing_to_write}
 use Rattle.pebbles.proofs.solving.run_solve.Goals as goal
 
 pub returns-in_err-solved-clause-fault : goal.returns-in_err-solved-clause-fault
 returns-in_err-solved-clause-fault g c =
     let p = err_from_is_err_and c.from_residual-in_err-solved.result c.from_residual-in_err-solved.ensures.1 in
-    let read = bytes_of g.R.Source.left c.args.reader.now c.read_text.new.reader in
-    let written = bytes_of g.W.Sink.taken c.args.writer.now c.args.writer.now in
+    let read = bytes_of g.R.Source.remaining c.args.reader.now c.read_text.new.reader in
+    let written = bytes_of g.W.Sink.contents c.args.writer.now c.args.writer.now in
     rw (p.1, p.2) (nothing_to_write IsSolution (CannotSolve c.args.workers) MAX_BOARD_BYTES read written
     c.in_ok-text.text.items c.in_ok-text.ensures.ok c.in_err-solved.field-0.0 (rw c.as_slice.ensures.value at c.in_err-solved.ensures.fault))
 
 pub returns-in_err-write_all-clause-fault : goal.returns-in_err-write_all-clause-fault
 returns-in_err-write_all-clause-fault g c =
     let p = err_from_is_err_and c.from_residual-in_err-write_all.result c.from_residual-in_err-write_all.ensures.1 in
-    let read = bytes_of g.R.Source.left c.args.reader.now c.read_text.new.reader in
-    let written = bytes_of g.W.Sink.taken c.args.writer.now c.write_all.new.sink in
+    let read = bytes_of g.R.Source.remaining c.args.reader.now c.read_text.new.reader in
+    let written = bytes_of g.W.Sink.contents c.args.writer.now c.write_all.new.sink in
     rw (p.1, p.2) (cut_short IsSolution (CannotSolve c.args.workers) MAX_BOARD_BYTES read written
     c.in_ok-text.text.items c.in_ok-text.ensures.ok c.in_ok-solved.solved.value _
     (rw c.as_slice.ensures.value at c.in_ok-solved.ensures.solved) (rw c.as_bytes.ensures.value at c.in_err-write_all.ensures.front))

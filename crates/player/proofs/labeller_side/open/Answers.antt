@@ -1,6 +1,6 @@
 use Rattle.std.proofs.Common.{◌∙◌}
 use Rattle.std.proofs.lemmas.Result.{IfOk-weaker}
-use Rattle.player.proofs.Answering.{opens_with, opens_without}
+use Rattle.player.proofs.AnswerLines.{opens_with, opens_without}
 use Rattle.player.proofs.labeller_side.open.Goals as goal
 
 pub returns-in-Finite : goal.returns-in-Finite

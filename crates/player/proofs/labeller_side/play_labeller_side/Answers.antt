@@ -1,12 +1,12 @@
 use Rattle.std.proofs.Common.{◌++◌, ap, ◌∙◌, subst}
 use Rattle.std.proofs.lemmas.Result.{IfOk-weaker, IfErr-weaker, err_from_is_err_and}
 use Rattle.std.specs.Io.KnownBytes.{Appends}
-use Rattle.board_text.specs.Ends.{AppendsFront}
+use Rattle.board_text.specs.Streams.{AppendsFront}
 use Rattle.positions.proofs.Cited.{some_value}
-use Rattle.player.specs.Transcript.{PersonAnswers, Opens}
-use Rattle.player.proofs.Answering.{has_opening}
-use Rattle.player.proofs.Lasting.{keeps_to_value}
-use Rattle.player.proofs.Opening.{has_ended, breaks_off, over_at_once, unopened, unshown_opening, Keeps-same}
+use Rattle.player.specs.Transcript.{PersonAnswers, BeginsPlay}
+use Rattle.player.proofs.AnswerLines.{has_opening}
+use Rattle.player.proofs.PlayLengths.{keeps_to_value}
+use Rattle.player.proofs.OpeningLines.{has_ended, breaks_off, over_at_once, unopened, unshown_opening, Keeps-same}
 use Rattle.player.proofs.labeller_side.play_labeller_side.Goals as goal
 
 pub returns-in_default-clause-fault : goal.returns-in_default-clause-fault
@@ -15,12 +15,12 @@ returns-in_default-clause-fault g c =
     let opening = has_opening c.args.board.now value.0 value.1 in
     unopened (PersonAnswers c.args.board.now) opening.said opening.to opening.opens _ _ _ (Keeps-same _)
 
-pub returns-in_err-show-clause-fault : goal.returns-in_err-show-clause-fault
-returns-in_err-show-clause-fault g c =
+pub returns-in_err-flush-clause-fault : goal.returns-in_err-flush-clause-fault
+returns-in_err-flush-clause-fault g c =
     let opening = c.in-Ok.ensures in
     let text = opening.1 ∙ ap (λ l. l ++ opening.0) c.new-text.ensures.bytes in
     let p = err_from_is_err_and c.from_residual.result c.from_residual.ensures.1 in
-    rw (p.1, p.2, c.in_err-show.ensures.fault.0) (unshown_opening (PersonAnswers c.args.board.now) opening.0 opening.2.0 opening.2.1 _ _ _ (subst (AppendsFront _ _) text c.in_err-show.ensures.front))
+    rw (p.1, p.2, c.in_err-flush.ensures.fault.0) (unshown_opening (PersonAnswers c.args.board.now) opening.0 opening.2.0 opening.2.1 _ _ _ (subst (AppendsFront _ _) text c.in_err-flush.ensures.front))
 
 pub new-play-requires : goal.new-play-requires
 new-play-requires g c =
@@ -36,21 +36,21 @@ pub returns-in-Asks-clause-ok : goal.returns-in-Asks-clause-ok
 returns-in-Asks-clause-ok g c =
     let opening = rw c.in-Asks.is at c.in-Ok.ensures in
     let text = opening.1 ∙ ap (λ l. l ++ opening.0) c.new-text.ensures.bytes in
-    let opens = subst (Opens (PersonAnswers c.args.board.now) opening.0) opening.2.2.1 opening.2.1 in
-    IfOk-weaker c.play_on.result _ _ (λ end h. has_ended (PersonAnswers c.args.board.now) opening.0 _ opens _ _ _ (g.W.Sink.taken c.show.new.writer) _ (subst (Appends _ _) text c.in_ok-show.ensures.written) end h) (rw c.new-play.ensures at c.play_on.ensures.ok)
+    let opens = subst (BeginsPlay (PersonAnswers c.args.board.now) opening.0) opening.2.2.1 opening.2.1 in
+    IfOk-weaker c.play_on.result _ _ (λ end h. has_ended (PersonAnswers c.args.board.now) opening.0 _ opens _ _ _ (g.W.Sink.contents c.show.new.writer) _ (subst (Appends _ _) text c.in_ok-flush.ensures.written) end h) (rw c.new-play.ensures at c.play_on.ensures.ok)
 
 pub returns-in-Asks-clause-fault : goal.returns-in-Asks-clause-fault
 returns-in-Asks-clause-fault g c =
     let opening = rw c.in-Asks.is at c.in-Ok.ensures in
     let text = opening.1 ∙ ap (λ l. l ++ opening.0) c.new-text.ensures.bytes in
-    let opens = subst (Opens (PersonAnswers c.args.board.now) opening.0) opening.2.2.1 opening.2.1 in
-    IfErr-weaker c.play_on.result _ _ (λ fault h. breaks_off (PersonAnswers c.args.board.now) opening.0 _ opens _ _ _ (g.W.Sink.taken c.show.new.writer) _ (subst (Appends _ _) text c.in_ok-show.ensures.written) fault h) (rw c.new-play.ensures at c.play_on.ensures.fault)
+    let opens = subst (BeginsPlay (PersonAnswers c.args.board.now) opening.0) opening.2.2.1 opening.2.1 in
+    IfErr-weaker c.play_on.result _ _ (λ fault h. breaks_off (PersonAnswers c.args.board.now) opening.0 _ opens _ _ _ (g.W.Sink.contents c.show.new.writer) _ (subst (Appends _ _) text c.in_ok-flush.ensures.written) fault h) (rw c.new-play.ensures at c.play_on.ensures.fault)
 
 pub returns-clause-ok : goal.returns-clause-ok
 returns-clause-ok g c =
     let opening = rw c.in-Ends.is at c.in-Ok.ensures in
     let text = opening.1 ∙ ap (λ l. l ++ opening.0) c.new-text.ensures.bytes in
-    over_at_once (PersonAnswers c.args.board.now) opening.0 opening.2.0 opening.2.1 _ _ _ c.in-Ends.end opening.2.2 (subst (Appends _ _) text c.in_ok-show.ensures.written)
+    over_at_once (PersonAnswers c.args.board.now) opening.0 opening.2.0 opening.2.1 _ _ _ c.in-Ends.end opening.2.2 (subst (Appends _ _) text c.in_ok-flush.ensures.written)
 
 pub returns-in-Asks-clause-value : goal.returns-in-Asks-clause-value
 returns-in-Asks-clause-value g c = IfOk-weaker c.play_on.result _ _ (λ end. keeps_to_value (PersonAnswers c.args.board.now) _ _ _ _ end) (returns-in-Asks-clause-ok g c)

@@ -1,5 +1,5 @@
 use Rattle.positions.specs.Ranks.{configuration_at}
-use Rattle.player.proofs.Answering.{request_is, some_request}
+use Rattle.player.proofs.AnswerLines.{request_is, some_request}
 use Rattle.player.proofs.labeller_side.request_at.Goals as goal
 
 pub unwrap-pebble-requires : goal.unwrap-pebble-requires

@@ -1,4 +1,4 @@
-use Rattle.player.proofs.Lasting.{ends_best_play, ends_exactly}
+use Rattle.player.proofs.PlayLengths.{ends_best_play, ends_exactly}
 use Rattle.player.proofs.laws.best_play_ends_by_the_value.Goals as goal
 
 pub returns-clause-ends : goal.returns-clause-ends

@@ -1,4 +1,4 @@
-use Rattle.player.proofs.Unique.{one_transcript}
+use Rattle.player.proofs.OneTranscript.{one_transcript}
 use Rattle.player.proofs.laws.one_transcript.Goals as goal
 
 pub returns : goal.returns

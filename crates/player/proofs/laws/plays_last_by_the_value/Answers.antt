@@ -1,4 +1,4 @@
-use Rattle.player.proofs.Lasting.{no_sooner, no_later, within, only_stops}
+use Rattle.player.proofs.PlayLengths.{no_sooner, no_later, within, only_stops}
 use Rattle.player.proofs.laws.plays_last_by_the_value.Goals as goal
 
 pub returns-clause-asking : goal.returns-clause-asking

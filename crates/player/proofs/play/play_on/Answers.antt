@@ -1,8 +1,8 @@
 use Rattle.std.proofs.Common.{refl, [], ◌++◌, ◌+◌, ◌∷◌, ap, ◌∙◌, arith, inl}
 use Rattle.std.proofs.lemmas.List.{length_push}
 use Rattle.board_text.proofs.Cited.{Appends-trans}
-use Rattle.player.proofs.Coming.{none_yet, line_came, all_came, came_of}
-use Rattle.player.proofs.Going.{brings_more, stopped, not_stopped, ended, broken, Appends-none}
+use Rattle.player.proofs.ReadLines.{none_yet, line_came, all_came, came_of}
+use Rattle.player.proofs.WrittenPlay.{brings_more, stopped, not_stopped, ended, broken, Appends-none}
 use Rattle.player.proofs.play.play_on.Goals as goal
 
 pub loop-init : goal.loop-init

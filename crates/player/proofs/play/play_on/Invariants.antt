@@ -2,17 +2,17 @@ use Rattle.std.proofs.Common.{◌≡◌, ◌≤◌, ℕ, List, [], length, false
 use Rattle.std.specs.Prelude.{string_bytes}
 use Rattle.std.specs.Io.KnownBytes.{Appends}
 use Rattle.player.specs.Transcript.{BringInTurn, Going}
-use Rattle.player.proofs.Coming.{HasCome}
+use Rattle.player.proofs.ReadLines.{HasCome}
 use Rattle.player.proofs.play.play_on.Given as goal
 
 abbrev pub invariant-loop : goal.invariant-loop
 invariant-loop g l = record {
   said : List (List ℕ);
   text : List ℕ;
-  come : HasCome (g.R.Source.left l.initial.reader) (g.R.Source.left l.reader) said l.lines;
+  come : HasCome (g.R.Source.remaining l.initial.reader) (g.R.Source.remaining l.reader) said l.lines;
   few : length said ≡ l.counter;
   brought : BringInTurn (g.P.Play.game l.initial.play) (Going (g.P.Play.at l.initial.play) 0) said text (Going (g.P.Play.at l.play) (g.P.Play.requests l.play));
-  written : Appends (g.W.Sink.taken l.initial.writer) (g.W.Sink.taken l.writer) text;
+  written : Appends (g.W.Sink.contents l.initial.writer) (g.W.Sink.contents l.writer) text;
   same : g.P.Play.game l.play ≡ g.P.Play.game l.initial.play;
   requests : g.P.Play.requests l.play ≤ length said;
   empty : string_bytes l.text ≡ [];

@@ -1,4 +1,4 @@
-use Rattle.proof_check.proofs.Indexing.{index_more}
+use Rattle.proof_check.proofs.IndexedRows.{index_more}
 use Rattle.proof_check.proofs.row_index.places_of.Goals as goal
 
 pub loop-place-preserved : goal.loop-place-preserved

@@ -1,4 +1,4 @@
-use Rattle.proof_check.proofs.Indexing.{IsIndexBelow}
+use Rattle.proof_check.proofs.IndexedRows.{IsIndexBelow}
 use Rattle.proof_check.proofs.row_index.places_of.Given as goal
 
 abbrev pub invariant-loop-place : goal.invariant-loop-place

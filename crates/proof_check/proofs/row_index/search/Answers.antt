@@ -1,6 +1,6 @@
 use Rattle.std.proofs.Common.{rules}
 use Rattle.std.proofs.lemmas.List.Sorted.{answers_always}
-use Rattle.proof_check.proofs.Searching.{one_found, none_found}
+use Rattle.proof_check.proofs.RankSearch.{one_found, none_found}
 use Rattle.proof_check.proofs.row_index.search.Goals as goal
 
 pub returns-in-Ok : goal.returns-in-Ok

@@ -2,7 +2,7 @@ use Rattle.std.proofs.Common.{◌++◌, ◌∙◌, sym}
 use Rattle.std.specs.Prelude.{codes}
 use Rattle.board_text.specs.Numerals.{spaced_texts}
 use Rattle.board_text.proofs.Cited.{after, texts_unique}
-use Rattle.proof_text.proofs.Words.{no_digit_space}
+use Rattle.proof_text.proofs.RowWords.{no_digit_space}
 use Rattle.proof_text.proofs.row_words.position.Goals as goal
 
 pub returns-in_err-take-2 : goal.returns-in_err-take-2

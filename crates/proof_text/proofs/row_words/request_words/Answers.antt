@@ -1,8 +1,8 @@
 use Rattle.std.proofs.Common.{◌++◌, ◌∷◌, arith}
 use Rattle.std.specs.Prelude.{codes}
 use Rattle.board_text.proofs.Cited.{after}
-use Rattle.proof_text.proofs.Spelled.{number_of, pebble_of}
-use Rattle.proof_text.proofs.Words.{request_position, request_left, request_ask, request_taken}
+use Rattle.proof_text.proofs.SpelledRows.{number_of, pebble_of}
+use Rattle.proof_text.proofs.RowWords.{request_position, request_left, request_ask, request_taken}
 use Rattle.proof_text.proofs.row_words.request_words.Goals as goal
 
 pub returns-in_err-numeral : goal.returns-in_err-numeral

@@ -1,6 +1,6 @@
 use Rattle.std.proofs.Common.{refl, sym, ◌∙◌, inl, inr}
 use Rattle.std.specs.Prelude.{codes}
-use Rattle.proof_text.proofs.Spelled.{turns_star, turns_digits, taken_star, not_taken}
+use Rattle.proof_text.proofs.SpelledRows.{turns_star, turns_digits, taken_star, not_taken}
 use Rattle.proof_text.proofs.row_words.turns.Goals as goal
 
 pub returns-then-is_some : goal.returns-then-is_some

@@ -5,7 +5,7 @@ use Rattle.retro_core.specs.Inside.BoardArena.{arena_of}
 use Rattle.retro_core.specs.Inside.Opening.{IsRun, AreStopping}
 use Rattle.retro_core.proofs.BoardArenas.{arena_is}
 use Rattle.retro_core.proofs.FirstWords.{AreStopped, stopped-start, stopped-more, first-words}
-use Rattle.retro_core.proofs.Noting.{written}
+use Rattle.retro_core.proofs.DominatorTable.{written}
 use Rattle.retro_core.proofs.opening.first_words.Goals as goal
 
 pub loop-gap-init : goal.loop-gap-init

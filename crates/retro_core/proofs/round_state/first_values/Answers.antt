@@ -3,7 +3,7 @@ use Rattle.std.proofs.lemmas.List.{length-append}
 use Rattle.positions.specs.declared.value.Value.TheVariants.{Finite}
 use Rattle.positions.specs.Ranks.{configurations, configuration_at}
 use Rattle.positions.specs.Value.{HasValue}
-use Rattle.retro_core.proofs.Owing.{value-push}
+use Rattle.retro_core.proofs.OwedWalks.{value-push}
 use Rattle.retro_core.proofs.round_state.first_values.Goals as goal
 
 pub loop-rank-preserved : goal.loop-rank-preserved

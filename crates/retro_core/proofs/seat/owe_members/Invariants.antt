@@ -1,6 +1,6 @@
 use Rattle.std.proofs.Common.{length}
 use Rattle.retro_core.specs.Solving.{source}
-use Rattle.retro_core.proofs.Owing.{IsOwing}
+use Rattle.retro_core.proofs.OwedWalks.{IsOwing}
 use Rattle.retro_core.proofs.seat.owe_members.Given as goal
 
 abbrev pub invariant-loop-rank : goal.invariant-loop-rank

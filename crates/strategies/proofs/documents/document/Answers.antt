@@ -1,7 +1,7 @@
-use Rattle.strategies.proofs.Spread.{start_value}
-use Rattle.strategies.proofs.Formed.{is_formed}
-use Rattle.strategies.proofs.Obeying.{breaks_no_rule}
-use Rattle.strategies.proofs.Showing.{shows_claim}
+use Rattle.strategies.proofs.SpreadRanks.{start_value}
+use Rattle.strategies.proofs.DocumentForm.{is_formed}
+use Rattle.strategies.proofs.KeptRules.{breaks_no_rule}
+use Rattle.strategies.proofs.ShownClaims.{shows_claim}
 use Rattle.strategies.proofs.documents.document.Goals as goal
 
 pub returns-clause-document : goal.returns-clause-document

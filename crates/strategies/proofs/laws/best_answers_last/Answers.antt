@@ -1,4 +1,4 @@
-use Rattle.strategies.proofs.Answers.{lasts_after}
+use Rattle.strategies.proofs.BestAnswers.{lasts_after}
 use Rattle.strategies.proofs.laws.best_answers_last.Goals as goal
 
 pub returns : goal.returns

@@ -1,5 +1,5 @@
 use Rattle.positions.specs.Game.{moved}
-use Rattle.strategies.proofs.Comparing.{less_than_finite}
+use Rattle.strategies.proofs.ValueOrder.{less_than_finite}
 use Rattle.strategies.proofs.laws.best_requests_end.Goals as goal
 
 pub returns : goal.returns

@@ -1,4 +1,4 @@
-use Rattle.strategies.proofs.Answers.{best_answer, same_answer, smaller_before}
+use Rattle.strategies.proofs.BestAnswers.{best_answer, same_answer, smaller_before}
 use Rattle.strategies.proofs.laws.one_best_answer.Goals as goal
 
 pub returns-clause-exists : goal.returns-clause-exists

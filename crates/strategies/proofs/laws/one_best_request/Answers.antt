@@ -1,4 +1,4 @@
-use Rattle.strategies.proofs.Requests.{best_request, finite_from_request, same_request, not_lowered_before}
+use Rattle.strategies.proofs.BestRequests.{best_request, finite_from_request, same_request, not_lowered_before}
 use Rattle.strategies.proofs.laws.one_best_request.Goals as goal
 
 pub returns-clause-exists : goal.returns-clause-exists

@@ -1,5 +1,5 @@
-use Rattle.strategies.proofs.Small as small
-use Rattle.strategies.proofs.Lone as lone
+use Rattle.strategies.proofs.SmallBoard as small
+use Rattle.strategies.proofs.LonePebble as lone
 use Rattle.strategies.proofs.laws_of_documents.documents_of_small_boards.Goals as goal
 
 pub returns : goal.returns

@@ -5,8 +5,8 @@ use Rattle.positions.specs.Gaps.{gaps}
 use Rattle.retro_core.specs.Round.{first_of, rest_of}
 use Rattle.claim_round.specs.Shared.{Key, View}
 use Rattle.claim_round.specs.Inside.Shared.{Unit0, claimed}
-use Rattle.claim_round.proofs.Firsts.{claims_next}
-use Rattle.claim_round.proofs.Moves.{claim_allowed, read_allowed, read_open}
+use Rattle.claim_round.proofs.FirstEntries.{claims_next}
+use Rattle.claim_round.proofs.TableSteps.{claim_allowed, read_allowed, read_open}
 use Rattle.claim_round.proofs.Seats.{claimed_seat}
 use Rattle.claim_round.proofs.round.SharedRound.claim.Goals as goal
 

@@ -6,8 +6,8 @@ use Rattle.positions.specs.Gaps.{gaps}
 use Rattle.retro_core.specs.Solving.{Solving}
 use Rattle.retro_core.specs.Inside.Words.{open_word, value_of_word}
 use Rattle.claim_round.specs.Shared.{Key, View, RoundId, Place, Finishes}
-use Rattle.claim_round.specs.Inside.Ends.{end_of}
-use Rattle.claim_round.proofs.Ends.{closed_fields, small_counts, small_value}
+use Rattle.claim_round.specs.Inside.ClosedTable.{end_of}
+use Rattle.claim_round.proofs.ClosedRounds.{closed_fields, small_counts, small_value}
 use Rattle.claim_round.proofs.round.SharedRound.close.Goals as goal
 
 pub returns-clause-ok : goal.returns-clause-ok

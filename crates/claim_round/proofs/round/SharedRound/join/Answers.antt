@@ -6,9 +6,9 @@ use Rattle.positions.specs.Ranks.{configurations}
 use Rattle.retro_core.specs.Solving.{Solving}
 use Rattle.claim_round.specs.Shared.{Key, View}
 use Rattle.claim_round.specs.Inside.Shared.{IsBounded, Unit0, most, size}
-use Rattle.claim_round.proofs.Firsts.{of_round}
+use Rattle.claim_round.proofs.FirstEntries.{of_round}
 use Rattle.claim_round.proofs.Loads.{some_gaps}
-use Rattle.claim_round.proofs.Moves.{join_allowed, look_allowed}
+use Rattle.claim_round.proofs.TableSteps.{join_allowed, look_allowed}
 use Rattle.claim_round.proofs.Seats.{joined_seat}
 use Rattle.claim_round.proofs.round.SharedRound.join.Goals as goal
 

@@ -6,9 +6,9 @@ use Rattle.positions.specs.Ranks.{configurations}
 use Rattle.retro_core.specs.Round.{AreToStrike}
 use Rattle.claim_round.specs.Shared.{Key, View}
 use Rattle.claim_round.specs.Inside.Shared.{opening, most, size}
-use Rattle.claim_round.specs.Inside.Openings.{AreFirstWords}
+use Rattle.claim_round.specs.Inside.Openings.{AreOpeningWords}
 use Rattle.claim_round.proofs.Loads.{narrow}
-use Rattle.claim_round.proofs.Openings.{ranks_due, opened}
+use Rattle.claim_round.proofs.OpeningWords.{ranks_due, opened}
 use Rattle.claim_round.proofs.Seats.{first_seat}
 use Rattle.claim_round.proofs.round.SharedRound.open.Goals as goal
 
@@ -28,7 +28,7 @@ pub of_words-requires : goal.of_words-requires
 of_words-requires g c =
     let s = c.args.solver.now in
     opened s c.args.width c.as_slice.result.now c.to_strike-ranks.result.now c.round_number.ensures.kept c.requires.some_width
-    (subst (λ (l : List ℕ). AreFirstWords s l (configurations s.board)) (sym c.as_slice.ensures.value) c.in_ok-words.ensures) c.to_strike-ranks.ensures
+    (subst (λ (l : List ℕ). AreOpeningWords s l (configurations s.board)) (sym c.as_slice.ensures.value) c.in_ok-words.ensures) c.to_strike-ranks.ensures
 
 pub invariant_of-seat : goal.invariant_of-seat
 invariant_of-seat g c =

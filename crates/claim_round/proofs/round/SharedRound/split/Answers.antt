@@ -6,9 +6,9 @@ use Rattle.positions.specs.Ranks.{configurations}
 use Rattle.retro_core.specs.Solving.{Solving}
 use Rattle.claim_round.specs.Shared.{Key, View, Place}
 use Rattle.claim_round.specs.Inside.Shared.{most, size}
-use Rattle.claim_round.proofs.Firsts.{of_round}
+use Rattle.claim_round.proofs.FirstEntries.{of_round}
 use Rattle.claim_round.proofs.Loads.{some_gaps}
-use Rattle.claim_round.proofs.Moves.{split_allowed}
+use Rattle.claim_round.proofs.TableSteps.{split_allowed}
 use Rattle.claim_round.proofs.Seats.{kept_seat, new_seat}
 use Rattle.claim_round.proofs.round.SharedRound.split.Goals as goal
 

@@ -7,9 +7,9 @@ use Rattle.retro_core.specs.Solving.{Solving, source}
 use Rattle.retro_core.specs.Round.{first_of, rest_of}
 use Rattle.claim_round.specs.Shared.{Key, View}
 use Rattle.claim_round.specs.Inside.Shared.{most}
-use Rattle.claim_round.proofs.Firsts.{strikes_next, in_gaps}
+use Rattle.claim_round.proofs.FirstEntries.{strikes_next, in_gaps}
 use Rattle.claim_round.proofs.Loads.{few_members}
-use Rattle.claim_round.proofs.Moves.{strike_allowed}
+use Rattle.claim_round.proofs.TableSteps.{strike_allowed}
 use Rattle.claim_round.proofs.Seats.{struck_seat}
 use Rattle.claim_round.proofs.round.SharedRound.strike.Goals as goal
 

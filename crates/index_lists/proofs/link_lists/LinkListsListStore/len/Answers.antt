@@ -1,4 +1,4 @@
-use Rattle.index_lists.proofs.Calls.{lists-kept}
+use Rattle.index_lists.proofs.LinkCalls.{lists-kept}
 use Rattle.index_lists.proofs.link_lists.LinkListsListStore.len.Goals as goal
 
 pub returns-clause-kept : goal.returns-clause-kept

@@ -2,7 +2,7 @@ use Rattle.std.proofs.Common.{refl, map, ap, ◌∙◌}
 use Rattle.index_lists.specs.declared.link_lists.Node.{Node}
 use Rattle.index_lists.specs.declared.link_lists.Ends.{Ends}
 use Rattle.index_lists.proofs.Fields.{fields-alike}
-use Rattle.index_lists.proofs.Calls.{lists-kept, empty-links, empty-seen}
+use Rattle.index_lists.proofs.LinkCalls.{lists-kept, empty-links, empty-seen}
 use Rattle.index_lists.proofs.link_lists.LinkListsListStore.new.Goals as goal
 
 pub invariant_of-result : goal.invariant_of-result

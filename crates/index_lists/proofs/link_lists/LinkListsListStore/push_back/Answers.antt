@@ -3,8 +3,8 @@ use Rattle.std.proofs.lemmas.List.{length-map}
 use Rattle.index_lists.specs.declared.link_lists.Node.{Node}
 use Rattle.index_lists.specs.declared.link_lists.Ends.{Ends}
 use Rattle.index_lists.proofs.Fields.{field-read}
-use Rattle.index_lists.proofs.Kept.{pushed-are}
-use Rattle.index_lists.proofs.Calls.{lists-kept, last-in, push-room, push-written, push-shown}
+use Rattle.index_lists.proofs.KeptLists.{pushed-are}
+use Rattle.index_lists.proofs.LinkCalls.{lists-kept, last-in, push-room, push-written, push-shown}
 use Rattle.index_lists.proofs.link_lists.LinkListsListStore.push_back.Goals as goal
 use Rattle.index_lists.proofs.link_lists.LinkListsListStore.push_back.Goals.{After-index, After-append}
 

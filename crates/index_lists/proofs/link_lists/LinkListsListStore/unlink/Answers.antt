@@ -3,8 +3,8 @@ use Rattle.std.proofs.lemmas.List.{length-map}
 use Rattle.index_lists.specs.declared.link_lists.Node.{Node}
 use Rattle.index_lists.specs.declared.link_lists.Ends.{Ends}
 use Rattle.index_lists.proofs.Fields.{field-read}
-use Rattle.index_lists.proofs.Kept.{unlinked-are}
-use Rattle.index_lists.proofs.Calls.{lists-kept, home-in, before-in, behind-in, some-left, unlink-written, unlink-shown}
+use Rattle.index_lists.proofs.KeptLists.{unlinked-are}
+use Rattle.index_lists.proofs.LinkCalls.{lists-kept, home-in, before-in, behind-in, some-left, unlink-written, unlink-shown}
 use Rattle.index_lists.proofs.link_lists.LinkListsListStore.unlink.Goals as goal
 use Rattle.index_lists.proofs.link_lists.LinkListsListStore.unlink.Goals.{After-index, After-shorten}
 

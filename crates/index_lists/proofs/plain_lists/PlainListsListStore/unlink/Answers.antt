@@ -2,12 +2,12 @@ use Rattle.std.proofs.Common.{◌≡◌, ◌≤◌, ◌+◌, ◌==◌, not, ◌�
 use Rattle.std.specs.List.{filter}
 use Rattle.std.proofs.lemmas.List.Edits.{length-remove}
 use Rattle.index_lists.specs.Lists.{times, without_node, IsIn}
-use Rattle.index_lists.specs.Pairs.{Pairs}
+use Rattle.index_lists.specs.Pairs.{ListedPairs}
 use Rattle.index_lists.specs.Inside.Pairs.{nodes_of, paired}
 use Rattle.index_lists.specs.Inside.Runs.{spread, entries_of}
 use Rattle.index_lists.proofs.Places.{place-below}
 use Rattle.index_lists.proofs.Entries.{fewer, plain-are, plain-unlink, nodes_without}
-use Rattle.index_lists.proofs.Spread.{entries-nodes, entries-without}
+use Rattle.index_lists.proofs.RunPlaces.{entries-nodes, entries-without}
 use Rattle.index_lists.proofs.plain_lists.PlainListsListStore.unlink.Goals as goal
 use Rattle.index_lists.proofs.plain_lists.PlainListsListStore.unlink.Goals.{After-deref, After-take_place-arg-1, After-remove}
 
@@ -15,7 +15,7 @@ pub place_of-place-requires : goal.place_of-place-requires
 place_of-place-requires c =
     let runs = c.self.inside.runs.items in
     let nodes = c.self.inside.nodes.items in
-    let stands = subst (λ (p : Pairs). IsIn (paired p) c.args.node) (sym c.self.view_is) c.requires.stands in
+    let stands = subst (λ (p : ListedPairs). IsIn (paired p) c.args.node) (sym c.self.view_is) c.requires.stands in
     let all = fewer c.args.node stands.0 (entries_of runs nodes) in
     let same = ap (times c.args.node) (entries-nodes runs nodes c.self.invariant.1.fits ∙ sym c.deref.ensures.value) in
     let some = stands.1 in
@@ -66,12 +66,12 @@ invariant_of-self c =
 
 pub returns-clause-unlinked : goal.returns-clause-unlinked
 returns-clause-unlinked c = record {
-  same_nodes = ap (λ (p : Pairs). p.nodes) c.self.view_is;
-  same_lists = ap (λ (p : Pairs). p.lists) c.self.view_is;
+  same_nodes = ap (λ (p : ListedPairs). p.nodes) c.self.view_is;
+  same_lists = ap (λ (p : ListedPairs). p.lists) c.self.view_is;
   same_list = λ l.
       let stands = stands-here (goal.at.returns-clause-unlinked c).After-take_place-arg-1 in
       ap (λ es. nodes_of es l) (entries-are (goal.at.returns-clause-unlinked c).After-remove stands) ∙ nodes_without c.args.node _ l
-      ∙ ap (λ (p : Pairs). without_node c.args.node (nodes_of p.entries l)) c.self.view_is;
+      ∙ ap (λ (p : ListedPairs). without_node c.args.node (nodes_of p.entries l)) c.self.view_is;
 }
 
 pub returns-clause-kept : goal.returns-clause-kept

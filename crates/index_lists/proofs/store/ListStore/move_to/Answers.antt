@@ -1,6 +1,6 @@
 use Rattle.std.proofs.Common.{sym, subst}
 use Rattle.index_lists.specs.Lists.{IsFree, AreSame, unlinked}
-use Rattle.index_lists.proofs.Moves.{free-after, same-without, moved-same, free-at_none, in-at_some}
+use Rattle.index_lists.proofs.MovedNodes.{free-after, same-without, moved-same, free-at_none, in-at_some}
 use Rattle.index_lists.proofs.store.ListStore.move_to.Goals as goal
 use Rattle.index_lists.proofs.store.ListStore.move_to.Goals.{then-is_some, else-is_some}
 

@@ -1,5 +1,5 @@
 use Rattle.std.proofs.Common.{rules}
-use Rattle.nested_cycles.proofs.Games.{start_is_good}
+use Rattle.nested_cycles.proofs.NestedGames.{start_is_good}
 use Rattle.nested_cycles.proofs.game.NestedGame.new.Goals as goal
 
 pub invariant_of-result : goal.invariant_of-result

@@ -1,7 +1,7 @@
 use Rattle.std.proofs.Common.{◌≢◌, ◌<◌, ℕ, get_or, ap, subst, arith}
 use Rattle.nested_cycles.specs.Domination.{labels_of, NestedBeats}
 use Rattle.nested_cycles.specs.NestedGame.{PlainGame}
-use Rattle.nested_cycles.proofs.Games.{others_are, others_are_good, others_are_labels, request_keeps, request_dominates}
+use Rattle.nested_cycles.proofs.NestedGames.{others_are, others_are_good, others_are_labels, request_keeps, request_dominates}
 use Rattle.nested_cycles.proofs.game.NestedGame.request.Goals as goal
 
 pub nested_reply-reply-requires-clause-labels : goal.nested_reply-reply-requires-clause-labels

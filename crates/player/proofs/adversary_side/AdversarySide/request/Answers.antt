@@ -1,5 +1,5 @@
 use Rattle.std.proofs.Common.{refl, ◌∙◌}
-use Rattle.player.proofs.Requests.{reply_said, no_reply_said}
+use Rattle.player.proofs.RequestLines.{reply_said, no_reply_said}
 use Rattle.player.proofs.adversary_side.AdversarySide.request.Goals as goal
 
 pub returns-in_ok-write_reply-in-Some-clause-said : goal.returns-in_ok-write_reply-in-Some-clause-said

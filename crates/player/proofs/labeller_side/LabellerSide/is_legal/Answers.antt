@@ -1,5 +1,5 @@
 use Rattle.std.proofs.Common.{◌∙◌}
-use Rattle.player.proofs.Answering.{legal_at, legal_there}
+use Rattle.player.proofs.AnswerLines.{legal_at, legal_there}
 use Rattle.player.proofs.labeller_side.LabellerSide.is_legal.Goals as goal
 
 pub returns : goal.returns

@@ -1,5 +1,5 @@
 use Rattle.std.proofs.Common.{◌++◌, take, ap, ◌∙◌, arith, length-take-le}
-use Rattle.player.proofs.Filling.{filled}
+use Rattle.player.proofs.LineBuffer.{filled}
 use Rattle.player.proofs.lines.Lines.fill.Goals as goal
 
 pub returns-in-Ok-clause-filled : goal.returns-in-Ok-clause-filled

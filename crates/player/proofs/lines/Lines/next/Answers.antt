@@ -1,7 +1,7 @@
 use Rattle.std.proofs.Common.{subst, sym, ap, ◌∙◌, arith}
 use Rattle.board_text.proofs.Cited.{Consumes-kept}
 use Rattle.player.specs.Words.{IsLine, BeginsTooLong}
-use Rattle.player.proofs.Cutting.{too_long, whole_line, closed_line, last_line}
+use Rattle.player.proofs.CutLines.{too_long, whole_line, closed_line, last_line}
 use Rattle.player.proofs.lines.Lines.next.Goals as goal
 
 pub returns-then-size-gt-MOST_BYTES-clause-fault : goal.returns-then-size-gt-MOST_BYTES-clause-fault

@@ -6,7 +6,7 @@ abbrev pub invariant-loop-size : goal.invariant-loop-size
 invariant-loop-size g l = record {
   more : List ℕ;
   grown : l.self.bytes ≡ l.initial.self.bytes ++ more;
-  read : Consumes (g.R.Source.left l.initial.reader) (g.R.Source.left l.reader) more;
+  read : Consumes (g.R.Source.remaining l.initial.reader) (g.R.Source.remaining l.reader) more;
   goes_on : l.self.has_ended ≡ false;
   unfailed : g.R.Source.has_failed l.reader ≡ false;
 }

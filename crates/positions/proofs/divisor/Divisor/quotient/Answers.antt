@@ -1,6 +1,6 @@
 use Rattle.std.proofs.Common.{◌*◌, ◌/◌, ◌≤◌, ℕ, subst, ap, sym, ◌∙◌, arith}
 use Rattle.positions.specs.declared.space.TheConstants.{MAX_CONFIGURATIONS}
-use Rattle.positions.proofs.Dividing.{near_of, quotient_is, few_times}
+use Rattle.positions.proofs.Quotients.{near_of, quotient_is, few_times}
 use Rattle.positions.proofs.divisor.Divisor.quotient.Goals as goal
 
 pub overflow_mul-result : goal.overflow_mul-result

@@ -1,7 +1,7 @@
 use Rattle.std.proofs.Common.{◌+◌, ◌*◌, ◌^◌, ◌<◌, get_or, sym, arith, rules}
 use Rattle.std.specs.Int.Count.{ones}
 use Rattle.board_text.specs.Domination.{has_bit}
-use Rattle.positions.proofs.Counting.{count_below-zero}
+use Rattle.positions.proofs.CountsBelow.{count_below-zero}
 use Rattle.positions.proofs.LabelBits.{bits_more, bits_few, size_of_bits}
 use Rattle.positions.proofs.label_set.LabelSet.len.Goals as goal
 

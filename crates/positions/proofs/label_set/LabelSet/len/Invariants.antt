@@ -1,6 +1,6 @@
 use Rattle.std.proofs.Common.{◌≡◌, ◌*◌}
 use Rattle.board_text.specs.Domination.{has_bit}
-use Rattle.positions.proofs.Counting.{count_below}
+use Rattle.positions.proofs.CountsBelow.{count_below}
 use Rattle.positions.proofs.label_set.LabelSet.len.Given as goal
 
 abbrev pub invariant-loop-word : goal.invariant-loop-word

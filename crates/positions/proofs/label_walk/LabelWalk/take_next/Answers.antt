@@ -4,7 +4,7 @@ use Rattle.std.proofs.lemmas.List.{set-get_or}
 use Rattle.board_text.specs.Domination.{has_bit}
 use Rattle.positions.specs.LabelWalk.{Walk, IsStep}
 use Rattle.positions.specs.Inside.LabelWalk.{HasCome}
-use Rattle.positions.proofs.WordByWord.{moves_on, none_behind, takes_lowest, still_come}
+use Rattle.positions.proofs.LabelWalks.{moves_on, none_behind, takes_lowest, still_come}
 use Rattle.positions.proofs.label_walk.LabelWalk.take_next.Goals as goal
 use Rattle.positions.proofs.label_walk.LabelWalk.take_next.Goals.{then-self-eq0-via-then-self-eq0, then-self-eq0-via-else-self-eq0+then-self-eq-ROW_WORDS}
 

@@ -1,4 +1,4 @@
-use Rattle.positions.proofs.Moving.{few_pebbles, dominator_is}
+use Rattle.positions.proofs.PlaceMoves.{few_pebbles, dominator_is}
 use Rattle.positions.proofs.moves.Moves.dominates.Goals as goal
 
 pub bounds-self-inside-pebble : goal.bounds-self-inside-pebble

@@ -1,4 +1,4 @@
-use Rattle.positions.proofs.Moving.{BeatsOthers}
+use Rattle.positions.proofs.PlaceMoves.{BeatsOthers}
 use Rattle.positions.proofs.moves.Moves.is_legal.Given as goal
 
 abbrev pub invariant-loop-other : goal.invariant-loop-other

@@ -1,5 +1,5 @@
 use Rattle.std.proofs.Common.{◌∙◌, arith}
-use Rattle.positions.proofs.Moving.{few_pebbles, line}
+use Rattle.positions.proofs.PlaceMoves.{few_pebbles, line}
 use Rattle.positions.proofs.moves.Moves.results.Goals as goal
 
 pub bounds-self-inside-pebble : goal.bounds-self-inside-pebble

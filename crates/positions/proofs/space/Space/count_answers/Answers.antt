@@ -2,7 +2,7 @@ use Rattle.std.proofs.Common.{◌≡◌, ◌<◌, true, arith}
 use Rattle.board_text.specs.Domination.{has_bit}
 use Rattle.board_text.specs.declared.board.TheConstants.{MAX_LABELS}
 use Rattle.positions.specs.Gaps.{IsAnswer}
-use Rattle.positions.proofs.Sizes.{same_fact_size, size_at_most}
+use Rattle.positions.proofs.FactCounts.{same_fact_size, size_at_most}
 use Rattle.positions.proofs.space.Space.count_answers.Goals as goal
 
 pub returns-clause-size : goal.returns-clause-size

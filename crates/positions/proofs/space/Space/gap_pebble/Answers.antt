@@ -1,7 +1,7 @@
 use Rattle.std.proofs.Common.{◌*◌, ◌≤◌, sym, subst, arith}
 use Rattle.positions.specs.declared.space.TheConstants.{MAX_CONFIGURATIONS}
 use Rattle.positions.proofs.GapLaws.{pebble_below}
-use Rattle.positions.proofs.GapTurning.{gap_divides}
+use Rattle.positions.proofs.GapTurns.{gap_divides}
 use Rattle.positions.proofs.space.Space.gap_pebble.Goals as goal
 
 pub quotient-requires-clause-few : goal.quotient-requires-clause-few

@@ -1,6 +1,6 @@
 use Rattle.std.proofs.Common.{◌*◌, ◌≤◌, sym, subst}
 use Rattle.positions.specs.declared.space.TheConstants.{MAX_CONFIGURATIONS}
-use Rattle.positions.proofs.GapTurning.{gap_divides}
+use Rattle.positions.proofs.GapTurns.{gap_divides}
 use Rattle.positions.proofs.space.Space.gap_tuple.Goals as goal
 
 pub rest-requires-clause-few : goal.rest-requires-clause-few

@@ -1,6 +1,6 @@
 use Rattle.std.proofs.Common.{◌≡◌, ◌∙◌, sym, get_or}
 use Rattle.positions.proofs.SpaceNumbers.{numbers}
-use Rattle.positions.proofs.Turning.{held_is}
+use Rattle.positions.proofs.RankTurns.{held_is}
 use Rattle.positions.proofs.space.Space.label_at.Goals as goal
 
 pub returns-clause-label : goal.returns-clause-label

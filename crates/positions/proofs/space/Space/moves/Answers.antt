@@ -3,7 +3,7 @@ use Rattle.std.proofs.lemmas.Bool.{cases_eq}
 use Rattle.std.proofs.lemmas.List.{length-set, get_or-set_same, get_or-set_other}
 use Rattle.board_text.proofs.Cited.{few_places}
 use Rattle.positions.specs.Ranks.{configuration_at}
-use Rattle.positions.proofs.Turning.{rank_rest_next}
+use Rattle.positions.proofs.RankTurns.{rank_rest_next}
 use Rattle.positions.proofs.space.Space.moves.Goals as goal
 
 pub overflow_cast-places : goal.overflow_cast-places

@@ -1,7 +1,7 @@
 use Rattle.std.proofs.Common.{◌≡◌, ℕ, ◌<◌, length, get_or}
 use Rattle.board_text.specs.declared.board.TheConstants.{MAX_PEBBLES}
 use Rattle.positions.specs.Ranks.{configuration_at}
-use Rattle.positions.proofs.Turning.{IsRankRest}
+use Rattle.positions.proofs.RankTurns.{IsRankRest}
 use Rattle.positions.proofs.space.Space.moves.Given as goal
 
 abbrev pub invariant-loop-pebble : goal.invariant-loop-pebble

@@ -2,7 +2,7 @@ use Rattle.std.proofs.Common.{◌<◌, arith}
 use Rattle.positions.proofs.SpaceNumbers.{numbers}
 use Rattle.positions.specs.Ranks.{rank_of, configurations}
 use Rattle.positions.proofs.Ranks.{rank_below}
-use Rattle.positions.proofs.Turning.{front_more, front_all}
+use Rattle.positions.proofs.RankTurns.{front_more, front_all}
 use Rattle.positions.proofs.space.Space.rank.Goals as goal
 
 pub loop-place-preserved : goal.loop-place-preserved

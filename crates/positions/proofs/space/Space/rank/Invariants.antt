@@ -1,4 +1,4 @@
-use Rattle.positions.proofs.Turning.{IsFrontNumber}
+use Rattle.positions.proofs.RankTurns.{IsFrontNumber}
 use Rattle.positions.proofs.space.Space.rank.Given as goal
 
 abbrev pub invariant-loop-place : goal.invariant-loop-place

@@ -2,8 +2,8 @@ use Rattle.std.proofs.Common.{◌*◌, ◌≤◌, sym, subst, arith}
 use Rattle.positions.specs.declared.space.TheConstants.{MAX_CONFIGURATIONS}
 use Rattle.positions.proofs.Neighbours.{run_by}
 use Rattle.positions.proofs.SpaceNumbers.{numbers}
-use Rattle.positions.proofs.Turning.{weight_positive, read_weight}
-use Rattle.positions.proofs.GapTurning.{tuples_few}
+use Rattle.positions.proofs.RankTurns.{weight_positive, read_weight}
+use Rattle.positions.proofs.GapTurns.{tuples_few}
 use Rattle.positions.proofs.space.Space.run.Goals as goal
 
 pub rest-requires-clause-not_many : goal.rest-requires-clause-not_many

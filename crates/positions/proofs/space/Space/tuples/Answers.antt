@@ -1,7 +1,7 @@
 use Rattle.std.proofs.Common.{◌<◌, ◌∙◌, sym, subst}
 use Rattle.positions.proofs.SpaceNumbers.{numbers}
-use Rattle.positions.proofs.Turning.{weight_positive, read_weight}
-use Rattle.positions.proofs.GapTurning.{first_weight}
+use Rattle.positions.proofs.RankTurns.{weight_positive, read_weight}
+use Rattle.positions.proofs.GapTurns.{first_weight}
 use Rattle.positions.proofs.space.Space.tuples.Goals as goal
 
 pub returns-clause-value : goal.returns-clause-value

@@ -3,7 +3,7 @@ use Rattle.positions.specs.Game.{Legal}
 use Rattle.positions.proofs.Cited.{next_of, after_step, none_left}
 use Rattle.proof_text.specs.Proof.{request_row}
 use Rattle.proof_text.specs.Rules.{MeetsAnswer}
-use Rattle.proof_check.proofs.Requested.{legal_few, met_before, all_labels}
+use Rattle.proof_check.proofs.AdversarySteps.{legal_few, met_before, all_labels}
 use Rattle.proof_check.proofs.adversary.AdversaryRowCheckedRow.fault.Goals as goal
 
 pub returns-in-Some-label_fault-clause-fault : goal.returns-in-Some-label_fault-clause-fault

@@ -4,7 +4,7 @@ use Rattle.proof_text.specs.Proof.{answer_row}
 use Rattle.proof_text.specs.Rules.{IsWanted, IsEnough, one_less}
 use Rattle.proof_check.specs.declared.fault.Side.TheVariants.{Labeller}
 use Rattle.proof_check.specs.declared.fault.CheckFault.TheVariants as faults
-use Rattle.proof_check.proofs.Answered.{told, there_is, listed_for, not_listed_for, legal_there, number_there, result_of, result_is, the_answer, meets}
+use Rattle.proof_check.proofs.LabellerSteps.{told, there_is, listed_for, not_listed_for, legal_there, number_there, result_of, result_is, the_answer, meets}
 use Rattle.proof_check.proofs.checker.Checker.answer_fault.Goals as goal
 
 pub returns-then-not-is_legal : goal.returns-then-not-is_legal

@@ -1,8 +1,8 @@
 use Rattle.std.proofs.Common.{suc, refl, sym, ap, ◌∙◌, inr, arith}
 use Rattle.proof_text.specs.Proof.{request_row}
 use Rattle.proof_check.specs.CheckFaults.{bound_of}
-use Rattle.proof_check.proofs.Answered.{there_is}
-use Rattle.proof_check.proofs.Requested.{not_listed_below}
+use Rattle.proof_check.proofs.LabellerSteps.{there_is}
+use Rattle.proof_check.proofs.AdversarySteps.{not_listed_below}
 use Rattle.proof_check.proofs.checker.Checker.bound_fault.Goals as goal
 
 pub returns-else-row-most : goal.returns-else-row-most

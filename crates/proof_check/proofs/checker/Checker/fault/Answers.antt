@@ -1,5 +1,5 @@
 use Rattle.std.proofs.Common.{inl, inr}
-use Rattle.proof_check.proofs.Refusing.{by_adversary}
+use Rattle.proof_check.proofs.StepFaults.{by_adversary}
 use Rattle.proof_check.proofs.checker.Checker.fault.Goals as goal
 
 pub returns-in-Some-labeller_fault : goal.returns-in-Some-labeller_fault

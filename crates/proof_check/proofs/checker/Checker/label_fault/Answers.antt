@@ -3,8 +3,8 @@ use Rattle.positions.proofs.Cited.{rank_of-configuration_at}
 use Rattle.proof_text.specs.Proof.{request_row}
 use Rattle.proof_check.specs.declared.fault.Side.TheVariants.{Adversary}
 use Rattle.proof_check.specs.declared.fault.CheckFault.TheVariants as faults
-use Rattle.proof_check.proofs.Answered.{there_is, result_of, result_is}
-use Rattle.proof_check.proofs.Requested.{listed_below, not_listed_below}
+use Rattle.proof_check.proofs.LabellerSteps.{there_is, result_of, result_is}
+use Rattle.proof_check.proofs.AdversarySteps.{listed_below, not_listed_below}
 use Rattle.proof_check.proofs.checker.Checker.label_fault.Goals as goal
 
 pub returns-then-row-eq0 : goal.returns-then-row-eq0

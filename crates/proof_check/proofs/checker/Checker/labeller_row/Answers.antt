@@ -1,7 +1,7 @@
 use Rattle.std.proofs.Common.{refl, subst}
 use Rattle.proof_text.specs.Proof.{answer_row}
 use Rattle.proof_check.specs.Inside.Checker.{Checked, FindsRow}
-use Rattle.proof_check.proofs.Found.{found_for}
+use Rattle.proof_check.proofs.FoundRows.{found_for}
 use Rattle.proof_check.proofs.checker.Checker.labeller_row.Goals as goal
 
 pub returns : goal.returns

@@ -1,4 +1,4 @@
-use Rattle.proof_check.proofs.Showing.{are_answering, are_requesting}
+use Rattle.proof_check.proofs.ShownClaims.{are_answering, are_requesting}
 use Rattle.proof_check.proofs.checker.Checker.new.Goals as goal
 
 pub new-requires : goal.new-requires

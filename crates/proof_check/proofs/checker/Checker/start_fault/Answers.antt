@@ -1,7 +1,7 @@
 use Rattle.std.proofs.Common.{◌≡◌, refl, ap, ◌∙◌, inr}
 use Rattle.proof_text.specs.Proof.{answer_row}
 use Rattle.proof_text.specs.Rules.{wanted_of}
-use Rattle.proof_check.proofs.Answered.{told, there_is, not_listed_for}
+use Rattle.proof_check.proofs.LabellerSteps.{told, there_is, not_listed_for}
 use Rattle.proof_check.proofs.checker.Checker.start_fault.Goals as goal
 
 pub returns-else-is_enough : goal.returns-else-is_enough

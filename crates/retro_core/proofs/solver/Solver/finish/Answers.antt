@@ -1,7 +1,7 @@
 use Rattle.std.proofs.Common.{sym, subst}
 use Rattle.positions.specs.Ranks.{configurations}
 use Rattle.retro_core.specs.Inside.Arena.{count_below}
-use Rattle.retro_core.specs.Inside.Sizes.{AreCounts}
+use Rattle.retro_core.specs.Inside.Sizes.{AreValueSizes}
 use Rattle.retro_core.specs.Inside.Stage.{PlainStage}
 use Rattle.retro_core.specs.Inside.Tables.{is_open, AreValues}
 use Rattle.retro_core.proofs.States.{values-are}
@@ -14,5 +14,5 @@ new-requires-clause-values g c =
 
 pub new-requires-clause-counts : goal.new-requires-clause-counts
 new-requires-clause-counts g c =
-    subst (λ (v : PlainStage). AreCounts (configurations v.board) v.values c.self.inside.sizes.items (count_below (configurations v.board) (is_open v.values))) (sym c.stage.view_is)
+    subst (λ (v : PlainStage). AreValueSizes (configurations v.board) v.values c.self.inside.sizes.items (count_below (configurations v.board) (is_open v.values))) (sym c.stage.view_is)
     (counts-are c.self.inside.stage _ _ c.self.inside.done c.self.inside.sizes.items c.self.invariant.0 c.self.invariant.1)

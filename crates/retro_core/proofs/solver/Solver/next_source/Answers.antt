@@ -10,8 +10,8 @@ use Rattle.retro_core.specs.Inside.Stage.{PlainStage}
 use Rattle.retro_core.specs.Inside.Tables.{is_open, members_from, open_members}
 use Rattle.retro_core.specs.declared.stage.TheConstants.{OPEN}
 use Rattle.retro_core.proofs.BoardArenas.{arena_is}
-use Rattle.retro_core.proofs.Lasting.{same_is, true_not_false}
-use Rattle.retro_core.proofs.Listed.{shut_word}
+use Rattle.retro_core.proofs.LastingRanks.{same_is, true_not_false}
+use Rattle.retro_core.proofs.ListedWords.{shut_word}
 use Rattle.retro_core.proofs.Sources.{members-are, member-behind, member-stands}
 use Rattle.retro_core.proofs.States.{source-shown}
 use Rattle.retro_core.proofs.solver.Solver.next_source.Goals as goal

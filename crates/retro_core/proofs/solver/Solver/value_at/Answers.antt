@@ -4,8 +4,8 @@ use Rattle.positions.specs.Value.{HasValue}
 use Rattle.positions.specs.Ranks.{configurations, configuration_at}
 use Rattle.retro_core.specs.Solving.{Solving}
 use Rattle.retro_core.specs.declared.stage.TheConstants.{OPEN}
-use Rattle.retro_core.proofs.Lasting.{same_is}
-use Rattle.retro_core.proofs.Listed.{shut_word}
+use Rattle.retro_core.proofs.LastingRanks.{same_is}
+use Rattle.retro_core.proofs.ListedWords.{shut_word}
 use Rattle.retro_core.proofs.States.{value-open, value-shut}
 use Rattle.retro_core.proofs.solver.Solver.value_at.Goals as goal
 

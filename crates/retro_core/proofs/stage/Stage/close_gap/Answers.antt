@@ -7,8 +7,8 @@ use Rattle.positions.specs.declared.space.TheConstants.{MAX_CONFIGURATIONS}
 use Rattle.retro_core.specs.Inside.Stage.{PlainStage}
 use Rattle.retro_core.specs.declared.stage.TheConstants.{OPEN}
 use Rattle.retro_core.proofs.ClosingGaps.{IsToClose, gap-start, in_words, gap-takes, gap-skips, gap-closed}
-use Rattle.retro_core.proofs.Lasting.{same_is}
-use Rattle.retro_core.proofs.Listed.{shut_word}
+use Rattle.retro_core.proofs.LastingRanks.{same_is}
+use Rattle.retro_core.proofs.ListedWords.{shut_word}
 use Rattle.retro_core.proofs.stage.Stage.close_gap.Goals as goal
 use Rattle.retro_core.proofs.stage.Stage.close_gap.Goals.{then-index, else-index}
 

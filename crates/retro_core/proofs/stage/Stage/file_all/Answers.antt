@@ -2,8 +2,8 @@ use Rattle.std.proofs.Common.{ℕ, sym, ap, ◌∙◌, subst, arith, List, [], �
 use Rattle.std.proofs.lemmas.List.{take_all}
 use Rattle.positions.specs.Ranks.{configurations}
 use Rattle.retro_core.specs.Inside.Stage.{FilesAll}
-use Rattle.retro_core.proofs.Closing.{same-open}
-use Rattle.retro_core.proofs.EndFiled.{files-none, files-more, is-next}
+use Rattle.retro_core.proofs.StruckTables.{same-open}
+use Rattle.retro_core.proofs.FiledRounds.{files-none, files-more, is-next}
 use Rattle.retro_core.proofs.stage.Stage.file_all.Goals as goal
 
 pub loop-rank-init : goal.loop-rank-init

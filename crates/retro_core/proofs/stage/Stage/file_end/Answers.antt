@@ -1,7 +1,7 @@
 use Rattle.std.proofs.Common.{ℕ, ◌<◌, List, subst}
 use Rattle.index_lists.specs.Lists.{times}
 use Rattle.retro_core.specs.Inside.Stage.{FilesAll}
-use Rattle.retro_core.proofs.EndFiled.{worth-open, end-struck, end-kept}
+use Rattle.retro_core.proofs.FiledRounds.{worth-open, end-struck, end-kept}
 use Rattle.retro_core.proofs.stage.Stage.file_end.Goals as goal
 
 pub file_all-requires-clause-open : goal.file_all-requires-clause-open

@@ -1,6 +1,6 @@
 use Rattle.std.proofs.Common.{◌∙◌, length, ap, sym}
 use Rattle.retro_core.specs.Inside.Stage.{PlainStage}
-use Rattle.retro_core.proofs.Filing.{filed-shown}
+use Rattle.retro_core.proofs.FiledRanks.{filed-shown}
 use Rattle.retro_core.proofs.stage.Stage.filed.Goals as goal
 
 pub returns : goal.returns

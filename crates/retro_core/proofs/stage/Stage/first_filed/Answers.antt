@@ -1,5 +1,5 @@
 use Rattle.std.proofs.Common.{◌∙◌, ◌≤◌, List, ℕ, slice_get, ap, sym, arith}
-use Rattle.retro_core.proofs.Filing.{filed-shown}
+use Rattle.retro_core.proofs.FiledRanks.{filed-shown}
 use Rattle.retro_core.proofs.stage.Stage.first_filed.Goals as goal
 
 pub returns-then-value-configurations : goal.returns-then-value-configurations

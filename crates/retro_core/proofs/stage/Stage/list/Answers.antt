@@ -7,8 +7,8 @@ use Rattle.index_lists.proofs.Cited.{fits}
 use Rattle.positions.specs.Ranks.{configurations}
 use Rattle.retro_core.specs.Inside.Arena.{dominated}
 use Rattle.retro_core.specs.Inside.BoardArena.{arena_of}
-use Rattle.retro_core.proofs.Filing.{filed-shown, push-here, push-shown}
-use Rattle.retro_core.proofs.Dominated.{next-more, next-same, some-dominator, dominated-by, no-dominator}
+use Rattle.retro_core.proofs.FiledRanks.{filed-shown, push-here, push-shown}
+use Rattle.retro_core.proofs.DominatedRanks.{next-more, next-same, some-dominator, dominated-by, no-dominator}
 use Rattle.retro_core.proofs.stage.Stage.list.Goals as goal
 
 pub push_back-requires-clause-free : goal.push_back-requires-clause-free

@@ -2,7 +2,7 @@ use Rattle.std.proofs.Common.{◌≡◌, ◌∙◌, ℕ, List, length, slice_ind
 use Rattle.std.proofs.lemmas.List.{get_or_read}
 use Rattle.positions.specs.Ranks.{configurations}
 use Rattle.retro_core.specs.Inside.Stage.{PlainStage}
-use Rattle.retro_core.proofs.Listing.{listing-start, listing-skip, listing-more, all-listed}
+use Rattle.retro_core.proofs.FirstLists.{listing-start, listing-skip, listing-more, all-listed}
 use Rattle.retro_core.proofs.stage.Stage.list_zeros.Goals as goal
 use Rattle.retro_core.proofs.stage.Stage.list_zeros.Goals.{then-index-eq0, else-index-eq0}
 

@@ -1,4 +1,4 @@
-use Rattle.retro_core.proofs.Listing.{IsListing}
+use Rattle.retro_core.proofs.FirstLists.{IsListing}
 use Rattle.retro_core.proofs.stage.Stage.list_zeros.Given as goal
 
 abbrev pub invariant-loop-rank : goal.invariant-loop-rank

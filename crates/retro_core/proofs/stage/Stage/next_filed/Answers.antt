@@ -2,7 +2,7 @@ use Rattle.std.proofs.Common.{◌≡◌, ◌+◌, ◌<◌, ◌∙◌, ℕ, List,
 use Rattle.std.proofs.lemmas.Bool.{cases_lt}
 use Rattle.index_lists.specs.Lists.{times}
 use Rattle.index_lists.proofs.Cited.{place-of}
-use Rattle.retro_core.proofs.Filing.{filed-shown}
+use Rattle.retro_core.proofs.FiledRanks.{filed-shown}
 use Rattle.retro_core.proofs.stage.Stage.next_filed.Goals as goal
 
 pub returns-clause-behind : goal.returns-clause-behind

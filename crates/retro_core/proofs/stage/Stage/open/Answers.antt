@@ -1,6 +1,6 @@
 use Rattle.std.proofs.Common.{◌+◌, ◌∙◌, ap, refl}
 use Rattle.std.proofs.lemmas.List.FromFn.{length-map-range_with_len}
-use Rattle.retro_core.proofs.Filing.{list-shown}
+use Rattle.retro_core.proofs.FiledRanks.{list-shown}
 use Rattle.retro_core.proofs.stage.Stage.open.Goals as goal
 
 pub list_zeros-requires : goal.list_zeros-requires

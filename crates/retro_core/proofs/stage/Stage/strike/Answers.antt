@@ -7,8 +7,8 @@ use Rattle.retro_core.specs.Inside.Arena.{Dominant}
 use Rattle.retro_core.specs.Inside.BoardArena.{arena_of}
 use Rattle.retro_core.specs.Inside.Stage.{PlainStage, counting, IsStruckAt, IsStriking, Closes}
 use Rattle.retro_core.specs.Inside.Stored.{AreDominators}
-use Rattle.retro_core.proofs.Dominated.{dominator-byte}
-use Rattle.retro_core.proofs.Striking.{count-left, struck-some, struck-closed}
+use Rattle.retro_core.proofs.DominatedRanks.{dominator-byte}
+use Rattle.retro_core.proofs.StageStrikes.{count-left, struck-some, struck-closed}
 use Rattle.retro_core.proofs.stage.Stage.strike.Goals as goal
 
 -- the first that is left to be struck

@@ -2,7 +2,7 @@ use Rattle.std.proofs.Common.{◌≡◌, ◌<◌, ◌∙◌, ℕ, List, ◌∷�
 use Rattle.std.proofs.Math.Seq.{drop-cons}
 use Rattle.std.proofs.lemmas.List.{get_or_read, drop_all}
 use Rattle.retro_core.specs.Inside.Stage.{PlainStage, IsStriking}
-use Rattle.retro_core.proofs.Striking.{kept-on, kept-self}
+use Rattle.retro_core.proofs.StageStrikes.{kept-on, kept-self}
 use Rattle.retro_core.proofs.stage.Stage.strike_all.Goals as goal
 
 pub loop-place-init : goal.loop-place-init

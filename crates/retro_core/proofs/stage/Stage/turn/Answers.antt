@@ -4,7 +4,7 @@ use Rattle.positions.specs.Ranks.{configurations}
 use Rattle.retro_core.specs.Inside.Arena.{dominated}
 use Rattle.retro_core.specs.Inside.BoardArena.{arena_of}
 use Rattle.retro_core.specs.Inside.Stage.{PlainStage, stage_of, filed_at, turned}
-use Rattle.retro_core.proofs.Filing.{list-shown, filed-shown}
+use Rattle.retro_core.proofs.FiledRanks.{list-shown, filed-shown}
 use Rattle.retro_core.proofs.stage.Stage.turn.Goals as goal
 
 pub invariant_of-self : goal.invariant_of-self

@@ -2,7 +2,7 @@ use Rattle.std.proofs.Common.{◌≡◌, ◌-◌, ap, subst, arith}
 use Rattle.std.specs.List.{sum}
 use Rattle.positions.specs.Ranks.{configurations}
 use Rattle.retro_core.specs.Inside.Arena.{count_below}
-use Rattle.retro_core.specs.Inside.Sizes.{AreCounts}
+use Rattle.retro_core.specs.Inside.Sizes.{AreValueSizes}
 use Rattle.retro_core.specs.Inside.Tables.{is_open}
 use Rattle.retro_core.proofs.ValueSizes.{all-sizes}
 use Rattle.retro_core.proofs.values.Values.new.Goals as goal
@@ -28,4 +28,4 @@ invariant_of-result c =
     let all = all-sizes _ _ _ _ e.few c.requires.counts in
     let same = ap sum c.deref.ensures.value in
     let rest : count_below (configurations b) (is_open c.args.values.items) ≡ c.configurations.result - c.total.result = omega (arith, all, same, e.value, c.total.ensures) in
-    (c.requires.values, c.requires.dominators, subst (AreCounts (configurations b) c.args.values.items c.args.sizes.items) rest c.requires.counts, e.few)
+    (c.requires.values, c.requires.dominators, subst (AreValueSizes (configurations b) c.args.values.items c.args.sizes.items) rest c.requires.counts, e.few)

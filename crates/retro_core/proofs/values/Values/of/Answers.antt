@@ -4,7 +4,7 @@ use Rattle.board_text.specs.PlainBoard.{PlainBoard}
 use Rattle.positions.specs.declared.value.Value.TheVariants.{Finite}
 use Rattle.positions.specs.Ranks.{configurations, configuration_at}
 use Rattle.positions.specs.Value.{HasValue}
-use Rattle.retro_core.proofs.Listed.{shut_word}
+use Rattle.retro_core.proofs.ListedWords.{shut_word}
 use Rattle.retro_core.proofs.values.Values.of.Goals as goal
 
 pub returns : goal.returns

@@ -6,8 +6,8 @@ use Rattle.board_text.proofs.Cited.{label_is_place}
 use Rattle.positions.specs.Gaps.{gaps}
 use Rattle.retro_core.specs.Solving.{AnswerForever}
 use Rattle.retro_core.specs.declared.stage.TheConstants.{OPEN}
-use Rattle.retro_core.proofs.Lasting.{same_is, differ_is, true_not_false}
-use Rattle.retro_core.proofs.Safest.{safe-here, safe-dominator, safe-open}
+use Rattle.retro_core.proofs.LastingRanks.{same_is, differ_is, true_not_false}
+use Rattle.retro_core.proofs.SafeAnswers.{safe-here, safe-dominator, safe-open}
 use Rattle.retro_core.proofs.values.Values.safe_answer.Goals as goal
 use Rattle.retro_core.proofs.values.Values.safe_answer.Goals.{else-index-pebble-via-then-index-pebble+else-index, else-index-pebble-via-else-index-pebble}
 

@@ -1,5 +1,5 @@
 use Rattle.std.proofs.Common.{refl}
-use Rattle.strategies.proofs.Steps.{no_answer_added, worthless_not_added, answer_added}
+use Rattle.strategies.proofs.AddedSteps.{no_answer_added, worthless_not_added, answer_added}
 use Rattle.strategies.proofs.best_moves.BestMoves.add_answer.Goals as goal
 
 pub returns-in_default-clause-added : goal.returns-in_default-clause-added

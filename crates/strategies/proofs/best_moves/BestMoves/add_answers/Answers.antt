@@ -1,6 +1,6 @@
 use Rattle.std.proofs.Common.{◌<◌, ◌≤◌, ◌∙◌, arith}
-use Rattle.strategies.specs.Inside.Spreading.{IsAnswerStep, AnswerLeads}
-use Rattle.strategies.proofs.Added.{Below, added_more, added_same, below_all}
+use Rattle.strategies.specs.Inside.ReachedRanks.{IsAnswerStep, AnswerLeads}
+use Rattle.strategies.proofs.AddedRanks.{Below, added_more, added_same, below_all}
 use Rattle.strategies.proofs.best_moves.BestMoves.add_answers.Goals as goal
 
 pub loop-pebble-preserved : goal.loop-pebble-preserved

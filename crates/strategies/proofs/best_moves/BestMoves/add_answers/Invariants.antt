@@ -1,6 +1,6 @@
 use Rattle.std.proofs.Common.{◌≡◌}
-use Rattle.strategies.specs.Inside.Spreading.{IsAnswerStep, IsWithAll}
-use Rattle.strategies.proofs.Added.{Below}
+use Rattle.strategies.specs.Inside.ReachedRanks.{IsAnswerStep, IsWithAll}
+use Rattle.strategies.proofs.AddedRanks.{Below}
 use Rattle.strategies.proofs.best_moves.BestMoves.add_answers.Given as goal
 
 abbrev pub invariant-loop-pebble : goal.invariant-loop-pebble

@@ -2,8 +2,8 @@ use Rattle.std.proofs.Common.{◌≡◌, ◌≤◌, ◌-◌}
 use Rattle.board_text.specs.declared.board.TheConstants.{MAX_LABELS}
 use Rattle.positions.specs.Gaps.{IsAnswer}
 use Rattle.positions.proofs.Cited.{AreFrom}
-use Rattle.strategies.specs.Inside.Spreading.{IsWithAll, IsAnswerAt}
-use Rattle.strategies.proofs.Added.{Below}
+use Rattle.strategies.specs.Inside.ReachedRanks.{IsWithAll, IsAnswerAt}
+use Rattle.strategies.proofs.AddedRanks.{Below}
 use Rattle.strategies.proofs.best_moves.BestMoves.add_members.Given as goal
 
 abbrev pub invariant-loop-label : goal.invariant-loop-label

@@ -1,5 +1,5 @@
 use Rattle.std.proofs.Common.{sym, ◌∙◌}
-use Rattle.strategies.proofs.Steps.{no_request_added, results_known, results_added, expanded_more}
+use Rattle.strategies.proofs.AddedSteps.{no_request_added, results_known, results_added, expanded_more}
 use Rattle.strategies.proofs.best_moves.BestMoves.add_results.Goals as goal
 
 pub returns-in_default-clause-added : goal.returns-in_default-clause-added

@@ -1,5 +1,5 @@
 use Rattle.std.proofs.Common.{refl, sym, ◌∙◌, arith}
-use Rattle.strategies.proofs.Spread.{place_below, spread_begins, spread_none, spread_more, spread_ends, spread_below, answer_moves, start_answerable, start_worthless}
+use Rattle.strategies.proofs.SpreadRanks.{place_below, spread_begins, spread_none, spread_more, spread_ends, spread_below, answer_moves, start_answerable, start_worthless}
 use Rattle.strategies.proofs.best_moves.BestMoves.reached_by_answers.Goals as goal
 use Rattle.strategies.proofs.best_moves.BestMoves.reached_by_answers.Goals.{then-is_some+in_ok-add, else-is_some}
 

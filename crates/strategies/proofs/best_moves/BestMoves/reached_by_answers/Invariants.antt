@@ -1,6 +1,6 @@
 use Rattle.std.proofs.Common.{◌≡◌, ◌-◌}
 use Rattle.positions.specs.Ranks.{configurations}
-use Rattle.strategies.proofs.Spread.{IsSpreadByAnswers}
+use Rattle.strategies.proofs.SpreadRanks.{IsSpreadByAnswers}
 use Rattle.strategies.proofs.best_moves.BestMoves.reached_by_answers.Given as goal
 
 abbrev pub invariant-loop-rank : goal.invariant-loop-rank

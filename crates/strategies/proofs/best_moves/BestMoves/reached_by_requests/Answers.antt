@@ -1,6 +1,6 @@
 use Rattle.std.proofs.Common.{sym, ◌∙◌, arith}
-use Rattle.strategies.proofs.Steps.{none_expanded}
-use Rattle.strategies.proofs.Spread.{place_below, spread_begins, spread_more, spread_ends, spread_below, request_moves}
+use Rattle.strategies.proofs.AddedSteps.{none_expanded}
+use Rattle.strategies.proofs.SpreadRanks.{place_below, spread_begins, spread_more, spread_ends, spread_below, request_moves}
 use Rattle.strategies.proofs.best_moves.BestMoves.reached_by_requests.Goals as goal
 
 pub add-requires : goal.add-requires

@@ -1,7 +1,7 @@
 use Rattle.std.proofs.Common.{◌≡◌, ◌-◌}
 use Rattle.positions.specs.Ranks.{configurations}
-use Rattle.strategies.specs.Inside.Spreading.{AreExpanded}
-use Rattle.strategies.proofs.Spread.{IsSpreadByRequests}
+use Rattle.strategies.specs.Inside.ReachedRanks.{AreExpanded}
+use Rattle.strategies.proofs.SpreadRanks.{IsSpreadByRequests}
 use Rattle.strategies.proofs.best_moves.BestMoves.reached_by_requests.Given as goal
 
 abbrev pub invariant-loop-rank : goal.invariant-loop-rank

@@ -1,7 +1,7 @@
 use Rattle.std.proofs.Common.{◌<◌, ◌≤◌, refl, arith}
 use Rattle.positions.specs.Ranks.{configuration_at}
 use Rattle.positions.proofs.Cited.{configuration_at_is}
-use Rattle.strategies.proofs.Lowering.{lowers_first, none_lowers, request_none, no_request}
+use Rattle.strategies.proofs.LoweringRequests.{lowers_first, none_lowers, request_none, no_request}
 use Rattle.strategies.proofs.best_moves.BestMoves.request.Goals as goal
 
 pub returns-then-leads_below : goal.returns-then-leads_below

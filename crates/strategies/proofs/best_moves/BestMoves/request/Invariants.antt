@@ -1,5 +1,5 @@
 use Rattle.positions.specs.Ranks.{configuration_at}
-use Rattle.strategies.proofs.Lowering.{NoneLowersBelow}
+use Rattle.strategies.proofs.LoweringRequests.{NoneLowersBelow}
 use Rattle.strategies.proofs.best_moves.BestMoves.request.Given as goal
 
 abbrev pub invariant-loop-pebble : goal.invariant-loop-pebble

@@ -1,6 +1,6 @@
 use Rattle.std.proofs.Common.{◌<◌, arith}
 use Rattle.positions.specs.Ranks.{configurations}
-use Rattle.strategies.proofs.Gathering.{one_more, none_there, all_gathered}
+use Rattle.strategies.proofs.GatheredRows.{one_more, none_there, all_gathered}
 use Rattle.strategies.proofs.best_moves.BestMoves.section.Goals as goal
 use Rattle.strategies.proofs.best_moves.BestMoves.section.Goals.{in-Some-at+else-is_err, in_default-at}
 

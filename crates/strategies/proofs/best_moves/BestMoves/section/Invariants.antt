@@ -1,6 +1,6 @@
 use Rattle.std.proofs.Common.{◌-◌}
 use Rattle.positions.specs.Ranks.{configurations}
-use Rattle.strategies.proofs.Gathering.{AreSectionBelow}
+use Rattle.strategies.proofs.GatheredRows.{AreSectionBelow}
 use Rattle.strategies.proofs.best_moves.BestMoves.section.Given as goal
 
 abbrev pub invariant-loop-rank : goal.invariant-loop-rank

@@ -1,6 +1,6 @@
 use Rattle.std.proofs.Common.{◌≡◌, ◌<◌, ap, subst, length, sym, ◌∙◌}
-use Rattle.strategies.specs.Inside.Spreading.{IsWith, ReachedRanks}
-use Rattle.strategies.proofs.Marking.{mark_more, known_stays, new_added}
+use Rattle.strategies.specs.Inside.ReachedRanks.{IsWith, ReachedRanks}
+use Rattle.strategies.proofs.ReachedMarks.{mark_more, known_stays, new_added}
 use Rattle.strategies.proofs.reached.Reached.add.Goals as goal
 
 pub invariant_of-self-then-not-get : goal.invariant_of-self-then-not-get

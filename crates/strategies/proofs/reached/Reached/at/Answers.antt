@@ -1,6 +1,6 @@
 use Rattle.std.proofs.Common.{◌≤◌, length, subst}
-use Rattle.strategies.specs.Inside.Spreading.{ReachedRanks}
-use Rattle.strategies.proofs.Marking.{few_ranks}
+use Rattle.strategies.specs.Inside.ReachedRanks.{ReachedRanks}
+use Rattle.strategies.proofs.ReachedMarks.{few_ranks}
 use Rattle.strategies.proofs.reached.Reached.at.Goals as goal
 
 pub returns-clause-few : goal.returns-clause-few

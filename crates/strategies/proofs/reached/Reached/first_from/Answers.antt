@@ -1,8 +1,8 @@
 use Rattle.std.proofs.Common.{◌≤◌, subst}
 use Rattle.std.specs.List.{Contains}
 use Rattle.positions.specs.Counts.{IsSmallest}
-use Rattle.strategies.specs.Inside.Spreading.{ReachedRanks}
-use Rattle.strategies.proofs.Marking.{first_reached}
+use Rattle.strategies.specs.Inside.ReachedRanks.{ReachedRanks}
+use Rattle.strategies.proofs.ReachedMarks.{first_reached}
 use Rattle.strategies.proofs.reached.Reached.first_from.Goals as goal
 
 pub returns : goal.returns

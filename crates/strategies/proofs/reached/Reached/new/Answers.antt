@@ -1,4 +1,4 @@
-use Rattle.strategies.proofs.Marking.{no_marks}
+use Rattle.strategies.proofs.ReachedMarks.{no_marks}
 use Rattle.strategies.proofs.reached.Reached.new.Goals as goal
 
 pub invariant_of-result : goal.invariant_of-result

@@ -1,4 +1,4 @@
-use Rattle.strategies.proofs.Gathering.{no_request}
+use Rattle.strategies.proofs.GatheredRows.{no_request}
 use Rattle.strategies.proofs.sections.AdversaryRowSectionRow.at.Goals as goal
 
 pub returns-in_default : goal.returns-in_default

@@ -1,4 +1,4 @@
-use Rattle.strategies.proofs.Gathering.{adversarys}
+use Rattle.strategies.proofs.GatheredRows.{adversarys}
 use Rattle.strategies.proofs.sections.AdversaryRowSectionRow.reached.Goals as goal
 
 pub returns-clause-rows : goal.returns-clause-rows

@@ -1,6 +1,6 @@
 use Rattle.std.proofs.Common.{◌<◌, ◌≤◌, refl, arith}
 use Rattle.board_text.specs.declared.board.TheConstants.{MAX_PEBBLES}
-use Rattle.strategies.proofs.Making.{taken_more, has_answer, labeller_row_is}
+use Rattle.strategies.proofs.MadeRows.{taken_more, has_answer, labeller_row_is}
 use Rattle.strategies.proofs.sections.LabellerRowSectionRow.at.Goals as goal
 use Rattle.strategies.proofs.sections.LabellerRowSectionRow.at.Goals.{in-Some, in_default}
 

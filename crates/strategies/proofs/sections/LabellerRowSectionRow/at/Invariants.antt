@@ -1,5 +1,5 @@
 use Rattle.positions.specs.Ranks.{configuration_at}
-use Rattle.strategies.proofs.Making.{AreTaken}
+use Rattle.strategies.proofs.MadeRows.{AreTaken}
 use Rattle.strategies.proofs.sections.LabellerRowSectionRow.at.Given as goal
 
 abbrev pub invariant-loop-pebble : goal.invariant-loop-pebble

@@ -1,4 +1,4 @@
-use Rattle.strategies.proofs.Gathering.{labellers}
+use Rattle.strategies.proofs.GatheredRows.{labellers}
 use Rattle.strategies.proofs.sections.LabellerRowSectionRow.reached.Goals as goal
 
 pub returns-clause-rows : goal.returns-clause-rows

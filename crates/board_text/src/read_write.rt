@@ -1,0 +1,108 @@
+//! Reading all that there is, and writing all that there is to write.
+
+ghost use Rattle.std.specs.Prelude.{◌≡◌, ◌+◌, ◌<◌, ◌≤◌, ◌^◌, ℕ, List, length, take, drop, true, false, IfOk, IfErr, OnOk, OnErr, IsOk};
+ghost use Rattle.std.specs.Io.KnownBytes.{Appends, Consumes, IsAtEnd, Keeps};
+ghost use Rattle.board_text.specs.Streams.{GaveAll, AppendsFront, ReadFails};
+ghost use Rattle.board_text.specs.ReadFaults.{ReadAllFails};
+
+use crate::sink::Sink;
+use crate::source::{Failed, Source};
+use std::alloc::{AllocError, Allocator};
+
+/// Why not all was read.
+#[derive(Clone, Copy, Debug, PartialEq, Eq)]
+pub enum ReadFault {
+    /// A growth was refused.
+    Memory,
+    /// The source failed.
+    Read,
+    /// More came than the limit.
+    Limit,
+}
+
+const FIRST_READ: usize = 8192;
+
+/// Reads all that is left, at most `limit` bytes. The source must not have failed before.
+pub fn read_all<A: Allocator, S: Source>(
+    alloc: A,
+    source: &mut S,
+    limit: usize,
+) -> Result<Vec<u8, A>, ReadFault>
+    requires ready { S.has_failed source.old ≡ false }
+    requires countable { limit < usize.MAX }
+    ensures ok { IfOk result (λ bytes. GaveAll (S.remaining source.old) (S.remaining source.new) bytes.items) }
+    ensures within { IfOk result (λ bytes. length bytes.items ≤ limit) }
+    ensures unfailed { OnOk result (S.has_failed source.new ≡ false) }
+    ensures fault { IfErr result (ReadAllFails (S.remaining source.old) (S.remaining source.new) (S.has_failed source.new) limit) }
+{
+    let mut bytes = Vec::new(alloc);
+    let mut filled = 0;
+    while filled <= limit {
+        if make_room(&mut bytes, filled, limit).is_err() {
+            return Err(ReadFault::Memory);
+        }
+        match read_at(source, bytes.as_mut_slice(), filled) {
+            Ok(0) => {
+                bytes.truncate(filled);
+                return Ok(bytes);
+            }
+            Ok(count) => filled += count,
+            Err(Failed) => return Err(ReadFault::Read),
+        }
+    }
+    Err(ReadFault::Limit)
+}
+
+/// Makes `bytes` longer than `filled`, so that a read finds room: twice as long where it is full.
+fn make_room<A: Allocator>(
+    bytes: &mut Vec<u8, A>,
+    filled: usize,
+    limit: usize,
+) -> Result<(), AllocError>
+    requires within { filled ≤ length bytes.old.items }
+    requires short { length bytes.old.items ≤ limit + 1 }
+    requires below { filled ≤ limit }
+    requires countable { limit < usize.MAX }
+    ensures within { filled ≤ length bytes.new.items }
+    ensures short { length bytes.new.items ≤ limit + 1 }
+    ensures room { OnOk result (filled < length bytes.new.items) }
+    ensures front { take filled bytes.new.items ≡ take filled bytes.old.items }
+{
+    if filled < bytes.len() {
+        return Ok(());
+    }
+    let longer = filled.saturating_mul(2).max(FIRST_READ).min(limit + 1);
+    bytes.resize(longer, 0)
+}
+
+/// One read into `bytes` from `at` on.
+fn read_at<S: Source>(source: &mut S, bytes: &mut [u8], at: usize) -> Result<usize, Failed>
+    requires { at < length bytes.old }
+    ensures front { take at bytes.new ≡ take at bytes.old }
+    ensures fits { IfOk result (λ n. at + n ≤ length bytes.new) }
+    ensures given { IfOk result (λ n. Consumes (S.remaining source.old) (S.remaining source.new) (take n (drop at bytes.new))) }
+    ensures end { IfOk result (λ n. n ≡ 0 → IsAtEnd (S.remaining source.new)) }
+    ensures kept { OnErr result (Keeps (S.remaining source.old) (S.remaining source.new)) }
+    ensures failed { ReadFails (S.has_failed source.old) (S.has_failed source.new) result }
+{
+    source.read(&mut bytes[at..])
+}
+
+/// Writes all of `bytes`. The sink must not have failed before.
+pub fn write_all<S: Sink>(sink: &mut S, bytes: &[u8]) -> Result<(), Failed>
+    requires { S.has_failed sink.old ≡ false }
+    ensures ok { OnOk result (Appends (S.contents sink.old) (S.contents sink.new) bytes.now) }
+    ensures unfailed { OnOk result (S.has_failed sink.new ≡ false) }
+    ensures front { OnErr result (AppendsFront (S.contents sink.old) (S.contents sink.new) bytes.now) }
+    ensures failed { OnErr result (S.has_failed sink.new ≡ true) }
+{
+    let mut rest = bytes;
+    while !rest.is_empty() {
+        match sink.write(rest) {
+            Ok(0) => return Err(Failed),
+            Ok(count) => rest = &rest[count..],
+            Err(Failed) => return Err(Failed),
+        }
+    }
+    Ok(())
+}

@@ -1,4 +1,0 @@
-use Rattle.nested_cycles.proofs.replying.+nested_good.Given as goal
-
-abbrev pub decreases-nested_good : goal.decreases-nested_good
-decreases-nested_good l = l.levels

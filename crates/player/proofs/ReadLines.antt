@@ -1,0 +1,166 @@
+-- The lines that came so far, and what is left of what was read.
+use Rattle.std.proofs.Common.{◌≡◌, ℕ, ◌≤◌, true, false, List, [], ◌∷◌, ◌++◌, length, All, inl, inr, refl, sym, ap, ◌∙◌, subst, arith, append-nil, append_assoc}
+use Rattle.std.specs.Prelude.{Option, None, Some, ◌⊎◌}
+use Rattle.std.specs.List.{flat_map}
+use Rattle.std.specs.Io.KnownBytes.{Consumes, IsAtEnd}
+use Rattle.std.proofs.lemmas.List.{flat_map_more}
+use Rattle.std.proofs.lemmas.List.Elements.{All-push}
+use Rattle.board_text.specs.LineForms.{closed}
+use Rattle.board_text.proofs.Cited.{Consumes-trans}
+use Rattle.player.specs.Words.{IsLine, BeginsTooLong}
+use Rattle.player.specs.Inside.Words.{Spells}
+use Rattle.player.specs.declared.lines.LineFault.{LineFault}
+use Rattle.player.specs.declared.lines.LineFault.TheVariants.{Read, Limit}
+use Rattle.player.specs.Inside.LineInput.{Unread, IsEmptyAtEnd, GivesLine, GivesNoLine}
+use Rattle.player.specs.Play.{Came, CameClosed, CameWhole}
+use Rattle.player.specs.declared.word.Word.{Word}
+use Rattle.player.specs.declared.play.TheConstants.{MOST_LINES}
+
+pub record HasCome (left_old left_now : Option (List ℕ)) (lines : List (List ℕ)) (unread : Unread) : Type 0 where
+  pub came : ((unread.has_ended ≡ false) × CameClosed left_old left_now lines unread.bytes)
+      ⊎ ((unread.has_ended ≡ true) × (unread.bytes ≡ []) × CameWhole left_old left_now lines)
+  pub each : All IsLine lines
+
+Consumes-none : (a : Option (List ℕ)) → Consumes a a []
+Consumes-none None = tt
+Consumes-none (Some x) = refl
+
+pub none_yet : (left : Option (List ℕ)) → HasCome left left [] (record { bytes = []; has_ended = false })
+none_yet left = record { came = inl (refl, Consumes-none left); each = λ k d inside. absurd (omega (arith, inside)) }
+
+pub empty_at_end : (left_old left_now : Option (List ℕ)) (lines : List (List ℕ)) (unread : Unread) → HasCome left_old left_now lines unread → IsEmptyAtEnd unread left_now
+empty_at_end left_old left_now lines unread come ended =
+    elim come.came [
+      | inl goes_on ↦ absurd (differ (sym ended ∙ goes_on.0))
+      | inr over ↦ (over.1, over.2.read.1)
+    ]
+  where
+    differ : true ≡ false → ⊥
+    differ same = cc
+
+-- what is left where no line came
+abbrev pub Breaks : LineFault → List ℕ → Type 0
+Breaks Read rest = IsLine rest
+Breaks Limit rest = BeginsTooLong rest
+
+-- what was read, where the end wasn't seen
+closed_so_far : (left_old left_now : Option (List ℕ)) (lines : List (List ℕ)) (unread : Unread) → HasCome left_old left_now lines unread → unread.has_ended ≡ false
+    → CameClosed left_old left_now lines unread.bytes
+closed_so_far left_old left_now lines unread come goes_on =
+    elim come.came [ inl so ↦ so.1 | inr over ↦ absurd (differ (sym over.0 ∙ goes_on)) ]
+  where
+    differ : true ≡ false → ⊥
+    differ same = cc
+
+-- with what was read then
+read_on : (left_old left_now left_new : Option (List ℕ)) (lines : List (List ℕ)) (unread : Unread) (more : List ℕ) → HasCome left_old left_now lines unread → unread.has_ended ≡ false
+    → Consumes left_now left_new more → CameClosed left_old left_new lines (unread.bytes ++ more)
+read_on left_old left_now left_new lines unread more come goes_on read =
+    subst (Consumes left_old left_new) (append_assoc (flat_map closed lines) unread.bytes more)
+    (Consumes-trans left_old left_now left_new _ more (closed_so_far left_old left_now lines unread come goes_on) read)
+
+-- the lines came
+pub came_of : (left_old left_now : Option (List ℕ)) (lines : List (List ℕ)) (unread : Unread) → length lines ≤ MOST_LINES → HasCome left_old left_now lines unread
+    → Came left_old left_now lines unread.bytes
+came_of left_old left_now lines unread few come = record {
+  came = elim come.came [ inl so ↦ inl so.1 | inr over ↦ inr (over.1, over.2) ];
+  each = come.each;
+  few = few;
+}
+
+-- and what was read then is behind them
+pub came_with : (left_old left_now left_new : Option (List ℕ)) (lines : List (List ℕ)) (unread : Unread) (more : List ℕ) → length lines ≤ MOST_LINES → HasCome left_old left_now lines unread
+    → unread.has_ended ≡ false → Consumes left_now left_new more → Came left_old left_new lines (unread.bytes ++ more)
+came_with left_old left_now left_new lines unread more few come goes_on read = record {
+  came = inl (read_on left_old left_now left_new lines unread more come goes_on read);
+  each = come.each;
+  few = few;
+}
+
+pub record ComesNext (left_old left_new : Option (List ℕ)) (lines : List (List ℕ)) (unread : Unread) (word : Word) : Type 0 where
+  pub line : List ℕ
+  pub spells : Spells line word
+  pub come : HasCome left_old left_new (lines ++ line ∷ []) unread
+  pub rest : List ℕ
+  pub before : length lines ≤ MOST_LINES → Came left_old left_new lines rest
+
+-- one more line came
+pub line_came : (left_old left_now left_new : Option (List ℕ)) (lines : List (List ℕ)) (old new : Unread) (word : Word) → HasCome left_old left_now lines old
+    → GivesLine old new left_now left_new (Some word) → ComesNext left_old left_new lines new word
+line_came left_old left_now left_new lines old new word come gives =
+    let line = gives.0 in
+    let goes_on = gives.1 in
+    let each : All IsLine (lines ++ line ∷ []) = All-push IsLine lines line come.each gives.3 in
+    elim gives.4 [
+      | inl next ↦ record {
+        line = line;
+        spells = gives.2;
+        come = record { came = inl (next.goes_on, subst (Consumes left_old left_new) (joined next.more next.taken) (read_on left_old left_now left_new lines old next.more come goes_on next.read)); each = each };
+        rest = old.bytes ++ next.more;
+        before = λ few. came_with left_old left_now left_new lines old next.more few come goes_on next.read;
+      }
+      | inr both ↦
+          let last = both.0 in record {
+            line = line;
+            spells = gives.2;
+            come = record {
+              came = inr (
+                last.ends,
+                last.nothing_left,
+                record {
+                  before = lines;
+                  last = line;
+                  lines_are = refl;
+                  some = both.1;
+                  read = (subst (Consumes left_old left_new) (ap (λ l. flat_map closed lines ++ l) last.taken) (read_on left_old left_now left_new lines old last.more come goes_on last.read.0), last.read.1);
+                },
+              );
+              each = each;
+            };
+            rest = old.bytes ++ last.more;
+            before = λ few. came_with left_old left_now left_new lines old last.more few come goes_on last.read.0;
+          }
+    ]
+  where
+    joined : (more : List ℕ) → old.bytes ++ more ≡ closed gives.0 ++ new.bytes → flat_map closed lines ++ (old.bytes ++ more) ≡ flat_map closed (lines ++ gives.0 ∷ []) ++ new.bytes
+    joined more taken = ap (λ l. flat_map closed lines ++ l) taken ∙ sym (append_assoc (flat_map closed lines) (closed gives.0) new.bytes) ∙ ap (λ l. l ++ new.bytes) (flat_map_more closed [] lines gives.0)
+
+both_empty : (xs ys : List ℕ) → xs ++ ys ≡ [] → (xs ≡ []) × (ys ≡ [])
+both_empty [] ys e = (refl, e)
+both_empty (x ∷ xs) ys e = absurd (omega (arith, ap length e))
+
+-- why no line came, where the reader failed or a line is too long
+pub none_came : (left_old left_now left_new : Option (List ℕ)) (lines : List (List ℕ)) (old : Unread) (fault : LineFault) → length lines ≤ MOST_LINES → HasCome left_old left_now lines old
+    → GivesNoLine old left_now left_new fault → (rest : List ℕ) × Came left_old left_new lines rest × Breaks fault rest
+none_came left_old left_now left_new lines old Read few come gives =
+    (old.bytes ++ gives.0, came_with left_old left_now left_new lines old gives.0 few come gives.1 gives.2, gives.3)
+none_came left_old left_now left_new lines old Limit few come gives =
+    (old.bytes ++ gives.0, came_with left_old left_now left_new lines old gives.0 few come gives.1 gives.2, gives.3)
+
+-- no more lines came
+pub all_came : (left_old left_now left_new : Option (List ℕ)) (lines : List (List ℕ)) (old new : Unread) → length lines ≤ MOST_LINES → HasCome left_old left_now lines old
+    → GivesLine old new left_now left_new None → Came left_old left_new lines [] × IsAtEnd left_new
+all_came left_old left_now left_new lines old new few come gives =
+    let parts = both_empty old.bytes gives.more gives.taken in
+    let none = parts.1 in
+    let empty = parts.0 in
+    let end : Consumes left_now left_new [] = subst (Consumes left_now left_new) none gives.read.0 in (
+      record {
+        came = elim come.came [
+          | inl so ↦ inl (subst (Consumes left_old left_new) (append-nil _ ∙ ap (λ l. flat_map closed lines ++ l) empty) (Consumes-trans left_old left_now left_new _ [] so.1 end))
+          | inr over ↦ inr (
+            refl,
+            record {
+              before = over.2.before;
+              last = over.2.last;
+              lines_are = over.2.lines_are;
+              some = over.2.some;
+              read = (subst (Consumes left_old left_new) (append-nil _) (Consumes-trans left_old left_now left_new _ [] over.2.read.0 end), gives.read.1);
+            },
+          )
+        ];
+        each = come.each;
+        few = few;
+      },
+      gives.read.1,
+    )

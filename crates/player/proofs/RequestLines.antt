@@ -1,0 +1,72 @@
+-- What the line of a person who asks brings.
+use Rattle.std.proofs.Common.{◌≡◌, ◌≢◌, ℕ, ◌+◌, ◌≤◌, ◌<◌, ◌^◌, List, ◌++◌, inl, inr, refl, sym, ap, ◌∙◌, subst, arith, add-one}
+use Rattle.std.specs.Prelude.{codes}
+use Rattle.std.specs.Fmt.{decimal}
+use Rattle.std.specs.Str.Parse.{AllDigits}
+use Rattle.std.proofs.lemmas.Fmt.{decimal_is_IsNumeral, decimal_injective}
+use Rattle.std.proofs.lemmas.Str.Parse.{tells_digits}
+use Rattle.board_text.specs.PlainBoard.{PlainBoard, IsConfiguration}
+use Rattle.positions.specs.Ranks.{configurations, configuration_at, rank_of}
+use Rattle.positions.specs.Value.{HasValue}
+use Rattle.positions.specs.declared.value.Value.{Value}
+use Rattle.positions.proofs.Cited.{configuration_at-rank_of}
+use Rattle.positions.specs.Game.{Legal, moved}
+use Rattle.strategies.specs.Best.{IsBestAnswer}
+use Rattle.player.specs.Words.{quit}
+use Rattle.player.specs.Inside.Words.{Spells}
+use Rattle.player.specs.Transcript.{Standing, Going, Over, PersonAsks, BeginsPlay, RepliesToLine, Replies, opening_lines, no_request_line}
+use Rattle.player.specs.Transcript.{stuck_line, takes_line, at_line}
+use Rattle.player.specs.Inside.PlayState.{PlayState, at}
+use Rattle.player.specs.Inside.Steps.{AddsText}
+use Rattle.player.proofs.MovedRanks.{moved_at}
+use Rattle.player.specs.declared.word.Word.TheVariants.{Number}
+use Rattle.player.specs.declared.end.PlayEnd.TheVariants.{Stuck}
+
+-- a number isn't the word
+pub no_quit : (number : ℕ) → number < 2 ^ 32 → decimal number ≢ quit
+no_quit number small same =
+    let all : AllDigits 10 quit = subst (AllDigits 10) same (decimal_is_IsNumeral number (omega (arith, small))).0.1 in
+    let first = (tells_digits.parts 113 (codes "uit") all).0 in
+    omega (arith, first.0, first.1)
+
+-- a number that names none of so many pebbles
+pub no_pebble : (pebbles : ℕ) (Answers : ℕ → List ℕ → Standing → Type 0) (there : List ℕ) (requests number : ℕ) → pebbles ≤ number
+    → (line : List ℕ) → Spells line (Number number) → RepliesToLine pebbles Answers there requests line no_request_line (Going there requests)
+no_pebble pebbles Answers there requests number outside line spells =
+    inr (inr (
+      (
+        λ same. no_quit number spells.0 (sym spells.1 ∙ same),
+        λ pebble inside same. let equal : number ≡ pebble = decimal_injective number pebble (omega (arith, spells.0)) (omega (arith, spells.0, inside, outside)) (sym spells.1 ∙ same) in omega (arith, equal, inside, outside),
+      ),
+      refl,
+      refl,
+    ))
+
+-- ---- at a seat, which is known by its parts
+
+module _ (inside seat : PlayState) (same : inside ≡ seat) where
+  -- the pebble was put on the label of the best answer
+  pub reply_said : (space : PlainBoard) (to pebble label : ℕ) (old new : List ℕ) → space ≡ inside.board → inside.rank < configurations inside.board → IsBestAnswer inside.board (at inside) pebble label
+      → to ≡ rank_of space (moved (configuration_at space inside.rank) pebble label) → new ≡ old ++ (takes_line pebble (decimal label) ++ at_line space (configuration_at space to))
+      → AddsText old new (λ said. Replies seat.board (at seat) seat.requests pebble said (Going (configuration_at inside.board to) (inside.requests + 1)))
+  reply_said space to pebble label old new of_board within best to_is said =
+      let there : configuration_at inside.board to ≡ moved (at inside) pebble label = moved_at inside.board inside.rank to pebble label within best.0.legal.is_label
+      (subst (λ b. to ≡ rank_of b (moved (configuration_at b inside.rank) pebble label)) of_board to_is) in
+      subst (λ s. AddsText old new (λ said. Replies s.board (at s) s.requests pebble said (Going (configuration_at inside.board to) (inside.requests + 1)))) same (
+        takes_line pebble (decimal label) ++ at_line inside.board (configuration_at inside.board to),
+        subst (λ b. new ≡ old ++ (takes_line pebble (decimal label) ++ at_line b (configuration_at b to))) of_board said,
+        inl (label, best, ap (λ c. takes_line pebble (decimal label) ++ at_line inside.board c) there, rw (there, add-one) refl),
+      )
+
+  -- no label is legal
+  pub no_reply_said : (pebble : ℕ) (old new : List ℕ) → ((label : ℕ) → Legal inside.board (at inside) pebble label → ⊥) → new ≡ old ++ stuck_line pebble inside.requests
+      → AddsText old new (λ said. Replies seat.board (at seat) seat.requests pebble said (Over (Stuck inside.requests)))
+  no_reply_said pebble old new none said =
+      subst (λ s. AddsText old new (λ said. Replies s.board (at s) s.requests pebble said (Over (Stuck inside.requests)))) same (stuck_line pebble inside.requests, said, inr (none, refl, refl))
+
+-- the play begins at the start
+pub begins : (board : PlainBoard) (rank : ℕ) (value : Value) → IsConfiguration board board.start → rank ≡ rank_of board board.start → HasValue board (configuration_at board rank) value
+    → BeginsPlay (PersonAsks board) (opening_lines board value (configuration_at board rank)) (Going (configuration_at board rank) 0)
+begins board rank value is rank_is has =
+    let same : configuration_at board rank ≡ board.start = ap (configuration_at board) rank_is ∙ configuration_at-rank_of board board.start is in
+    subst (λ c. BeginsPlay (PersonAsks board) (opening_lines board value c) (Going c 0)) (sym same) (value, subst (λ c. HasValue board c value) same has, refl, refl)

@@ -1,0 +1,58 @@
+-- What is read before the next line is known.
+use Rattle.std.specs.Prelude.{◌≡◌, ◌≢◌, ℕ, ◌<◌, ◌≤◌, ◌⊎◌, Bool, true, false, List, [], ◌++◌, length, Option, None, Some}
+use Rattle.std.specs.Io.KnownBytes.{Consumes, IsAtEnd}
+use Rattle.board_text.specs.Streams.{GaveAll}
+use Rattle.board_text.specs.LineForms.{closed}
+use Rattle.player.specs.Words.{IsLine, BeginsTooLong}
+use Rattle.player.specs.Inside.Words.{Spells}
+use Rattle.player.specs.declared.word.Word.{Word}
+use Rattle.player.specs.declared.lines.LineFault.{LineFault}
+use Rattle.player.specs.declared.lines.LineFault.TheVariants.{Read, Limit}
+
+-- the bytes that were read and aren't taken yet, and whether the end of the input was seen
+pub record Unread : Type 0 where
+  pub bytes : List ℕ
+  pub has_ended : Bool
+
+-- where the end was seen, nothing is left to take
+abbrev pub IsEmptyAtEnd : Unread → Option (List ℕ) → Type 0
+IsEmptyAtEnd unread left = unread.has_ended ≡ true → (unread.bytes ≡ []) × IsAtEnd left
+
+-- a line with its line feed was taken
+pub record IsClosedLine (old new : Unread) (left_old left_new : Option (List ℕ)) (line : List ℕ) : Type 0 where
+  pub more : List ℕ
+  pub read : Consumes left_old left_new more
+  pub taken : old.bytes ++ more ≡ closed line ++ new.bytes
+  pub goes_on : new.has_ended ≡ false
+
+-- all that was left was taken
+pub record IsLastLine (old new : Unread) (left_old left_new : Option (List ℕ)) (line : List ℕ) : Type 0 where
+  pub more : List ℕ
+  pub read : GaveAll left_old left_new more
+  pub taken : old.bytes ++ more ≡ line
+  pub nothing_left : new.bytes ≡ []
+  pub ends : new.has_ended ≡ true
+
+-- what the next line says, if there is one
+abbrev pub GivesLine : Unread → Unread → Option (List ℕ) → Option (List ℕ) → Option Word → Type 0
+GivesLine old new left_old left_new (Some word) = (line : List ℕ) × (old.has_ended ≡ false) × Spells line word × IsLine line
+    × (IsClosedLine old new left_old left_new line ⊎ (IsLastLine old new left_old left_new line × (line ≢ [])))
+GivesLine old new left_old left_new None = IsLastLine old new left_old left_new []
+
+-- why there is no next line
+abbrev pub GivesNoLine : Unread → Option (List ℕ) → Option (List ℕ) → LineFault → Type 0
+GivesNoLine old left_old left_new Read = (more : List ℕ) × (old.has_ended ≡ false) × Consumes left_old left_new more
+    × IsLine (old.bytes ++ more)
+GivesNoLine old left_old left_new Limit = (more : List ℕ) × (old.has_ended ≡ false) × Consumes left_old left_new more
+    × BeginsTooLong (old.bytes ++ more)
+
+-- more came, or the end was seen
+abbrev pub IsFilled : Unread → Unread → Option (List ℕ) → Option (List ℕ) → Bool → Type 0
+IsFilled old new left_old left_new true =
+    (more : List ℕ) × (new.bytes ≡ old.bytes ++ more) × Consumes left_old left_new more × (0 < length more) × (new.has_ended ≡ false)
+IsFilled old new left_old left_new false = (new.bytes ≡ old.bytes) × GaveAll left_old left_new [] × (new.has_ended ≡ true)
+
+-- a part of a buffer, from one place to another
+pub record IsPart (from to size : ℕ) : Type 0 where
+  pub ordered : from ≤ to
+  pub within : to ≤ size

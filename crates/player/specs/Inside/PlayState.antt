@@ -1,0 +1,51 @@
+-- Where a person plays, and what is asked there.
+use Rattle.std.specs.Prelude.{◌≡◌, ℕ, ◌<◌, true, false, List, ◌++◌}
+use Rattle.board_text.specs.PlainBoard.{PlainBoard, IsBoard}
+use Rattle.positions.specs.Ranks.{configurations, configuration_at}
+use Rattle.positions.specs.Game.{Legal}
+use Rattle.strategies.specs.Best.{IsBestRequest}
+use Rattle.player.specs.Transcript.{Standing, Going, Over, ask_line, stuck_line}
+use Rattle.player.specs.declared.end.PlayEnd.TheVariants.{Stuck}
+use Rattle.player.specs.declared.labeller_side.Next.{Next}
+use Rattle.player.specs.declared.labeller_side.Next.TheVariants as next
+use Rattle.player.specs.declared.labeller_side.Request.{Request}
+
+-- a board, the rank of a configuration, and how many requests were answered
+pub record PlayState : Type 0 where
+  pub board : PlainBoard
+  pub rank : ℕ
+  pub requests : ℕ
+
+-- the configuration
+abbrev pub at : PlayState → List ℕ
+at seat = configuration_at seat.board seat.rank
+
+-- the label is legal for the pebble of the best request
+abbrev pub IsLegalAt : PlayState → ℕ → Type 0
+IsLegalAt seat label = (pebble : ℕ) × IsBestRequest seat.board (at seat) pebble × Legal seat.board (at seat) pebble label
+
+-- the best request, and whether no label is legal for it
+pub record IsRequestAt (board : PlainBoard) (configuration : List ℕ) (request : Request) : Type 0 where
+  pub best : IsBestRequest board configuration request.pebble
+  pub stuck : request.is_stuck ≡ true → (label : ℕ) → Legal board configuration request.pebble label → ⊥
+  pub free : request.is_stuck ≡ false → (label : ℕ) × Legal board configuration request.pebble label
+
+-- what is written of a request after so many answered ones, and what comes next
+abbrev pub HasAsked : Request → ℕ → Next → List ℕ → Type 0
+HasAsked request requests (next.Asks pebble) said = (request.is_stuck ≡ false) × (pebble ≡ request.pebble)
+    × (said ≡ ask_line request.pebble)
+HasAsked request requests (next.Ends end) said = (request.is_stuck ≡ true) × (end ≡ Stuck requests)
+    × (said ≡ ask_line request.pebble ++ stuck_line request.pebble requests)
+
+-- where the play stands: at the configuration with the best request, or at its end
+abbrev pub NextStands : PlainBoard → List ℕ → ℕ → Next → Standing → Type 0
+NextStands board configuration requests (next.Asks pebble) to = IsBestRequest board configuration pebble
+    × (to ≡ Going configuration requests)
+NextStands board configuration requests (next.Ends end) to = to ≡ Over end
+
+-- the values are the board's, and the pebble is the best request at the configuration of the rank
+pub record IsPlayState (board values : PlainBoard) (rank asked : ℕ) : Type 0 where
+  pub is_board : IsBoard board
+  pub same_board : values ≡ board
+  pub inside : rank < configurations board
+  pub best : IsBestRequest board (configuration_at board rank) asked

@@ -1,0 +1,197 @@
+-- What a finished round has won is filed: all that the next round begins with is there.
+use Rattle.std.proofs.Common.{◌≡◌, ℕ, ◌+◌, ◌-◌, ◌<◌, ◌≤◌, ◌==◌, inl, inr, Bool, true, false, not, cond, suc, refl, arith, sym, ap, ◌∙◌, subst, List, [], ◌∷◌, ◌++◌, length, take, drop, slice_index, slice_set, get_or, get_or-set_other, get_or-set_same}
+use Rattle.std.proofs.lemmas.Bool.{cases_lt}
+use Rattle.std.proofs.lemmas.List.{take_more, take-append-drop}
+use Rattle.std.proofs.lemmas.Bool.Decides.{nat_tests}
+use Rattle.index_lists.specs.Lists.{times}
+use Rattle.index_lists.proofs.Cited.{times-append}
+use Rattle.positions.specs.Ranks.{configurations}
+use Rattle.positions.specs.Gaps.{gaps}
+use Rattle.positions.specs.Counts.{HasSize}
+use Rattle.positions.specs.declared.space.TheConstants.{MAX_CONFIGURATIONS}
+use Rattle.positions.proofs.Cited.{same_size}
+use Rattle.retro_core.specs.Inside.Arena.{Arena, IsArena, live, lasts}
+use Rattle.retro_core.specs.Inside.BoardArena.{arena_of}
+use Rattle.retro_core.specs.Ending.{IsRoundEnd}
+use Rattle.retro_core.specs.Round.{IsWorth}
+use Rattle.retro_core.specs.Solving.{AnswerLasts}
+use Rattle.retro_core.specs.Inside.Stage.{PlainStage, filed, solving, IsFiled, IsKept, IsStriking, IsUnstruck, FilesAll, TakesCounts}
+use Rattle.retro_core.specs.Inside.Tables.{is_open, alive, IsCounted, AreWords}
+use Rattle.retro_core.specs.declared.stage.TheConstants.{OPEN}
+use Rattle.retro_core.proofs.BoardArenas.{arena_is, value_of_lasts, lasts_of_value}
+use Rattle.retro_core.proofs.StruckTables.{IsCounted-same, AreWords-same, same-open}
+use Rattle.retro_core.proofs.FiledRanks.{listed-away, filed-once}
+use Rattle.retro_core.proofs.LastingRanks.{true_or_false, same_or_not, lasts-less}
+use Rattle.retro_core.proofs.ListedWords.{times_one, times_none}
+use Rattle.retro_core.proofs.RoundLaws.{above-size}
+use Rattle.retro_core.proofs.StageStrikes.{kept-self, filed-counting}
+
+-- ---- filing one after the other
+
+pub files-none : (s : PlainStage) → IsFiled s → FilesAll s [] s
+files-none s are = record {
+  kept = kept-self s;
+  counts_is = refl;
+  there = λ x h. absurd (omega arith);
+  elsewhere = λ x h. refl;
+  filed_are = are;
+}
+
+pub files-more : (s : PlainStage) (ranks : List ℕ) (rank : ℕ) (now : PlainStage) → configurations s.board ≤ MAX_CONFIGURATIONS → s.value ≤ configurations s.board
+    → rank < configurations s.board → is_open s.values rank ≡ true → times rank ranks ≡ 0 → FilesAll s ranks now → FilesAll s (ranks ++ rank ∷ []) (filed now rank)
+files-more s ranks rank now few low i still new so_far =
+    let value_is : now.value ≡ s.value = so_far.kept.value_is in
+    let same : configurations now.board ≡ configurations s.board = ap configurations so_far.kept.board_is in
+    let open_now : is_open now.values rank ≡ true = same-open (slice_index now.values rank) (slice_index s.values rank) (so_far.elsewhere rank new) ∙ still in
+    let inside : rank < length now.values = (let size = so_far.filed_are.values_length in omega arith) in
+    record {
+      kept = record {
+        board_is = so_far.kept.board_is;
+        value_is = value_is;
+        strikes_is = so_far.kept.strikes_is;
+        others = λ v d. listed-away now rank v (λ e. d (e ∙ value_is)) ∙ so_far.kept.others v d;
+      };
+      counts_is = so_far.counts_is;
+      there = λ x h. elim (same_or_not x rank) [
+        | inl here ↦ ap (slice_index (slice_set now.values rank now.value)) here ∙ get_or-set_same now.values rank now.value 0 inside ∙ value_is
+        | inr other ↦ get_or-set_other now.values rank x now.value 0 other ∙ so_far.there x (let all = times-append x ranks (rank ∷ []) in let none = times_none rank x other in omega arith)
+      ];
+      elsewhere = λ x h.
+          let all = times-append x ranks (rank ∷ []) in
+          get_or-set_other now.values rank x now.value 0 (λ here. absurd (let one = times_one rank in let at = ap (λ y. times y (rank ∷ [])) here in omega arith)) ∙ so_far.elsewhere x (omega arith);
+      filed_are = filed-once now rank so_far.filed_are (omega (arith, few, same)) (omega (arith, low, same, value_is)) (omega (arith, i, same)) open_now;
+    }
+
+-- what stands at a place of a list of different numbers: it is in the list, and isn't among those before it
+pub record IsNextOf (xs : List ℕ) (i : ℕ) : Type 0 where
+  pub there : 0 < times (get_or xs i 0) xs
+  pub new : times (get_or xs i 0) (take i xs) ≡ 0
+  pub front : take (i + 1) xs ≡ take i xs ++ get_or xs i 0 ∷ []
+
+pub is-next : (xs : List ℕ) (i : ℕ) → i < length xs → ((x : ℕ) → times x xs ≤ 1) → IsNextOf xs i
+is-next xs i inside once =
+    let x : ℕ = get_or xs i 0 in
+    let front : take (i + 1) xs ≡ take i xs ++ x ∷ [] = take_more xs i 0 inside in
+    let parts : xs ≡ take (i + 1) xs ++ drop (i + 1) xs = sym (take-append-drop (i + 1) xs) in
+    let all : times x xs ≡ times x (take (i + 1) xs) + times x (drop (i + 1) xs) = ap (times x) parts ∙ times-append x (take (i + 1) xs) (drop (i + 1) xs) in
+    let first : times x (take (i + 1) xs) ≡ times x (take i xs) + times x (x ∷ []) = ap (times x) front ∙ times-append x (take i xs) (x ∷ []) in
+    let one = times_one x in
+    let most = once x in
+    record { there = omega arith; new = omega arith; front = front }
+
+-- ---- the stage of a finished round
+
+module _ (s : PlainStage) (unstruck : IsUnstruck s) where
+  abbrev a : Arena
+  a = arena_of s.board
+
+  is : IsArena a
+  is = arena_is s.board unstruck.small.is_board
+
+  abbrev r : ℕ
+  r = unstruck.round
+
+  rounds-is : s.value - 1 ≡ r
+  rounds-is = let v = unstruck.value_is in omega arith
+
+  -- what has the value is open yet
+  worth-lasts : (x : ℕ) → IsWorth s.board x (suc (s.value - 1)) → (lasts a (suc r) x ≡ true) × (lasts a (suc (suc r)) x ≡ false)
+  worth-lasts x worth = subst (λ k. (lasts a (suc k) x ≡ true) × (lasts a (suc (suc k)) x ≡ false)) rounds-is (lasts_of_value s.board unstruck.small.is_board (suc (s.value - 1)) x worth.is_rank worth.has_value)
+
+  pub worth-open : (won counts : List ℕ) → IsRoundEnd (solving s false) won counts → (x : ℕ) → 0 < times x won → (x < configurations s.board) × (is_open s.values x ≡ true)
+  worth-open won counts end x h =
+      let worth = (end.next x).0 h in
+      (worth.is_rank, unstruck.stage.words_are.opened x worth.is_rank ∙ (worth-lasts x worth).0)
+
+  module _ (won counts : List ℕ) (end : IsRoundEnd (solving s false) won counts)
+      (m t : PlainStage) (files : FilesAll s won m) (takes : TakesCounts m counts t) where
+    -- what wasn't won lasts one request more if it lasts so many
+    lost-lasts : (x : ℕ) → x < configurations s.board → times x won ≡ 0 → lasts a (suc r) x ≡ true → lasts a (suc (suc r)) x ≡ true
+    lost-lasts x i none e = elim (true_or_false (lasts a (suc (suc r)) x)) [
+      | inl so ↦ so
+      | inr stops ↦ absurd (
+          let has = value_of_lasts s.board unstruck.small.is_board (suc r) x i e stops in
+          let worth : IsWorth s.board x (suc (s.value - 1)) = subst (λ k. IsWorth s.board x (suc k)) (sym rounds-is) (record { is_rank = i; has_value = has }) in
+          let some = (end.next x).1 worth in omega arith)
+    ]
+
+    end-words : AreWords a (lasts a (suc r)) m.values
+    end-words = record {
+      values_length = files.filed_are.values_length ∙ ap configurations files.kept.board_is;
+      opened = λ x i. elim (cases_lt 0 (times x won)) [
+        | inl some ↦ shut x some ∙ sym (worth-lasts x ((end.next x).0 some)).1
+        | inr more ↦ (let none : times x won ≡ 0 = omega arith in
+            same-open (slice_index m.values x) (slice_index s.values x) (files.elsewhere x none) ∙ unstruck.stage.words_are.opened x i ∙ same_now x i none)
+      ];
+      lasting = λ x i e. elim (cases_lt 0 (times x won)) [
+        | inl some ↦ subst (λ k. lasts a k x ≡ true) (sym (files.there x some ∙ unstruck.value_is)) (worth-lasts x ((end.next x).0 some)).0
+        | inr more ↦ (let none : times x won ≡ 0 = omega arith in let word = files.elsewhere x none in
+            subst (λ k. lasts a k x ≡ true) (sym word) (unstruck.stage.words_are.lasting x i (sym (same-open _ _ word) ∙ e)))
+      ];
+      stopping = λ x i e. elim (cases_lt 0 (times x won)) [
+        | inl some ↦ subst (λ k. lasts a (suc k) x ≡ false) (sym (files.there x some ∙ unstruck.value_is)) (worth-lasts x ((end.next x).0 some)).1
+        | inr more ↦ (let none : times x won ≡ 0 = omega arith in let word = files.elsewhere x none in
+            subst (λ k. lasts a (suc k) x ≡ false) (sym word) (unstruck.stage.words_are.stopping x i (sym (same-open _ _ word) ∙ e)))
+      ];
+    }
+      where
+        word_shut : (n value : ℕ) → n ≡ value → value < OPEN → n == OPEN ≡ false
+        word_shut n value e small = grind (arith, nat_tests)
+
+        shut : (x : ℕ) → 0 < times x won → is_open m.values x ≡ false
+        shut x some = word_shut (slice_index m.values x) s.value (files.there x some) (let few = unstruck.small.few in let low = unstruck.small.low in omega arith)
+
+        same_now : (x : ℕ) → x < configurations s.board → times x won ≡ 0 → lasts a (suc r) x ≡ lasts a (suc (suc r)) x
+        same_now x i none = elim (true_or_false (lasts a (suc r) x)) [
+          | inl e ↦ e ∙ sym (lost-lasts x i none e)
+          | inr e ↦ e ∙ sym (both_false (lasts a (suc r) x) (lasts a (suc (suc r)) x) (lasts-less a is (suc r) x i) e)
+        ]
+          where
+            both_false : (b c : Bool) → (c ≡ true → b ≡ true) → b ≡ false → c ≡ false
+            both_false b c less e = elim (true_or_false c) [
+              | inl so ↦ absurd (let up : b ≡ true = less so in different b up e)
+              | inr no_more ↦ no_more
+            ]
+              where
+                different : (b : Bool) → b ≡ true → b ≡ false → ⊥
+                different b e d = cc
+
+    end-counts : IsCounted a (lasts a (suc r)) t.counts
+    end-counts = record {
+      counts_length = takes.counts_length ∙ ap length files.counts_is ∙ unstruck.stage.counts_are.counts_length;
+      counted = λ g i. takes.each g (subst (λ b. g < gaps b) (sym files.kept.board_is) i)
+          ∙ same_size (AnswerLasts s.board g (suc r)) (slice_index counts g) (live a (lasts a (suc r)) g)
+          (subst (λ k. HasSize (AnswerLasts s.board g (suc k)) (slice_index counts g)) rounds-is (end.above g i))
+          (above-size s.board unstruck.small.is_board (suc r) g i);
+    }
+
+    -- with nothing left to strike, what is alive is what lasts longer than the round
+    none-alive : (x : ℕ) → lasts a (suc r) x ≡ alive a r [] x
+    none-alive x = by (lasts a (suc r) x)
+      where
+        by : (b : Bool) → b ≡ cond b true (not (times x [] == 0))
+        by true = refl
+        by false = refl
+
+    pub end-struck : IsStriking t []
+    end-struck = subst (λ q. IsStriking q []) (sym takes.rest) (record {
+      round = r;
+      value_is = files.kept.value_is ∙ unstruck.value_is;
+      stage = record {
+        counts_are = subst (λ q. IsCounted (arena_of q) (alive (arena_of q) r []) t.counts) (sym files.kept.board_is)
+            (IsCounted-same a is (lasts a (suc r)) (alive a r []) t.counts (λ x i. none-alive x) end-counts);
+        words_are = subst (λ q. AreWords (arena_of q) (alive (arena_of q) r []) m.values) (sym files.kept.board_is)
+            (AreWords-same a is (lasts a (suc r)) (alive a r []) m.values (λ x i. none-alive x) end-words);
+        filed_are = filed-counting m t.counts files.filed_are;
+      };
+      due = λ x h. absurd (omega arith);
+      once = λ x. omega arith;
+    })
+
+    pub end-kept : IsKept s t
+    end-kept = subst (IsKept s) (sym takes.rest) (record {
+      board_is = files.kept.board_is;
+      value_is = files.kept.value_is;
+      strikes_is = files.kept.strikes_is;
+      others = files.kept.others;
+    })

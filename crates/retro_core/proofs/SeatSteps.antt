@@ -1,0 +1,320 @@
+-- Each step of a round keeps its rules.
+use Rattle.std.proofs.Common.{◌≡◌, ◌≢◌, ◌⊎◌, ℕ, zero, suc, ◌+◌, ◌-◌, ◌/◌, ◌<◌, ◌≤◌, ◌==◌, true, false, cond, List, [], ◌∷◌, ◌++◌, length, set, refl, sym, ap, ◌∙◌, inl, inr, subst, arith, Option, Some, None, slice_get}
+use Rattle.index_lists.specs.Lists.{times}
+use Rattle.index_lists.proofs.Cited.{cond_same, cond_other, times-append}
+use Rattle.retro_core.specs.Round.{PlainSeat, spent, first_of, rest_of, seat_tried, seat_kept, seat_new, seat_joined}
+use Rattle.retro_core.specs.Inside.Rules.{Rules, tally, total, IsStruckIn, IsToWin, word_of, held_in, AreSound, AreReadyLists, AreKept}
+use Rattle.retro_core.proofs.LastingRanks.{same_or_not}
+use Rattle.retro_core.proofs.SeatSums.{same_seat, no_seat, total-set, total-at, total-le, total-cut, total-glue, times-cut, tally-append, tally-cut}
+
+one_if : (x y : ℕ) → x ≡ y → ◌≡◌ {A = ℕ} (cond (x == y) 1 0) 1
+one_if x y e = cond_same {A = ℕ} x y 1 0 e
+
+none_if : (x y : ℕ) → x ≢ y → ◌≡◌ {A = ℕ} (cond (x == y) 1 0) 0
+none_if x y ne = cond_other {A = ℕ} x y 1 0 ne
+
+pub times_here : (x : ℕ) (xs : List ℕ) → times x (x ∷ xs) ≡ 1 + times x xs
+times_here x xs = let h = one_if x x refl in omega arith
+
+-- the first and the rest
+pub split_first : (xs : List ℕ) → 0 < length xs → xs ≡ first_of xs ∷ rest_of xs
+split_first [] h = absurd (omega arith)
+split_first (x ∷ xs) h = refl
+
+pub word_none : (k : Rules) (c n : ℕ) → n ≡ 0 → word_of k c n ≡ k.base c
+word_none k c zero e = refl
+word_none k c (suc n) e = absurd (omega arith)
+
+pub word_some : (k : Rules) (c n : ℕ) → 0 < n → word_of k c n ≡ Some (suc k.round)
+word_some k c zero h = absurd (omega arith)
+word_some k c (suc n) h = refl
+
+-- who has no width is spent
+fit-set : (seats : List PlainSeat) (id : ℕ) (w : PlainSeat) → ((j : ℕ) (u : PlainSeat) → slice_get seats j ≡ Some u → u.width ≡ 0 → u ≡ spent) → (w.width ≡ 0 → w ≡ spent)
+    → (j : ℕ) (u : PlainSeat) → slice_get (set seats id w) j ≡ Some u → u.width ≡ 0 → u ≡ spent
+fit-set [] id w fits mine j u at = absurd (no_seat u at)
+fit-set (x ∷ xs) zero w fits mine zero u at = subst (λ (s : PlainSeat). s.width ≡ 0 → s ≡ spent) (same_seat w u at) mine
+fit-set (x ∷ xs) zero w fits mine (suc j) u at = fits (suc j) u at
+fit-set (x ∷ xs) (suc id) w fits mine zero u at = fits zero u at
+fit-set (x ∷ xs) (suc id) w fits mine (suc j) u at = fit-set xs id w (λ i v e. fits (suc i) v e) mine j u at
+
+fit-push : (seats : List PlainSeat) (w : PlainSeat) → ((j : ℕ) (u : PlainSeat) → slice_get seats j ≡ Some u → u.width ≡ 0 → u ≡ spent) → (w.width ≡ 0 → w ≡ spent)
+    → (j : ℕ) (u : PlainSeat) → slice_get (seats ++ w ∷ []) j ≡ Some u → u.width ≡ 0 → u ≡ spent
+fit-push [] w fits mine zero u at = subst (λ (s : PlainSeat). s.width ≡ 0 → s ≡ spent) (same_seat w u at) mine
+fit-push [] w fits mine (suc j) u at = absurd (no_seat u at)
+fit-push (x ∷ xs) w fits mine zero u at = fits zero u at
+fit-push (x ∷ xs) w fits mine (suc j) u at = fit-push xs w (λ i v e. fits (suc i) v e) mine j u at
+
+one_more : (x c : ℕ) (xs : List ℕ) → times x (xs ++ c ∷ []) ≡ times x xs + cond (c == x) 1 0
+one_more x c xs = let r = times-append x xs (c ∷ []) in omega arith
+
+-- the seat after it struck where it found the count n
+abbrev pub seat_after : Rules → ℕ → PlainSeat → PlainSeat
+seat_after k n v = record {
+  width = v.width;
+  todo = rest_of v.todo;
+  owed = cond (n == 1) (v.owed ++ k.opens (k.home (first_of v.todo))) v.owed;
+  won = v.won;
+}
+
+-- what a strike does to the owed list, as its entries are counted
+owed-after : (k : Rules) (v : PlainSeat) (n x : ℕ)
+    → ((n ≡ 1) × (times x (seat_after k n v).owed ≡ times x v.owed + times x (k.opens (k.home (first_of v.todo)))))
+    ⊎ ((n ≢ 1) × (times x (seat_after k n v).owed ≡ times x v.owed))
+owed-after k v n x =
+    let more : List ℕ = k.opens (k.home (first_of v.todo)) in
+    elim (same_or_not n 1) [
+      | inl e ↦ inl (e, ap (times x) (cond_same n 1 (v.owed ++ more) v.owed e) ∙ times-append x v.owed more)
+      | inr ne ↦ inr (ne, ap (times x) (cond_other n 1 (v.owed ++ more) v.owed ne))
+    ]
+
+-- a seat that struck, and the words after it
+pub record AreStruck (k : Rules) (count : ℕ → ℕ) (value : ℕ → Option ℕ) (seats : List PlainSeat) (id : ℕ) (v : PlainSeat) (count' : ℕ → ℕ) : Type 0 where
+  pub some_left : 0 < count (k.home (first_of v.todo))
+  pub kept : AreKept k count' value (set seats id (seat_after k (count (k.home (first_of v.todo))) v))
+
+pub strikes : (k : Rules) (count : ℕ → ℕ) (value : ℕ → Option ℕ) (seats : List PlainSeat) (id : ℕ) (v : PlainSeat) (count' : ℕ → ℕ) → AreKept k count value seats → slice_get seats id ≡ Some v
+    → 0 < v.width → 0 < length v.todo → count' (k.home (first_of v.todo)) ≡ count (k.home (first_of v.todo)) - 1
+    → ((g : ℕ) → g < k.gaps → g ≢ k.home (first_of v.todo) → count' g ≡ count g) → AreStruck k count value seats id v count'
+strikes k count value seats id v count' law at wide some_todo here elsewhere =
+    let c : ℕ = first_of v.todo in
+    let more : List ℕ = rest_of v.todo in
+    let g : ℕ = k.home c in
+    let n : ℕ = count g in
+    let w : PlainSeat = seat_after k n v in
+    let cut : v.todo ≡ c ∷ more = split_first v.todo some_todo in
+    let one_todo : times c v.todo ≡ 1 + times c more = ap (times c) cut ∙ times_here c more in
+    let part_todo = total-at (λ u. times c u.todo) seats id v at in
+    let may : IsStruckIn k c = law.due c (omega arith) in
+    let inside : g < k.gaps = may.has_gap in
+    let one_tally : tally k.home g v.todo ≡ 1 + tally k.home g more = ap (tally k.home g) cut ∙ (let h = one_if g g refl in omega arith) in
+    let part_tally = total-at (λ u. tally k.home g u.todo) seats id v at in
+    let known = law.counts g inside in
+    let some_left : 0 < n = omega arith in
+    let todo_cut : (x : ℕ) → times x v.todo ≡ cond (c == x) 1 0 + times x more = λ x. ap (times x) cut in
+    let todo_all : (x : ℕ) → total (λ u. times x u.todo) (set seats id w) ≤ total (λ u. times x u.todo) seats =
+    λ x. let s = total-set (λ u. times x u.todo) seats id v w at in let p = todo_cut x in omega arith in
+    let won_same : (x : ℕ) → total (λ u. times x u.won) (set seats id w) ≡ total (λ u. times x u.won) seats =
+    λ x. let s = total-set (λ u. times x u.won) seats id v w at in omega arith in
+    record {
+      some_left = some_left;
+      kept = record {
+        values = λ x small. law.values x small ∙ ap (word_of k x) (sym (won_same x));
+        due = λ x there. law.due x (let s = todo_all x in omega arith);
+        due_once = λ x. let s = todo_all x in let o = law.due_once x in omega arith;
+        counts = λ j small. elim (same_or_not j g) [
+          | inl e ↦ (
+              let s = total-set (λ u. tally k.home g u.todo) seats id v w at in
+              let sum : n - 1 ≡ k.live g + total (λ u. tally k.home g u.todo) (set seats id w) = omega arith in
+              let P : ℕ → Type 0 = λ m. count' m ≡ k.live m + total (λ u. tally k.home m u.todo) (set seats id w) in
+              subst P (sym e) (here ∙ sum))
+          | inr ne ↦ (
+              let s = total-set (λ u. tally k.home j u.todo) seats id v w at in
+              let no : ◌≡◌ {A = ℕ} (cond (g == j) 1 0) 0 = none_if g j (λ e. ne (sym e)) in
+              let mine : tally k.home j v.todo ≡ cond (g == j) 1 0 + tally k.home j more = ap (tally k.home j) cut in
+              let old = law.counts j small in
+              elsewhere j small ne ∙ (omega arith))
+        ];
+        next = λ x there.
+            let s = total-set (held_in x) seats id v w at in
+            elim (owed-after k v n x) [
+              | inl o ↦ elim (same_or_not (total (held_in x) seats) 0) [
+                | inl z ↦ record { gap = g; is_gap = inside; none_above = (let one = o.0 in omega arith); is_open = (let sum = o.1 in omega arith) }
+                | inr nz ↦ law.next x (omega arith)
+              ]
+              | inr o ↦ law.next x (let sum = o.1 in omega arith)
+            ];
+        won_once = λ x. let s = won_same x in let o = law.won_once x in omega arith;
+        closed = λ j x small none there.
+            let s = total-set (held_in x) seats id v w at in
+            elim (same_or_not j g) [
+              | inl e ↦ (
+                  let none' : count' g ≡ 0 = subst (λ (m : ℕ). count' m ≡ 0) e none in
+                  let there' : 0 < times x (k.opens g) = subst (λ (m : ℕ). 0 < times x (k.opens m)) e there in
+                  elim (owed-after k v n x) [
+                    | inl o ↦ (let sum = o.1 in omega arith)
+                    | inr o ↦ absurd (o.0 (omega arith))
+                  ])
+              | inr ne ↦ (
+                  let old : 0 < total (held_in x) seats = law.closed j x small (sym (elsewhere j small ne) ∙ none) there in
+                  elim (owed-after k v n x) [
+                    | inl o ↦ (let sum = o.1 in omega arith)
+                    | inr o ↦ (let sum = o.1 in omega arith)
+                  ])
+            ];
+        widths = let s = total-set (λ u. u.width) seats id v w at in let o = law.widths in omega arith;
+        fits = fit-set seats id w law.fits (λ no_width. absurd (omega arith));
+      };
+    }
+
+-- the first that a seat owes has no value yet, or the next one; and what the try leaves
+pub record IsWon (k : Rules) (count : ℕ → ℕ) (value : ℕ → Option ℕ) (seats : List PlainSeat) (id : ℕ) (v : PlainSeat) (value' : ℕ → Option ℕ) : Type 0 where
+  pub open_yet : value (first_of v.owed) ≡ None
+  pub kept : value' (first_of v.owed) ≡ Some (suc k.round) → ((x : ℕ) → x < k.size → x ≢ first_of v.owed → value' x ≡ value x) → AreKept k count value' (set seats id (seat_tried true v))
+
+pub record IsNotWon (k : Rules) (count : ℕ → ℕ) (value : ℕ → Option ℕ) (seats : List PlainSeat) (id : ℕ) (v : PlainSeat) : Type 0 where
+  pub has_next : value (first_of v.owed) ≡ Some (suc k.round)
+  pub stands : 0 < total (λ u. times (first_of v.owed) u.won) seats
+  pub kept : AreKept k count value (set seats id (seat_tried false v))
+
+module _ (k : Rules) (count : ℕ → ℕ) (value : ℕ → Option ℕ) (seats : List PlainSeat) (id : ℕ) (v : PlainSeat)
+    (sound : AreSound k) (law : AreKept k count value seats) (at : slice_get seats id ≡ Some v) (wide : 0 < v.width) (some_owed : 0 < length v.owed) where
+  c : ℕ
+  c = first_of v.owed
+
+  owed_cut : (x : ℕ) → times x v.owed ≡ cond (first_of v.owed == x) 1 0 + times x (rest_of v.owed)
+  owed_cut x = ap (times x) (split_first v.owed some_owed)
+
+  pub first-next : IsToWin k (first_of v.owed)
+  first-next =
+      let part = total-at (held_in (first_of v.owed)) seats id v at in
+      let cut = owed_cut (first_of v.owed) in
+      let one = one_if (first_of v.owed) (first_of v.owed) refl in
+      law.next (first_of v.owed) (omega arith)
+
+  pub first-known : (first_of v.owed < k.size) × (k.base (first_of v.owed) ≡ None)
+  first-known = let may = first-next in sound.opened may.gap (first_of v.owed) may.is_gap may.is_open
+
+  won-keeps : (value' : ℕ → Option ℕ) → total (λ u. times (first_of v.owed) u.won) seats ≡ 0 → value' (first_of v.owed) ≡ Some (suc k.round)
+      → ((x : ℕ) → x < k.size → x ≢ first_of v.owed → value' x ≡ value x) → AreKept k count value' (set seats id (seat_tried true v))
+  won-keeps value' none here elsewhere =
+      let f : ℕ = first_of v.owed in
+      let w : PlainSeat = seat_tried true v in
+      let is_one : ◌≡◌ {A = ℕ} (cond (f == f) 1 0) 1 = one_if f f refl in
+      let won_sum : (x : ℕ) → total (λ u. times x u.won) (set seats id w) ≡ total (λ u. times x u.won) seats + cond (f == x) 1 0 =
+      λ x. let s = total-set (λ u. times x u.won) seats id v w at in let o = one_more x f v.won in omega arith in
+      let won_else : (x : ℕ) → x ≢ f → total (λ u. times x u.won) (set seats id w) ≡ total (λ u. times x u.won) seats =
+      λ x ne. let s = won_sum x in let z = none_if f x (λ e. ne (sym e)) in omega arith in
+      let won_here : total (λ u. times f u.won) (set seats id w) ≡ 1 = let s = won_sum f in omega arith in
+      let held_same : (x : ℕ) → total (held_in x) (set seats id w) ≡ total (held_in x) seats =
+      λ x. let s = total-set (held_in x) seats id v w at in let o = one_more x f v.won in let cut = owed_cut x in omega arith in
+      record {
+        values = λ x small. elim (same_or_not x f) [
+          | inl e ↦ (
+              let P : ℕ → Type 0 = λ m. value' m ≡ word_of k m (total (λ u. times m u.won) (set seats id w)) in
+              subst P (sym e) (here ∙ sym (word_some k f (total (λ u. times f u.won) (set seats id w)) (omega arith))))
+          | inr ne ↦ elsewhere x small ne ∙ law.values x small ∙ ap (word_of k x) (sym (won_else x ne))
+        ];
+        due = λ x there. law.due x (let s = total-set (λ u. times x u.todo) seats id v w at in omega arith);
+        due_once = λ x. let s = total-set (λ u. times x u.todo) seats id v w at in let o = law.due_once x in omega arith;
+        counts = λ g small.
+            let s = total-set (λ u. tally k.home g u.todo) seats id v w at in
+            let o = law.counts g small in omega arith;
+        next = λ x there. law.next x (let s = held_same x in omega arith);
+        won_once = λ x. elim (same_or_not x f) [
+          | inl e ↦ subst (λ (m : ℕ). total (λ u. times m u.won) (set seats id w) ≤ 1) (sym e) (omega arith)
+          | inr ne ↦ (let s = won_else x ne in let o = law.won_once x in omega arith)
+        ];
+        closed = λ g x small none_left there.
+            let o : 0 < total (held_in x) seats = law.closed g x small none_left there in
+            let s = held_same x in omega arith;
+        widths = let s = total-set (λ u. u.width) seats id v w at in let o = law.widths in omega arith;
+        fits = fit-set seats id w law.fits (λ no_width. absurd (omega arith));
+      }
+
+  not-won-keeps : 0 < total (λ u. times (first_of v.owed) u.won) seats → AreKept k count value (set seats id (seat_tried false v))
+  not-won-keeps some_won =
+      let f : ℕ = first_of v.owed in
+      let w : PlainSeat = seat_tried false v in
+      let won_same : (x : ℕ) → total (λ u. times x u.won) (set seats id w) ≡ total (λ u. times x u.won) seats =
+      λ x. let s = total-set (λ u. times x u.won) seats id v w at in omega arith in
+      let held_sum : (x : ℕ) → total (held_in x) seats ≡ total (held_in x) (set seats id w) + cond (f == x) 1 0 =
+      λ x. let s = total-set (held_in x) seats id v w at in let cut = owed_cut x in omega arith in
+      let held_still : (x : ℕ) → 0 < total (held_in x) seats → 0 < total (held_in x) (set seats id w) = λ x there.
+      elim (same_or_not x f) [
+        | inl e ↦ subst (λ (m : ℕ). 0 < total (held_in m) (set seats id w)) (sym e)
+            (let s = won_same f in let l = total-le (λ u. times f u.won) (held_in f) (set seats id w) (λ u. omega arith) in omega arith)
+        | inr ne ↦ (let z = none_if f x (λ e. ne (sym e)) in let s = held_sum x in omega arith)
+      ] in
+      record {
+        values = λ x small. law.values x small ∙ ap (word_of k x) (sym (won_same x));
+        due = λ x there. law.due x (let s = total-set (λ u. times x u.todo) seats id v w at in omega arith);
+        due_once = λ x. let s = total-set (λ u. times x u.todo) seats id v w at in let o = law.due_once x in omega arith;
+        counts = λ g small. let s = total-set (λ u. tally k.home g u.todo) seats id v w at in let o = law.counts g small in omega arith;
+        next = λ x there. law.next x (let s = held_sum x in omega arith);
+        won_once = λ x. let s = won_same x in let o = law.won_once x in omega arith;
+        closed = λ g x small none_left there. held_still x (law.closed g x small none_left there);
+        widths = let s = total-set (λ u. u.width) seats id v w at in let o = law.widths in omega arith;
+        fits = fit-set seats id w law.fits (λ no_width. absurd (omega arith));
+      }
+
+  -- the first that the seat owes is won or not, as its word tells
+  pub tries : ((value' : ℕ → Option ℕ) → IsWon k count value seats id v value') ⊎ IsNotWon k count value seats id v
+  tries =
+      let f : ℕ = first_of v.owed in
+      let known = first-known in
+      let word = law.values f known.0 in
+      let T : ℕ = total (λ u. times f u.won) seats in
+      elim (same_or_not T 0) [
+        | inl z ↦ inl (λ value'. record { open_yet = word ∙ word_none k f T z ∙ known.1; kept = won-keeps value' z })
+        | inr nz ↦ inr (record { has_next = word ∙ word_some k f T (omega arith); stands = omega arith; kept = not-won-keeps (omega arith) })
+      ]
+
+pub splits : (k : Rules) (count : ℕ → ℕ) (value : ℕ → Option ℕ) (seats : List PlainSeat) (id : ℕ) (v : PlainSeat) → AreKept k count value seats → slice_get seats id ≡ Some v
+    → 2 ≤ v.width → AreKept k count value (set seats id (seat_kept v) ++ seat_new v ∷ [])
+splits k count value seats id v law at wide =
+    let a : PlainSeat = seat_kept v in
+    let b : PlainSeat = seat_new v in
+    let all : List PlainSeat = set seats id a ++ b ∷ [] in
+    let m : ℕ = length v.todo - length v.todo / 2 in
+    let half : v.width / 2 + v.width / 2 ≤ v.width = omega arith in
+    let some_half : 0 < v.width / 2 = omega arith in
+    let todo : (x : ℕ) → total (λ u. times x u.todo) all ≡ total (λ u. times x u.todo) seats = λ x. total-cut (λ u. times x u.todo) seats id v a b at (times-cut x m v.todo) in
+    let tallies : (g : ℕ) → total (λ u. tally k.home g u.todo) all ≡ total (λ u. tally k.home g u.todo) seats = λ g. total-cut (λ u. tally k.home g u.todo) seats id v a b at (tally-cut k.home g m v.todo) in
+    let won : (x : ℕ) → total (λ u. times x u.won) all ≡ total (λ u. times x u.won) seats = λ x. total-cut (λ u. times x u.won) seats id v a b at (omega arith) in
+    let held : (x : ℕ) → total (held_in x) all ≡ total (held_in x) seats = λ x. total-cut (held_in x) seats id v a b at (omega arith) in
+    let width : total (λ u. u.width) all ≡ total (λ u. u.width) seats = total-cut (λ u. u.width) seats id v a b at (omega arith) in
+    record {
+      values = λ x small. law.values x small ∙ ap (word_of k x) (sym (won x));
+      due = λ x there. law.due x (let s = todo x in omega arith);
+      due_once = λ x. let s = todo x in let o = law.due_once x in omega arith;
+      counts = λ g small. let s = tallies g in let o = law.counts g small in omega arith;
+      next = λ x there. law.next x (let s = held x in omega arith);
+      won_once = λ x. let s = won x in let o = law.won_once x in omega arith;
+      closed = λ g x small none_left there. let o = law.closed g x small none_left there in let s = held x in omega arith;
+      widths = let o = law.widths in omega arith;
+      fits = fit-push (set seats id a) b (fit-set seats id a law.fits (λ none. absurd (omega arith))) (λ none. absurd (omega arith));
+    }
+
+pub joins : (k : Rules) (count : ℕ → ℕ) (value : ℕ → Option ℕ) (seats : List PlainSeat) (id other : ℕ) (v u : PlainSeat) → AreKept k count value seats → slice_get seats id ≡ Some v → slice_get seats other ≡ Some u
+    → id ≢ other → 0 < v.width → AreKept k count value (set (set seats id (seat_joined v u)) other spent)
+joins k count value seats id other v u law at there differ wide =
+    let a : PlainSeat = seat_joined v u in
+    let all : List PlainSeat = set (set seats id a) other spent in
+    let todo : (x : ℕ) → total (λ w. times x w.todo) all ≡ total (λ w. times x w.todo) seats =
+    λ x. total-glue (λ w. times x w.todo) seats id other v u a spent at there differ (let s = times-append x v.todo u.todo in omega arith) in
+    let tallies : (g : ℕ) → total (λ w. tally k.home g w.todo) all ≡ total (λ w. tally k.home g w.todo) seats =
+    λ g. total-glue (λ w. tally k.home g w.todo) seats id other v u a spent at there differ (let s = tally-append k.home g v.todo u.todo in omega arith) in
+    let won : (x : ℕ) → total (λ w. times x w.won) all ≡ total (λ w. times x w.won) seats =
+    λ x. total-glue (λ w. times x w.won) seats id other v u a spent at there differ (let s = times-append x v.won u.won in omega arith) in
+    let held : (x : ℕ) → total (held_in x) all ≡ total (held_in x) seats =
+    λ x. total-glue (held_in x) seats id other v u a spent at there differ (let s = times-append x v.won u.won in let t = times-append x v.owed u.owed in omega arith) in
+    let width : total (λ w. w.width) all ≡ total (λ w. w.width) seats = total-glue (λ w. w.width) seats id other v u a spent at there differ (omega arith) in
+    record {
+      values = λ x small. law.values x small ∙ ap (word_of k x) (sym (won x));
+      due = λ x here. law.due x (let s = todo x in omega arith);
+      due_once = λ x. let s = todo x in let o = law.due_once x in omega arith;
+      counts = λ g small. let s = tallies g in let o = law.counts g small in omega arith;
+      next = λ x here. law.next x (let s = held x in omega arith);
+      won_once = λ x. let s = won x in let o = law.won_once x in omega arith;
+      closed = λ g x small none_left here. let o = law.closed g x small none_left here in let s = held x in omega arith;
+      widths = let o = law.widths in omega arith;
+      fits = fit-set (set seats id a) other spent (fit-set seats id a law.fits (λ none. absurd (omega arith))) (λ none. refl);
+    }
+
+pub opens : (k : Rules) (count : ℕ → ℕ) (value : ℕ → Option ℕ) (todo : List ℕ) → AreReadyLists k count value todo → AreKept k count value (record { width = k.width; todo = todo; owed = []; won = [] } ∷ [])
+opens k count value todo ready = record {
+  values = λ x small. ready.values x small;
+  due = λ x there. ready.due x (omega arith);
+  due_once = λ x. let o = ready.once x in omega arith;
+  counts = λ g small. let o = ready.counts g small in omega arith;
+  next = λ x there. absurd (omega arith);
+  won_once = λ x. omega arith;
+  closed = λ g x small none_left there. let o = ready.settled g x small none_left in absurd (omega arith);
+  widths = omega arith;
+  fits = one;
+}
+  where
+    one : (i : ℕ) (v : PlainSeat) → slice_get (record { width = k.width; todo = todo; owed = []; won = [] } ∷ []) i ≡ Some v → v.width ≡ 0 → v ≡ spent
+    one zero v e = subst (λ (s : PlainSeat). s.width ≡ 0 → s ≡ spent) (same_seat _ v e) (λ none. absurd (let s = ready.some_width in omega arith))
+    one (suc i) v e = absurd (no_seat v e)

@@ -1,0 +1,53 @@
+//! A round whose seats can be split, worked and joined, without the lifetime that the type of a shared round names: a
+//! closure that captures it by a bound keeps its clauses.
+
+ghost use Rattle.std.specs.Prelude.{◌≡◌, ◌≤◌, [], IfOk};
+ghost use Rattle.claim_round.specs.Shared.{IsOf, RoundId, IsSplit, IsJoined};
+ghost use Rattle.round_workers.specs.Work.{IsWorked};
+
+use crate::fault::WorkFault;
+use crate::worker::work;
+use claim_round::{RoundSeat, SharedRound};
+use index_lists::ListStore;
+
+/// A round that workers share.
+pub trait Sharing {
+    ghost id: { Self → RoundId };
+
+    /// Strikes and claims until nothing is left.
+    fn work(&self, seat: &mut RoundSeat)
+        requires { IsOf (id self.now) seat.old }
+        ensures { IsWorked seat.old seat.new };
+
+    fn split(&self, seat: RoundSeat) -> Result<(RoundSeat, RoundSeat), WorkFault>
+        requires mine { IsOf (id self.now) seat }
+        requires width { 2 ≤ seat.view.has.width }
+        ensures { IfOk result (λ r. IsSplit seat r.0 r.1) };
+
+    fn join(&self, into: RoundSeat, from: RoundSeat) -> Result<RoundSeat, WorkFault>
+        requires into { IsOf (id self.now) into }
+        requires from { IsOf (id self.now) from }
+        ensures { IfOk result (λ r. IsJoined into from r) };
+}
+
+impl<'a, S: ListStore> Sharing for SharedRound<'a, S> {
+    ghost id = { λ r. r };
+
+    fn work(&self, seat: &mut RoundSeat) {
+        work(self, seat)
+    }
+
+    fn split(&self, seat: RoundSeat) -> Result<(RoundSeat, RoundSeat), WorkFault> {
+        match self.split(seat) {
+            Ok(both) => Ok(both),
+            Err(_) => Err(WorkFault::Memory),
+        }
+    }
+
+    fn join(&self, into: RoundSeat, from: RoundSeat) -> Result<RoundSeat, WorkFault> {
+        match self.join(into, from) {
+            Ok(seat) => Ok(seat),
+            Err(_) => Err(WorkFault::Memory),
+        }
+    }
+}

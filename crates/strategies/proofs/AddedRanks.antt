@@ -1,0 +1,116 @@
+-- Ranks that are added to others.
+use Rattle.std.proofs.Common.{◌≡◌, ◌≢◌, ℕ, zero, suc, ◌+◌, ◌<◌, ◌≤◌, ◌⊎◌, ◌↔◌, inl, inr, sym, subst, arith}
+use Rattle.std.proofs.Common.{List, [], ◌∷◌, ◌++◌, length, Some, slice_get, slice_index_or}
+use Rattle.std.specs.List.{AllPairs, Contains}
+use Rattle.std.proofs.Math.Dec.{eqb}
+use Rattle.std.proofs.lemmas.Bool.{cases_lt, cases_eq, eqb-true}
+use Rattle.std.proofs.lemmas.Bool.Decides.{Decides-eqb}
+use Rattle.std.proofs.lemmas.List.Elements.{Contains-append_left, Contains-append_right, Contains-append_cases}
+use Rattle.std.proofs.lemmas.Map.Made.{IsDistinct-from_AllPairs}
+use Rattle.std.proofs.lemmas.Map.Steps.{length-le_from_distinct_below}
+use Rattle.std.proofs.lemmas.Map.Views.{Contains-from_any}
+use Rattle.strategies.specs.Inside.ReachedRanks.{IsWith, IsWithAll}
+
+-- there are no more than numbers below a bound, where none is there twice
+pub few_apart : (ranks : List ℕ) (bound : ℕ) → AllPairs (λ first second. first ≢ second) ranks
+    → ((rank : ℕ) → Contains ranks rank → rank < bound) → length ranks ≤ bound
+few_apart ranks bound apart below =
+    length-le_from_distinct_below ranks bound (IsDistinct-from_AllPairs {eq = eqb} Decides-eqb ranks apart)
+    (λ rank any. below rank (Contains-from_any {eq = eqb} eqb-true rank ranks any))
+
+pub contains_or_not : (xs : List ℕ) (x : ℕ) → Contains xs x ⊎ ¬ Contains xs x
+contains_or_not [] x = inr (λ among. absurd (let inside : among.0 < 0 = among.1 in omega arith))
+contains_or_not (y ∷ ys) x = elim (cases_eq y x) [
+  | inl same ↦ inl (0, omega arith, same)
+  | inr differ ↦ elim (contains_or_not ys x) [
+    | inl among ↦ inl (suc among.0, omega (arith, among.1), among.2)
+    | inr not ↦ inr (λ among. by among.0 among.1 among.2 differ not)
+  ]
+]
+  where
+    by : (place : ℕ) → place < length (y ∷ ys) → slice_index_or (y ∷ ys) place x ≡ x → (y ≡ x → ⊥) → ¬ Contains ys x → ⊥
+    by zero inside same differ not = differ same
+    by (suc place) inside same differ not = not (place, omega (arith, inside), same)
+
+pub only_one : (rank other : ℕ) → Contains (rank ∷ []) other → other ≡ rank
+only_one rank other (zero, inside, same) = sym same
+only_one rank other (suc place, inside, same) = absurd (omega arith)
+
+slice_get_left : (xs ys : List ℕ) (place rank : ℕ) → slice_get xs place ≡ Some rank → slice_get (xs ++ ys) place ≡ Some rank
+slice_get_left [] ys place rank there = absurd cc
+slice_get_left (x ∷ xs) ys zero rank there = there
+slice_get_left (x ∷ xs) ys (suc place) rank there = slice_get_left xs ys place rank there
+
+-- what is to be added is there
+pub added_known : (ranks : List ℕ) (P : ℕ → Type 0) → ((rank : ℕ) → P rank → Contains ranks rank) → IsWithAll ranks P ranks
+added_known ranks P there = record {
+  each = λ rank. (λ among. inl among, λ either. elim either [ inl among ↦ among | inr holds ↦ there rank holds ]);
+  behind = λ place rank at. at;
+}
+
+-- one rank is added
+pub added_one : (ranks more : List ℕ) (rank : ℕ) (P : ℕ → Type 0) → IsWith ranks rank more → P rank → ((other : ℕ) → P other → other ≡ rank) → IsWithAll ranks P more
+added_one ranks more rank P with holds only = elim (contains_or_not ranks rank) [
+  | inl among ↦ subst (IsWithAll ranks P) (sym (with.known among)) (added_known ranks P (λ other is. subst (Contains ranks) (sym (only other is)) among))
+  | inr new ↦ subst (IsWithAll ranks P) (sym (with.other new)) (record {
+    each = λ other. (
+      λ among. elim (Contains-append_cases ranks (rank ∷ []) other among) [ inl old ↦ inl old | inr last ↦ inr (subst P (sym (only_one rank other last)) holds) ],
+      λ either. elim either [
+        | inl old ↦ Contains-append_left ranks (rank ∷ []) other old
+        | inr is ↦ Contains-append_right ranks (rank ∷ []) other (0, omega arith, sym (only other is))
+      ],
+    );
+    behind = λ place other at. slice_get_left ranks (rank ∷ []) place other at;
+  })
+]
+
+pub added_same : (ranks more : List ℕ) (P Q : ℕ → Type 0) → ((rank : ℕ) → P rank ↔ Q rank) → IsWithAll ranks P more → IsWithAll ranks Q more
+added_same ranks more P Q same added = record {
+  each = λ rank. (
+    λ among. elim ((added.each rank).0 among) [ inl old ↦ inl old | inr is ↦ inr ((same rank).0 is) ],
+    λ either. (added.each rank).1 (elim either [ inl old ↦ inl old | inr is ↦ inr ((same rank).1 is) ]),
+  );
+  behind = added.behind;
+}
+
+-- ---- what facts of numbers below a bound hold of
+
+abbrev pub Below : (ℕ → ℕ → Type 0) → ℕ → ℕ → Type 0
+Below P bound rank = (number : ℕ) × (number < bound) × P number rank
+
+pub added_start : (ranks : List ℕ) (P : ℕ → ℕ → Type 0) → IsWithAll ranks (Below P 0) ranks
+added_start ranks P = added_known ranks (Below P 0) (λ rank is. absurd (let below : is.0 < 0 = is.1 in omega arith))
+
+pub added_more : (ranks some more : List ℕ) (P : ℕ → ℕ → Type 0) (bound : ℕ) → IsWithAll ranks (Below P bound) some → IsWithAll some (P bound) more
+    → IsWithAll ranks (Below P (bound + 1)) more
+added_more ranks some more P bound first second = record {
+  each = λ rank. (
+    λ among. elim ((second.each rank).0 among) [
+      | inl before ↦ elim ((first.each rank).0 before) [
+        | inl old ↦ inl old
+        | inr is ↦ inr (is.0, let below : is.0 < bound = is.1 in omega arith, is.2)
+      ]
+      | inr is ↦ inr (bound, omega arith, is)
+    ],
+    λ either. (second.each rank).1 (elim either [
+      | inl old ↦ inl ((first.each rank).1 (inl old))
+      | inr is ↦ elim (cases_lt is.0 bound) [
+        | inl early ↦ inl ((first.each rank).1 (inr (is.0, early, is.2)))
+        | inr late ↦ inr (let last : is.0 < bound + 1 = is.1 in let same : is.0 ≡ bound = omega arith in subst (λ (n : ℕ). P n rank) same is.2)
+      ]
+    ]),
+  );
+  behind = λ place rank at. second.behind place rank (first.behind place rank at);
+}
+
+-- no number from one bound to another has it
+pub below_same : (P : ℕ → ℕ → Type 0) (bound more rank : ℕ) → bound ≤ more → ((number : ℕ) → bound ≤ number → number < more → ¬ P number rank)
+    → Below P bound rank ↔ Below P more rank
+below_same P bound more rank enough none = (
+  λ is. (is.0, let below : is.0 < bound = is.1 in omega arith, is.2),
+  λ is. elim (cases_lt is.0 bound) [ inl early ↦ (is.0, early, is.2) | inr late ↦ absurd (none is.0 late is.1 is.2) ],
+)
+
+-- each number that has it is below the bound
+pub below_all : (P : ℕ → ℕ → Type 0) (bound rank : ℕ) → ((number : ℕ) → P number rank → number < bound) → Below P bound rank ↔ ((number : ℕ) × P number rank)
+below_all P bound rank all = (λ is. (is.0, is.2), λ is. (is.0, all is.0 is.1, is.1))

@@ -1,0 +1,141 @@
+-- What is added at a step: the result of a best answer, or those of all answers of a gap.
+use Rattle.std.proofs.Common.{◌≡◌, ℕ, ◌+◌, ◌<◌, ◌≤◌, ◌↔◌, inl, inr, Bool, true, false, List, Some, None, slice_index_or, slice_set, sym, ap, ◌∙◌, subst, arith}
+use Rattle.std.proofs.Math.ListN.{replicate, length-set, length-replicate}
+use Rattle.std.proofs.lemmas.Bool.{cases_lt, cases_eq}
+use Rattle.std.proofs.lemmas.List.{get_or-set_other}
+use Rattle.board_text.specs.PlainBoard.{PlainBoard, IsConfiguration}
+use Rattle.positions.specs.declared.value.Value.TheVariants.{Finite}
+use Rattle.positions.specs.Counts.{IsSmallest}
+use Rattle.positions.specs.Game.{Legal, moved}
+use Rattle.positions.specs.Value.{HasValue}
+use Rattle.positions.specs.Ranks.{configurations, rank_of, configuration_at}
+use Rattle.positions.specs.Gaps.{gaps, gap_of, member_of, IsAnswer}
+use Rattle.positions.proofs.Cited.{member_of-gap_of, legal_is_answer, configuration_at_is, same_value}
+use Rattle.strategies.specs.declared.gap_best.Best.{Best}
+use Rattle.strategies.specs.Best.{IsLess, LowersValue}
+use Rattle.strategies.specs.Inside.GapBest.{IsBestFor}
+use Rattle.strategies.specs.Inside.ReachedRanks.{IsAnswerStep, IsRequestStep, RequestLeads, IsWith, IsWithAll, IsAnswerAt, IsAnswerOf}
+use Rattle.strategies.specs.Inside.ReachedRanks.{AreExpanded}
+use Rattle.strategies.proofs.BestAnswers.{same_answer}
+use Rattle.strategies.proofs.BestRequests.{same_request}
+use Rattle.strategies.proofs.AddedRanks.{Below, added_known, added_one, added_same, added_more, below_same, below_all}
+use Rattle.strategies.proofs.ReachedMarks.{false_not_true, all_false}
+
+-- ---- the best answer to one request
+
+module _ (board : PlainBoard) (rank pebble : ℕ) (ranks : List ℕ) where
+  pub no_answer_added : IsBestFor board (configuration_at board rank) pebble None → IsWithAll ranks (IsAnswerStep board rank pebble) ranks
+  no_answer_added none = added_known ranks (IsAnswerStep board rank pebble) (λ to step. absurd (none step.label step.best.0.legal))
+
+  pub worthless_not_added : (best : Best) → IsBestFor board (configuration_at board rank) pebble (Some best) → ¬ IsLess (Finite 0) best.value
+      → IsWithAll ranks (IsAnswerStep board rank pebble) ranks
+  worthless_not_added best is not = added_known ranks (IsAnswerStep board rank pebble) (λ to step.
+      let c : List ℕ = configuration_at board rank in
+      let same : step.label ≡ best.label = same_answer board c pebble step.label best.label step.best is.0 in
+      let has = subst (λ (l : ℕ). HasValue board (moved c pebble l) step.some.value) same step.some.has_value in
+      let value : step.some.value ≡ best.value = same_value board (moved c pebble best.label) step.some.value best.value has is.1 in
+      absurd (not (subst (IsLess (Finite 0)) value step.some.some)))
+
+  pub answer_added : (best : Best) (to : ℕ) (more : List ℕ) → IsBestFor board (configuration_at board rank) pebble (Some best) → IsLess (Finite 0) best.value
+      → pebble < board.pebbles → to ≡ rank_of board (moved (configuration_at board rank) pebble best.label) → IsWith ranks to more
+      → IsWithAll ranks (IsAnswerStep board rank pebble) more
+  answer_added best to more is some is_pebble to_is with =
+      added_one ranks more to (IsAnswerStep board rank pebble) with (record {
+        is_pebble = is_pebble;
+        label = best.label;
+        best = is.0;
+        to_is = to_is;
+        some = record { value = best.value; has_value = is.1; some = some };
+      })
+      (λ other step.
+      let same : step.label ≡ best.label = same_answer board (configuration_at board rank) pebble step.label best.label step.best is.0 in
+      step.to_is ∙ ap (λ (l : ℕ). rank_of board (moved (configuration_at board rank) pebble l)) same ∙ sym to_is)
+
+-- ---- all answers of a gap
+
+module _ (board : PlainBoard) (gap : ℕ) where
+  pub member_added : (from label to : ℕ) (ranks some more : List ℕ) → IsSmallest (λ l. (from ≤ l) × IsAnswer board gap l) (Some label)
+      → to ≡ rank_of board (member_of board gap label) → IsWithAll ranks (Below (IsAnswerAt board gap) from) some → IsWith some to more
+      → IsWithAll ranks (Below (IsAnswerAt board gap) (label + 1)) more
+  member_added from label to ranks some more next to_is before with =
+      added_more ranks some more (IsAnswerAt board gap) label
+      (added_same ranks some (Below (IsAnswerAt board gap) from) (Below (IsAnswerAt board gap) label)
+      (λ rank. below_same (IsAnswerAt board gap) from label rank next.0.0
+      (λ number late early is. let least : label ≤ number = next.1 number (late, is.0) in omega arith)) before)
+      (added_one some more to (IsAnswerAt board gap label) with (next.0.1, to_is) (λ other is. is.1 ∙ sym to_is))
+
+  pub members_added : (from : ℕ) (ranks more : List ℕ) → IsSmallest (λ l. (from ≤ l) × IsAnswer board gap l) None
+      → IsWithAll ranks (Below (IsAnswerAt board gap) from) more → IsWithAll ranks (IsAnswerOf board gap) more
+  members_added from ranks more none before =
+      added_same ranks more (Below (IsAnswerAt board gap) from) (IsAnswerOf board gap)
+      (λ rank. below_all (IsAnswerAt board gap) from rank (λ number is. elim (cases_lt number from) [ inl early ↦ early | inr late ↦ absurd (none number (late, is.0)) ]))
+      before
+
+-- ---- the best request
+
+module _ (board : PlainBoard) (rank : ℕ) (is_rank : rank < configurations board) where
+  -- what it leads to is what the answers of its gap lead to
+  leads_is : (pebble gap : ℕ) → pebble < board.pebbles → IsSmallest (LowersValue board (configuration_at board rank)) (Some pebble)
+      → gap ≡ gap_of board (configuration_at board rank) pebble → (to : ℕ) → IsAnswerOf board gap to ↔ RequestLeads board rank to
+  leads_is pebble gap is_pebble best gap_is to = subst (λ (g : ℕ). IsAnswerOf board g to ↔ RequestLeads board rank to) (sym gap_is) (there, back)
+    where
+      c : List ℕ
+      c = configuration_at board rank
+
+      is : IsConfiguration board c
+      is = configuration_at_is board rank is_rank
+
+      there : IsAnswerOf board (gap_of board c pebble) to → RequestLeads board rank to
+      there answer = (
+        answer.0,
+        record {
+          pebble = pebble;
+          best = best;
+          legal = (legal_is_answer board c pebble answer.0 is is_pebble).1 answer.1.0;
+          to_is = answer.1.1 ∙ ap (rank_of board) (member_of-gap_of board c pebble answer.0 is is_pebble);
+        },
+      )
+
+      back : RequestLeads board rank to → IsAnswerOf board (gap_of board c pebble) to
+      back leads =
+          let step : IsRequestStep board rank leads.0 to = leads.1 in
+          let same : step.pebble ≡ pebble = same_request board c step.pebble pebble step.best best in
+          let legal = subst (λ (p : ℕ). Legal board c p leads.0) same step.legal in (
+            leads.0,
+            (
+              (legal_is_answer board c pebble leads.0 is is_pebble).0 legal,
+              step.to_is ∙ ap (λ (p : ℕ). rank_of board (moved c p leads.0)) same ∙ sym (ap (rank_of board) (member_of-gap_of board c pebble leads.0 is is_pebble)),
+            ),
+          )
+
+  pub no_request_added : (ranks : List ℕ) → IsSmallest (LowersValue board (configuration_at board rank)) None → IsWithAll ranks (RequestLeads board rank) ranks
+  no_request_added ranks none = added_known ranks (RequestLeads board rank) (λ to leads. absurd (none leads.1.pebble leads.1.best.0))
+
+  pub results_known : (pebble gap : ℕ) (ranks : List ℕ) (expanded : List Bool) → pebble < board.pebbles
+      → IsSmallest (LowersValue board (configuration_at board rank)) (Some pebble) → gap ≡ gap_of board (configuration_at board rank) pebble → gap < gaps board
+      → AreExpanded board expanded ranks → slice_index_or expanded gap false ≡ true → IsWithAll ranks (RequestLeads board rank) ranks
+  results_known pebble gap ranks expanded is_pebble best gap_is is_gap are marked =
+      added_known ranks (RequestLeads board rank) (λ to leads. are.there gap is_gap marked to ((leads_is pebble gap is_pebble best gap_is to).1 leads))
+
+  pub results_added : (pebble gap : ℕ) (ranks more : List ℕ) → pebble < board.pebbles
+      → IsSmallest (LowersValue board (configuration_at board rank)) (Some pebble) → gap ≡ gap_of board (configuration_at board rank) pebble
+      → IsWithAll ranks (IsAnswerOf board gap) more → IsWithAll ranks (RequestLeads board rank) more
+  results_added pebble gap ranks more is_pebble best gap_is added =
+      added_same ranks more (IsAnswerOf board gap) (RequestLeads board rank) (leads_is pebble gap is_pebble best gap_is) added
+
+-- a gap more is worked off
+pub expanded_more : (board : PlainBoard) (expanded : List Bool) (gap : ℕ) (ranks more : List ℕ) → AreExpanded board expanded ranks → gap < gaps board
+    → IsWithAll ranks (IsAnswerOf board gap) more → AreExpanded board (slice_set expanded gap true) more
+expanded_more board expanded gap ranks more are is_gap added = record {
+  one_each = length-set expanded gap true ∙ are.one_each;
+  there = λ other is_other marked rank answer. elim (cases_eq other gap) [
+    | inl same ↦ (added.each rank).1 (inr (subst (λ (g : ℕ). IsAnswerOf board g rank) same answer))
+    | inr differ ↦ (added.each rank).1 (inl (are.there other is_other (sym (get_or-set_other expanded gap other true false differ) ∙ marked) rank answer))
+  ];
+}
+
+pub none_expanded : (board : PlainBoard) (size : ℕ) (ranks : List ℕ) → size ≡ gaps board → AreExpanded board (replicate size false) ranks
+none_expanded board size ranks size_is = record {
+  one_each = length-replicate size false ∙ size_is;
+  there = λ gap is_gap marked rank answer. absurd (false_not_true (slice_index_or (replicate size false) gap false) (all_false size gap) marked);
+}

@@ -1,0 +1,147 @@
+-- The document of a board is one as the format has it.
+use Rattle.std.proofs.Common.{◌≡◌, ℕ, zero, suc, ◌<◌, ◌≤◌, false, List, [], ◌∷◌, length, get_or, refl, sym, subst, inl, inr, arith}
+use Rattle.std.specs.List.{All, AllPairs}
+use Rattle.std.proofs.lemmas.Bool.{cases_lt}
+use Rattle.std.proofs.lemmas.List.{get_or_default}
+use Rattle.std.proofs.lemmas.List.Elements.{Contains-get_or}
+use Rattle.board_text.specs.PlainBoard.{PlainBoard, IsConfiguration}
+use Rattle.positions.specs.declared.value.Value.{Value}
+use Rattle.positions.specs.declared.value.Value.TheVariants.{Finite, Forever}
+use Rattle.positions.specs.declared.claim.Claim.{Claim}
+use Rattle.positions.specs.Value.{HasValue}
+use Rattle.positions.specs.Table.{AnswerRow, RequestRow}
+use Rattle.positions.specs.Ranks.{rank_of, configurations}
+use Rattle.positions.specs.declared.space.TheConstants.{MAX_CONFIGURATIONS}
+use Rattle.positions.proofs.Cited.{lasts_at_most, same_value, forever_from_count, rank_below}
+use Rattle.proof_text.specs.Proof.{PlainProof, IsClaim, AreTurns, IsAnswerRow, IsRequestRow, AreRows, AreAnswerRows, asks_labeller, asks_adversary, IsProof}
+use Rattle.strategies.specs.Best.{IsLess}
+use Rattle.strategies.specs.Document.{IsAnswerable, IsAnswerMove, LeadsBy, IsLabellerRow, IsAdversaryRow, AsksAdversary, AreExactly, IsDocumentOf, claim_of, turns_of}
+use Rattle.strategies.proofs.ReachedByMoves.{answers_lead_to, requests_lead_to}
+
+-- a finite value is smaller than the number of configurations
+value_below : (board : PlainBoard) (configuration : List ℕ) (number : ℕ) → IsConfiguration board configuration → HasValue board configuration (Finite number)
+    → number < configurations board
+value_below board configuration number is has =
+    elim (cases_lt number (configurations board)) [
+      | inl less ↦ less
+      | inr many ↦
+          let same : Forever ≡ Finite number = same_value board configuration Forever (Finite number)
+          (forever_from_count board configuration is (lasts_at_most board configuration (configurations board) number many has.0)) has in
+          absurd cc
+    ]
+
+-- what stands in a list of ascending numbers below a bound is not more than its place, and so the list isn't longer than the bound
+place_below : {X : Type 0} (rank : X → ℕ) (rows : List X) (d : X) → AllPairs (λ first second. rank first < rank second) rows → (place : ℕ) → place < length rows
+    → place ≤ rank (get_or rows place d)
+place_below rank rows d ascends zero inside = omega arith
+place_below rank rows d ascends (suc place) inside =
+    let before : place ≤ rank (get_or rows place d) = place_below rank rows d ascends place (omega arith) in
+    let less : rank (get_or rows place d) < rank (get_or rows (suc place) d) = ascends place (suc place) d (omega arith) inside in
+    omega arith
+
+few_rows : {X : Type 0} (rank : X → ℕ) (bound : ℕ) (rows : List X) → AllPairs (λ first second. rank first < rank second) rows → All (λ row. rank row < bound) rows
+    → length rows ≤ bound
+few_rows rank bound [] ascends each = omega arith
+few_rows rank bound (row ∷ rows) ascends each =
+    let last : length rows ≤ rank (get_or (row ∷ rows) (length rows) row) = place_below rank (row ∷ rows) row ascends (length rows) (omega arith) in
+    let less : rank (get_or (row ∷ rows) (length rows) row) < bound = each (length rows) row (omega arith) in
+    omega arith
+
+-- the rows of a section are as the format has them, if each row is
+section : {X : Type 0} (board : PlainBoard) (IsRow IsFormed : X → Type 0) (at : X → List ℕ) (rows : List X) → configurations board ≤ MAX_CONFIGURATIONS
+    → ((row : X) → IsRow row → IsConfiguration board (at row)) → ((row : X) → IsRow row → IsFormed row)
+    → AreExactly board IsRow at rows → AreRows board IsFormed at rows
+section {X} board IsRow IsFormed at rows few are formed exactly =
+    let is : (k : ℕ) (d : X) → k < length rows → IsRow (get_or rows k d) = λ k d inside. (exactly.each (get_or rows k d)).0 (Contains-get_or rows k d inside) in
+    let size : length rows ≤ configurations board = few_rows (λ row. rank_of board (at row)) (configurations board) rows exactly.ascending
+    (λ k d inside. rank_below board (at (get_or rows k d)) (are (get_or rows k d) (is k d inside))) in
+    record {
+      few = omega arith;
+      each = λ k d inside. formed (get_or rows k d) (is k d inside);
+      ascending = exactly.ascending;
+    }
+
+-- the turns of a row are as the claim asks
+turns_formed : (start value : Value) → IsClaim (claim_of start) → (start ≡ Finite 0 → ⊥) → IsLess (Finite 0) value
+    → AreTurns (claim_of start) (turns_of start value)
+turns_formed Forever value low some here = tt
+turns_formed (Finite zero) value low some here = absurd (some refl)
+turns_formed (Finite (suc number)) (Finite value) low some here = (omega (arith, here), omega (arith, low))
+turns_formed (Finite (suc number)) Forever low some here = (omega arith, omega (arith, low))
+
+-- best answers lead on from a start of value 1 or more alone
+pub start_answerable : (board : PlainBoard) (from : List ℕ) (moves : List (ℕ × ℕ)) (to : List ℕ) → LeadsBy (IsAnswerMove board) from moves to → IsAnswerable board to → IsAnswerable board from
+start_answerable board from [] to leads some = subst (IsAnswerable board) (sym leads) some
+start_answerable board from (move ∷ moves) to leads some = leads.0.answerable
+
+pub not_answerable : (board : PlainBoard) (configuration : List ℕ) → IsAnswerable board configuration → HasValue board configuration (Finite 0) → ⊥
+not_answerable board configuration is has =
+    let same : is.value ≡ Finite 0 = same_value board configuration is.value (Finite 0) is.has_value has in
+    let none : 0 < 0 = subst (IsLess (Finite 0)) same is.some in
+    omega (arith, none)
+
+-- ---- rows
+
+module _ (board : PlainBoard) (is_start : IsConfiguration board board.start) (start : Value) (has_start : HasValue board board.start start) where
+  answers_configuration : (row : AnswerRow) → IsLabellerRow board start row → IsConfiguration board row.at
+  answers_configuration row is = answers_lead_to board board.start is.moves row.at is_start is.reached
+
+  answers_formed : IsClaim (claim_of start) → (row : AnswerRow) → IsLabellerRow board start row → IsAnswerRow board (claim_of start) row
+  answers_formed low row is =
+      let some : IsAnswerable board board.start = start_answerable board board.start is.moves row.at is.reached
+      (record { value = is.value; has_value = is.has_value; some = is.some }) in
+      let not_zero : start ≡ Finite 0 → ⊥ = λ same. not_answerable board board.start some (subst (HasValue board board.start) same has_start) in
+      record {
+        at = answers_configuration row is;
+        turns = subst (AreTurns (claim_of start)) (sym is.turns) (turns_formed start is.value low not_zero is.some);
+        answers = (
+          is.one_each,
+          λ k d inside.
+              let best = is.best k (omega (arith, inside, is.one_each)) in
+              subst (λ n. n < board.labels) (get_or_default row.answers k 0 d inside) best.0.legal.is_label,
+        );
+      }
+
+  requests_configuration : (row : RequestRow) → AsksAdversary start × IsAdversaryRow board row → IsConfiguration board row.at
+  requests_configuration row is = requests_lead_to board board.start is.1.moves row.at is_start is.1.reached
+
+  requests_formed : configurations board ≤ MAX_CONFIGURATIONS → (row : RequestRow) → AsksAdversary start × IsAdversaryRow board row → IsRequestRow board row
+  requests_formed few row is =
+      let low : row.left < configurations board = value_below board row.at row.left (requests_configuration row is) is.1.has_value in
+      record {
+        at = requests_configuration row is;
+        left = omega arith;
+        request = is.1.best.0.is_pebble;
+      }
+
+claim_formed : (board : PlainBoard) → IsConfiguration board board.start → configurations board ≤ MAX_CONFIGURATIONS → (start : Value) → HasValue board board.start start
+    → IsClaim (claim_of start)
+claim_formed board is_start few (Finite number) has =
+    let low : number < configurations board = value_below board board.start number is_start has in omega arith
+claim_formed board is_start few Forever has = tt
+
+always_labeller : (start : Value) (rows : List AnswerRow) → asks_labeller (claim_of start) ≡ false → rows ≡ []
+always_labeller (Finite number) rows same = absurd cc
+always_labeller Forever rows same = absurd cc
+
+sometimes_adversary : (board : PlainBoard) (start : Value) (rows : List RequestRow)
+    → AreExactly board (λ (row : RequestRow). AsksAdversary start × IsAdversaryRow board row) (λ (row : RequestRow). row.at) rows
+    → asks_adversary (claim_of start) ≡ false → rows ≡ []
+sometimes_adversary board (Finite number) rows exactly same = absurd cc
+sometimes_adversary board Forever [] exactly same = refl
+sometimes_adversary board Forever (row ∷ rows) exactly same = absurd ((exactly.each row).0 (Contains-get_or (row ∷ rows) 0 row (omega arith))).0
+
+pub is_formed : (board : PlainBoard) (proof : PlainProof) → IsConfiguration board board.start → configurations board ≤ MAX_CONFIGURATIONS → IsDocumentOf board proof
+    → IsProof board proof
+is_formed board proof is_start few is =
+    let low = claim_formed board is_start few is.value is.has_value in
+    record {
+      claim = subst IsClaim (sym is.claim) low;
+      labeller = subst (λ (claim : Claim). AreAnswerRows board claim proof.labeller) (sym is.claim)
+          (section board (IsLabellerRow board is.value) (IsAnswerRow board (claim_of is.value)) (λ (row : AnswerRow). row.at) proof.labeller few
+          (answers_configuration board is_start is.value is.has_value) (answers_formed board is_start is.value is.has_value low) is.labeller);
+      adversary = section board (λ (row : RequestRow). AsksAdversary is.value × IsAdversaryRow board row) (IsRequestRow board) (λ (row : RequestRow). row.at) proof.adversary few
+          (requests_configuration board is_start is.value is.has_value) (requests_formed board is_start is.value is.has_value few) is.adversary;
+      no_labeller = λ none. always_labeller is.value proof.labeller (subst (λ (claim : Claim). asks_labeller claim ≡ false) is.claim none);
+      no_adversary = λ none. sometimes_adversary board is.value proof.adversary is.adversary (subst (λ (claim : Claim). asks_adversary claim ≡ false) is.claim none);
+    }

@@ -1,0 +1,228 @@
+-- What steps from one rank to another lead to.
+use Rattle.std.proofs.Common.{◌≡◌, ℕ, zero, suc, ◌+◌, ◌<◌, ◌≤◌, inl, inr, List, [], ◌∷◌, ◌++◌, length, Some, None, slice_get, slice_index_or, refl, sym, ap, ◌∙◌, subst, arith}
+use Rattle.std.specs.List.{Contains}
+use Rattle.std.proofs.lemmas.Bool.{cases_lt}
+use Rattle.board_text.specs.PlainBoard.{PlainBoard, IsConfiguration}
+use Rattle.positions.specs.declared.value.Value.{Value}
+use Rattle.positions.specs.declared.value.Value.TheVariants.{Finite}
+use Rattle.positions.specs.Game.{moved}
+use Rattle.positions.specs.Value.{HasValue}
+use Rattle.positions.specs.Ranks.{configurations, rank_of, configuration_at}
+use Rattle.positions.proofs.Cited.{moved_is_configuration, rank_below, rank_of-configuration_at, configuration_at-rank_of}
+use Rattle.positions.proofs.Cited.{configuration_at_is, same_value}
+use Rattle.strategies.specs.Best.{IsLess}
+use Rattle.strategies.specs.Document.{IsAnswerable, IsAnswerMove, IsRequestMove, LeadsBy}
+use Rattle.strategies.specs.Inside.ReachedRanks.{AnswerLeads, RequestLeads, IsReachedBy, IsWith, IsWithAll, AreRanksOf}
+use Rattle.strategies.proofs.AddedRanks.{only_one}
+use Rattle.strategies.proofs.ReachedByMoves.{one_more, moves_stay}
+
+-- ---- a list of ranks that is worked off
+
+-- all ranks in the list have P, and what those before a place lead to is in it
+pub record IsSpread (P : ℕ → Type 0) (Leads : ℕ → ℕ → Type 0) (place : ℕ) (ranks : List ℕ) : Type 0 where
+  pub sound : (rank : ℕ) → Contains ranks rank → P rank
+  pub spread : (at from to : ℕ) → at < place → slice_get ranks at ≡ Some from → Leads from to → Contains ranks to
+
+pub get_there : (xs : List ℕ) (place x : ℕ) → slice_get xs place ≡ Some x → Contains xs x
+get_there [] place x there = absurd cc
+get_there (y ∷ ys) zero x there = (0, omega arith, let same : Some y ≡ Some x = there in cc)
+get_there (y ∷ ys) (suc place) x there = let later = get_there ys place x there in (suc later.0, omega (arith, later.1), later.2)
+
+some_before : (xs : List ℕ) (place before x : ℕ) → slice_get xs place ≡ Some x → before < place → (y : ℕ) × (slice_get xs before ≡ Some y)
+some_before [] place before x there less = absurd cc
+some_before (y ∷ ys) zero before x there less = absurd (omega arith)
+some_before (y ∷ ys) (suc place) zero x there less = (y, refl)
+some_before (y ∷ ys) (suc place) (suc before) x there less = some_before ys place before x there (omega arith)
+
+-- a place past the end
+nowhere : (xs : List ℕ) (place at x : ℕ) → slice_get xs place ≡ None → slice_get xs at ≡ Some x → at < place
+nowhere [] place at x end there = absurd cc
+nowhere (y ∷ ys) zero at x end there = absurd cc
+nowhere (y ∷ ys) (suc place) zero x end there = omega arith
+nowhere (y ∷ ys) (suc place) (suc at) x end there = let less = nowhere ys place at x end there in omega (arith, less)
+
+pub somewhere : (xs : List ℕ) (place x : ℕ) → slice_get xs place ≡ Some x → place < length xs
+somewhere [] place x there = absurd cc
+somewhere (y ∷ ys) zero x there = omega arith
+somewhere (y ∷ ys) (suc place) x there = let less = somewhere ys place x there in omega (arith, less)
+
+-- a place in a list that isn't longer than a bound
+pub place_below : (xs : List ℕ) (place x most bound : ℕ) → slice_get xs place ≡ Some x → length xs ≤ most → most ≡ bound → place < bound
+place_below xs place x most bound there few same = let inside = somewhere xs place x there in omega arith
+
+at_place : (xs : List ℕ) (place d : ℕ) → place < length xs → slice_get xs place ≡ Some (slice_index_or xs place d)
+at_place [] place d inside = absurd (omega arith)
+at_place (y ∷ ys) zero d inside = refl
+at_place (y ∷ ys) (suc place) d inside = at_place ys place d (omega arith)
+
+module _ (P : ℕ → Type 0) (Leads : ℕ → ℕ → Type 0) where
+  pub spread_step : (place rank : ℕ) (ranks more : List ℕ) → IsSpread P Leads place ranks → slice_get ranks place ≡ Some rank → IsWithAll ranks (Leads rank) more
+      → ((to : ℕ) → P rank → Leads rank to → P to) → IsSpread P Leads (place + 1) more
+  spread_step place rank ranks more spread here added keeps = record {
+    sound = λ to among. elim ((added.each to).0 among) [
+      | inl old ↦ spread.sound to old
+      | inr leads ↦ keeps to (spread.sound rank (get_there ranks place rank here)) leads
+    ];
+    spread = λ at from to before there leads. elim (cases_lt at place) [
+      | inl early ↦
+          let some = some_before ranks place at rank here early in
+          let moved_there : slice_get more at ≡ Some some.0 = added.behind at some.0 some.1 in
+          let same_some : Some some.0 ≡ Some from = sym moved_there ∙ there in
+          let same : some.0 ≡ from = cc in
+          (added.each to).1 (inl (spread.spread at some.0 to early some.1 (subst (λ (f : ℕ). Leads f to) (sym same) leads)))
+      | inr late ↦
+          let level : at ≡ place = omega arith in
+          let there_too : slice_get more place ≡ Some rank = added.behind place rank here in
+          let same_some : Some rank ≡ Some from = sym there_too ∙ ap (slice_get more) (sym level) ∙ there in
+          let same : rank ≡ from = cc in
+          (added.each to).1 (inr (subst (λ (f : ℕ). Leads f to) (sym same) leads))
+    ];
+  }
+
+  -- at the end what ranks of the list lead to is in it
+  pub spread_all : (place : ℕ) (ranks : List ℕ) → IsSpread P Leads place ranks → slice_get ranks place ≡ None → (from to : ℕ) → Contains ranks from → Leads from to → Contains ranks to
+  spread_all place ranks spread end from to among leads =
+      let there : slice_get ranks among.0 ≡ Some from = at_place ranks among.0 from among.1 ∙ ap Some among.2 in
+      spread.spread among.0 from to (nowhere ranks place among.0 from end there) there leads
+
+only_start : (start : ℕ) (ranks : List ℕ) (rank : ℕ) → IsWith [] start ranks → Contains ranks rank → rank ≡ start
+only_start start ranks rank with among =
+    only_one start rank (subst (λ (xs : List ℕ). Contains xs rank) (with.other (λ none. absurd (let inside : none.0 < 0 = none.1 in omega arith))) among)
+
+has_start : (start : ℕ) (ranks : List ℕ) → IsWith [] start ranks → Contains ranks start
+has_start start ranks with =
+    subst (λ (xs : List ℕ). Contains xs start) (sym (with.other (λ none. absurd (let inside : none.0 < 0 = none.1 in omega arith)))) (0, omega arith, refl)
+
+-- ---- what moves of one kind lead to
+
+-- what `Leads` says of ranks is one move of the kind, to a configuration with the property; and moves start at such ones
+pub record AreMoves (board : PlainBoard) (IsMove : List ℕ → ℕ → ℕ → Type 0) (Holds : List ℕ → Type 0) (Leads : ℕ → ℕ → Type 0) : Type 0 where
+  pub is_label : (c : List ℕ) (pebble label : ℕ) → IsMove c pebble label → label < board.labels
+  pub before : (c : List ℕ) (pebble label : ℕ) → IsMove c pebble label → Holds c
+  pub leads : (rank pebble label : ℕ) → IsMove (configuration_at board rank) pebble label → Holds (moved (configuration_at board rank) pebble label)
+      → Leads rank (rank_of board (moved (configuration_at board rank) pebble label))
+  pub move : (rank to : ℕ) → Holds (configuration_at board rank) → Leads rank to → (pebble label : ℕ) × IsMove (configuration_at board rank) pebble label
+      × (to ≡ rank_of board (moved (configuration_at board rank) pebble label)) × Holds (moved (configuration_at board rank) pebble label)
+
+pub answer_moves : (board : PlainBoard) → AreMoves board (IsAnswerMove board) (IsAnswerable board) (AnswerLeads board)
+answer_moves board = record {
+  is_label = λ c pebble label move. move.best.0.legal.is_label;
+  before = λ c pebble label move. move.answerable;
+  leads = λ rank pebble label move some. (pebble, record { is_pebble = move.is_pebble; label = label; best = move.best; to_is = refl; some = some });
+  move = λ rank to some (pebble, step). (pebble, step.label, record { is_pebble = step.is_pebble; answerable = some; best = step.best }, step.to_is, step.some);
+}
+
+pub request_moves : (board : PlainBoard) → AreMoves board (IsRequestMove board) (λ c. Unit {0}) (RequestLeads board)
+request_moves board = record {
+  is_label = λ c pebble label move. move.legal.is_label;
+  before = λ c pebble label move. tt;
+  leads = λ rank pebble label move some. (label, record { pebble = pebble; best = move.best; legal = move.legal; to_is = refl });
+  move = λ rank to some (label, step). (step.pebble, label, record { best = step.best; legal = step.legal }, step.to_is, tt);
+}
+
+module _ (board : PlainBoard) (IsMove : List ℕ → ℕ → ℕ → Type 0) (Holds : List ℕ → Type 0) (Leads : ℕ → ℕ → Type 0) where
+  abbrev IsFound : ℕ → Type 0
+  IsFound rank = (rank < configurations board) × IsReachedBy board IsMove Holds rank
+
+  pub record IsSpreadBy (place : ℕ) (ranks : List ℕ) : Type 0 where
+    pub on : IsSpread IsFound Leads place ranks
+    pub start : Holds board.start → Contains ranks (rank_of board board.start)
+
+  pub spread_below : (place rank : ℕ) (ranks : List ℕ) → IsSpreadBy place ranks → slice_get ranks place ≡ Some rank → rank < configurations board
+  spread_below place rank ranks spread there = (spread.on.sound rank (get_there ranks place rank there)).0
+
+abbrev pub IsSpreadByAnswers : PlainBoard → ℕ → List ℕ → Type 0
+IsSpreadByAnswers board = IsSpreadBy board (IsAnswerMove board) (IsAnswerable board) (AnswerLeads board)
+
+abbrev pub IsSpreadByRequests : PlainBoard → ℕ → List ℕ → Type 0
+IsSpreadByRequests board = IsSpreadBy board (IsRequestMove board) (λ c. Unit {0}) (RequestLeads board)
+
+module _ (board : PlainBoard) (IsMove : List ℕ → ℕ → ℕ → Type 0) (Holds : List ℕ → Type 0) (Leads : ℕ → ℕ → Type 0)
+    (is : IsConfiguration board board.start) where
+  pub spread_begins : (ranks : List ℕ) → Holds board.start → IsWith [] (rank_of board board.start) ranks → IsSpreadBy board IsMove Holds Leads 0 ranks
+  spread_begins ranks holds with = record {
+    on = record {
+      sound = λ rank among. subst (IsFound board IsMove Holds Leads) (sym (only_start (rank_of board board.start) ranks rank with among)) (
+        rank_below board board.start is,
+        record {
+          moves = [];
+          reached = sym (configuration_at-rank_of board board.start is);
+          holds = subst Holds (sym (configuration_at-rank_of board board.start is)) holds;
+        },
+      );
+      spread = λ at from to before there leads. absurd (omega arith);
+    };
+    start = λ _. has_start (rank_of board board.start) ranks with;
+  }
+
+  pub spread_none : ¬ Holds board.start → IsSpreadBy board IsMove Holds Leads 0 []
+  spread_none not = record {
+    on = record {
+      sound = λ rank among. absurd (let inside : among.0 < 0 = among.1 in omega arith);
+      spread = λ at from to before there leads. absurd (omega arith);
+    };
+    start = λ holds. absurd (not holds);
+  }
+
+  module _ (are : AreMoves board IsMove Holds Leads) where
+    keeps : (to rank : ℕ) → IsFound board IsMove Holds Leads rank → Leads rank to → IsFound board IsMove Holds Leads to
+    keeps to rank found leads =
+        let c : List ℕ = configuration_at board rank in
+        let (pebble, label, move, to_is, holds) = are.move rank to found.1.holds leads in
+        let next : List ℕ = moved c pebble label in
+        let is_next : IsConfiguration board next = moved_is_configuration board c pebble label (are.is_label c pebble label move) (configuration_at_is board rank found.0) in
+        let here : configuration_at board to ≡ next = ap (configuration_at board) to_is ∙ configuration_at-rank_of board next is_next in (
+          subst (λ (r : ℕ). r < configurations board) (sym to_is) (rank_below board next is_next),
+          record {
+            moves = found.1.moves ++ (pebble, label) ∷ [];
+            reached = subst (LeadsBy IsMove board.start (found.1.moves ++ (pebble, label) ∷ [])) (sym here)
+                (one_more IsMove board.start found.1.moves c pebble label found.1.reached move);
+            holds = subst Holds (sym here) holds;
+          },
+        )
+
+    pub spread_more : (place rank : ℕ) (ranks more : List ℕ) → IsSpreadBy board IsMove Holds Leads place ranks → slice_get ranks place ≡ Some rank
+        → IsWithAll ranks (Leads rank) more → IsSpreadBy board IsMove Holds Leads (place + 1) more
+    spread_more place rank ranks more spread here added = record {
+      on = spread_step (IsFound board IsMove Holds Leads) Leads place rank ranks more spread.on here added (λ to. keeps to rank);
+      start = λ holds. (added.each (rank_of board board.start)).1 (inl (spread.start holds));
+    }
+
+    pub spread_ends : (place : ℕ) (ranks : List ℕ) → IsSpreadBy board IsMove Holds Leads place ranks → slice_get ranks place ≡ None
+        → AreRanksOf board (IsReachedBy board IsMove Holds) ranks
+    spread_ends place ranks spread end rank = (spread.on.sound rank, λ found. subst (Contains ranks) (rank_of-configuration_at board rank found.0) (all found.1).1)
+      where
+        P : List ℕ → Type 0
+        P c = IsConfiguration board c × Contains ranks (rank_of board c)
+
+        step : (c : List ℕ) (pebble label : ℕ) → P c → IsMove c pebble label → Holds (moved c pebble label) → P (moved c pebble label)
+        step c pebble label there move holds =
+            let same : c ≡ configuration_at board (rank_of board c) = sym (configuration_at-rank_of board c there.0) in
+            let to : ℕ = rank_of board (moved c pebble label) in
+            let leads : Leads (rank_of board c) to = subst (λ (d : List ℕ). Leads (rank_of board c) (rank_of board (moved d pebble label))) (sym same)
+            (are.leads (rank_of board c) pebble label (subst (λ (d : List ℕ). IsMove d pebble label) same move)
+            (subst (λ (d : List ℕ). Holds (moved d pebble label)) same holds)) in (
+              moved_is_configuration board c pebble label (are.is_label c pebble label move) there.0,
+              spread_all (IsFound board IsMove Holds Leads) Leads place ranks spread.on end (rank_of board c) to there.1 leads,
+            )
+
+        all : IsReachedBy board IsMove Holds rank → P (configuration_at board rank)
+        all reached = moves_stay IsMove Holds P are.before step board.start reached.moves (configuration_at board rank) (λ holds. (is, spread.start holds))
+            reached.reached reached.holds
+
+-- ---- the value of the start
+
+pub start_value : (board : PlainBoard) (start : ℕ) (value : Value) → IsConfiguration board board.start → start ≡ rank_of board board.start
+    → HasValue board (configuration_at board start) value → HasValue board board.start value
+start_value board start value is start_is has =
+    subst (λ (c : List ℕ). HasValue board c value) (ap (configuration_at board) start_is ∙ configuration_at-rank_of board board.start is) has
+
+pub start_answerable : (board : PlainBoard) (start : ℕ) (value : Value) → IsConfiguration board board.start → start ≡ rank_of board board.start
+    → HasValue board (configuration_at board start) value → IsLess (Finite 0) value → IsAnswerable board board.start
+start_answerable board start value is start_is has some = record { value = value; has_value = start_value board start value is start_is has; some = some }
+
+pub start_worthless : (board : PlainBoard) (start : ℕ) (value : Value) → IsConfiguration board board.start → start ≡ rank_of board board.start
+    → HasValue board (configuration_at board start) value → ¬ IsLess (Finite 0) value → ¬ IsAnswerable board board.start
+start_worthless board start value is start_is has not answerable =
+    let same : answerable.value ≡ value = same_value board board.start answerable.value value answerable.has_value (start_value board start value is start_is has) in
+    not (subst (IsLess (Finite 0)) same answerable.some)
