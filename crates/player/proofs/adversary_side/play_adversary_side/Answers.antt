@@ -28,14 +28,14 @@ returns-clause-ok g c =
     let rank = rw (c.space-space.ensures, c.requires.same_board, c.start.ensures.value) at c.rank-start.ensures.rank in
     let opens = begins c.args.board.now c.rank-start.result c.of.result c.start.ensures.is_board.start rank (rw c.requires.same_board at c.of.ensures) in
     let text = opening_text _ _ _ _ _ _ (c.space-space.ensures ∙ c.requires.same_board) c.new-text.ensures.bytes c.in-Ok.ensures in
-    IfOk-weaker c.play_on.result _ _ (λ end h. has_ended (PersonAsks c.args.board.now) _ _ opens _ _ _ (g.W.Sink.contents c.show.new.writer) _ (subst (Appends _ _) text c.in_ok-flush.ensures.written) end h) (rw c.new-play.ensures at c.play_on.ensures.ok)
+    IfOk-weaker c.play_on.result _ _ (λ end h. has_ended (PersonAsks c.args.board.now) _ _ opens _ _ _ (g.W.Sink.contents c.flush.new.writer) _ (subst (Appends _ _) text c.in_ok-flush.ensures.written) end h) (rw c.new-play.ensures at c.play_on.ensures.ok)
 
 pub returns-clause-fault : goal.returns-clause-fault
 returns-clause-fault g c =
     let rank = rw (c.space-space.ensures, c.requires.same_board, c.start.ensures.value) at c.rank-start.ensures.rank in
     let opens = begins c.args.board.now c.rank-start.result c.of.result c.start.ensures.is_board.start rank (rw c.requires.same_board at c.of.ensures) in
     let text = opening_text _ _ _ _ _ _ (c.space-space.ensures ∙ c.requires.same_board) c.new-text.ensures.bytes c.in-Ok.ensures in
-    IfErr-weaker c.play_on.result _ _ (λ fault h. breaks_off (PersonAsks c.args.board.now) _ _ opens _ _ _ (g.W.Sink.contents c.show.new.writer) _ (subst (Appends _ _) text c.in_ok-flush.ensures.written) fault h) (rw c.new-play.ensures at c.play_on.ensures.fault)
+    IfErr-weaker c.play_on.result _ _ (λ fault h. breaks_off (PersonAsks c.args.board.now) _ _ opens _ _ _ (g.W.Sink.contents c.flush.new.writer) _ (subst (Appends _ _) text c.in_ok-flush.ensures.written) fault h) (rw c.new-play.ensures at c.play_on.ensures.fault)
 
 pub returns-clause-value : goal.returns-clause-value
 returns-clause-value g c = IfOk-weaker c.play_on.result _ _ (λ end. keeps_to_value (PersonAsks c.args.board.now) _ _ _ _ end) (returns-clause-ok g c)

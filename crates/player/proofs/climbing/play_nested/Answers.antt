@@ -27,14 +27,14 @@ pub returns-clause-ok : goal.returns-clause-ok
 returns-clause-ok g c =
     let text = opening_text c.args.levels c.in-Ok.play.nested _ _ _ c.new-text.ensures.bytes c.in-Ok.ensures.0 c.words.ensures.words c.in-Ok-write_levels.ensures in
     let ended = rw c.in-Ok.ensures.0 at c.play_on.ensures.ok in
-    IfOk-weaker c.play_on.result _ _ (λ end h. has_ended (PersonClimbs c.args.levels) (nested_opening_lines c.args.levels) (Going (replicate c.args.levels 0) 0) (refl, refl) _ _ _ (g.W.Sink.contents c.show.new.writer) _
+    IfOk-weaker c.play_on.result _ _ (λ end h. has_ended (PersonClimbs c.args.levels) (nested_opening_lines c.args.levels) (Going (replicate c.args.levels 0) 0) (refl, refl) _ _ _ (g.W.Sink.contents c.flush.new.writer) _
     (subst (Appends _ _) text c.in_ok-flush.ensures.written) end h) ended
 
 pub returns-clause-fault : goal.returns-clause-fault
 returns-clause-fault g c =
     let text = opening_text c.args.levels c.in-Ok.play.nested _ _ _ c.new-text.ensures.bytes c.in-Ok.ensures.0 c.words.ensures.words c.in-Ok-write_levels.ensures in
     let broken = rw c.in-Ok.ensures.0 at c.play_on.ensures.fault in
-    IfErr-weaker c.play_on.result _ _ (λ fault h. breaks_off (PersonClimbs c.args.levels) (nested_opening_lines c.args.levels) (Going (replicate c.args.levels 0) 0) (refl, refl) _ _ _ (g.W.Sink.contents c.show.new.writer) _
+    IfErr-weaker c.play_on.result _ _ (λ fault h. breaks_off (PersonClimbs c.args.levels) (nested_opening_lines c.args.levels) (Going (replicate c.args.levels 0) 0) (refl, refl) _ _ _ (g.W.Sink.contents c.flush.new.writer) _
     (subst (Appends _ _) text c.in_ok-flush.ensures.written) fault h) broken
 
 pub returns-clause-value : goal.returns-clause-value

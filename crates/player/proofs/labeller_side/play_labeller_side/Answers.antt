@@ -37,14 +37,14 @@ returns-in-Asks-clause-ok g c =
     let opening = rw c.in-Asks.is at c.in-Ok.ensures in
     let text = opening.1 ∙ ap (λ l. l ++ opening.0) c.new-text.ensures.bytes in
     let opens = subst (BeginsPlay (PersonAnswers c.args.board.now) opening.0) opening.2.2.1 opening.2.1 in
-    IfOk-weaker c.play_on.result _ _ (λ end h. has_ended (PersonAnswers c.args.board.now) opening.0 _ opens _ _ _ (g.W.Sink.contents c.show.new.writer) _ (subst (Appends _ _) text c.in_ok-flush.ensures.written) end h) (rw c.new-play.ensures at c.play_on.ensures.ok)
+    IfOk-weaker c.play_on.result _ _ (λ end h. has_ended (PersonAnswers c.args.board.now) opening.0 _ opens _ _ _ (g.W.Sink.contents c.flush.new.writer) _ (subst (Appends _ _) text c.in_ok-flush.ensures.written) end h) (rw c.new-play.ensures at c.play_on.ensures.ok)
 
 pub returns-in-Asks-clause-fault : goal.returns-in-Asks-clause-fault
 returns-in-Asks-clause-fault g c =
     let opening = rw c.in-Asks.is at c.in-Ok.ensures in
     let text = opening.1 ∙ ap (λ l. l ++ opening.0) c.new-text.ensures.bytes in
     let opens = subst (BeginsPlay (PersonAnswers c.args.board.now) opening.0) opening.2.2.1 opening.2.1 in
-    IfErr-weaker c.play_on.result _ _ (λ fault h. breaks_off (PersonAnswers c.args.board.now) opening.0 _ opens _ _ _ (g.W.Sink.contents c.show.new.writer) _ (subst (Appends _ _) text c.in_ok-flush.ensures.written) fault h) (rw c.new-play.ensures at c.play_on.ensures.fault)
+    IfErr-weaker c.play_on.result _ _ (λ fault h. breaks_off (PersonAnswers c.args.board.now) opening.0 _ opens _ _ _ (g.W.Sink.contents c.flush.new.writer) _ (subst (Appends _ _) text c.in_ok-flush.ensures.written) fault h) (rw c.new-play.ensures at c.play_on.ensures.fault)
 
 pub returns-clause-ok : goal.returns-clause-ok
 returns-clause-ok g c =
