@@ -53,7 +53,6 @@ impl<'a, S: ListStore> RoundState<'a, S> {
         requires some_width { 0 < width }
         ensures { IfOk result (λ round. IsOpening solver.now width round) }
     {
-        let _ = solver.round_number();
         let counts = first_counts(alloc, solver)?;
         let values = first_values(alloc, solver)?;
         let todo = Vec::from_slice(alloc, solver.to_strike())?;

@@ -204,7 +204,8 @@ impl<S: ListStore> Solver<S> {
 
     /// What a round at the value of the solver strikes: the configurations of that value that have a dominator, in order of filing.
     pub fn to_strike(&self) -> &[u32]
-        ensures { AreToStrike self.now result.now }
+        ensures ranks { AreToStrike self.now result.now }
+        ensures kept { IsSolving self.now }
     {
         self.stage.strikes()
     }

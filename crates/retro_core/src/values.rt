@@ -1,6 +1,8 @@
 //! The values of a board.
 
-ghost use Rattle.std.specs.Prelude.{◌≡◌, ◌^◌, ◌<◌, sum};
+ghost use Rattle.std.specs.Prelude.{◌≡◌, ◌^◌, ◌<◌, ◌≤◌, sum};
+ghost use Rattle.board_text.specs.PlainBoard.{IsBoard};
+ghost use Rattle.positions.specs.declared.space.TheConstants.{MAX_CONFIGURATIONS};
 ghost use Rattle.positions.specs.Value.{HasValue};
 ghost use Rattle.positions.specs.Ranks.{configurations, configuration_at};
 ghost use Rattle.positions.specs.Gaps.{gaps};
@@ -36,18 +38,13 @@ pub struct Values {
 
 impl Model for Values {
     ghost use Rattle.board_text.specs.PlainBoard.{PlainBoard};
-    ghost use Rattle.std.specs.Prelude.{◌≤◌};
-    ghost use Rattle.positions.specs.Ranks.{configurations};
-    ghost use Rattle.positions.specs.declared.space.TheConstants.{MAX_CONFIGURATIONS};
-    ghost use Rattle.retro_core.specs.Inside.Sizes.{AreValueSizes};
-    ghost use Rattle.retro_core.specs.Inside.Stored.{AreDominators};
-    ghost use Rattle.retro_core.specs.Inside.Tables.{AreValues};
+    ghost use Rattle.retro_core.specs.Inside.Sizes.{AreValuesOf};
 
     ghost Value = { PlainBoard };
 
     ghost view = { λ s. s.space };
 
-    ghost invariant = { λ s. AreValues s.space s.values.items × AreDominators s.space s.dominators.items × AreValueSizes (configurations s.space) s.values.items s.sizes.items s.forever × (configurations s.space ≤ MAX_CONFIGURATIONS) };
+    ghost invariant = { λ s. AreValuesOf s.space s.values.items s.dominators.items s.sizes.items s.forever };
 }
 
 impl Values {
@@ -134,7 +131,9 @@ impl Values {
 
     /// The space of the board.
     pub fn space(&self) -> &Space
-        ensures { result.now ≡ self.now }
+        ensures value { result.now ≡ self.now }
+        ensures is_board { IsBoard self.now }
+        ensures few { configurations self.now ≤ MAX_CONFIGURATIONS }
     {
         &self.space
     }

@@ -59,9 +59,7 @@ impl<'a> BestMoves<'a> {
         ensures is_board { IsBoard self.now }
         ensures few { configurations self.now ≤ MAX_CONFIGURATIONS }
     {
-        let space = self.values.space();
-        let _ = space.configurations();
-        space
+        self.values.space()
     }
 
     /// The board.

@@ -48,7 +48,6 @@ pub(crate) fn best_of_gap(values: &Values, gap: u32, answers: AnswerSet) -> Opti
     ensures { IsGapBest values.now gap result }
 {
     let space = values.space();
-    let _ = space.labels();
     let members = space.members(gap);
     let mut labels = answers.walk();
     let mut best = None;

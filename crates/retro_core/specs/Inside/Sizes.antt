@@ -1,9 +1,12 @@
 -- What this crate's own functions say beside `Sizes`.
 use Rattle.std.specs.Prelude.{◌≡◌, ℕ, ◌+◌, ◌<◌, ◌≤◌, ◌==◌, false, List, length, slice_index}
+use Rattle.board_text.specs.PlainBoard.{PlainBoard, IsBoard}
 use Rattle.positions.specs.Ranks.{configurations}
+use Rattle.positions.specs.declared.space.TheConstants.{MAX_CONFIGURATIONS}
 use Rattle.retro_core.specs.Inside.Arena.{count_below}
 use Rattle.retro_core.specs.Inside.Stage.{PlainStage, filed_at}
-use Rattle.retro_core.specs.Inside.Tables.{is_open}
+use Rattle.retro_core.specs.Inside.Stored.{AreDominators}
+use Rattle.retro_core.specs.Inside.Tables.{AreValues, is_open}
 
 -- the lengths of the lists of the values so far, and room for one of each configuration
 pub record AreSizes (s : PlainStage) (round capacity : ℕ) (sizes : List ℕ) : Type 0 where
@@ -20,3 +23,11 @@ pub record AreValueSizes (n : ℕ) (values sizes : List ℕ) (forever : ℕ) : T
   pub some : (v : ℕ) → 0 < v → v < length sizes → 0 < slice_index sizes v
   pub inside : (x : ℕ) → x < n → is_open values x ≡ false → slice_index values x < length sizes
   pub forever_is : forever ≡ count_below n (is_open values)
+
+-- the words and the dominators of a small board's configurations, and how many have each value
+pub record AreValuesOf (board : PlainBoard) (words dominators sizes : List ℕ) (forever : ℕ) : Type 0 where
+  pub is_board : IsBoard board
+  pub few : configurations board ≤ MAX_CONFIGURATIONS
+  pub valued : AreValues board words
+  pub dominated : AreDominators board dominators
+  pub counted : AreValueSizes (configurations board) words sizes forever

@@ -7,8 +7,8 @@ returns-clause-solved g c =
     let values = c.in_ok-values.ensures.values in
     record {
       has_value = start_value b c.rank.result c.of-value.result c.start.ensures.is_board.start
-          (rw (c.space-space.ensures, values, c.start.ensures.value) at c.rank.ensures.rank) (rw values at c.of-value.ensures);
+          (rw (c.space-space.ensures.value, values, c.start.ensures.value) at c.rank.ensures.rank) (rw values at c.of-value.ensures);
       document = _;
       is_document = c.in_ok-document.ensures.document;
-      text_is = rw (c.space-space.ensures, values) at c.in_ok-text.ensures;
+      text_is = rw (c.space-space.ensures.value, values) at c.in_ok-text.ensures;
     }

@@ -5,7 +5,7 @@ use Rattle.player.proofs.labeller_side.open.Goals as goal
 
 pub returns-in-Finite : goal.returns-in-Finite
 returns-in-Finite c =
-    let space = c.space.ensures ∙ c.requires.same_board in
+    let space = c.space.ensures.value ∙ c.requires.same_board in
     let value = rw (c.requires.same_board, c.in-Finite.is) at c.of-value.ensures in
     let first = rw c.in-Finite.is at c.in_ok-write_opening.ensures in
     IfOk-weaker c.write_request.result _ _ (λ following asked.
@@ -15,4 +15,4 @@ pub returns-in_ok-push_str-in-Forever : goal.returns-in_ok-push_str-in-Forever
 returns-in_ok-push_str-in-Forever c =
     let value = rw (c.requires.same_board, c.in-Forever.is) at c.of-value.ensures in
     let first = rw c.in-Forever.is at c.in_ok-write_opening.ensures in
-    opens_without _ c.args.board.now c.args.start _ _ _ (c.space.ensures ∙ c.requires.same_board) c.requires.board.start c.requires.start value first c.in_ok-push_str-in-Forever.ensures.bytes
+    opens_without _ c.args.board.now c.args.start _ _ _ (c.space.ensures.value ∙ c.requires.same_board) c.requires.board.start c.requires.start value first c.in_ok-push_str-in-Forever.ensures.bytes

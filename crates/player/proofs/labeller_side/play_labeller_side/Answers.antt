@@ -28,7 +28,7 @@ new-play-requires g c =
     record {
       is_board = c.start.ensures.is_board;
       same_board = c.requires.same_board;
-      inside = rw (c.space.ensures ∙ c.requires.same_board) at c.rank-start.ensures.below;
+      inside = rw (c.space.ensures.value ∙ c.requires.same_board) at c.rank-start.ensures.below;
       best = opening.2.2.0;
     }
 

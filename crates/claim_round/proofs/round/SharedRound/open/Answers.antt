@@ -17,7 +17,7 @@ overflow_mul-most g c =
     let s = c.args.solver.now in
     let k : Key = record { solving = s; width = c.args.width } in
     let sol = c.round_number.ensures.kept in
-    let all = ranks_due s c.to_strike-ranks.result.now sol c.to_strike-ranks.ensures in
+    let all = ranks_due s c.to_strike-ranks.result.now sol c.to_strike-ranks.ensures.ranks in
     let most_is : c.places-most.result ≡ most k = c.places-most.ensures.value ∙ ap places c.space.ensures in
     let m : most k * length c.to_strike-ranks.result.now ≤ most k * size k = mul-le-mul_left (most k) all.few in
     let n = narrow k sol in
@@ -28,7 +28,7 @@ pub of_words-requires : goal.of_words-requires
 of_words-requires g c =
     let s = c.args.solver.now in
     opened s c.args.width c.as_slice.result.now c.to_strike-ranks.result.now c.round_number.ensures.kept c.requires.some_width
-    (subst (λ (l : List ℕ). AreOpeningWords s l (configurations s.board)) (sym c.as_slice.ensures.value) c.in_ok-words.ensures) c.to_strike-ranks.ensures
+    (subst (λ (l : List ℕ). AreOpeningWords s l (configurations s.board)) (sym c.as_slice.ensures.value) c.in_ok-words.ensures) c.to_strike-ranks.ensures.ranks
 
 pub invariant_of-seat : goal.invariant_of-seat
 invariant_of-seat g c =
@@ -42,7 +42,7 @@ invariant_of-seat g c =
     let product : c.places-most.result * length c.to_strike-ranks.result.now ≡ most k * length c.from_vec-todo.result.items = ap (λ (p : ℕ × ℕ). p.0 * p.1) (λ j. (most_is j, len j)) in
     let room : c.places-most.result ≤ deque_capacity c.in_ok-owed.owed = c.in_ok-owed.ensures.capacity in
     let full : c.places_for.result ≤ vec_capacity c.in_ok-won.won = search rules in
-    first_seat _ k sol (ap (λ m. m.0) e.4) (ap (λ m. m.1) e.4) (subst (AreToStrike s) (sym todo_is) c.to_strike-ranks.ensures) c.in_ok-owed.ensures.items (omega arith)
+    first_seat _ k sol (ap (λ m. m.0) e.4) (ap (λ m. m.1) e.4) (subst (AreToStrike s) (sym todo_is) c.to_strike-ranks.ensures.ranks) c.in_ok-owed.ensures.items (omega arith)
     c.in_ok-won.ensures.items (⊎_elim (λ a. inl (omega arith)) (λ b. inr (omega arith)) c.places_for.ensures) refl
 
 pub returns : goal.returns
@@ -56,7 +56,7 @@ returns g c =
       key_is = e.5;
       table_is = e.2;
       seat_key = ap (λ (v : View). v.key) view;
-      to_strike = subst (AreToStrike s) ((ranks_due s c.to_strike-ranks.result.now sol c.to_strike-ranks.ensures).is ∙ sym (ap (λ (v : View). v.has.todo) view)) c.to_strike-ranks.ensures;
+      to_strike = subst (AreToStrike s) ((ranks_due s c.to_strike-ranks.result.now sol c.to_strike-ranks.ensures.ranks).is ∙ sym (ap (λ (v : View). v.has.todo) view)) c.to_strike-ranks.ensures.ranks;
       no_owed = ap (λ (v : View). v.has.owed) view;
       no_won = ap (λ (v : View). v.has.won) view;
       wide = ap (λ (v : View). v.has.width) view;

@@ -5,5 +5,5 @@ use Rattle.player.proofs.labeller_side.LabellerSide.is_legal.Goals as goal
 pub returns : goal.returns
 returns c =
     let i = c.self.invariant in
-    let legal = rw (c.space.ensures ∙ i.same_board) at c.legal.ensures in
+    let legal = rw (c.space.ensures.value ∙ i.same_board) at c.legal.ensures in
     (λ is. legal_at _ _ c.self.view_is c.self.inside.asked c.args.label i.best (legal.0 is), λ at. legal.1 (legal_there _ _ c.self.view_is c.self.inside.asked c.args.label i.best at))

@@ -9,4 +9,4 @@ pub returns-in-Forever : goal.returns-in-Forever
 returns-in-Forever c =
     subst (λ v. HasCount c.args.self.now v c.self.inside.forever) (sym c.in-Forever.is)
     (subst (λ (b : PlainBoard). HasCount b Forever c.self.inside.forever) c.self.view_is
-    (count-forever c.self.inside.space _ _ c.self.inside.forever c.self.invariant.3 c.self.invariant.0 c.self.invariant.2))
+    (count-forever c.self.inside.space _ _ c.self.inside.forever c.self.invariant.few c.self.invariant.valued c.self.invariant.counted))

@@ -10,7 +10,7 @@ pub returns-then-number-len : goal.returns-then-number-len
 returns-then-number-len c =
     let high : length c.self.inside.sizes.items ≤ c.args.number = omega (arith, c.len.ensures, c.if-number-len.true) in
     subst (λ (b : PlainBoard). HasCount b (Finite c.args.number) 0) c.self.view_is
-    (count-beyond c.self.inside.space _ _ c.self.inside.forever c.self.invariant.3 c.self.invariant.0 c.self.invariant.2 c.args.number high)
+    (count-beyond c.self.inside.space _ _ c.self.inside.forever c.self.invariant.few c.self.invariant.valued c.self.invariant.counted c.args.number high)
 
 pub returns : goal.returns
 returns c =
@@ -18,4 +18,4 @@ returns c =
     let size = get_or_read c.self.inside.sizes.items c.args.number c.index.result.now low c.index.ensures 0 in
     subst (λ (b : PlainBoard). HasCount b (Finite c.args.number) c.index.result.now) c.self.view_is
     (subst (HasCount c.self.inside.space (Finite c.args.number)) (sym size)
-    (count-finite c.self.inside.space _ _ c.self.inside.forever c.self.invariant.3 c.self.invariant.0 c.self.invariant.2 c.args.number low))
+    (count-finite c.self.inside.space _ _ c.self.inside.forever c.self.invariant.few c.self.invariant.valued c.self.invariant.counted c.args.number low))

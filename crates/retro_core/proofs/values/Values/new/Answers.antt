@@ -28,4 +28,10 @@ invariant_of-result c =
     let all = all-sizes _ _ _ _ e.few c.requires.counts in
     let same = ap sum c.deref.ensures.value in
     let rest : count_below (configurations b) (is_open c.args.values.items) ≡ c.configurations.result - c.total.result = omega (arith, all, same, e.value, c.total.ensures) in
-    (c.requires.values, c.requires.dominators, subst (AreValueSizes (configurations b) c.args.values.items c.args.sizes.items) rest c.requires.counts, e.few)
+    record {
+      is_board = e.is_board;
+      few = e.few;
+      valued = c.requires.values;
+      dominated = c.requires.dominators;
+      counted = subst (AreValueSizes (configurations b) c.args.values.items c.args.sizes.items) rest c.requires.counts;
+    }

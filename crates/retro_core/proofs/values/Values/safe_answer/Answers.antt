@@ -19,12 +19,12 @@ rank-rank-requires c =
 pub index-requires : goal.index-requires
 index-requires c =
     let low = label_is_place c.self.inside.space c.loop-label.label (omega (arith, c.loop-label-test.true, c.labels-label-end.ensures.value)) in
-    omega (arith, c.members-members.ensures.below c.loop-label.label low, c.rank-rank.ensures, c.self.invariant.1.dominators_length)
+    omega (arith, c.members-members.ensures.below c.loop-label.label low, c.rank-rank.ensures, c.self.invariant.dominated.dominators_length)
 
 pub index-requires-then-index-pebble : goal.index-requires-then-index-pebble
 index-requires-then-index-pebble c =
     let low = label_is_place c.self.inside.space c.loop-label.label (omega (arith, c.loop-label-test.true, c.labels-label-end.ensures.value)) in
-    omega (arith, c.members-members.ensures.below c.loop-label.label low, c.rank-rank.ensures, c.self.invariant.0.values_length)
+    omega (arith, c.members-members.ensures.below c.loop-label.label low, c.rank-rank.ensures, c.self.invariant.valued.values_length)
 
 pub returns-then-index : goal.returns-then-index
 returns-then-index c =
@@ -34,10 +34,10 @@ returns-then-index c =
     let is_label : c.loop-label.label < b.labels = omega (arith, c.loop-label-test.true, c.labels-label-end.ensures.value) in
     let low = label_is_place b c.loop-label.label is_label in
     let inside = c.members-members.ensures.below c.loop-label.label low in
-    let byte = get_or_read s.dominators.items c.rank-rank.result c.index.result.now (omega (arith, inside, c.rank-rank.ensures, c.self.invariant.1.dominators_length)) c.index.ensures 0 in
-    let word = get_or_read s.values.items c.rank-rank.result c.index-then-index-pebble.result.now (omega (arith, inside, c.rank-rank.ensures, c.self.invariant.0.values_length)) c.index-then-index-pebble.ensures 0 in (
+    let byte = get_or_read s.dominators.items c.rank-rank.result c.index.result.now (omega (arith, inside, c.rank-rank.ensures, c.self.invariant.dominated.dominators_length)) c.index.ensures 0 in
+    let word = get_or_read s.values.items c.rank-rank.result c.index-then-index-pebble.result.now (omega (arith, inside, c.rank-rank.ensures, c.self.invariant.valued.values_length)) c.index-then-index-pebble.ensures 0 in (
       subst (λ (p : PlainBoard). AnswerForever p c.args.gap c.loop-label.label) c.self.view_is
-          (safe-here b c.labels-label-end.ensures.is_board s.values.items s.dominators.items c.self.invariant.0 c.self.invariant.1 c.args.gap c.loop-label.label c.rank-rank.result in_gaps is_label
+          (safe-here b c.labels-label-end.ensures.is_board s.values.items s.dominators.items c.self.invariant.valued c.self.invariant.dominated c.args.gap c.loop-label.label c.rank-rank.result in_gaps is_label
           (c.rank-rank.ensures ∙ c.members-members.ensures.ranks c.loop-label.label low) (sym byte ∙ c.if-index-pebble.true ∙ c.gap_pebble-pebble.ensures.pebble)
           (same_is (slice_index s.values.items c.rank-rank.result) OPEN (sym word ∙ c.if-index.true))),
       λ other is. elim (cases_lt other c.loop-label.label) [
@@ -59,14 +59,14 @@ loop-label-preserved c = λ other less is. elim (cases_lt other c.loop-label.lab
       let low = label_is_place b c.loop-label.label is_label in
       let inside = c.members-members.ensures.below c.loop-label.label low in
       let rank_is = c.rank-rank.ensures ∙ c.members-members.ensures.ranks c.loop-label.label low in
-      let byte = get_or_read s.dominators.items c.rank-rank.result c.index.result.now (omega (arith, inside, c.rank-rank.ensures, c.self.invariant.1.dominators_length)) c.index.ensures 0 in
+      let byte = get_or_read s.dominators.items c.rank-rank.result c.index.result.now (omega (arith, inside, c.rank-rank.ensures, c.self.invariant.dominated.dominators_length)) c.index.ensures 0 in
       elim c.else-index-pebble.branch [
         | else-index-pebble-via-then-index-pebble+else-index w ↦
-            let word = get_or_read s.values.items c.rank-rank.result w.index-then-index-pebble.result.now (omega (arith, inside, c.rank-rank.ensures, c.self.invariant.0.values_length)) w.index-then-index-pebble.ensures 0 in
-            let still = safe-open b c.labels-label-end.ensures.is_board s.values.items s.dominators.items c.self.invariant.0 c.self.invariant.1 c.args.gap c.loop-label.label c.rank-rank.result in_gaps is_label rank_is answer in
+            let word = get_or_read s.values.items c.rank-rank.result w.index-then-index-pebble.result.now (omega (arith, inside, c.rank-rank.ensures, c.self.invariant.valued.values_length)) w.index-then-index-pebble.ensures 0 in
+            let still = safe-open b c.labels-label-end.ensures.is_board s.values.items s.dominators.items c.self.invariant.valued c.self.invariant.dominated c.args.gap c.loop-label.label c.rank-rank.result in_gaps is_label rank_is answer in
             true_not_false _ still (differ_is (slice_index s.values.items c.rank-rank.result) OPEN (λ e. w.if-index.false (word ∙ e)))
         | else-index-pebble-via-else-index-pebble w ↦ w.if-index-pebble.false
-            (byte ∙ safe-dominator b c.labels-label-end.ensures.is_board s.values.items s.dominators.items c.self.invariant.0 c.self.invariant.1 c.args.gap c.loop-label.label c.rank-rank.result in_gaps is_label rank_is answer
+            (byte ∙ safe-dominator b c.labels-label-end.ensures.is_board s.values.items s.dominators.items c.self.invariant.valued c.self.invariant.dominated c.args.gap c.loop-label.label c.rank-rank.result in_gaps is_label rank_is answer
             ∙ sym c.gap_pebble-pebble.ensures.pebble)
       ]
 ]
