@@ -154,30 +154,15 @@ rest_of ranks = drop 1 ranks
 
 -- the seat after it struck in a gap of this count: with the last, the open members of the gap are owed
 abbrev pub seat_struck : Solving → ℕ → ℕ → PlainSeat → PlainSeat
-seat_struck s gap count seat = record {
-  width = seat.width;
-  todo = rest_of seat.todo;
-  owed = cond (count == 1) (seat.owed ++ source s gap) seat.owed;
-  won = seat.won;
-}
+seat_struck s gap count seat = record seat { todo = rest_of seat.todo; owed = cond (count == 1) (seat.owed ++ source s gap) seat.owed }
 
 -- the seat after it tried to win the first that it owes
 abbrev pub seat_tried : Bool → PlainSeat → PlainSeat
-seat_tried is_open seat = record {
-  width = seat.width;
-  todo = seat.todo;
-  owed = rest_of seat.owed;
-  won = cond is_open (seat.won ++ first_of seat.owed ∷ []) seat.won;
-}
+seat_tried is_open seat = record seat { owed = rest_of seat.owed; won = cond is_open (seat.won ++ first_of seat.owed ∷ []) seat.won }
 
 -- what a seat keeps of a split
 abbrev pub seat_kept : PlainSeat → PlainSeat
-seat_kept seat = record {
-  width = seat.width - seat.width / 2;
-  todo = take (length seat.todo - length seat.todo / 2) seat.todo;
-  owed = seat.owed;
-  won = seat.won;
-}
+seat_kept seat = record seat { width = seat.width - seat.width / 2; todo = take (length seat.todo - length seat.todo / 2) seat.todo }
 
 -- the new seat of a split
 abbrev pub seat_new : PlainSeat → PlainSeat
@@ -189,11 +174,8 @@ seat_joined into from = record { width = into.width + from.width; todo = into.to
 
 -- the round after the seat struck in the gap
 abbrev pub struck : Round → ℕ → ℕ → Round
-struck round seat gap = record {
-  solving = round.solving;
-  width = round.width;
+struck round seat gap = record round {
   counts = slice_set round.counts gap (slice_index round.counts gap - 1);
-  values = round.values;
   seats = slice_set round.seats seat (seat_struck round.solving gap (slice_index round.counts gap) (seat_at round seat));
 }
 
@@ -203,30 +185,17 @@ first_is_open round seat = is_none (slice_index_or round.values (first_of (seat_
 
 -- the round after the seat tried to win the first that it owes
 abbrev pub tried : Round → ℕ → Round
-tried round seat = record {
-  solving = round.solving;
-  width = round.width;
-  counts = round.counts;
+tried round seat = record round {
   values = cond (first_is_open round seat) (slice_set round.values (first_of (seat_at round seat).owed) (Some (suc round.solving.rounds))) round.values;
   seats = slice_set round.seats seat (seat_tried (first_is_open round seat) (seat_at round seat));
 }
 
 -- the round after the seat was split
 abbrev pub split : Round → ℕ → Round
-split round seat = record {
-  solving = round.solving;
-  width = round.width;
-  counts = round.counts;
-  values = round.values;
-  seats = slice_set round.seats seat (seat_kept (seat_at round seat)) ++ seat_new (seat_at round seat) ∷ [];
-}
+split round seat = record round { seats = slice_set round.seats seat (seat_kept (seat_at round seat)) ++ seat_new (seat_at round seat) ∷ [] }
 
 -- the round after one seat was joined into another
 abbrev pub joined : Round → ℕ → ℕ → Round
-joined round into from = record {
-  solving = round.solving;
-  width = round.width;
-  counts = round.counts;
-  values = round.values;
+joined round into from = record round {
   seats = slice_set (slice_set round.seats into (seat_joined (seat_at round into) (seat_at round from))) from spent;
 }
