@@ -16,9 +16,10 @@ use Rattle.positions.specs.Counts.{HasSize}
 use Rattle.positions.proofs.Cited.{size_zero}
 use Rattle.retro_core.specs.Solving.{Solving, IsSolving, AnswerLasts, bucket}
 use Rattle.retro_core.specs.Round.{AreToStrike, AreFirstCounts, AreFirstValues, IsDue}
-use Rattle.retro_core.specs.Inside.Rules.{has_home}
+use Rattle.retro_core.specs.Inside.Arena.{dominated}
+use Rattle.retro_core.specs.Inside.BoardArena.{arena_of}
 use Rattle.retro_core.specs.Inside.Words.{open_word, value_of_word}
-use Rattle.retro_core.proofs.Cited.{same_or_not, has-home-tells, times-filter-true, times-filter-le, opening-lawful}
+use Rattle.retro_core.proofs.Cited.{same_or_not, dominated-tells, times-filter-true, times-filter-le, opening-lawful}
 use Rattle.claim_round.specs.Shared.{Key}
 use Rattle.claim_round.specs.Inside.Shared.{Kept, opening, most}
 use Rattle.claim_round.proofs.Totals.{knows_push}
@@ -77,7 +78,7 @@ word_none s rank found is means value =
 -- ---- what is to be struck at the opening
 
 pub record AreDueAll (s : Solving) (ranks : List ℕ) : Type 0 where
-  pub is : ranks ≡ filter (has_home s.board) (bucket s s.rounds)
+  pub is : ranks ≡ filter (dominated (arena_of s.board)) (bucket s s.rounds)
   pub due : (x : ℕ) → 0 < times x ranks → IsDue s.board x s.rounds
   pub once : (x : ℕ) → times x ranks ≤ 1
   pub few : length ranks ≤ configurations s.board
@@ -85,14 +86,14 @@ pub record AreDueAll (s : Solving) (ranks : List ℕ) : Type 0 where
 pub ranks_due : (s : Solving) (ranks : List ℕ) → IsSolving s → AreToStrike s ranks → AreDueAll s ranks
 ranks_due s ranks sol to_strike =
     let b = s.board in
-    let tells = has-home-tells b sol.is_board in
-    let is : ranks ≡ filter (has_home b) (bucket s s.rounds) = to_strike (has_home b) tells in
-    let once : (x : ℕ) → times x ranks ≤ 1 = λ x. let e = ap (times x) is in let l = times-filter-le (has_home b) x (bucket s s.rounds) in let o = sol.buckets.once s.rounds x in omega arith in
+    let tells = dominated-tells b in
+    let is : ranks ≡ filter (dominated (arena_of b)) (bucket s s.rounds) = to_strike (dominated (arena_of b)) tells in
+    let once : (x : ℕ) → times x ranks ≤ 1 = λ x. let e = ap (times x) is in let l = times-filter-le (dominated (arena_of b)) x (bucket s s.rounds) in let o = sol.buckets.once s.rounds x in omega arith in
     let due : (x : ℕ) → 0 < times x ranks → IsDue b x s.rounds = λ x h.
-    let h' : 0 < times x (filter (has_home b) (bucket s s.rounds)) = subst (λ (l : List ℕ). 0 < times x l) is h in
-    let there : 0 < times x (bucket s s.rounds) = (let l = times-filter-le (has_home b) x (bucket s s.rounds) in omega arith) in
+    let h' : 0 < times x (filter (dominated (arena_of b)) (bucket s s.rounds)) = subst (λ (l : List ℕ). 0 < times x l) is h in
+    let there : 0 < times x (bucket s s.rounds) = (let l = times-filter-le (dominated (arena_of b)) x (bucket s s.rounds) in omega arith) in
     let i = sol.buckets.ranks s.rounds x there in
-    let found = (tells x i).0 (times-filter-true (has_home b) x (bucket s s.rounds) h') in
+    let found = (tells x i).0 (times-filter-true (dominated (arena_of b)) x (bucket s s.rounds) h') in
     record { worth = record { is_rank = i; has_value = ((sol.buckets.filed s.rounds x i).0 there).1 }; pebble = found.0; dominates = found.1 } in
     record {
       is = is;
@@ -120,9 +121,9 @@ opened s width words ranks sol some are to_strike =
     let values : AreFirstValues s (map value_of_word (drop G words)) = λ rank value i.
     subst (λ o. (o ≡ Some value) ↔ ((value ≤ s.rounds) × HasValue b (configuration_at b rank) (Finite value)))
     (sym (get_or-map value_of_word (drop G words) rank 0 None (let l = length-drop G words in omega arith) ∙ ap value_of_word (get_or-drop G words rank 0))) (are.valued rank value i) in
-    let all : AreToStrike s (filter (has_home b) (bucket s s.rounds)) = λ test tells. sym (to_strike (has_home b) (has-home-tells b sol.is_board)) ∙ to_strike test tells in
-    let law = (opening-lawful s sol width (take G words) (map value_of_word (drop G words)) (filter (has_home b) (bucket s s.rounds)) some counts_length values_length counts values all).lawful in
-    let ranks_all : List ℕ = filter (has_home b) (bucket s s.rounds) in
+    let all : AreToStrike s (filter (dominated (arena_of b)) (bucket s s.rounds)) = λ test tells. sym (to_strike (dominated (arena_of b)) (dominated-tells b)) ∙ to_strike test tells in
+    let law = (opening-lawful s sol width (take G words) (map value_of_word (drop G words)) (filter (dominated (arena_of b)) (bucket s s.rounds)) some counts_length values_length counts values all).lawful in
+    let ranks_all : List ℕ = filter (dominated (arena_of b)) (bucket s s.rounds) in
     let short : length ranks_all ≤ C = (ranks_due s ranks_all sol all).few in (
       sol,
       law,

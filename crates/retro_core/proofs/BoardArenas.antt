@@ -16,8 +16,9 @@ use Rattle.board_text.proofs.Cited.{label_is_place}
 use Rattle.positions.proofs.Cited.{some_tree, not_both_trees, beats_or_not, rank_below, rank_of-configuration_at, configuration_at-rank_of}
 use Rattle.positions.proofs.Cited.{configuration_at_is, gap_below, pebble_of-gap_of, member_of-gap_of, own_member, pebble_below, member_is}
 use Rattle.positions.proofs.Cited.{label_of_member, gap_of-member_of, legal_is_answer, answer_beats_others, one_gap}
-use Rattle.retro_core.specs.Inside.Arena.{IsArena, lasts, Dominant}
+use Rattle.retro_core.specs.Inside.Arena.{lasts, Dominant}
 use Rattle.retro_core.specs.Inside.BoardArena.{beats, beats_place, answers, arena_of}
+use Rattle.retro_core.proofs.Arenas.{IsArena}
 use Rattle.retro_core.proofs.Counts.{some_below, count_below-some}
 use Rattle.retro_core.proofs.LastingRanks.{both_true, and_true, true_or_false, true_not_false, next-gives, next-from, same_is}
 

@@ -4,7 +4,7 @@ pub use Rattle.retro_core.proofs.Homes.{times-filter-le, times-filter-true}
 pub use Rattle.retro_core.proofs.LastingRanks.{same_or_not}
 pub use Rattle.retro_core.proofs.OwedWalks.{IsOwing}
 pub use Rattle.retro_core.proofs.RoundLaws.{source-once, source-rank}
-pub use Rattle.retro_core.proofs.RoundStart.{has-home-tells}
+pub use Rattle.retro_core.proofs.DominatedRanks.{dominated-tells}
 pub use Rattle.retro_core.proofs.RoundSteps.{join-lawful, opening-lawful, split-lawful, worked-off}
 pub use Rattle.retro_core.proofs.SharedSteps.{IsWordStruck, word-strike, word-try}
 pub use Rattle.retro_core.proofs.Lending.{solver_sync}

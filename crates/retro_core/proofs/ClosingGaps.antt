@@ -4,10 +4,11 @@ use Rattle.board_text.specs.PlainBoard.{IsBoard, places}
 use Rattle.positions.specs.Ranks.{configurations}
 use Rattle.positions.specs.Gaps.{gaps}
 use Rattle.positions.specs.declared.space.TheConstants.{MAX_CONFIGURATIONS}
-use Rattle.retro_core.specs.Inside.Arena.{Arena, IsArena}
+use Rattle.retro_core.specs.Inside.Arena.{Arena}
 use Rattle.retro_core.specs.Inside.BoardArena.{arena_of}
 use Rattle.retro_core.specs.Inside.Stage.{PlainStage, filed, IsFiled, IsKept, Closes}
-use Rattle.retro_core.specs.Inside.Tables.{is_open, IsClosing}
+use Rattle.retro_core.specs.Inside.Tables.{is_open}
+use Rattle.retro_core.proofs.Arenas.{IsArena, IsClosing}
 use Rattle.retro_core.proofs.BoardArenas.{arena_is}
 use Rattle.retro_core.proofs.FiledRanks.{listed-away, filed-once}
 use Rattle.retro_core.proofs.StageStrikes.{kept-self}

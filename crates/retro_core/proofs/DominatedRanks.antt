@@ -10,12 +10,13 @@ use Rattle.board_text.specs.PlainBoard.{PlainBoard}
 use Rattle.positions.specs.Ranks.{configurations, configuration_at}
 use Rattle.positions.specs.Gaps.{IsDominator}
 use Rattle.positions.specs.Counts.{IsSmallest}
-use Rattle.retro_core.specs.Inside.Arena.{Arena, IsArena, live, next, Dominant, dominated}
+use Rattle.retro_core.specs.Inside.Arena.{Arena, live, next, Dominant, dominated}
 use Rattle.retro_core.specs.Inside.BoardArena.{arena_of}
 use Rattle.retro_core.specs.Round.{TellsDominated}
 use Rattle.retro_core.specs.Inside.Stored.{known_pebble, AreDominators, AreNext}
 use Rattle.retro_core.specs.Inside.Tables.{IsCounted, AreWords}
 use Rattle.retro_core.specs.declared.stage.TheConstants.{NO_PEBBLE}
+use Rattle.retro_core.proofs.Arenas.{IsArena}
 use Rattle.retro_core.proofs.BoardArenas.{dominant_is}
 use Rattle.retro_core.proofs.Counts.{some_below, count_below-some, count_below-same}
 use Rattle.retro_core.proofs.LastingRanks.{same_test, true_or_false, true_not_false, next-gives, next-from}
@@ -35,11 +36,16 @@ dominated-by a c p d = some_not _ (count_below-some a.pebbles (λ q. a.is_answer
 pub dominator-of : (a : Arena) (c : ℕ) → dominated a c ≡ true → (p : ℕ) × Dominant a c p
 dominator-of a c e = let found = some_below a.pebbles (λ q. a.is_answer (a.gap c q) (a.place c q)) (not_some _ e) in (found.0, (found.1, found.2))
 
+pub dominated-tells : (b : PlainBoard) → TellsDominated b (dominated (arena_of b))
+dominated-tells b x i = (
+  λ e. let d = dominator-of (arena_of b) x e in (d.0, (dominant_is b x d.0 i d.1.0).1 d.1),
+  λ d. dominated-by (arena_of b) x d.0 ((dominant_is b x d.0 i d.1.is_pebble).0 d.1),
+)
+
 -- any test of it has the same result
 pub tells-dominated : (b : PlainBoard) (test : ℕ → Bool) → TellsDominated b test → (x : ℕ) → x < configurations b → dominated (arena_of b) x ≡ test x
-tells-dominated b test tells x i = same_test (dominated (arena_of b) x) (test x)
-    (λ e. let d = dominator-of (arena_of b) x e in (tells x i).1 (d.0, (dominant_is b x d.0 i d.1.0).1 d.1))
-    (λ e. let d = (tells x i).0 e in dominated-by (arena_of b) x d.0 ((dominant_is b x d.0 i d.1.is_pebble).0 d.1))
+tells-dominated b test tells x i = let own = dominated-tells b x i in
+    same_test (dominated (arena_of b) x) (test x) (λ e. (tells x i).1 (own.0 e)) (λ e. own.1 ((tells x i).0 e))
 
 -- lists are filtered alike by tests that agree on what is in them
 pub same-filter : (f g : ℕ → Bool) (xs : List ℕ) → ((x : ℕ) → 0 < times x xs → f x ≡ g x) → filter f xs ≡ filter g xs

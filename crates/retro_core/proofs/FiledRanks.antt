@@ -9,8 +9,7 @@ use Rattle.index_lists.proofs.Cited.{cond_same, cond_other, times-append}
 use Rattle.board_text.specs.PlainBoard.{PlainBoard}
 use Rattle.positions.specs.Ranks.{configurations}
 use Rattle.positions.specs.declared.space.TheConstants.{MAX_CONFIGURATIONS}
-use Rattle.retro_core.specs.Inside.Solving.{first_lists}
-use Rattle.retro_core.specs.Inside.Stage.{PlainStage, stage_of, filed_at, listed, filed, IsFiled}
+use Rattle.retro_core.specs.Inside.Stage.{first_lists, PlainStage, stage_of, filed_at, listed, filed, IsFiled}
 use Rattle.retro_core.specs.Inside.Tables.{is_open}
 use Rattle.retro_core.proofs.LastingRanks.{same_or_not}
 use Rattle.retro_core.proofs.ListedWords.{open_word, times_one, times_none}

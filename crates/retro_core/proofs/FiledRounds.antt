@@ -10,7 +10,7 @@ use Rattle.positions.specs.Gaps.{gaps}
 use Rattle.positions.specs.Counts.{HasSize}
 use Rattle.positions.specs.declared.space.TheConstants.{MAX_CONFIGURATIONS}
 use Rattle.positions.proofs.Cited.{same_size}
-use Rattle.retro_core.specs.Inside.Arena.{Arena, IsArena, live, lasts}
+use Rattle.retro_core.specs.Inside.Arena.{Arena, live, lasts}
 use Rattle.retro_core.specs.Inside.BoardArena.{arena_of}
 use Rattle.retro_core.specs.Ending.{IsRoundEnd}
 use Rattle.retro_core.specs.Round.{IsWorth}
@@ -18,6 +18,7 @@ use Rattle.retro_core.specs.Solving.{AnswerLasts}
 use Rattle.retro_core.specs.Inside.Stage.{PlainStage, filed, solving, IsFiled, IsKept, IsStriking, IsUnstruck, FilesAll, TakesCounts}
 use Rattle.retro_core.specs.Inside.Tables.{is_open, alive, IsCounted, AreWords}
 use Rattle.retro_core.specs.declared.stage.TheConstants.{OPEN}
+use Rattle.retro_core.proofs.Arenas.{IsArena}
 use Rattle.retro_core.proofs.BoardArenas.{arena_is, value_of_lasts, lasts_of_value}
 use Rattle.retro_core.proofs.StruckTables.{IsCounted-same, AreWords-same, same-open}
 use Rattle.retro_core.proofs.FiledRanks.{listed-away, filed-once}

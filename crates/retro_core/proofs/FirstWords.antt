@@ -3,10 +3,11 @@ use Rattle.std.proofs.Common.{◌≡◌, ℕ, ◌+◌, ◌-◌, ◌<◌, ◌==�
 use Rattle.std.proofs.Math.ListN.{length-set}
 use Rattle.std.proofs.lemmas.Bool.{cases_lt}
 use Rattle.std.proofs.lemmas.List.{length-replicate, get_or-replicate}
-use Rattle.retro_core.specs.Inside.Arena.{Arena, IsArena, next, lasts}
+use Rattle.retro_core.specs.Inside.Arena.{Arena, next, lasts}
 use Rattle.retro_core.specs.Inside.Opening.{IsRun, IsStoppedMember, AreStopping, IsWritten}
 use Rattle.retro_core.specs.Inside.Tables.{IsCounted, AreFirstWords}
 use Rattle.retro_core.specs.declared.stage.TheConstants.{OPEN}
+use Rattle.retro_core.proofs.Arenas.{IsArena}
 use Rattle.index_lists.proofs.Cited.{cond_same, cond_other}
 use Rattle.retro_core.proofs.LastingRanks.{true_or_false, same_or_not, next-gives, next-fails}
 

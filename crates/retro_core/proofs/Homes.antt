@@ -4,8 +4,9 @@ use Rattle.std.specs.List.{filter}
 use Rattle.std.proofs.lemmas.Bool.{cases_lt}
 use Rattle.index_lists.specs.Lists.{times}
 use Rattle.index_lists.proofs.Cited.{times-here, times-later, cond_same, cond_other}
-use Rattle.retro_core.specs.Inside.Arena.{Arena, IsArena, count_below, live, without, Dominant}
-use Rattle.retro_core.specs.Inside.Rules.{tally, home_among}
+use Rattle.retro_core.specs.Inside.Arena.{Arena, count_below, live, Dominant}
+use Rattle.retro_core.proofs.Arenas.{IsArena, without}
+use Rattle.retro_core.proofs.Rules.{tally, home_among}
 use Rattle.retro_core.proofs.Counts.{count_below-none}
 use Rattle.retro_core.proofs.LastingRanks.{live-same, true_or_false, true_not_false, same_or_not, same_is, differ_is, zero_is, positive_is}
 use Rattle.retro_core.proofs.Strikes.{strike-home, strike-other, strike-none}

@@ -1,7 +1,8 @@
 -- How long a labeller lasts.
 use Rattle.std.proofs.Common.{◌≡◌, ◌≢◌, ℕ, ◌+◌, ◌-◌, ◌<◌, ◌≤◌, ◌⊎◌, ◌==◌, ◌&&◌, inl, inr, Bool, true, false, zero, suc, refl, arith, sym, ap, ◌∙◌, subst}
 use Rattle.std.proofs.lemmas.Bool.Decides.{nat_tests}
-use Rattle.retro_core.specs.Inside.Arena.{Arena, IsArena, live, next, lasts}
+use Rattle.retro_core.specs.Inside.Arena.{Arena, live, next, lasts}
+use Rattle.retro_core.proofs.Arenas.{IsArena}
 use Rattle.retro_core.proofs.Counts.{count_below-same, count_below-none, none_below, some_below, count_below-some, count_below-le}
 
 pub both_true : (b c : Bool) → b && c ≡ true → (b ≡ true) × (c ≡ true)

@@ -1,3 +1,5 @@
+pub mod Arenas
+pub mod Rules
 pub mod Counts
 pub mod LastingRanks
 pub mod Strikes

@@ -4,9 +4,10 @@ use Rattle.std.proofs.Math.ListN.{length-set}
 use Rattle.std.proofs.lemmas.Bool.{cases_lt}
 use Rattle.index_lists.specs.Lists.{times}
 use Rattle.index_lists.proofs.Cited.{same_is, differ_is, times-later}
-use Rattle.retro_core.specs.Inside.Arena.{Arena, IsArena}
-use Rattle.retro_core.specs.Inside.Tables.{is_open, IsClosing, GapIsClosed}
+use Rattle.retro_core.specs.Inside.Arena.{Arena}
+use Rattle.retro_core.specs.Inside.Tables.{is_open, GapIsClosed}
 use Rattle.retro_core.specs.declared.stage.TheConstants.{OPEN}
+use Rattle.retro_core.proofs.Arenas.{IsArena, IsClosing}
 use Rattle.retro_core.proofs.LastingRanks.{true_or_false, true_not_false, same_or_not}
 
 pub open_word : (values : List ℕ) (x : ℕ) → is_open values x ≡ true → slice_index values x ≡ OPEN

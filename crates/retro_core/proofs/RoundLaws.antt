@@ -14,7 +14,7 @@ use Rattle.retro_core.specs.Inside.Arena.{live, lasts}
 use Rattle.retro_core.specs.Inside.BoardArena.{arena_of}
 use Rattle.retro_core.specs.Solving.{Solving, IsSolving, AnswerLasts, source}
 use Rattle.retro_core.specs.Round.{PlainSeat, Round, spent, all_todo, all_owed, all_won, IsWorth, IsDue, IsLawful}
-use Rattle.retro_core.specs.Inside.Rules.{tally, total, home_among, value_before, rules_of, held_in, AreKept}
+use Rattle.retro_core.proofs.Rules.{tally, total, home_among, value_before, rules_of, held_in, AreKept}
 use Rattle.retro_core.proofs.LastingRanks.{same_or_not}
 use Rattle.retro_core.proofs.BoardArenas.{arena_is, at_member, tree_of_lasts, lasts_of_tree}
 use Rattle.retro_core.proofs.EnteredAnswers.{live-size}

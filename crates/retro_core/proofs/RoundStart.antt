@@ -11,13 +11,15 @@ use Rattle.positions.specs.Ranks.{configurations, rank_of, configuration_at}
 use Rattle.positions.specs.Gaps.{gaps, gap_of, member_of, IsDominator}
 use Rattle.positions.specs.Counts.{HasSize}
 use Rattle.positions.proofs.Cited.{same_size}
-use Rattle.retro_core.specs.Inside.Arena.{Arena, IsArena, count_below, live, lasts}
+use Rattle.retro_core.specs.Inside.Arena.{Arena, count_below, live, lasts, dominated}
 use Rattle.retro_core.specs.Inside.BoardArena.{arena_of}
 use Rattle.retro_core.specs.Solving.{Solving, IsSolving, AnswerLasts, bucket, source}
-use Rattle.retro_core.specs.Round.{IsWorth, IsDue, TellsDominated, AreToStrike}
-use Rattle.retro_core.specs.Inside.Rules.{tally, home_among, has_home, value_before, rules_of, IsStruckIn, IsToWin, AreSound, AreReadyLists}
+use Rattle.retro_core.specs.Round.{IsWorth, IsDue, AreToStrike}
+use Rattle.retro_core.proofs.Arenas.{IsArena}
+use Rattle.retro_core.proofs.Rules.{tally, home_among, value_before, rules_of, IsStruckIn, IsToWin, AreSound, AreReadyLists}
 use Rattle.retro_core.proofs.LastingRanks.{true_or_false, true_not_false, same_is, differ_is, lasts-less, lasts-at-most, next-gives, next-closed, next-fails}
 use Rattle.retro_core.proofs.BoardArenas.{arena_is, at_member, tree_of_lasts, lasts_of_tree, value_of_lasts, lasts_of_value, dominant_is}
+use Rattle.retro_core.proofs.DominatedRanks.{dominated-by, dominated-tells}
 use Rattle.retro_core.proofs.EnteredAnswers.{live-size}
 use Rattle.retro_core.proofs.Homes.{home-cases, home-of, stands, stands-true, stands-false, live-tally, live-sum, times-filter-true, times-filter-le, tally-filter}
 
@@ -179,21 +181,6 @@ sound-is s sol width = record {
 
 -- ---- before the first step
 
-pub has-home-tells : (b : PlainBoard) → IsBoard b → TellsDominated b (has_home b)
-has-home-tells b board_is rank i =
-    let a = arena_of b in
-    let is = arena_is b board_is in (
-      λ e. elim (home-cases a rank b.pebbles) [
-        | inl found ↦ (found.pebble, (dominant_is b rank found.pebble i found.below).1 (found.below, found.answer))
-        | inr homeless ↦ absurd (true_not_false (has_home b rank) e (ap not (same_is (home_among a rank b.pebbles) (gaps b) homeless.home_is)))
-      ],
-      λ found.
-          let dominant = (dominant_is b rank found.0 i found.1.is_pebble).0 found.1 in
-          let home = home-of a is rank found.0 i dominant in
-          let low = is.gap_in rank found.0 i dominant.0 in
-          ap not (differ_is (home_among a rank b.pebbles) (gaps b) (λ e. omega arith)),
-    )
-
 -- the numbers of a gap's answers that last so long, and of those that last one more, differ by those that are filed at the round's value
 live-splits : (s : Solving) → IsSolving s → (g : ℕ) → g < gaps s.board
     → live (arena_of s.board) (lasts (arena_of s.board) s.rounds) g
@@ -258,19 +245,21 @@ ready-is s sol width count value todo some_width counts values to_strike =
     let is = arena_is b sol.is_board in
     let r = s.rounds in
     let home : ℕ → ℕ = λ x. home_among a x b.pebbles in
-    let picked : todo ≡ filter (has_home b) (bucket s r) = to_strike (has_home b) (has-home-tells b sol.is_board) in
-    let from_bucket : (x : ℕ) → 0 < times x todo → (has_home b x ≡ true) × (0 < times x (bucket s r)) = λ x h.
-    let h' : 0 < times x (filter (has_home b) (bucket s r)) = subst (λ (xs : List ℕ). 0 < times x xs) picked h in
-    let fewer = times-filter-le (has_home b) x (bucket s r) in
-    (times-filter-true (has_home b) x (bucket s r) h', omega arith) in
+    let picked : todo ≡ filter (dominated a) (bucket s r) = to_strike (dominated a) (dominated-tells b) in
+    let from_bucket : (x : ℕ) → 0 < times x todo → (dominated a x ≡ true) × (0 < times x (bucket s r)) = λ x h.
+    let h' : 0 < times x (filter (dominated a) (bucket s r)) = subst (λ (xs : List ℕ). 0 < times x xs) picked h in
+    let fewer = times-filter-le (dominated a) x (bucket s r) in
+    (times-filter-true (dominated a) x (bucket s r) h', omega arith) in
     record {
       counts = λ g i.
           let first = first-count s sol g (count g) i (counts g i) in
           let split = live-splits s sol g i in
           let stand = live-tally a is g (bucket s r) i (sol.buckets.ranks r) (sol.buckets.once r) in
           let pick : tally home g todo ≡ tally home g (bucket s r) =
-          ap (tally home g) picked ∙ tally-filter home (has_home b) g (bucket s r) (λ x h fails e.
-          true_not_false (has_home b x) (ap not (differ_is (home x) (gaps b) (λ same. let at : home x ≡ g = e in omega arith))) fails) in
+          ap (tally home g) picked ∙ tally-filter home (dominated a) g (bucket s r) (λ x h fails e. elim (home-cases a x b.pebbles) [
+            | inl found ↦ true_not_false (dominated a x) (dominated-by a x found.pebble (found.below, found.answer)) fails
+            | inr homeless ↦ let at : home x ≡ g = e in let none = homeless.home_is in omega arith
+          ]) in
           omega arith;
       values = λ x i. same-word (value x) (value_before a r x)
           (λ v e. (base-is b sol.is_board r x v i).1 ((values x v i).0 e))
@@ -278,13 +267,13 @@ ready-is s sol width count value todo some_width counts values to_strike =
       due = λ x h.
           let from = from_bucket x h in
           let i = sol.buckets.ranks r x from.1 in
-          let dominated = (has-home-tells b sol.is_board x i).0 from.0 in
+          let dominated = (dominated-tells b x i).0 from.0 in
           (struck-in-is s sol width x).1 (record {
             worth = record { is_rank = i; has_value = ((sol.buckets.filed r x i).0 from.1).1 };
             pebble = dominated.0;
             dominates = dominated.1;
           });
-      once = λ x. let few = sol.buckets.once r x in let fewer = times-filter-le (has_home b) x (bucket s r) in let same = ap (times x) picked in omega arith;
+      once = λ x. let few = sol.buckets.once r x in let fewer = times-filter-le (dominated a) x (bucket s r) in let same = ap (times x) picked in omega arith;
       settled = λ g x i none. elim (cases_lt 0 (times x (source s g))) [
         | inr nothing ↦ omega arith
         | inl some ↦ absurd (

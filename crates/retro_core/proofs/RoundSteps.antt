@@ -14,13 +14,13 @@ use Rattle.retro_core.specs.Solving.{Solving, IsSolving, AnswerLasts}
 use Rattle.retro_core.specs.Round.{PlainSeat, Round, spent, seat_at, together, all_todo, all_owed, all_won, IsDue, IsLawful, AreToStrike}
 use Rattle.retro_core.specs.Round.{AreFirstCounts, AreFirstValues, opening, IsOpening, IsWorkedOff, HasWonAll, first_of, rest_of}
 use Rattle.retro_core.specs.Round.{seat_tried, struck, first_is_open, tried, split, joined}
-use Rattle.retro_core.specs.Inside.Round.{round_of}
+use Rattle.retro_core.specs.Inside.Words.{round_of}
 use Rattle.retro_core.specs.declared.step.Step.{Step}
 use Rattle.retro_core.specs.declared.step.Step.TheVariants as steps
 use Rattle.retro_core.specs.declared.step.Seen.{Seen}
 use Rattle.retro_core.specs.declared.step.Seen.TheVariants as seen
 use Rattle.retro_core.specs.Stepping.{Does, LeadTo}
-use Rattle.retro_core.specs.Inside.Rules.{total, rules_of}
+use Rattle.retro_core.proofs.Rules.{total, rules_of}
 use Rattle.retro_core.proofs.LastingRanks.{next-fails}
 use Rattle.retro_core.proofs.BoardArenas.{arena_is, at_member, tree_of_lasts, lasts_of_value}
 use Rattle.retro_core.proofs.SeatSums.{total-at, times-together}

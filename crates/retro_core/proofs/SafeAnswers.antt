@@ -8,11 +8,12 @@ use Rattle.positions.specs.Value.{HasValue}
 use Rattle.positions.specs.Ranks.{configurations, configuration_at}
 use Rattle.positions.specs.Gaps.{gaps, pebble_of, member_of}
 use Rattle.positions.proofs.Cited.{same_value}
-use Rattle.retro_core.specs.Inside.Arena.{Arena, IsArena, Dominant}
+use Rattle.retro_core.specs.Inside.Arena.{Arena, Dominant}
 use Rattle.retro_core.specs.Inside.BoardArena.{arena_of}
 use Rattle.retro_core.specs.Solving.{AnswerForever}
 use Rattle.retro_core.specs.Inside.Stored.{AreDominators}
 use Rattle.retro_core.specs.Inside.Tables.{is_open, AreValues}
+use Rattle.retro_core.proofs.Arenas.{IsArena}
 use Rattle.retro_core.proofs.BoardArenas.{arena_is, answers_is, at_member}
 use Rattle.retro_core.proofs.DominatedRanks.{dominated-by, some-dominator, dominator-byte}
 use Rattle.retro_core.proofs.LastingRanks.{true_or_false}

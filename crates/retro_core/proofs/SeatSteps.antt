@@ -3,7 +3,7 @@ use Rattle.std.proofs.Common.{◌≡◌, ◌≢◌, ◌⊎◌, ℕ, zero, suc, �
 use Rattle.index_lists.specs.Lists.{times}
 use Rattle.index_lists.proofs.Cited.{cond_same, cond_other, times-append}
 use Rattle.retro_core.specs.Round.{PlainSeat, spent, first_of, rest_of, seat_tried, seat_kept, seat_new, seat_joined}
-use Rattle.retro_core.specs.Inside.Rules.{Rules, tally, total, IsStruckIn, IsToWin, word_of, held_in, AreSound, AreReadyLists, AreKept}
+use Rattle.retro_core.proofs.Rules.{Rules, tally, total, IsStruckIn, IsToWin, word_of, held_in, AreSound, AreReadyLists, AreKept}
 use Rattle.retro_core.proofs.LastingRanks.{same_or_not}
 use Rattle.retro_core.proofs.SeatSums.{same_seat, no_seat, total-set, total-at, total-le, total-cut, total-glue, times-cut, tally-append, tally-cut}
 

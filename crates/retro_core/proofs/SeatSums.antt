@@ -3,7 +3,7 @@ use Rattle.std.proofs.Common.{◌≡◌, ◌≢◌, ℕ, zero, suc, ◌+◌, ◌
 use Rattle.index_lists.specs.Lists.{times}
 use Rattle.index_lists.proofs.Cited.{times-append}
 use Rattle.retro_core.specs.Round.{PlainSeat, together, total_width}
-use Rattle.retro_core.specs.Inside.Rules.{tally, total}
+use Rattle.retro_core.proofs.Rules.{tally, total}
 
 pub same_seat : (v w : PlainSeat) → Some v ≡ Some w → v ≡ w
 same_seat v w e = cc

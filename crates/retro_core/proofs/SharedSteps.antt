@@ -9,8 +9,7 @@ use Rattle.positions.specs.Ranks.{configuration_at}
 use Rattle.positions.specs.Gaps.{gaps, gap_of, IsDominator}
 use Rattle.retro_core.specs.Solving.{Solving, IsSolving}
 use Rattle.retro_core.specs.Round.{PlainSeat, spent, all_won, IsLawful, first_of, seat_struck, seat_tried, first_is_open}
-use Rattle.retro_core.specs.Inside.Round.{round_of}
-use Rattle.retro_core.specs.Inside.Words.{open_word, value_of_word, round_of_words}
+use Rattle.retro_core.specs.Inside.Words.{round_of, open_word, value_of_word, round_of_words}
 use Rattle.retro_core.proofs.LastingRanks.{same_or_not}
 use Rattle.retro_core.proofs.RoundSteps.{strike-lawful, try-lawful}
 

@@ -2,8 +2,9 @@
 use Rattle.std.proofs.Common.{◌≡◌, ℕ, zero, suc, ◌+◌, ◌-◌, ◌<◌, ◌≤◌, ◌==◌, ◌&&◌, Bool, true, false, cond, inl, inr, refl, sym, ap, ◌∙◌, subst, arith, List, ◌∷◌, Some, slice_get}
 use Rattle.index_lists.specs.Lists.{times}
 use Rattle.index_lists.proofs.Cited.{times-later, some_is}
-use Rattle.retro_core.specs.Inside.Arena.{Arena, IsArena}
+use Rattle.retro_core.specs.Inside.Arena.{Arena}
 use Rattle.retro_core.specs.Inside.Tables.{members_from}
+use Rattle.retro_core.proofs.Arenas.{IsArena}
 use Rattle.retro_core.proofs.LastingRanks.{both_true, and_true, true_or_false, true_not_false, same_or_not, same_is, differ_is}
 
 -- a member is left out or comes first

@@ -6,10 +6,11 @@ use Rattle.index_lists.proofs.Cited.{times-here, times-more, times-later}
 use Rattle.board_text.specs.PlainBoard.{PlainBoard, IsBoard}
 use Rattle.positions.specs.Ranks.{configurations}
 use Rattle.positions.specs.declared.space.TheConstants.{MAX_CONFIGURATIONS}
-use Rattle.retro_core.specs.Inside.Arena.{Arena, IsArena, lasts, without, Dominant}
+use Rattle.retro_core.specs.Inside.Arena.{Arena, lasts, Dominant}
 use Rattle.retro_core.specs.Inside.BoardArena.{arena_of}
 use Rattle.retro_core.specs.Inside.Stage.{PlainStage, counting, IsFiled, IsKept, Closes, IsStruckAt, IsStriking}
-use Rattle.retro_core.specs.Inside.Tables.{alive, IsCounted, AreWords, IsBetween}
+use Rattle.retro_core.specs.Inside.Tables.{alive, IsCounted, AreWords}
+use Rattle.retro_core.proofs.Arenas.{IsArena, without, IsBetween}
 use Rattle.retro_core.proofs.BoardArenas.{arena_is}
 use Rattle.retro_core.proofs.StruckTables.{IsCounted-same, AreWords-same, counted-struck, words-some, words-closed, home-now}
 use Rattle.retro_core.proofs.LastingRanks.{true_or_false, same_or_not, same_is, lasts-less}

@@ -14,13 +14,13 @@ use Rattle.positions.specs.Gaps.{gaps, member_of}
 use Rattle.positions.specs.Counts.{HasSize}
 use Rattle.positions.specs.declared.space.TheConstants.{MAX_CONFIGURATIONS}
 use Rattle.positions.proofs.Cited.{rank_below, configuration_at-rank_of}
-use Rattle.retro_core.specs.Inside.Arena.{Arena, IsArena, count_below, live, lasts, IsLast, dominated}
+use Rattle.retro_core.specs.Inside.Arena.{Arena, count_below, live, lasts, IsLast, dominated}
 use Rattle.retro_core.specs.Inside.BoardArena.{arena_of}
 use Rattle.retro_core.specs.Round.{AreToStrike}
 use Rattle.retro_core.specs.Solving.{Solving, AreOpenMembers, IsSolving, NoneHas, AnswerLasts, AnswerForever}
-use Rattle.retro_core.specs.Inside.Solving.{first_lists}
-use Rattle.retro_core.specs.Inside.Stage.{PlainStage, filed_at, turned, IsFiled, IsStage, IsKept, IsStriking, IsUnstruck, IsOpened, IsState}
+use Rattle.retro_core.specs.Inside.Stage.{first_lists, PlainStage, filed_at, turned, IsFiled, IsStage, IsKept, IsStriking, IsUnstruck, IsOpened, IsState}
 use Rattle.retro_core.specs.Inside.Tables.{is_open, open_members, alive, struck_rounds, AreWords, AreValues}
+use Rattle.retro_core.proofs.Arenas.{IsArena}
 use Rattle.retro_core.proofs.Counts.{count_below-some, count_below-less, count_below-bound}
 use Rattle.retro_core.proofs.LastingRanks.{both_true, true_or_false, true_not_false, same_or_not, same_is, lasts-less, lasts-at-most}
 use Rattle.retro_core.proofs.Strikes.{lasts-forever}

@@ -1,7 +1,8 @@
 -- What one strike does to the counts and to what is open, and the end of the rounds.
 use Rattle.std.proofs.Common.{◌≡◌, ℕ, ◌+◌, ◌<◌, ◌≢◌, ◌&&◌, inl, inr, Bool, true, false, zero, suc, refl, arith, sym, ap, ◌∙◌, subst}
 use Rattle.std.proofs.lemmas.Bool.Decides.{nat_tests}
-use Rattle.retro_core.specs.Inside.Arena.{Arena, IsArena, live, next, lasts, without, Dominant}
+use Rattle.retro_core.specs.Inside.Arena.{Arena, live, next, lasts, Dominant}
+use Rattle.retro_core.proofs.Arenas.{IsArena, without}
 use Rattle.retro_core.proofs.Counts.{count_below-same, count_below-without}
 use Rattle.retro_core.proofs.LastingRanks.{both_true, and_true, same_test, true_or_false, next-gives, next-from, next-closed, next-le}
 

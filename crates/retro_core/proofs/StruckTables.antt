@@ -2,9 +2,10 @@
 use Rattle.std.proofs.Common.{◌≡◌, ℕ, ◌+◌, ◌<◌, ◌≢◌, ◌⊎◌, ◌==◌, not, inl, inr, Bool, true, false, suc, arith, sym, ap, ◌∙◌, List, length, slice_index, slice_set, get_or-set_other, get_or-set_same}
 use Rattle.std.proofs.Math.ListN.{length-set}
 use Rattle.std.proofs.lemmas.Bool.Decides.{nat_tests}
-use Rattle.retro_core.specs.Inside.Arena.{Arena, IsArena, live, next, lasts, without, Dominant}
-use Rattle.retro_core.specs.Inside.Tables.{is_open, IsCounted, AreWords, GapIsClosed, IsBetween}
+use Rattle.retro_core.specs.Inside.Arena.{Arena, live, next, lasts, Dominant}
+use Rattle.retro_core.specs.Inside.Tables.{is_open, IsCounted, AreWords, GapIsClosed}
 use Rattle.retro_core.specs.declared.stage.TheConstants.{OPEN}
+use Rattle.retro_core.proofs.Arenas.{IsArena, without, IsBetween}
 use Rattle.retro_core.proofs.LastingRanks.{both_true, and_true, true_or_false, true_not_false, same_or_not, live-le, live-same, next-closed, next-le, next-same}
 use Rattle.retro_core.proofs.Strikes.{strike-home, strike-other, open-same, open-outside, open-member}
 

@@ -2,10 +2,7 @@
 pub mod Arena
 pub mod BoardArena
 pub mod Opening
-pub mod Round
-pub mod Rules
 pub mod Sizes
-pub mod Solving
 pub mod SourceWalk
 pub mod Stage
 pub mod Stored

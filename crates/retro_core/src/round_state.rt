@@ -33,7 +33,7 @@ pub struct RoundState<'a, S: ListStore> {
 impl<'a, S: ListStore> Model for RoundState<'a, S> {
     ghost use Rattle.retro_core.specs.Solving.{IsSolving};
     ghost use Rattle.retro_core.specs.Round.{Round, IsLawful};
-    ghost use Rattle.retro_core.specs.Inside.Round.{round_of};
+    ghost use Rattle.retro_core.specs.Inside.Words.{round_of};
 
     ghost Value = { Round };
 

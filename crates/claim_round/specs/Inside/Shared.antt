@@ -11,7 +11,8 @@ use Rattle.positions.specs.Gaps.{gaps}
 use Rattle.retro_core.specs.Solving.{IsSolving, AnswerLasts, bucket}
 use Rattle.retro_core.specs.Round.{PlainSeat, IsDue, IsLawful, spent as spent_seat, together, first_of, seat_struck, seat_tried}
 use Rattle.retro_core.specs.Inside.Words.{open_word, round_of_words}
-use Rattle.retro_core.specs.Inside.Rules.{has_home}
+use Rattle.retro_core.specs.Inside.Arena.{dominated}
+use Rattle.retro_core.specs.Inside.BoardArena.{arena_of}
 use Rattle.claim_round.specs.Shared.{Key, View}
 
 abbrev pub Unit0 : Type 0
@@ -65,7 +66,7 @@ Kept k s = IsSolving k.solving × IsLawful (round_of_words k.solving k.width s.w
 abbrev pub opening : Key → View
 opening k = record {
   key = k;
-  has = record { width = k.width; todo = filter (has_home k.solving.board) (bucket k.solving k.solving.rounds); owed = []; won = [] };
+  has = record { width = k.width; todo = filter (dominated (arena_of k.solving.board)) (bucket k.solving k.solving.rounds); owed = []; won = [] };
   lost = [];
   shut = [];
 }

@@ -14,19 +14,6 @@ pub record Arena : Type 0 where
   pub member : ℕ → ℕ → ℕ
   pub is_answer : ℕ → ℕ → Bool
 
--- configurations and gaps fit together, and at most one pebble of a configuration dominates the others
-pub record IsArena (a : Arena) : Type 0 where
-  pub gap_in : (c p : ℕ) → c < a.configurations → p < a.pebbles → a.gap c p < a.gaps
-  pub place_in : (c p : ℕ) → c < a.configurations → p < a.pebbles → a.place c p < a.places
-  pub pebble_in : (g : ℕ) → g < a.gaps → a.pebble g < a.pebbles
-  pub member_in : (g v : ℕ) → g < a.gaps → v < a.places → a.member g v < a.configurations
-  pub gap_of_member : (g v : ℕ) → g < a.gaps → v < a.places → a.gap (a.member g v) (a.pebble g) ≡ g
-  pub place_of_member : (g v : ℕ) → g < a.gaps → v < a.places → a.place (a.member g v) (a.pebble g) ≡ v
-  pub member_of_gap : (c p : ℕ) → c < a.configurations → p < a.pebbles → a.member (a.gap c p) (a.place c p) ≡ c
-  pub pebble_of_gap : (c p : ℕ) → c < a.configurations → p < a.pebbles → a.pebble (a.gap c p) ≡ p
-  pub one_dominator : (c p q : ℕ) → c < a.configurations → p < a.pebbles → q < a.pebbles
-      → a.is_answer (a.gap c p) (a.place c p) ≡ true → a.is_answer (a.gap c q) (a.place c q) ≡ true → p ≡ q
-
 -- how many numbers below a bound pass the test
 abbrev pub count_below : ℕ → (ℕ → Bool) → ℕ
 count_below zero test = 0
@@ -44,10 +31,6 @@ next a above c = count_below a.pebbles (λ p. live a above (a.gap c p) == 0) == 
 abbrev pub lasts : Arena → ℕ → ℕ → Bool
 lasts a zero c = true
 lasts a (suc k) c = next a (lasts a k) c
-
--- the test without one number
-abbrev pub without : (ℕ → Bool) → ℕ → ℕ → Bool
-without above c x = above x && not (x == c)
 
 -- pebble p of c dominates all the others
 abbrev pub Dominant : Arena → ℕ → ℕ → Type 0

@@ -1,5 +1,6 @@
 -- A stage as plain data, and what a round does to it.
-use Rattle.std.specs.Prelude.{◌≡◌, ◌≢◌, ℕ, suc, ◌+◌, ◌-◌, ◌<◌, ◌≤◌, ◌==◌, Bool, true, false, cond, List, [], ◌∷◌, ◌++◌, length, filter, AllPairs, slice_index, slice_index_or, slice_set}
+use Rattle.std.specs.Prelude.{◌≡◌, ◌≢◌, ℕ, suc, ◌+◌, ◌-◌, ◌<◌, ◌≤◌, ◌==◌, Bool, true, false, cond, List, [], ◌∷◌, ◌++◌, length, map, filter, AllPairs, slice_index, slice_index_or, slice_set}
+use Rattle.std.specs.List.{range_with_len}
 use Rattle.index_lists.specs.Lists.{Lists, times}
 use Rattle.board_text.specs.PlainBoard.{PlainBoard, IsBoard}
 use Rattle.positions.specs.Ranks.{configurations}
@@ -8,7 +9,6 @@ use Rattle.positions.specs.declared.space.TheConstants.{MAX_CONFIGURATIONS}
 use Rattle.retro_core.specs.Inside.Arena.{Arena, count_below, lasts, IsLast, dominated}
 use Rattle.retro_core.specs.Inside.BoardArena.{arena_of}
 use Rattle.retro_core.specs.Solving.{Solving}
-use Rattle.retro_core.specs.Inside.Solving.{first_lists}
 use Rattle.retro_core.specs.Inside.Stored.{IsSmall}
 use Rattle.retro_core.specs.Inside.Tables.{alive, struck_rounds, open_members, IsCounted, AreWords, AreFirstWords, GapIsClosed}
 
@@ -22,17 +22,20 @@ pub record PlainStage : Type 0 where
   pub buckets : List (List ℕ)
   pub strikes : List ℕ
 
+-- the first so many lists
+abbrev pub first_lists : ℕ → (ℕ → List ℕ) → List (List ℕ)
+first_lists count list = map list (range_with_len 0 count)
+
 -- the stage of these parts, of which the buckets stand in a store
 abbrev pub stage_of : PlainBoard → ℕ → List ℕ → List ℕ → Lists → List ℕ → PlainStage
-stage_of board value values counts stored strikes =
-    record {
-      board = board;
-      value = value;
-      values = values;
-      counts = counts;
-      buckets = first_lists stored.lists stored.list;
-      strikes = strikes;
-    }
+stage_of board value values counts stored strikes = record {
+  board = board;
+  value = value;
+  values = values;
+  counts = counts;
+  buckets = first_lists stored.lists stored.list;
+  strikes = strikes;
+}
 
 -- what is filed at a value, in order of filing
 abbrev pub filed_at : PlainStage → ℕ → List ℕ

@@ -38,11 +38,6 @@ pub record AreFirstWords (a : Arena) (words : List ℕ) : Type 0 where
   pub words_length : length words ≡ a.configurations
   pub each : (x : ℕ) → x < a.configurations → slice_index words x ≡ cond (next a (lasts a 0) x) OPEN 0
 
--- the test holds of what lasts r + 1 requests, and of nothing that doesn't last r
-pub record IsBetween (a : Arena) (r : ℕ) (above : ℕ → Bool) : Type 0 where
-  pub lower : (y : ℕ) → y < a.configurations → lasts a (suc r) y ≡ true → above y ≡ true
-  pub upper : (y : ℕ) → y < a.configurations → above y ≡ true → lasts a r y ≡ true
-
 -- it lasts more than r requests, or stands in the list of what is to strike
 abbrev pub alive : Arena → ℕ → List ℕ → ℕ → Bool
 alive a r todo x = cond (lasts a (suc r) x) true (not (times x todo == 0))
@@ -52,13 +47,6 @@ pub record GapIsClosed (a : Arena) (g value : ℕ) (values values' : List ℕ) :
   pub same_length : length values' ≡ length values
   pub filed : (x : ℕ) → x < a.configurations → a.gap x (a.pebble g) ≡ g → is_open values x ≡ true → slice_index values' x ≡ value
   pub outside : (x : ℕ) → x < a.configurations → a.gap x (a.pebble g) ≢ g → slice_index values' x ≡ slice_index values x
-  pub kept : (x : ℕ) → x < a.configurations → is_open values x ≡ false → slice_index values' x ≡ slice_index values x
-
--- some open members of a gap are filed at a value, and nothing else changes
-pub record IsClosing (a : Arena) (g value : ℕ) (values values' : List ℕ) : Type 0 where
-  pub same_length : length values' ≡ length values
-  pub filed : (x : ℕ) → x < a.configurations → is_open values x ≡ true → is_open values' x ≡ false → (slice_index values' x ≡ value) × (a.gap x (a.pebble g) ≡ g)
-  pub waiting : (x : ℕ) → x < a.configurations → is_open values' x ≡ true → is_open values x ≡ true
   pub kept : (x : ℕ) → x < a.configurations → is_open values x ≡ false → slice_index values' x ≡ slice_index values x
 
 -- how many rounds have struck their value

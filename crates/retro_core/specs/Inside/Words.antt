@@ -1,9 +1,12 @@
--- A round whose words stand in one list, as shared words do.
+-- A round by its parts, and one whose words stand in one list, as shared words do.
 use Rattle.std.specs.Prelude.{ℕ, ◌==◌, cond, List, map, take, drop, Option, Some, None}
 use Rattle.positions.specs.Gaps.{gaps}
 use Rattle.retro_core.specs.Solving.{Solving}
 use Rattle.retro_core.specs.Round.{PlainSeat, Round}
-use Rattle.retro_core.specs.Inside.Round.{round_of}
+
+-- the round of these parts
+abbrev pub round_of : Solving → ℕ → List ℕ → List (Option ℕ) → List PlainSeat → Round
+round_of s width counts values seats = record { solving = s; width = width; counts = counts; values = values; seats = seats }
 
 -- the word of a configuration that has no value
 abbrev pub open_word : ℕ

@@ -1,9 +1,10 @@
 use Rattle.std.proofs.Common.{◌+◌, ◌-◌, ◌<◌, ◌≤◌, ◌∙◌, ℕ, length, arith, inl, inr}
 use Rattle.std.proofs.lemmas.Bool.{cases_lt}
 use Rattle.board_text.specs.PlainBoard.{places}
-use Rattle.retro_core.specs.Inside.Arena.{Arena, IsArena}
+use Rattle.retro_core.specs.Inside.Arena.{Arena}
 use Rattle.retro_core.specs.Inside.BoardArena.{arena_of}
 use Rattle.retro_core.specs.Inside.Opening.{IsRun}
+use Rattle.retro_core.proofs.Arenas.{IsArena}
 use Rattle.retro_core.proofs.BoardArenas.{arena_is}
 use Rattle.retro_core.proofs.FirstWords.{stopping-start, stopping-more}
 use Rattle.retro_core.proofs.opening.stop_run.Goals as goal

@@ -3,12 +3,12 @@ use Rattle.index_lists.proofs.Cited.{place-of, stands-at}
 use Rattle.board_text.specs.PlainBoard.{PlainBoard, places}
 use Rattle.positions.specs.Ranks.{configurations}
 use Rattle.positions.specs.Gaps.{gaps}
-use Rattle.retro_core.specs.Inside.Arena.{IsArena}
 use Rattle.retro_core.specs.Inside.BoardArena.{arena_of}
 use Rattle.retro_core.specs.Solving.{Solving, source}
 use Rattle.retro_core.specs.Inside.Stage.{PlainStage}
 use Rattle.retro_core.specs.Inside.Tables.{is_open, members_from, open_members}
 use Rattle.retro_core.specs.declared.stage.TheConstants.{OPEN}
+use Rattle.retro_core.proofs.Arenas.{IsArena}
 use Rattle.retro_core.proofs.BoardArenas.{arena_is}
 use Rattle.retro_core.proofs.LastingRanks.{same_is, true_not_false}
 use Rattle.retro_core.proofs.ListedWords.{shut_word}

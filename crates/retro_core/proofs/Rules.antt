@@ -83,10 +83,6 @@ abbrev pub home_among : Arena → ℕ → ℕ → ℕ
 home_among a rank zero = a.gaps
 home_among a rank (suc pebble) = cond (a.is_answer (a.gap rank pebble) (a.place rank pebble)) (a.gap rank pebble) (home_among a rank pebble)
 
--- whether a configuration is struck in a gap
-abbrev pub has_home : PlainBoard → ℕ → Bool
-has_home b rank = not (home_among (arena_of b) rank b.pebbles == gaps b)
-
 -- the value of a configuration, if it is at most the round's: how often it lasts one request more
 abbrev pub value_before : Arena → ℕ → ℕ → Option ℕ
 value_before a round rank = cond (lasts a (suc round) rank) None (Some (count_below round (λ k. lasts a (suc k) rank)))
