@@ -4,6 +4,7 @@ use Rattle.std.specs.Prelude.{slice_index}
 use Rattle.board_text.specs.declared.board.TheConstants.{MAX_LABELS}
 use Rattle.std.proofs.lemmas.Bool.{cases_lt}
 use Rattle.std.proofs.lemmas.List.{get_or-map, length-map}
+use Rattle.std.specs.List.{flat_map}
 use mathlib.Core.Option.{some}
 use lib.ListN.{get_elem?}
 use Rattle.atomic_table.specs.Seated.{TableId}
@@ -18,10 +19,9 @@ use Rattle.positions.specs.Counts.{HasSize}
 use Rattle.positions.specs.declared.space.TheConstants.{MAX_CONFIGURATIONS}
 use Rattle.positions.proofs.Cited.{same_size, size_zero, size_at_most}
 use Rattle.retro_core.specs.Solving.{Solving, IsSolving, AnswerLasts}
-use Rattle.retro_core.specs.Round.{PlainSeat, Round, IsLawful, IsWorkedOff, spent as spent_seat, seat_at, total_width, together, all_todo}
+use Rattle.retro_core.specs.Round.{PlainSeat, Round, IsLawful, IsWorkedOff, spent as spent_seat, seat_at, total_width, all_todo}
 use Rattle.retro_core.specs.Round.{all_won}
-use Rattle.retro_core.specs.Inside.Rules.{total as seat_total}
-use Rattle.retro_core.specs.Inside.Words.{open_word, value_of_word, round_of_words}
+use Rattle.retro_core.proofs.Cited.{total as seat_total}
 use Rattle.retro_core.specs.Ending.{IsRoundEnd}
 use Rattle.retro_core.proofs.Cited.{same_or_not, times-together, worked-off}
 use Rattle.claim_round.specs.Shared.{Key, View, Ended, Finishes}
@@ -29,6 +29,8 @@ use Rattle.claim_round.specs.Inside.Shared.{Unit0, Kept, seats_of}
 use Rattle.claim_round.specs.Inside.Seats.{IsSeated}
 use Rattle.claim_round.specs.Inside.Rounds.{IsRound}
 use Rattle.claim_round.specs.declared.seat.RoundSeat.TheInside.{Inside}
+use Rattle.claim_round.specs.declared.words.TheConstants.{OPEN}
+use Rattle.claim_round.specs.Inside.Words.{value_of_word, round_of_words}
 use Rattle.claim_round.proofs.Totals.{seat_read, total_at}
 use Rattle.claim_round.proofs.TableSteps.{words_length}
 use Rattle.claim_round.proofs.Seats.{no_length}
@@ -92,7 +94,7 @@ module _ (k : Key) (words : List ℕ) (views : List View) (sol : IsSolving k.sol
     ];
   }
 
-  listed : (list : PlainSeat → List ℕ) → list spent_seat ≡ [] → (x : ℕ) → times x (together list (seats_of views)) ≡ times x (list v.has)
+  listed : (list : PlainSeat → List ℕ) → list spent_seat ≡ [] → (x : ℕ) → times x (flat_map list (seats_of views)) ≡ times x (list v.has)
   listed list none x = times-together x list (seats_of views) ∙ only (λ u. times x (list u)) (ap (times x) none) (seats_of views) id others ∙ ap (λ (u : PlainSeat). times x (list u)) read
 
   won_all : (x : ℕ) → times x (all_won round) ≡ times x v.has.won
@@ -182,15 +184,15 @@ small_counts s e sol done g i =
 
 pub small_value : (s : Solving) (words : List ℕ) (counts won : List ℕ) → s.rounds < configurations s.board → configurations s.board ≤ MAX_CONFIGURATIONS
     → Finishes s (record { counts = counts; values = map value_of_word words; won = won }) → (rank : ℕ) → rank < length words
-    → (slice_index words rank ≡ open_word) ⊎ (slice_index words rank < 2 ^ 32)
+    → (slice_index words rank ≡ OPEN) ⊎ (slice_index words rank < 2 ^ 32)
 small_value s words counts won below few done rank i =
     let word : ℕ = slice_index words rank in
     let long = length-map words value_of_word in
     let wide = done.wide in
-    elim (same_or_not word open_word) [
+    elim (same_or_not word OPEN) [
       | inl same ↦ inl same
       | inr other ↦ (
-          let read : get_or (map value_of_word words) rank None ≡ Some word = get_or-map value_of_word words rank 0 None i ∙ cond_other word open_word None (Some word) other in
+          let read : get_or (map value_of_word words) rank None ≡ Some word = get_or-map value_of_word words rank 0 None i ∙ cond_other word OPEN None (Some word) other in
           let top = ((done.values rank word (omega arith)).0 read).0 in
           inr (omega arith))
     ]

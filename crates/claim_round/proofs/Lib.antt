@@ -1,3 +1,4 @@
+pub mod WordSteps
 pub mod Totals
 pub mod Loads
 pub mod Traces

@@ -11,7 +11,6 @@ use Rattle.positions.specs.Ranks.{configurations, rank_of}
 use Rattle.positions.specs.Gaps.{gaps, member_of}
 use Rattle.positions.specs.declared.space.TheConstants.{MAX_CONFIGURATIONS}
 use Rattle.retro_core.specs.Solving.{Solving, IsSolving, source}
-use Rattle.retro_core.specs.Round.{rest_of}
 use Rattle.retro_core.proofs.Cited.{same_or_not, source-once}
 use Rattle.claim_round.specs.Shared.{Key, View, kept_part, new_part, joined}
 use Rattle.claim_round.specs.Inside.Shared.{most, size, load, struck, claimed}
@@ -66,14 +65,14 @@ times_one_more m n = grind arith
 times_sum : (m a b : ℕ) → m * (a + b) ≡ m * a + m * b
 times_sum m a b = grind arith
 
-pub length_rest : (xs : List ℕ) → 0 < length xs → length xs ≡ 1 + length (rest_of xs)
+pub length_rest : (xs : List ℕ) → 0 < length xs → length xs ≡ 1 + length (drop 1 xs)
 length_rest [] some = absurd (omega arith)
 length_rest (x ∷ xs) some = omega arith
 
 pub load_struck : (most : ℕ) (v : View) (gap n : ℕ) → 0 < length v.has.todo → length (source v.key.solving gap) ≤ most → load most (struck v gap n) ≤ load most v
 load_struck most v gap n some few =
     let more : List ℕ = source v.key.solving gap in
-    let l = ap (λ (i : ℕ). most * i) (length_rest v.has.todo some) ∙ times_one_more most (length (rest_of v.has.todo)) in
+    let l = ap (λ (i : ℕ). most * i) (length_rest v.has.todo some) ∙ times_one_more most (length (drop 1 v.has.todo)) in
     dite (ℕ_discrete n 1)
     (λ e. let o = ap length (cond_same n 1 (v.has.owed ++ more) v.has.owed e) ∙ length-append v.has.owed more in omega arith)
     (λ ne. let o = ap length (cond_other n 1 (v.has.owed ++ more) v.has.owed ne) in omega arith)

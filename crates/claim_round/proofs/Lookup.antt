@@ -1,9 +1,9 @@
 -- A word of a closed table.
 use Rattle.std.proofs.Common.{◌≡◌, ℕ, zero, suc, ◌+◌, ◌<◌, List, [], ◌∷◌, length, map, drop, get_or, get_or-drop, sym, ap, ◌∙◌, arith, None}
 use Rattle.std.proofs.lemmas.List.{get_or-map, length-map}
+use Rattle.claim_round.specs.Inside.Words.{value_of_word}
 use mathlib.Core.Option.{some, some-ne-none, some-injective}
 use lib.ListN.{get_elem?}
-use Rattle.retro_core.specs.Inside.Words.{value_of_word}
 
 pub read_at : (l : List ℕ) (i x : ℕ) → get_elem? l i ≡ some x → get_or l i 0 ≡ x
 read_at [] i x e = absurd (some-ne-none x (sym e))

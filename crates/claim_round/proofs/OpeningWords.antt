@@ -18,12 +18,13 @@ use Rattle.retro_core.specs.Solving.{Solving, IsSolving, AnswerLasts, bucket}
 use Rattle.retro_core.specs.Round.{AreToStrike, AreFirstCounts, AreFirstValues, IsDue}
 use Rattle.retro_core.specs.Inside.Arena.{dominated}
 use Rattle.retro_core.specs.Inside.BoardArena.{arena_of}
-use Rattle.retro_core.specs.Inside.Words.{open_word, value_of_word}
 use Rattle.retro_core.proofs.Cited.{same_or_not, dominated-tells, times-filter-true, times-filter-le, opening-lawful}
 use Rattle.claim_round.specs.Shared.{Key}
 use Rattle.claim_round.specs.Inside.Shared.{Kept, opening, most}
 use Rattle.claim_round.proofs.Totals.{knows_push}
 use Rattle.claim_round.specs.Inside.Openings.{HasCounts, AreOpeningWords}
+use Rattle.claim_round.specs.declared.words.TheConstants.{OPEN}
+use Rattle.claim_round.specs.Inside.Words.{value_of_word}
 
 -- ---- words that are read one after the other
 
@@ -65,14 +66,14 @@ pub word_some : (s : Solving) (rank word : ℕ) (found : Option ℕ) → found �
     → ((value : ℕ) → (found ≡ Some value) ↔ ((value ≤ s.rounds) × HasValue s.board (configuration_at s.board rank) (Finite value)))
     → (value : ℕ) → (value_of_word word ≡ Some value) ↔ ((value ≤ s.rounds) × HasValue s.board (configuration_at s.board rank) (Finite value))
 word_some s rank word found is small means value =
-    let read : value_of_word word ≡ found = cond_other word open_word None (Some word) (λ e. absurd (omega arith)) ∙ sym is in
+    let read : value_of_word word ≡ found = cond_other word OPEN None (Some word) (λ e. absurd (omega arith)) ∙ sym is in
     ((λ e. (means value).0 (sym read ∙ e)), (λ has. read ∙ (means value).1 has))
 
 pub word_none : (s : Solving) (rank : ℕ) (found : Option ℕ) → found ≡ None
     → ((value : ℕ) → (found ≡ Some value) ↔ ((value ≤ s.rounds) × HasValue s.board (configuration_at s.board rank) (Finite value)))
     → (value : ℕ) → (value_of_word 18446744073709551615 ≡ Some value) ↔ ((value ≤ s.rounds) × HasValue s.board (configuration_at s.board rank) (Finite value))
 word_none s rank found is means value =
-    let read : value_of_word open_word ≡ found = cond_same open_word open_word None (Some open_word) (λ j. open_word) ∙ sym is in
+    let read : value_of_word OPEN ≡ found = cond_same OPEN OPEN None (Some OPEN) (λ j. OPEN) ∙ sym is in
     ((λ e. (means value).0 (sym read ∙ e)), (λ has. read ∙ (means value).1 has))
 
 -- ---- what is to be struck at the opening

@@ -8,20 +8,20 @@ use Rattle.index_lists.specs.Lists.{times}
 use Rattle.index_lists.proofs.Cited.{cond_same, cond_other, times-append}
 use Rattle.positions.specs.Gaps.{gaps}
 use Rattle.retro_core.specs.Solving.{Solving, IsSolving, source}
-use Rattle.retro_core.specs.Round.{AreToStrike, IsDue, first_of, rest_of}
-use Rattle.retro_core.specs.Inside.Words.{open_word}
+use Rattle.retro_core.specs.Round.{AreToStrike, IsDue, first_of}
 use Rattle.retro_core.proofs.Cited.{times-cut, times_here, split_first, source-rank}
 use Rattle.claim_round.specs.Shared.{Key, View, kept_part, new_part, joined}
 use Rattle.claim_round.specs.Inside.Shared.{IsDueIn, most, size, load, opening, struck, claimed, IsBounded}
 use Rattle.claim_round.specs.Inside.Seats.{IsSeated, SeatHasRoom}
 use Rattle.claim_round.specs.declared.seat.RoundSeat.TheInside.{Inside}
+use Rattle.claim_round.specs.declared.words.TheConstants.{OPEN}
 use Rattle.claim_round.proofs.Loads.{length_rest, few_members, narrow, some_most}
 use Rattle.claim_round.proofs.OpeningWords.{ranks_due}
 
 pub times_first : (xs : List ℕ) → 0 < length xs → 0 < times (first_of xs) xs
-times_first xs some = let h = ap (times (first_of xs)) (split_first xs some) ∙ times_here (first_of xs) (rest_of xs) in omega arith
+times_first xs some = let h = ap (times (first_of xs)) (split_first xs some) ∙ times_here (first_of xs) (drop 1 xs) in omega arith
 
-times_rest : (x : ℕ) (xs : List ℕ) → times x (rest_of xs) ≤ times x xs
+times_rest : (x : ℕ) (xs : List ℕ) → times x (drop 1 xs) ≤ times x xs
 times_rest x [] = omega arith
 times_rest x (y ∷ ys) = omega arith
 
@@ -47,16 +47,16 @@ room_told : (t : Inside) (k : Key) (room : ℕ) → t.seat.me.0.key ≡ k → ve
 room_told t k room terms capacity = subst (λ (p : Key × ℕ). SeatHasRoom p.0 (length t.won.items) (length t.owed.items) (length t.todo.items) p.1) (λ j. (sym terms j, sym capacity j))
 
 pub claimed_seat : (s t : Inside) (n : ℕ) → IsSeated s → 0 < length s.seat.me.0.has.owed → t.seat.me.0 ≡ claimed s.seat.me.0 n → t.seat.me.1 ≡ s.seat.me.1
-    → t.todo.items ≡ s.todo.items → t.owed.items ≡ rest_of s.owed.items → deque_capacity t.owed ≡ deque_capacity s.owed
-    → t.won.items ≡ (cond (n == open_word) (s.won.items ++ first_of s.owed.items ∷ []) s.won.items) → vec_capacity t.won ≡ vec_capacity s.won → t.width ≡ s.width → IsSeated t
+    → t.todo.items ≡ s.todo.items → t.owed.items ≡ drop 1 s.owed.items → deque_capacity t.owed ≡ deque_capacity s.owed
+    → t.won.items ≡ (cond (n == OPEN) (s.won.items ++ first_of s.owed.items ∷ []) s.won.items) → vec_capacity t.won ≡ vec_capacity s.won → t.width ≡ s.width → IsSeated t
 claimed_seat s t n seated some view slots todo owed room_owed won room_won width =
     let v : View = s.seat.me.0 in
     let some' : 0 < length s.owed.items = subst (λ (xs : List ℕ). 0 < length xs) (sym seated.owed) some in
     record {
       free = slots ∙ seated.free;
       todo = todo ∙ seated.todo ∙ sym (ap (λ (u : View). u.has.todo) view);
-      owed = owed ∙ ap rest_of seated.owed ∙ sym (ap (λ (u : View). u.has.owed) view);
-      won = won ∙ ap (λ (p : List ℕ × List ℕ). cond (n == open_word) (p.0 ++ first_of p.1 ∷ []) p.0) (λ j. (seated.won j, seated.owed j)) ∙ sym (ap (λ (u : View). u.has.won) view);
+      owed = owed ∙ ap (drop 1) seated.owed ∙ sym (ap (λ (u : View). u.has.owed) view);
+      won = won ∙ ap (λ (p : List ℕ × List ℕ). cond (n == OPEN) (p.0 ++ first_of p.1 ∷ []) p.0) (λ j. (seated.won j, seated.owed j)) ∙ sym (ap (λ (u : View). u.has.won) view);
       width = width ∙ seated.width ∙ sym (ap (λ (u : View). u.has.width) view);
       due = subst (λ (u : View). (c : ℕ) → 0 < times c u.has.todo → IsDueIn u.key c) (sym view) seated.due;
       inside = subst (λ (u : View). (c : ℕ) → 0 < times c u.has.owed → c < size u.key) (sym view) (λ c there. seated.inside c (let r = times_rest c v.has.owed in omega arith));
@@ -65,16 +65,16 @@ claimed_seat s t n seated some view slots todo owed room_owed won room_won width
           (let l = length_rest s.owed.items some' in
           let space : most v.key * length t.todo.items ≡ most v.key * length s.todo.items = ap (λ (xs : List ℕ). most v.key * length xs) todo in
           let o = ap length owed in
-          let w : length t.won.items ≤ length s.won.items + 1 = dite (ℕ_discrete n open_word)
-          (λ e. let w = ap length won ∙ ap length (cond_same n open_word (s.won.items ++ first_of s.owed.items ∷ []) s.won.items e) ∙ one_longer (first_of s.owed.items) s.won.items in omega arith)
-          (λ ne. let w = ap length won ∙ ap length (cond_other n open_word (s.won.items ++ first_of s.owed.items ∷ []) s.won.items ne) in omega arith) in
+          let w : length t.won.items ≤ length s.won.items + 1 = dite (ℕ_discrete n OPEN)
+          (λ e. let w = ap length won ∙ ap length (cond_same n OPEN (s.won.items ++ first_of s.owed.items ∷ []) s.won.items e) ∙ one_longer (first_of s.owed.items) s.won.items in omega arith)
+          (λ ne. let w = ap length won ∙ ap length (cond_other n OPEN (s.won.items ++ first_of s.owed.items ∷ []) s.won.items ne) in omega arith) in
           room_less v.key (length s.won.items) (length s.owed.items) (length s.todo.items) (vec_capacity s.won) _ _ _ seated.room (omega arith) (omega arith));
     }
 
 -- the same after a strike, of a seat that owed nothing
 pub struck_seat : (s t : Inside) (n gap : ℕ) (k : Key) → IsSeated s → IsSolving k.solving → gap < gaps k.solving.board → s.seat.me.0.key ≡ k → 0 < length s.seat.me.0.has.todo → s.seat.me.0.has.owed ≡ []
     → t.seat.me.0 ≡ struck s.seat.me.0 gap n → t.seat.me.1 ≡ s.seat.me.1
-    → t.todo.items ≡ rest_of s.todo.items → t.owed.items ≡ (cond (n == 1) (s.owed.items ++ source k.solving gap) s.owed.items) → deque_capacity t.owed ≡ deque_capacity s.owed
+    → t.todo.items ≡ drop 1 s.todo.items → t.owed.items ≡ (cond (n == 1) (s.owed.items ++ source k.solving gap) s.owed.items) → deque_capacity t.owed ≡ deque_capacity s.owed
     → t.won.items ≡ s.won.items → vec_capacity t.won ≡ vec_capacity s.won → t.width ≡ s.width → IsSeated t
 struck_seat s t n gap k seated sol in_gaps knows some none_owed view slots todo owed room_owed won room_won width =
     let v : View = s.seat.me.0 in
@@ -87,7 +87,7 @@ struck_seat s t n gap k seated sol in_gaps knows some none_owed view slots todo 
     let own : List ℕ = source v.key.solving gap in
     record {
       free = slots ∙ seated.free;
-      todo = todo ∙ ap rest_of seated.todo ∙ sym (ap (λ (u : View). u.has.todo) view);
+      todo = todo ∙ ap (drop 1) seated.todo ∙ sym (ap (λ (u : View). u.has.todo) view);
       owed = owed ∙ ap (λ (p : List ℕ × List ℕ). cond (n == 1) (p.0 ++ p.1) p.0) (λ j. (seated.owed j, same j)) ∙ sym (ap (λ (u : View). u.has.owed) view);
       won = won ∙ seated.won ∙ sym (ap (λ (u : View). u.has.won) view);
       width = width ∙ seated.width ∙ sym (ap (λ (u : View). u.has.width) view);
@@ -104,7 +104,7 @@ struck_seat s t n gap k seated sol in_gaps knows some none_owed view slots todo 
       room_owed = subst (λ (u : View). most u.key ≤ deque_capacity t.owed) (sym view) (let r = seated.room_owed in omega arith);
       room = room_told t v.key (vec_capacity s.won) (ap (λ (u : View). u.key) view) room_won
           (let most' : most v.key ≡ most k = ap most knows in
-          let m : ℕ = length (rest_of s.todo.items) in
+          let m : ℕ = length (drop 1 s.todo.items) in
           let space : most v.key * length t.todo.items ≡ most v.key * m = ap (λ (xs : List ℕ). most v.key * length xs) todo in
           let before : most v.key * length s.todo.items ≡ most v.key + most v.key * m = ap (λ (i : ℕ). most v.key * i) l ∙ times_step (most v.key) m in
           let w = ap length won in

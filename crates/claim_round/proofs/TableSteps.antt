@@ -2,6 +2,7 @@
 use Rattle.std.proofs.Common.{◌≡◌, ◌≢◌, ℕ, zero, suc, ◌+◌, ◌-◌, ◌*◌, ◌%◌, ◌^◌, ◌<◌, ◌≤◌, Bool, true, false, eqb, List, [], ◌∷◌, ◌++◌, length, drop, set, get_or, refl, sym, ap, ◌∙◌, subst, inl, inr, arith}
 use Rattle.std.specs.Prelude.{slice_index}
 use Rattle.std.proofs.lemmas.List.{map-set, map_push, length-map, length-take, length-drop}
+use Rattle.std.specs.List.{flat_map}
 use mathlib.Core.Option.{none, some, some-ne-none, some-injective}
 use prog.Atomic.{either}
 use lib.ListN.{get_elem?}
@@ -13,12 +14,14 @@ use Rattle.positions.specs.Ranks.{configuration_at, configurations}
 use Rattle.positions.specs.Gaps.{gaps, gap_of, IsDominator}
 use Rattle.retro_core.specs.Solving.{Solving}
 use Rattle.retro_core.specs.Round.{PlainSeat, IsLawful, spent as spent_seat, first_of, seat_struck, seat_tried, seat_kept, seat_new}
-use Rattle.retro_core.specs.Round.{seat_joined, together, total_width}
-use Rattle.retro_core.specs.Inside.Words.{open_word, value_of_word, round_of_words}
-use Rattle.retro_core.proofs.Cited.{same_or_not, split-lawful, join-lawful, IsWordStruck, word-strike, word-try}
+use Rattle.retro_core.specs.Round.{seat_joined, total_width}
+use Rattle.retro_core.proofs.Cited.{same_or_not, split-lawful, join-lawful}
+use Rattle.claim_round.proofs.WordSteps.{IsWordStruck, word-strike, word-try}
 use Rattle.claim_round.specs.Shared.{Key, View, kept_part, new_part, joined}
 use Rattle.claim_round.specs.Inside.Shared.{Unit0, Kept, IsTraced, TableStrikes, Claims, Reads, Looks, IsBounded, seats_of, total, most, size}
 use Rattle.claim_round.specs.Inside.Shared.{load, struck, claimed, spent}
+use Rattle.claim_round.specs.declared.words.TheConstants.{OPEN}
+use Rattle.claim_round.specs.Inside.Words.{value_of_word, round_of_words}
 use Rattle.claim_round.proofs.Totals.{total_at, won_total, seat_read, get_elsewhere}
 use Rattle.claim_round.proofs.Traces.{traced_strike, traced_try, lost_of_win, lost_of_loss, traced_split, traced_join}
 
@@ -93,7 +96,7 @@ won_few k words views id v law at =
 
 pub claim_allowed : (k : Key) (slots id : ℕ) (me : Me Unit0 View) (i next : ℕ) → k.solving.rounds < configurations k.solving.board → 0 < me.0.has.width → 0 < length me.0.has.owed
     → i ≡ gaps k.solving.board + first_of me.0.has.owed → next ≡ suc k.solving.rounds
-    → Allows (Kept k) slots id me i (λ n. either (eqb n open_word) next n) (Claims (step slots i open_word next none) me)
+    → Allows (Kept k) slots id me i (λ n. either (eqb n OPEN) next n) (Claims (step slots i OPEN next none) me)
 claim_allowed k slots id me i next below wide some_owed here is_next s kept same at small =
     let n : ℕ = slice_index s.words i in
     let w : View = claimed me.0 n in
@@ -106,38 +109,38 @@ claim_allowed k slots id me i next below wide some_owed here is_next s kept same
     let read : get_or seats id spent_seat ≡ me.0.has = seat_read s.views id me.0 at in
     let knows : me.0.key ≡ k = kept.2.knows id me.0 at wide in
     let few = sol.few in
-    let not_open : r ≢ open_word = λ e. absurd (omega arith) in
+    let not_open : r ≢ OPEN = λ e. absurd (omega arith) in
     let first : first_of (get_or seats id spent_seat).owed ≡ c = ap (λ (v : PlainSeat). first_of v.owed) read in
     let is : slice_index s.words (G + c) ≡ n = ap (slice_index s.words) (sym here) in
     let P : ℕ → Type 0 = λ m. IsLawful (round_of_words k.solving k.width (set s.words i m) (seats_of (set s.views id w))) × IsTraced k (set s.words i m) (set s.views id w) in
     let elsewhere : (m g : ℕ) → g < G → slice_index (set s.words i m) g ≡ slice_index s.words g = λ m g j. other_word s.words i g m (omega arith) in
     let moved = word-try k.solving k.width s.words seats sol law id not_open (subst (λ (v : PlainSeat). 0 < length v.owed) (sym read) some_owed) in
-    let both : P (either (eqb n open_word) next n) = elim moved [
+    let both : P (either (eqb n OPEN) next n) = elim moved [
       | inl won ↦ (
-          let hit : n ≡ open_word = sym is ∙ ap (λ x. slice_index s.words (G + x)) (sym first) ∙ won.is_open in
+          let hit : n ≡ OPEN = sym is ∙ ap (λ x. slice_index s.words (G + x)) (sym first) ∙ won.is_open in
           let after : set seats id (seat_tried true (get_or seats id spent_seat)) ≡ seats_of (set s.views id w) =
-          ap (λ (v : PlainSeat). set seats id (seat_tried true v)) read ∙ ap (λ (o : Bool). set seats id (seat_tried o me.0.has)) (sym (same_is n open_word hit)) ∙ sym (map-set (λ (v : View). v.has) s.views id w) in
+          ap (λ (v : PlainSeat). set seats id (seat_tried true v)) read ∙ ap (λ (o : Bool). set seats id (seat_tried o me.0.has)) (sym (same_is n OPEN hit)) ∙ sym (map-set (λ (v : View). v.has) s.views id w) in
           let place : G + first_of (get_or seats id spent_seat).owed ≡ i = ap (λ x. G + x) first ∙ sym here in
           let lawful : IsLawful (round_of_words k.solving k.width (set s.words i next) (seats_of (set s.views id w))) =
           subst (λ (l : List PlainSeat). IsLawful (round_of_words k.solving k.width (set s.words i next) l)) after
           (subst (λ m. IsLawful (round_of_words k.solving k.width (set s.words i m) (set seats id (seat_tried true (get_or seats id spent_seat))))) (sym is_next)
           (subst (λ j. IsLawful (round_of_words k.solving k.width (set s.words j r) (set seats id (seat_tried true (get_or seats id spent_seat))))) place won.lawful)) in
           let traced = traced_try k s.words s.views kept.2 id me.0 at wide (set s.words i next) (elsewhere next) n (lost_of_win k s.words s.views kept.2 id me.0 at wide (set s.words i next) (elsewhere next) n hit) in
-          exchanged n open_word next P (λ _. (lawful, traced)) (λ miss. absurd (miss hit)))
+          exchanged n OPEN next P (λ _. (lawful, traced)) (λ miss. absurd (miss hit)))
       | inr lost ↦ (
           let word : n ≡ r = sym is ∙ ap (λ x. slice_index s.words (G + x)) (sym first) ∙ lost.has_next in
-          let miss : n ≢ open_word = λ e. not_open (sym word ∙ e) in
+          let miss : n ≢ OPEN = λ e. not_open (sym word ∙ e) in
           let after : set seats id (seat_tried false (get_or seats id spent_seat)) ≡ seats_of (set s.views id w) =
-          ap (λ (v : PlainSeat). set seats id (seat_tried false v)) read ∙ ap (λ (o : Bool). set seats id (seat_tried o me.0.has)) (sym (differ_is n open_word miss)) ∙ sym (map-set (λ (v : View). v.has) s.views id w) in
+          ap (λ (v : PlainSeat). set seats id (seat_tried false v)) read ∙ ap (λ (o : Bool). set seats id (seat_tried o me.0.has)) (sym (differ_is n OPEN miss)) ∙ sym (map-set (λ (v : View). v.has) s.views id w) in
           let words_same : s.words ≡ set s.words i n = sym (put_back s.words i) in
           let lawful : IsLawful (round_of_words k.solving k.width (set s.words i n) (seats_of (set s.views id w))) =
           subst (λ (l : List ℕ). IsLawful (round_of_words k.solving k.width l (seats_of (set s.views id w)))) words_same
           (subst (λ (l : List PlainSeat). IsLawful (round_of_words k.solving k.width s.words l)) after lost.lawful) in
-          let stands : 0 < total (λ u. times c u.has.won) s.views = subst (λ m. 0 < m) (won_total c s.views) (subst (λ x. 0 < times x (together (λ seat. seat.won) seats)) first lost.stands) in
+          let stands : 0 < total (λ u. times c u.has.won) s.views = subst (λ m. 0 < m) (won_total c s.views) (subst (λ x. 0 < times x (flat_map (λ seat. seat.won) seats)) first lost.stands) in
           let traced = traced_try k s.words s.views kept.2 id me.0 at wide (set s.words i n) (elsewhere n) n (lost_of_loss k s.words s.views kept.2 id me.0 at wide (set s.words i n) (elsewhere n) n miss stands) in
-          exchanged n open_word next P (λ hit. absurd (miss hit)) (λ _. (lawful, traced)))
+          exchanged n OPEN next P (λ hit. absurd (miss hit)) (λ _. (lawful, traced)))
     ] in
-    let bounded = won_few k (set s.words i (either (eqb n open_word) next n)) (set s.views id w) id w both.0 (set_there s.views id me.0 w at) in
+    let bounded = won_few k (set s.words i (either (eqb n OPEN) next n)) (set s.views id w) id w both.0 (set_there s.views id me.0 w at) in
     (w, keeps, tt, (sol, both.0, both.1), (refl, refl, subst (λ (q : Key). length w.has.won ≤ size q) (sym knows) bounded.1))
   where
     other_word : (words : List ℕ) (i g m : ℕ) → g < i → slice_index (set words i m) g ≡ slice_index words g
@@ -206,23 +209,23 @@ pub read_allowed : (k : Key) (slots id : ℕ) (me : Me Unit0 View) (i : ℕ) →
     → i ≡ gaps k.solving.board + first_of me.0.has.owed → Allows (Kept k) slots id me i (λ n. n) (Reads (step slots i 0 0 none) me)
 read_allowed k slots id me i below wide some_owed here s kept same at small =
     let n : ℕ = slice_index s.words i in
-    elim (same_or_not n open_word) [
+    elim (same_or_not n OPEN) [
       | inl hit ↦ (
           let look = look_allowed k slots id me i wide s kept same at small in
-          let stays = ap (λ (m : Me Unit0 View). m.0) look.4.0 ∙ sym (cond_same n open_word me.0 (claimed me.0 n) hit) in
+          let stays = ap (λ (m : Me Unit0 View). m.0) look.4.0 ∙ sym (cond_same n OPEN me.0 (claimed me.0 n) hit) in
           (look.0, look.1, look.2, look.3, (stays, ap (λ (m : Me Unit0 View). m.1) look.4.0)))
       | inr miss ↦ (
           let next : ℕ = suc k.solving.rounds in
           let lost = claim_allowed k slots id me i next below wide some_owed here refl s kept same at small in
-          let as_it_was : either (eqb n open_word) next n ≡ n = exchanged n open_word next (λ m. m ≡ n) (λ hit. absurd (miss hit)) (λ _. refl) in (
+          let as_it_was : either (eqb n OPEN) next n ≡ n = exchanged n OPEN next (λ m. m ≡ n) (λ hit. absurd (miss hit)) (λ _. refl) in (
             lost.0,
             lost.1,
             lost.2,
             subst (λ m. Kept k (stepped s i m id me.1 lost.0 lost.1)) as_it_was lost.3,
-            (lost.4.0 ∙ sym (cond_other n open_word me.0 (claimed me.0 n) miss), lost.4.1),
+            (lost.4.0 ∙ sym (cond_other n OPEN me.0 (claimed me.0 n) miss), lost.4.1),
           ))
     ]
 
 -- what has no value is left as it was
-pub read_open : (m m' : Me Unit0 View) (n : ℕ) → Reads (step 0 0 0 0 none) m n m' → n ≡ open_word → m' ≡ m
-read_open m m' n reads hit j = ((reads.0 ∙ cond_same n open_word m.0 (claimed m.0 n) hit) j, reads.1 j)
+pub read_open : (m m' : Me Unit0 View) (n : ℕ) → Reads (step 0 0 0 0 none) m n m' → n ≡ OPEN → m' ≡ m
+read_open m m' n reads hit j = ((reads.0 ∙ cond_same n OPEN m.0 (claimed m.0 n) hit) j, reads.1 j)

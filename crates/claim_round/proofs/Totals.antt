@@ -1,10 +1,11 @@
 -- Sums over the views, and how they change where one view changes.
 use Rattle.std.proofs.Common.{◌≡◌, ◌≢◌, ℕ, zero, suc, ◌+◌, ◌<◌, ◌≤◌, List, [], ◌∷◌, ◌++◌, set, get_or, refl, sym, ap, subst, arith}
+use Rattle.std.specs.List.{flat_map}
 use mathlib.Core.Option.{some, some-ne-none, some-injective}
 use lib.ListN.{get_elem?}
 use Rattle.index_lists.specs.Lists.{times}
 use Rattle.index_lists.proofs.Cited.{times-append}
-use Rattle.retro_core.specs.Round.{spent as spent_seat, together}
+use Rattle.retro_core.specs.Round.{spent as spent_seat}
 use Rattle.claim_round.specs.Shared.{Key, View}
 use Rattle.claim_round.specs.Inside.Shared.{total, seats_of}
 
@@ -43,9 +44,9 @@ total_glue f views id other v u a b at there e =
     omega arith
 
 -- what all have won, counted
-pub won_total : (x : ℕ) (views : List View) → times x (together (λ seat. seat.won) (seats_of views)) ≡ total (λ v. times x v.has.won) views
+pub won_total : (x : ℕ) (views : List View) → times x (flat_map (λ seat. seat.won) (seats_of views)) ≡ total (λ v. times x v.has.won) views
 won_total x [] = refl
-won_total x (v ∷ views) = let r = won_total x views in let s = times-append x v.has.won (together (λ seat. seat.won) (seats_of views)) in omega arith
+won_total x (v ∷ views) = let r = won_total x views in let s = times-append x v.has.won (flat_map (λ seat. seat.won) (seats_of views)) in omega arith
 
 -- the seat of a view
 pub seat_read : (views : List View) (id : ℕ) (v : View) → get_elem? views id ≡ some v → get_or (seats_of views) id spent_seat ≡ v.has

@@ -8,10 +8,10 @@ use Rattle.index_lists.proofs.Cited.{cond_same, cond_other, times-append, times-
 use Rattle.positions.specs.Gaps.{gaps}
 use Rattle.retro_core.specs.Solving.{IsSolving, source}
 use Rattle.retro_core.specs.Round.{first_of}
-use Rattle.retro_core.specs.Inside.Words.{open_word}
 use Rattle.retro_core.proofs.Cited.{same_or_not, times_here}
 use Rattle.claim_round.specs.Shared.{Key, View, kept_part, new_part, joined}
 use Rattle.claim_round.specs.Inside.Shared.{total, most, size, load, IsTraced, struck, claimed, spent}
+use Rattle.claim_round.specs.declared.words.TheConstants.{OPEN}
 use Rattle.claim_round.proofs.Totals.{total_set, total_at, total_cut, total_glue, won_total, knows_set, knows_push}
 use Rattle.claim_round.proofs.Loads.{few_members, load_struck, load_claimed, load_cut, load_glue}
 
@@ -124,24 +124,24 @@ module _ (k : Key) (words : List ℕ) (views : List View) (traced : IsTraced k w
           omega arith;
     }
 
-    pub lost_of_win : n ≡ open_word → (x : ℕ) → 0 < total (λ u. times x u.lost) (set views id tried) → 0 < total (λ u. times x u.has.won) (set views id tried)
+    pub lost_of_win : n ≡ OPEN → (x : ℕ) → 0 < total (λ u. times x u.lost) (set views id tried) → 0 < total (λ u. times x u.has.won) (set views id tried)
     lost_of_win e x h =
         let s = total_set (λ u. times x u.lost) views id v tried at in
         let w = total_set (λ u. times x u.has.won) views id v tried at in
-        let l : times x tried.lost ≡ times x v.lost = ap (times x) (cond_same n open_word v.lost (v.lost ++ first_of v.has.owed ∷ []) e) in
+        let l : times x tried.lost ≡ times x v.lost = ap (times x) (cond_same n OPEN v.lost (v.lost ++ first_of v.has.owed ∷ []) e) in
         let o : times x tried.has.won ≡ times x v.has.won + times x (first_of v.has.owed ∷ []) =
-        ap (times x) (cond_same n open_word (v.has.won ++ first_of v.has.owed ∷ []) v.has.won e) ∙ times-append x v.has.won (first_of v.has.owed ∷ []) in
+        ap (times x) (cond_same n OPEN (v.has.won ++ first_of v.has.owed ∷ []) v.has.won e) ∙ times-append x v.has.won (first_of v.has.owed ∷ []) in
         let old = lost_won x (omega arith) in
         omega arith
 
-    pub lost_of_loss : n ≢ open_word → 0 < total (λ u. times (first_of v.has.owed) u.has.won) views
+    pub lost_of_loss : n ≢ OPEN → 0 < total (λ u. times (first_of v.has.owed) u.has.won) views
         → (x : ℕ) → 0 < total (λ u. times x u.lost) (set views id tried) → 0 < total (λ u. times x u.has.won) (set views id tried)
     lost_of_loss ne stands x h =
         let c : ℕ = first_of v.has.owed in
         let s = total_set (λ u. times x u.lost) views id v tried at in
         let w = total_set (λ u. times x u.has.won) views id v tried at in
-        let l : times x tried.lost ≡ times x v.lost + times x (c ∷ []) = ap (times x) (cond_other n open_word v.lost (v.lost ++ c ∷ []) ne) ∙ times-append x v.lost (c ∷ []) in
-        let o : times x tried.has.won ≡ times x v.has.won = ap (times x) (cond_other n open_word (v.has.won ++ c ∷ []) v.has.won ne) in
+        let l : times x tried.lost ≡ times x v.lost + times x (c ∷ []) = ap (times x) (cond_other n OPEN v.lost (v.lost ++ c ∷ []) ne) ∙ times-append x v.lost (c ∷ []) in
+        let o : times x tried.has.won ≡ times x v.has.won = ap (times x) (cond_other n OPEN (v.has.won ++ c ∷ []) v.has.won ne) in
         elim (same_or_not c x) [
           | inl e ↦ (let there = subst (λ y. 0 < total (λ u. times y u.has.won) views) e stands in omega arith)
           | inr other ↦ (let z = none_of c x other in let old = lost_won x (omega arith) in omega arith)

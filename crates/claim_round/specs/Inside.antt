@@ -4,3 +4,4 @@ pub mod Openings
 pub mod Rounds
 pub mod Seats
 pub mod Shared
+pub mod Words

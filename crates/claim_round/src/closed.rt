@@ -2,6 +2,7 @@
 
 ghost use Rattle.std.specs.Prelude.{◌≡◌, ◌<◌, length, slice_index, slice_index_or, None};
 
+use crate::words::OPEN;
 use atomic_table::Closed as Rows;
 use retro_core::RoundEnd;
 use std::alloc::Global;
@@ -48,7 +49,7 @@ impl Closed {
         ensures { result ≡ slice_index_or self.now.values rank None }
     {
         let word = self.rows.word(self.gaps + rank as usize);
-        if word == u64::MAX {
+        if word == OPEN {
             None
         } else {
             Some(word as u32)

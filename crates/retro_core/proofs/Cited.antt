@@ -5,8 +5,8 @@ pub use Rattle.retro_core.proofs.LastingRanks.{same_or_not}
 pub use Rattle.retro_core.proofs.OwedWalks.{IsOwing}
 pub use Rattle.retro_core.proofs.RoundLaws.{source-once, source-rank}
 pub use Rattle.retro_core.proofs.DominatedRanks.{dominated-tells}
-pub use Rattle.retro_core.proofs.RoundSteps.{join-lawful, opening-lawful, split-lawful, worked-off}
-pub use Rattle.retro_core.proofs.SharedSteps.{IsWordStruck, word-strike, word-try}
+pub use Rattle.retro_core.proofs.RoundSteps.{join-lawful, opening-lawful, split-lawful, strike-lawful, try-lawful, worked-off}
 pub use Rattle.retro_core.proofs.Lending.{solver_sync}
 pub use Rattle.retro_core.proofs.SeatSteps.{split_first, times_here}
 pub use Rattle.retro_core.proofs.SeatSums.{times-cut, times-together}
+pub use Rattle.retro_core.proofs.Rules.{total}

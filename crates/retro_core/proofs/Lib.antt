@@ -18,7 +18,6 @@ pub mod RoundLaws
 pub mod RoundSteps
 pub mod OwedWalks
 pub mod Machine
-pub mod SharedSteps
 pub mod Lending
 pub mod FiledRanks
 pub mod DominatedRanks

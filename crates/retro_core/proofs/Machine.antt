@@ -7,9 +7,8 @@ use Rattle.positions.specs.Ranks.{configuration_at}
 use Rattle.positions.specs.Gaps.{gap_of, IsDominator}
 use Rattle.positions.specs.Counts.{IsSmallest}
 use Rattle.retro_core.specs.Solving.{Solving, IsSolving}
-use Rattle.retro_core.specs.Round.{PlainSeat, Round, spent, seat_at, IsDue, IsLawful, first_of, seat_struck, seat_tried, seat_kept}
+use Rattle.retro_core.specs.Round.{PlainSeat, Round, spent, seat_at, IsDue, IsLawful, first_of, seat_struck, seat_tried, seat_kept, round_of}
 use Rattle.retro_core.specs.Round.{seat_new, seat_joined, struck, first_is_open, tried}
-use Rattle.retro_core.specs.Inside.Words.{round_of}
 use Rattle.retro_core.specs.declared.step.Step.TheVariants as steps
 use Rattle.retro_core.specs.declared.step.StepFault.TheVariants as faults
 use Rattle.retro_core.specs.Stepping.{Strikes, Tries, Splits, Joins, ClosesGap, Refuses}

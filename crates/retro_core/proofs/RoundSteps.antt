@@ -1,7 +1,8 @@
 -- Each step leads from a lawful round to a lawful one; the opening is lawful; and at the end all of the next value is won.
-use Rattle.std.proofs.Common.{◌≡◌, ◌≢◌, ◌⊎◌, ℕ, suc, ◌-◌, ◌<◌, ◌≤◌, Bool, true, false, cond, List, [], ◌∷◌, length, set, refl, sym, ap, ◌∙◌, inl, inr, subst, arith, Option, Some, None, get_or, slice_index, length-set, get_or-set_same, get_or-set_other}
+use Rattle.std.proofs.Common.{drop, ◌≡◌, ◌≢◌, ◌⊎◌, ℕ, suc, ◌-◌, ◌<◌, ◌≤◌, Bool, true, false, cond, List, [], ◌∷◌, length, set, refl, sym, ap, ◌∙◌, inl, inr, subst, arith, Option, Some, None, get_or, slice_index, length-set, get_or-set_same, get_or-set_other}
 use Rattle.std.specs.Option.{is_none}
 use Rattle.std.proofs.lemmas.Bool.{cases_lt}
+use Rattle.std.specs.List.{flat_map}
 use Rattle.index_lists.specs.Lists.{times}
 use Rattle.board_text.specs.PlainBoard.{IsBoard}
 use Rattle.positions.specs.Game.{LabellerTree}
@@ -11,10 +12,9 @@ use Rattle.positions.proofs.Cited.{same_size, size_zero, configuration_at_is, ga
 use Rattle.retro_core.specs.Inside.Arena.{live, lasts}
 use Rattle.retro_core.specs.Inside.BoardArena.{arena_of}
 use Rattle.retro_core.specs.Solving.{Solving, IsSolving, AnswerLasts}
-use Rattle.retro_core.specs.Round.{PlainSeat, Round, spent, seat_at, together, all_todo, all_owed, all_won, IsDue, IsLawful, AreToStrike}
-use Rattle.retro_core.specs.Round.{AreFirstCounts, AreFirstValues, opening, IsOpening, IsWorkedOff, HasWonAll, first_of, rest_of}
+use Rattle.retro_core.specs.Round.{PlainSeat, Round, spent, seat_at, all_todo, all_owed, all_won, IsDue, IsLawful, AreToStrike, round_of}
+use Rattle.retro_core.specs.Round.{AreFirstCounts, AreFirstValues, opening, IsOpening, IsWorkedOff, HasWonAll, first_of}
 use Rattle.retro_core.specs.Round.{seat_tried, struck, first_is_open, tried, split, joined}
-use Rattle.retro_core.specs.Inside.Words.{round_of}
 use Rattle.retro_core.specs.declared.step.Step.{Step}
 use Rattle.retro_core.specs.declared.step.Step.TheVariants as steps
 use Rattle.retro_core.specs.declared.step.Seen.{Seen}
@@ -52,7 +52,7 @@ first-due round law id some =
     let c : ℕ = first_of v.todo in
     let at = seat-there round.seats id (wide-todo round law id some) in
     let part = total-at (λ (u : PlainSeat). times c u.todo) round.seats id v at in
-    let here = ap (times c) (split_first v.todo some) ∙ times_here c (rest_of v.todo) in
+    let here = ap (times c) (split_first v.todo some) ∙ times_here c (drop 1 v.todo) in
     let all = times-together c (λ u. u.todo) round.seats in
     law.due c (omega arith)
 
@@ -170,7 +170,7 @@ opening-lawful s sol width counts values todo some_width counts_length values_le
 
 -- ---- the end
 
-none-together : (list : PlainSeat → List ℕ) → list spent ≡ [] → (seats : List PlainSeat) → ((id : ℕ) → list (get_or seats id spent) ≡ []) → (x : ℕ) → times x (together list seats) ≡ 0
+none-together : (list : PlainSeat → List ℕ) → list spent ≡ [] → (seats : List PlainSeat) → ((id : ℕ) → list (get_or seats id spent) ≡ []) → (x : ℕ) → times x (flat_map list seats) ≡ 0
 none-together list none seats each x = times-together x list seats ∙ by seats each
   where
     by : (seats : List PlainSeat) → ((id : ℕ) → list (get_or seats id spent) ≡ []) → total (λ v. times x (list v)) seats ≡ 0

@@ -1,8 +1,8 @@
 -- Each step of a round keeps its rules.
-use Rattle.std.proofs.Common.{◌≡◌, ◌≢◌, ◌⊎◌, ℕ, zero, suc, ◌+◌, ◌-◌, ◌/◌, ◌<◌, ◌≤◌, ◌==◌, true, false, cond, List, [], ◌∷◌, ◌++◌, length, set, refl, sym, ap, ◌∙◌, inl, inr, subst, arith, Option, Some, None, slice_get}
+use Rattle.std.proofs.Common.{drop, ◌≡◌, ◌≢◌, ◌⊎◌, ℕ, zero, suc, ◌+◌, ◌-◌, ◌/◌, ◌<◌, ◌≤◌, ◌==◌, true, false, cond, List, [], ◌∷◌, ◌++◌, length, set, refl, sym, ap, ◌∙◌, inl, inr, subst, arith, Option, Some, None, slice_get}
 use Rattle.index_lists.specs.Lists.{times}
 use Rattle.index_lists.proofs.Cited.{cond_same, cond_other, times-append}
-use Rattle.retro_core.specs.Round.{PlainSeat, spent, first_of, rest_of, seat_tried, seat_kept, seat_new, seat_joined}
+use Rattle.retro_core.specs.Round.{PlainSeat, spent, first_of, seat_tried, seat_kept, seat_new, seat_joined}
 use Rattle.retro_core.proofs.Rules.{Rules, tally, total, IsStruckIn, IsToWin, word_of, held_in, AreSound, AreReadyLists, AreKept}
 use Rattle.retro_core.proofs.LastingRanks.{same_or_not}
 use Rattle.retro_core.proofs.SeatSums.{same_seat, no_seat, total-set, total-at, total-le, total-cut, total-glue, times-cut, tally-append, tally-cut}
@@ -17,7 +17,7 @@ pub times_here : (x : ℕ) (xs : List ℕ) → times x (x ∷ xs) ≡ 1 + times 
 times_here x xs = let h = one_if x x refl in omega arith
 
 -- the first and the rest
-pub split_first : (xs : List ℕ) → 0 < length xs → xs ≡ first_of xs ∷ rest_of xs
+pub split_first : (xs : List ℕ) → 0 < length xs → xs ≡ first_of xs ∷ drop 1 xs
 split_first [] h = absurd (omega arith)
 split_first (x ∷ xs) h = refl
 
@@ -52,7 +52,7 @@ one_more x c xs = let r = times-append x xs (c ∷ []) in omega arith
 abbrev pub seat_after : Rules → ℕ → PlainSeat → PlainSeat
 seat_after k n v = record {
   width = v.width;
-  todo = rest_of v.todo;
+  todo = drop 1 v.todo;
   owed = cond (n == 1) (v.owed ++ k.opens (k.home (first_of v.todo))) v.owed;
   won = v.won;
 }
@@ -78,7 +78,7 @@ pub strikes : (k : Rules) (count : ℕ → ℕ) (value : ℕ → Option ℕ) (se
     → ((g : ℕ) → g < k.gaps → g ≢ k.home (first_of v.todo) → count' g ≡ count g) → AreStruck k count value seats id v count'
 strikes k count value seats id v count' law at wide some_todo here elsewhere =
     let c : ℕ = first_of v.todo in
-    let more : List ℕ = rest_of v.todo in
+    let more : List ℕ = drop 1 v.todo in
     let g : ℕ = k.home c in
     let n : ℕ = count g in
     let w : PlainSeat = seat_after k n v in
@@ -162,7 +162,7 @@ module _ (k : Rules) (count : ℕ → ℕ) (value : ℕ → Option ℕ) (seats :
   c : ℕ
   c = first_of v.owed
 
-  owed_cut : (x : ℕ) → times x v.owed ≡ cond (first_of v.owed == x) 1 0 + times x (rest_of v.owed)
+  owed_cut : (x : ℕ) → times x v.owed ≡ cond (first_of v.owed == x) 1 0 + times x (drop 1 v.owed)
   owed_cut x = ap (times x) (split_first v.owed some_owed)
 
   pub first-next : IsToWin k (first_of v.owed)

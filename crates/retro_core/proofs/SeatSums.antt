@@ -1,8 +1,9 @@
 -- Sums over seats, and how they change where one seat changes.
 use Rattle.std.proofs.Common.{◌≡◌, ◌≢◌, ℕ, zero, suc, ◌+◌, ◌≤◌, List, [], ◌∷◌, ◌++◌, take, drop, set, refl, sym, ap, subst, arith, Option, Some, None, slice_get}
+use Rattle.std.specs.List.{flat_map}
 use Rattle.index_lists.specs.Lists.{times}
 use Rattle.index_lists.proofs.Cited.{times-append}
-use Rattle.retro_core.specs.Round.{PlainSeat, together, total_width}
+use Rattle.retro_core.specs.Round.{PlainSeat, total_width}
 use Rattle.retro_core.proofs.Rules.{tally, total}
 
 pub same_seat : (v w : PlainSeat) → Some v ≡ Some w → v ≡ w
@@ -68,14 +69,14 @@ tally-cut home g (suc n) [] = refl
 tally-cut home g (suc n) (y ∷ xs) = let r = tally-cut home g n xs in omega arith
 
 -- what is counted in lists one after the other
-pub times-together : (x : ℕ) (list : PlainSeat → List ℕ) (seats : List PlainSeat) → times x (together list seats) ≡ total (λ v. times x (list v)) seats
+pub times-together : (x : ℕ) (list : PlainSeat → List ℕ) (seats : List PlainSeat) → times x (flat_map list seats) ≡ total (λ v. times x (list v)) seats
 times-together x list [] = refl
 times-together x list (v ∷ seats) =
-    let r = times-together x list seats in let s = times-append x (list v) (together list seats) in omega arith
+    let r = times-together x list seats in let s = times-append x (list v) (flat_map list seats) in omega arith
 
-pub tally-together : (home : ℕ → ℕ) (g : ℕ) (list : PlainSeat → List ℕ) (seats : List PlainSeat) → tally home g (together list seats) ≡ total (λ v. tally home g (list v)) seats
+pub tally-together : (home : ℕ → ℕ) (g : ℕ) (list : PlainSeat → List ℕ) (seats : List PlainSeat) → tally home g (flat_map list seats) ≡ total (λ v. tally home g (list v)) seats
 tally-together home g list [] = refl
-tally-together home g list (v ∷ seats) = let r = tally-together home g list seats in let s = tally-append home g (list v) (together list seats) in omega arith
+tally-together home g list (v ∷ seats) = let r = tally-together home g list seats in let s = tally-append home g (list v) (flat_map list seats) in omega arith
 
 pub width-total : (seats : List PlainSeat) → total_width seats ≡ total (λ v. v.width) seats
 width-total [] = refl

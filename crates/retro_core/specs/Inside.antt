@@ -7,4 +7,3 @@ pub mod SourceWalk
 pub mod Stage
 pub mod Stored
 pub mod Tables
-pub mod Words

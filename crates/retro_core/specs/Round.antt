@@ -2,6 +2,7 @@
 use Rattle.std.specs.Prelude.{◌≡◌, ℕ, suc, ◌+◌, ◌-◌, ◌/◌, ◌<◌, ◌≤◌, ◌↔◌, ◌⊎◌, ◌==◌, Bool, true, cond, List, [], ◌∷◌, ◌++◌, length, take}
 use Rattle.std.specs.Prelude.{drop, filter, slice_index, slice_index_or, slice_set, Option, Some, None}
 use Rattle.std.specs.Option.{is_none}
+use Rattle.std.specs.List.{flat_map}
 use Rattle.index_lists.specs.Lists.{times}
 use Rattle.board_text.specs.PlainBoard.{PlainBoard, places}
 use Rattle.positions.specs.declared.value.Value.TheVariants.{Finite}
@@ -27,6 +28,10 @@ pub record Round : Type 0 where
   pub values : List (Option ℕ)
   pub seats : List PlainSeat
 
+-- the round of these parts
+abbrev pub round_of : Solving → ℕ → List ℕ → List (Option ℕ) → List PlainSeat → Round
+round_of s width counts values seats = record { solving = s; width = width; counts = counts; values = values; seats = seats }
+
 -- a seat that was joined into another
 abbrev pub spent : PlainSeat
 spent = record { width = 0; todo = []; owed = []; won = [] }
@@ -35,22 +40,17 @@ spent = record { width = 0; todo = []; owed = []; won = [] }
 abbrev pub seat_at : Round → ℕ → PlainSeat
 seat_at round seat = slice_index_or round.seats seat spent
 
--- a list of each seat, one after the other
-abbrev pub together : (PlainSeat → List ℕ) → List PlainSeat → List ℕ
-together list [] = []
-together list (seat ∷ seats) = list seat ++ together list seats
-
 -- what all seats have to strike
 abbrev pub all_todo : Round → List ℕ
-all_todo round = together (λ seat. seat.todo) round.seats
+all_todo round = flat_map (λ seat. seat.todo) round.seats
 
 -- what all seats owe
 abbrev pub all_owed : Round → List ℕ
-all_owed round = together (λ seat. seat.owed) round.seats
+all_owed round = flat_map (λ seat. seat.owed) round.seats
 
 -- what all seats have won
 abbrev pub all_won : Round → List ℕ
-all_won round = together (λ seat. seat.won) round.seats
+all_won round = flat_map (λ seat. seat.won) round.seats
 
 -- the widths, added up
 abbrev pub total_width : List PlainSeat → ℕ
@@ -120,13 +120,7 @@ AreFirstValues s values = (rank value : ℕ) → rank < configurations s.board
 
 -- the round with one seat, which has the whole width and all to strike
 abbrev pub opening : Solving → ℕ → List ℕ → List (Option ℕ) → List ℕ → Round
-opening s width counts values ranks = record {
-  solving = s;
-  width = width;
-  counts = counts;
-  values = values;
-  seats = record { width = width; todo = ranks; owed = []; won = [] } ∷ [];
-}
+opening s width counts values ranks = round_of s width counts values (record { width = width; todo = ranks; owed = []; won = [] } ∷ [])
 
 -- one seat has the whole width and all to strike, and nothing is owed or won
 pub record IsOpening (s : Solving) (width : ℕ) (round : Round) : Type 0 where
@@ -148,17 +142,13 @@ HasWonAll round = (rank : ℕ) → (times rank (all_won round) ≤ 1) × ((0 < t
 abbrev pub first_of : List ℕ → ℕ
 first_of ranks = slice_index ranks 0
 
--- what stands behind the first of a list
-abbrev pub rest_of : List ℕ → List ℕ
-rest_of ranks = drop 1 ranks
-
 -- the seat after it struck in a gap of this count: with the last, the open members of the gap are owed
 abbrev pub seat_struck : Solving → ℕ → ℕ → PlainSeat → PlainSeat
-seat_struck s gap count seat = record seat { todo = rest_of seat.todo; owed = cond (count == 1) (seat.owed ++ source s gap) seat.owed }
+seat_struck s gap count seat = record seat { todo = drop 1 seat.todo; owed = cond (count == 1) (seat.owed ++ source s gap) seat.owed }
 
 -- the seat after it tried to win the first that it owes
 abbrev pub seat_tried : Bool → PlainSeat → PlainSeat
-seat_tried is_open seat = record seat { owed = rest_of seat.owed; won = cond is_open (seat.won ++ first_of seat.owed ∷ []) seat.won }
+seat_tried is_open seat = record seat { owed = drop 1 seat.owed; won = cond is_open (seat.won ++ first_of seat.owed ∷ []) seat.won }
 
 -- what a seat keeps of a split
 abbrev pub seat_kept : PlainSeat → PlainSeat

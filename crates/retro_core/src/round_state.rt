@@ -4,7 +4,7 @@ ghost use Rattle.std.specs.Prelude.{◌≡◌, ℕ, ◌+◌, ◌<◌, ◌≤◌,
 ghost use Rattle.positions.specs.Ranks.{configurations};
 ghost use Rattle.positions.specs.Gaps.{gaps};
 ghost use Rattle.retro_core.specs.Solving.{IsSolving, bucket};
-ghost use Rattle.retro_core.specs.Round.{seat_at, spent, AreFirstCounts, AreFirstValues, AreToStrike, IsOpening, IsLawful};
+ghost use Rattle.retro_core.specs.Round.{seat_at, spent, AreFirstCounts, AreFirstValues, AreToStrike, IsOpening, IsLawful, round_of};
 ghost use Rattle.retro_core.specs.Stepping.{Does, Refuses};
 
 use crate::seat::Seat;
@@ -32,8 +32,7 @@ pub struct RoundState<'a, S: ListStore> {
 
 impl<'a, S: ListStore> Model for RoundState<'a, S> {
     ghost use Rattle.retro_core.specs.Solving.{IsSolving};
-    ghost use Rattle.retro_core.specs.Round.{Round, IsLawful};
-    ghost use Rattle.retro_core.specs.Inside.Words.{round_of};
+    ghost use Rattle.retro_core.specs.Round.{Round, IsLawful, round_of};
 
     ghost Value = { Round };
 

@@ -1,9 +1,10 @@
 -- What a closed round's fields are, beside what a clause sees of it.
 use Rattle.std.specs.Prelude.{◌≡◌, ◌⊎◌, ℕ, ◌^◌, ◌<◌, ◌≤◌, List, map, take, drop, slice_index}
 use Rattle.std.specs.Slots.{slots_items, slots_len, IsFull}
-use Rattle.retro_core.specs.Inside.Words.{open_word, value_of_word}
 use Rattle.claim_round.specs.Shared.{Ended}
 use Rattle.claim_round.specs.declared.closed.Closed.TheInside.{Inside}
+use Rattle.claim_round.specs.declared.words.TheConstants.{OPEN}
+use Rattle.claim_round.specs.Inside.Words.{value_of_word}
 
 -- the words of a closed table
 abbrev pub words_of : Inside → List ℕ
@@ -20,4 +21,4 @@ pub record IsEnd (s : Inside) : Type 0 where
   pub gaps : s.gaps ≤ slots_len s.rows.words
   pub counts : (g : ℕ) → g < s.gaps → slice_index (words_of s) g < 2 ^ 32
   pub values : (i : ℕ) → s.gaps ≤ i → i < slots_len s.rows.words
-      → (slice_index (words_of s) i ≡ open_word) ⊎ (slice_index (words_of s) i < 2 ^ 32)
+      → (slice_index (words_of s) i ≡ OPEN) ⊎ (slice_index (words_of s) i < 2 ^ 32)

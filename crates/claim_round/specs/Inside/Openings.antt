@@ -6,7 +6,7 @@ use Rattle.positions.specs.Ranks.{configuration_at}
 use Rattle.positions.specs.Gaps.{gaps}
 use Rattle.positions.specs.Counts.{HasSize}
 use Rattle.retro_core.specs.Solving.{Solving, AnswerLasts}
-use Rattle.retro_core.specs.Inside.Words.{value_of_word}
+use Rattle.claim_round.specs.Inside.Words.{value_of_word}
 
 -- the counts of so many gaps
 pub record HasCounts (s : Solving) (words : List ℕ) (count : ℕ) : Type 0 where

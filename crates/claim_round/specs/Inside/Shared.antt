@@ -1,6 +1,7 @@
 -- What this crate's own functions say beside `Shared`.
 use Rattle.std.specs.Prelude.{◌≡◌, ℕ, ◌+◌, ◌*◌, ◌<◌, ◌≤◌, ◌==◌, Bool, cond, List, [], ◌∷◌, ◌++◌, length, map, filter}
 use Rattle.std.specs.Prelude.{slice_index}
+use Rattle.std.specs.List.{flat_map}
 use Rattle.atomic_table.specs.Table.{State, Me, Step}
 use mathlib.Core.Option.{some}
 use lib.ListN.{get_elem?}
@@ -9,11 +10,12 @@ use Rattle.index_lists.specs.Lists.{times}
 use Rattle.positions.specs.Ranks.{configurations}
 use Rattle.positions.specs.Gaps.{gaps}
 use Rattle.retro_core.specs.Solving.{IsSolving, AnswerLasts, bucket}
-use Rattle.retro_core.specs.Round.{PlainSeat, IsDue, IsLawful, spent as spent_seat, together, first_of, seat_struck, seat_tried}
-use Rattle.retro_core.specs.Inside.Words.{open_word, round_of_words}
+use Rattle.retro_core.specs.Round.{PlainSeat, IsDue, IsLawful, spent as spent_seat, first_of, seat_struck, seat_tried}
 use Rattle.retro_core.specs.Inside.Arena.{dominated}
 use Rattle.retro_core.specs.Inside.BoardArena.{arena_of}
 use Rattle.claim_round.specs.Shared.{Key, View}
+use Rattle.claim_round.specs.declared.words.TheConstants.{OPEN}
+use Rattle.claim_round.specs.Inside.Words.{round_of_words}
 
 abbrev pub Unit0 : Type 0
 Unit0 = Unit {0}
@@ -49,7 +51,7 @@ pub record IsTraced (k : Key) (words : List ℕ) (views : List View) : Type 0 wh
   -- who has a width knows the round
   pub knows : (id : ℕ) (v : View) → get_elem? views id ≡ some v → 0 < v.has.width → v.key ≡ k
   -- what was claimed and not won stands in a won list
-  pub lost : (rank : ℕ) → 0 < total (λ v. times rank v.lost) views → 0 < times rank (together (λ seat. seat.won) (seats_of views))
+  pub lost : (rank : ℕ) → 0 < total (λ v. times rank v.lost) views → 0 < times rank (flat_map (λ seat. seat.won) (seats_of views))
   -- a gap is closed at most once, never while it has a count, and always where it had one
   pub shut_once : (gap : ℕ) → gap < gaps k.solving.board → total (λ v. times gap v.shut) views ≤ 1
   pub shut_none : (gap : ℕ) → gap < gaps k.solving.board → 0 < slice_index words gap → total (λ v. times gap v.shut) views ≡ 0
@@ -86,8 +88,8 @@ struck v gap n = record {
 abbrev pub claimed : View → ℕ → View
 claimed v n = record {
   key = v.key;
-  has = seat_tried (n == open_word) v.has;
-  lost = cond (n == open_word) v.lost (v.lost ++ first_of v.has.owed ∷ []);
+  has = seat_tried (n == OPEN) v.has;
+  lost = cond (n == OPEN) v.lost (v.lost ++ first_of v.has.owed ∷ []);
   shut = v.shut;
 }
 
@@ -116,7 +118,7 @@ Claims s m n m' = (m'.0 ≡ claimed m.0 n) × (m'.1 ≡ m.1) × (length m'.0.has
 
 -- a look at the value of the first that is owed: it is claimed where it has one, and else nothing changes
 abbrev pub Reads : Step Unit0 → Me Unit0 View → ℕ → Me Unit0 View → Type 0
-Reads s m n m' = (m'.0 ≡ cond (n == open_word) m.0 (claimed m.0 n)) × (m'.1 ≡ m.1)
+Reads s m n m' = (m'.0 ≡ cond (n == OPEN) m.0 (claimed m.0 n)) × (m'.1 ≡ m.1)
 
 -- what any state of the round says of one seat: its width is at most the round's, and its lists are no longer than they can be
 pub record IsBounded (v : View) : Type 0 where

@@ -1,8 +1,8 @@
-use Rattle.std.proofs.Common.{◌≡◌, ℕ, suc, ◌<◌, ◌+◌, List, [], ◌∷◌, ◌++◌, length, refl, sym, ap, ◌∙◌, subst, arith}
+use Rattle.std.proofs.Common.{drop, ◌≡◌, ℕ, suc, ◌<◌, ◌+◌, List, [], ◌∷◌, ◌++◌, length, refl, sym, ap, ◌∙◌, subst, arith}
 use Rattle.atomic_table.specs.Table.{Me}
 use Rattle.index_lists.proofs.Cited.{cond_same, cond_other}
 use Rattle.positions.specs.Gaps.{gaps}
-use Rattle.retro_core.specs.Round.{first_of, rest_of}
+use Rattle.retro_core.specs.Round.{first_of}
 use Rattle.claim_round.specs.Shared.{Key, View}
 use Rattle.claim_round.specs.Inside.Shared.{Unit0, claimed}
 use Rattle.claim_round.proofs.FirstEntries.{claims_next}
@@ -40,7 +40,7 @@ invariant_of-seat g c =
     let v : View = c.seat.inside.seat.me.0 in
     let items = c.in-Some.ensures.items in
     claimed_seat c.seat.inside _ c.load.result c.seat.invariant (subst (λ p. 0 < length p.view.has.owed) (sym c.seat.view_is) c.requires.owed)
-    (e.2.0 ∙ cond_other c.load.result _ v (claimed v c.load.result) c.if-load.true) e.2.1 refl (ap rest_of (sym items)) c.in-Some.ensures.capacity
+    (e.2.0 ∙ cond_other c.load.result _ v (claimed v c.load.result) c.if-load.true) e.2.1 refl (ap (drop 1) (sym items)) c.in-Some.ensures.capacity
     (sym (cond_other _ _ _ _ c.if-load.true)) refl refl
 
 pub invariant_of-seat-then-found : goal.invariant_of-seat-then-found
@@ -50,7 +50,7 @@ invariant_of-seat-then-found g c =
     let items = c.in-Some.ensures.items in
     claimed_seat c.seat.inside _ c.compare_exchange-found.result c.seat.invariant (subst (λ p. 0 < length p.view.has.owed) (sym c.seat.view_is) c.requires.owed)
     (e.2.0 ∙ ap (λ (m : Me Unit0 View). claimed m.0 c.compare_exchange-found.result) same) (e.2.1 ∙ ap (λ (m : Me Unit0 View). m.1) same)
-    refl (ap rest_of (sym items)) c.in-Some.ensures.capacity
+    refl (ap (drop 1) (sym items)) c.in-Some.ensures.capacity
     (c.push_reserved.ensures.items ∙ ap (λ (xs : List ℕ). c.seat.inside.won.items ++ first_of xs ∷ []) (sym items) ∙ sym (cond_same _ _ _ _ c.if-found.true)) c.push_reserved.ensures.capacity refl
 
 pub invariant_of-seat-else-found : goal.invariant_of-seat-else-found
@@ -60,4 +60,4 @@ invariant_of-seat-else-found g c =
     let items = c.in-Some.ensures.items in
     claimed_seat c.seat.inside _ c.compare_exchange-found.result c.seat.invariant (subst (λ p. 0 < length p.view.has.owed) (sym c.seat.view_is) c.requires.owed)
     (e.2.0 ∙ ap (λ (m : Me Unit0 View). claimed m.0 c.compare_exchange-found.result) same) (e.2.1 ∙ ap (λ (m : Me Unit0 View). m.1) same)
-    refl (ap rest_of (sym items)) c.in-Some.ensures.capacity (sym (cond_other _ _ _ _ c.if-found.false)) refl refl
+    refl (ap (drop 1) (sym items)) c.in-Some.ensures.capacity (sym (cond_other _ _ _ _ c.if-found.false)) refl refl

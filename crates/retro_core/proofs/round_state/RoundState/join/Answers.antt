@@ -1,6 +1,5 @@
 use Rattle.std.proofs.Common.{◌≡◌, ap, sym, ◌∙◌, subst, arith, get_or, List, set}
-use Rattle.retro_core.specs.Round.{PlainSeat, spent, IsLawful}
-use Rattle.retro_core.specs.Inside.Words.{round_of}
+use Rattle.retro_core.specs.Round.{PlainSeat, spent, IsLawful, round_of}
 use Rattle.retro_core.specs.Stepping.{Joins}
 use Rattle.retro_core.proofs.Machine.{seat-read, from_wide, into-read, widths-fit, put-back, joining, allowed}
 use Rattle.retro_core.proofs.round_state.RoundState.join.Given.{Over}

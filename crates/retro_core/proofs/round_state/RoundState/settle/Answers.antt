@@ -1,7 +1,6 @@
 use Rattle.std.proofs.Common.{◌≡◌, ℕ, ◌+◌, ◌<◌, Bool, suc, length, ap, sym, ◌∙◌, get_or, Option, Some, List, cond, set, add-one, rules}
 use Rattle.std.proofs.lemmas.List.{places, set-get_or}
-use Rattle.retro_core.specs.Round.{PlainSeat}
-use Rattle.retro_core.specs.Inside.Words.{round_of}
+use Rattle.retro_core.specs.Round.{PlainSeat, round_of}
 use Rattle.retro_core.proofs.Machine.{some-of, owed-read, trying, winning, none-of}
 use Rattle.retro_core.proofs.round_state.RoundState.settle.Goals as goal
 

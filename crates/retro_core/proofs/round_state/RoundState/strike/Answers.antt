@@ -2,8 +2,7 @@ use Rattle.std.proofs.Common.{◌≡◌, ℕ, ◌<◌, List, length, arith, ap, 
 use Rattle.std.proofs.lemmas.List.{get_or_read, set-get_or}
 use Rattle.positions.specs.Ranks.{configurations, configuration_at}
 use Rattle.positions.specs.Gaps.{gaps, gap_of}
-use Rattle.retro_core.specs.Round.{PlainSeat}
-use Rattle.retro_core.specs.Inside.Words.{round_of}
+use Rattle.retro_core.specs.Round.{PlainSeat, round_of}
 use Rattle.retro_core.proofs.Machine.{some-of, due-read, dominated, striking, closing, count-then, count-else}
 use Rattle.retro_core.proofs.round_state.RoundState.strike.Goals.{then-count-eq1, else-count-eq1}
 use Rattle.retro_core.proofs.round_state.RoundState.strike.Goals as goal

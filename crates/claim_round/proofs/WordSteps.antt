@@ -8,10 +8,10 @@ use Rattle.index_lists.proofs.Cited.{cond_same, cond_other}
 use Rattle.positions.specs.Ranks.{configuration_at}
 use Rattle.positions.specs.Gaps.{gaps, gap_of, IsDominator}
 use Rattle.retro_core.specs.Solving.{Solving, IsSolving}
-use Rattle.retro_core.specs.Round.{PlainSeat, spent, all_won, IsLawful, first_of, seat_struck, seat_tried, first_is_open}
-use Rattle.retro_core.specs.Inside.Words.{round_of, open_word, value_of_word, round_of_words}
-use Rattle.retro_core.proofs.LastingRanks.{same_or_not}
-use Rattle.retro_core.proofs.RoundSteps.{strike-lawful, try-lawful}
+use Rattle.retro_core.specs.Round.{PlainSeat, spent, all_won, IsLawful, first_of, seat_struck, seat_tried, first_is_open, round_of}
+use Rattle.retro_core.proofs.Cited.{same_or_not, strike-lawful, try-lawful}
+use Rattle.claim_round.specs.declared.words.TheConstants.{OPEN}
+use Rattle.claim_round.specs.Inside.Words.{value_of_word, round_of_words}
 
 module _ (s : Solving) (w : ℕ) (words : List ℕ) (seats : List PlainSeat) (sol : IsSolving s) (law : IsLawful (round_of_words s w words seats)) (id : ℕ) where
   -- a strike that found the count n
@@ -44,7 +44,7 @@ module _ (s : Solving) (w : ℕ) (words : List ℕ) (seats : List PlainSeat) (so
 
   -- a try that found the word open, or the next value
   pub record IsWordWon (c : ℕ) : Type 0 where
-    pub is_open : slice_index words (gaps s.board + c) ≡ open_word
+    pub is_open : slice_index words (gaps s.board + c) ≡ OPEN
     pub lawful : IsLawful (round_of_words s w (set words (gaps s.board + c) (suc s.rounds)) (set seats id (seat_tried true (get_or seats id spent))))
 
   pub record IsWordNotWon (c : ℕ) : Type 0 where
@@ -52,7 +52,7 @@ module _ (s : Solving) (w : ℕ) (words : List ℕ) (seats : List PlainSeat) (so
     pub stands : 0 < times c (all_won (round_of_words s w words seats))
     pub lawful : IsLawful (round_of_words s w words (set seats id (seat_tried false (get_or seats id spent))))
 
-  pub word-try : suc s.rounds ≢ open_word → 0 < length (get_or seats id spent).owed
+  pub word-try : suc s.rounds ≢ OPEN → 0 < length (get_or seats id spent).owed
       → IsWordWon (first_of (get_or seats id spent).owed) ⊎ IsWordNotWon (first_of (get_or seats id spent).owed)
   word-try small some =
       let c : ℕ = first_of (get_or seats id spent).owed in
@@ -65,7 +65,7 @@ module _ (s : Solving) (w : ℕ) (words : List ℕ) (seats : List PlainSeat) (so
         | inl none ↦ (
             let opened : first_is_open (round_of_words s w words seats) id ≡ true = ap is_none none in
             let counts : take G words ≡ take G (set words (G + c) (suc s.rounds)) = sym (take-set-le G words (G + c) (suc s.rounds) (omega arith)) in
-            let next : value_of_word (suc s.rounds) ≡ Some (suc s.rounds) = cond_other (suc s.rounds) open_word None (Some (suc s.rounds)) small in
+            let next : value_of_word (suc s.rounds) ≡ Some (suc s.rounds) = cond_other (suc s.rounds) OPEN None (Some (suc s.rounds)) small in
             let values : set (map value_of_word (drop G words)) c (Some (suc s.rounds)) ≡ map value_of_word (drop G (set words (G + c) (suc s.rounds))) =
             ap (set (map value_of_word (drop G words)) c) (sym next) ∙ sym (map-set value_of_word (drop G words) c (suc s.rounds)) ∙ ap (map value_of_word) (sym (drop-set-add G words c (suc s.rounds))) in
             let after : List PlainSeat = set seats id (seat_tried true (get_or seats id spent)) in
@@ -94,14 +94,14 @@ module _ (s : Solving) (w : ℕ) (words : List ℕ) (seats : List PlainSeat) (so
       same_number : (m n : ℕ) → Some m ≡ Some n → m ≡ n
       same_number m n e = cc
 
-      word_open : (word : ℕ) → value_of_word word ≡ None → word ≡ open_word
-      word_open word e = elim (same_or_not word open_word) [
+      word_open : (word : ℕ) → value_of_word word ≡ None → word ≡ OPEN
+      word_open word e = elim (same_or_not word OPEN) [
         | inl same ↦ same
-        | inr other ↦ absurd (some_not_none word (sym (cond_other word open_word None (Some word) other) ∙ e))
+        | inr other ↦ absurd (some_not_none word (sym (cond_other word OPEN None (Some word) other) ∙ e))
       ]
 
       word_value : (word value : ℕ) → value_of_word word ≡ Some value → word ≡ value
-      word_value word value e = elim (same_or_not word open_word) [
-        | inl same ↦ absurd (some_not_none value (sym e ∙ cond_same word open_word None (Some word) same))
-        | inr other ↦ same_number word value (sym (cond_other word open_word None (Some word) other) ∙ e)
+      word_value word value e = elim (same_or_not word OPEN) [
+        | inl same ↦ absurd (some_not_none value (sym e ∙ cond_same word OPEN None (Some word) same))
+        | inr other ↦ same_number word value (sym (cond_other word OPEN None (Some word) other) ∙ e)
       ]

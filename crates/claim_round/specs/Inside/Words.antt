@@ -1,20 +1,13 @@
--- A round by its parts, and one whose words stand in one list, as shared words do.
+-- A round whose words stand in one list, as shared words do.
 use Rattle.std.specs.Prelude.{ℕ, ◌==◌, cond, List, map, take, drop, Option, Some, None}
 use Rattle.positions.specs.Gaps.{gaps}
 use Rattle.retro_core.specs.Solving.{Solving}
-use Rattle.retro_core.specs.Round.{PlainSeat, Round}
-
--- the round of these parts
-abbrev pub round_of : Solving → ℕ → List ℕ → List (Option ℕ) → List PlainSeat → Round
-round_of s width counts values seats = record { solving = s; width = width; counts = counts; values = values; seats = seats }
-
--- the word of a configuration that has no value
-abbrev pub open_word : ℕ
-open_word = 18446744073709551615
+use Rattle.retro_core.specs.Round.{PlainSeat, Round, round_of}
+use Rattle.claim_round.specs.declared.words.TheConstants.{OPEN}
 
 -- the value that a word stands for
 abbrev pub value_of_word : ℕ → Option ℕ
-value_of_word word = cond (word == open_word) None (Some word)
+value_of_word word = cond (word == OPEN) None (Some word)
 
 -- the round of a word for each gap and, behind them, a word for each configuration
 abbrev pub round_of_words : Solving → ℕ → List ℕ → List PlainSeat → Round
