@@ -95,7 +95,6 @@ impl<'a, S: ListStore> SharedRound<'a, S> {
         requires some_width { 0 < width }
         ensures { IfOk result (λ r. Opens solver.now width r.0 r.1) }
     {
-        let _ = solver.round_number();
         let words = first_words(alloc, solver)?;
         let ranks = solver.to_strike();
         let most = solver.space().places() as usize;

@@ -28,21 +28,17 @@ seat-inside (v ∷ seats) (suc id) wide = let rest = seat-inside seats id wide i
 pub seat-read : (seats : List PlainSeat) (id : ℕ) (v : PlainSeat) → 0 < (get_or seats id spent).width → v ≡ get_or seats id v → v ≡ get_or seats id spent
 seat-read seats id v wide e = e ∙ get_or_default seats id v spent (seat-inside seats id wide)
 
-pub some_width : (width : ℕ) → width ≢ 0 → 0 < width
-some_width zero d = absurd (d refl)
-some_width (suc n) d = omega arith
-
 pub some-of : (n : ℕ) (b : Bool) → b ≡ (n == 0) → b ≡ false → 0 < n
 some-of n b is no_more = grind (arith, nat_tests)
 
 -- a lawful round of these parts, and a seat of it that has a width
 module _ (s : Solving) (w : ℕ) (counts : List ℕ) (values : List (Option ℕ)) (seats : List PlainSeat) (old : Round) (is : round_of s w counts values seats ≡ old)
-    (sol : IsSolving s) (law : IsLawful (round_of s w counts values seats)) (id width : ℕ) (width_is : width ≡ (seat_at old id).width) (live : width ≢ 0) where
+    (sol : IsSolving s) (law : IsLawful (round_of s w counts values seats)) (id : ℕ) (has_width : 0 < (seat_at old id).width) where
   abbrev pub here : Round
   here = round_of s w counts values seats
 
   pub wide : 0 < (get_or seats id spent).width
-  wide = let same = ap (λ r. (seat_at r id).width) is in let some = some_width width live in omega arith
+  wide = subst (λ r. 0 < (seat_at r id).width) (sym is) has_width
 
   -- what a seat has to strike or owes, as it was read
   pub read-list : (list : PlainSeat → List ℕ) (v : PlainSeat) (ranks : List ℕ) → v ≡ get_or seats id v → ranks ≡ list v → ranks ≡ list (get_or seats id spent)
@@ -162,12 +158,12 @@ module _ (s : Solving) (w : ℕ) (counts : List ℕ) (values : List (Option ℕ)
     pub lawful : IsLawful (round_of s w counts values seats')
     pub splits : new_seat ≡ length seats → Splits old id new_seat (round_of s w counts values seats')
 
-  pub splitting : (v half : PlainSeat) (pushed : List PlainSeat) (v' after : PlainSeat) (new_seat : ℕ) → width ≢ 1 → v ≡ get_or seats id v → half ≡ seat_new v → pushed ≡ seats ++ half ∷ []
+  pub splitting : (v half : PlainSeat) (pushed : List PlainSeat) (v' after : PlainSeat) (new_seat : ℕ) → (seat_at old id).width ≢ 1 → v ≡ get_or seats id v → half ≡ seat_new v → pushed ≡ seats ++ half ∷ []
       → v' ≡ get_or pushed id v' → after ≡ seat_kept v' → IsSplitting (set pushed id after) new_seat
   splitting v half pushed v' after new_seat not_one v_is half_is pushed_is v'_is after_is =
       let seat : PlainSeat = get_or seats id spent in
       let inside : id < length seats = seat-inside seats id wide in
-      let two : 2 ≤ seat.width = (let same = ap (λ r. (seat_at r id).width) is in two_of width live not_one (width_is ∙ sym same)) in
+      let two : 2 ≤ seat.width = two_of seat.width wide (λ e. not_one (ap (λ r. (seat_at r id).width) (sym is) ∙ e)) in
       let half_same : half ≡ seat_new seat = half_is ∙ ap seat_new (seat-read seats id v wide v_is) in
       let read : v' ≡ seat = v'_is ∙ ap (λ (l : List PlainSeat). get_or l id v') pushed_is ∙ in_front seats (half ∷ []) id v' inside in
       let same : set pushed id after ≡ set seats id (seat_kept seat) ++ seat_new seat ∷ [] =
@@ -179,10 +175,8 @@ module _ (s : Solving) (w : ℕ) (counts : List ℕ) (values : List (Option ℕ)
             (record { wide = two; next_number = number; after_is = ap (round_of s w counts values) same });
       }
     where
-      two_of : (n : ℕ) → n ≢ 0 → n ≢ 1 → n ≡ (get_or seats id spent).width → 2 ≤ (get_or seats id spent).width
-      two_of zero d e same = absurd (d refl)
-      two_of (suc zero) d e same = absurd (e refl)
-      two_of (suc (suc n)) d e same = omega arith
+      two_of : (n : ℕ) → 0 < n → n ≢ 1 → 2 ≤ n
+      two_of n some more = omega (arith, more)
 
       in_front : (xs ys : List PlainSeat) (i : ℕ) (d : PlainSeat) → i < length xs → get_or (xs ++ ys) i d ≡ get_or xs i spent
       in_front [] ys i d low = absurd (omega arith)
@@ -191,9 +185,9 @@ module _ (s : Solving) (w : ℕ) (counts : List ℕ) (values : List (Option ℕ)
 
   -- ---- join
 
-  module _ (from from_width : ℕ) (from_width_is : from_width ≡ (seat_at old from).width) (from_live : from_width ≢ 0) (differ : id ≢ from) where
+  module _ (from : ℕ) (from_has_width : 0 < (seat_at old from).width) (differ : id ≢ from) where
     pub from_wide : 0 < (get_or seats from spent).width
-    from_wide = let same = ap (λ r. (seat_at r from).width) is in let some = some_width from_width from_live in omega arith
+    from_wide = subst (λ r. 0 < (seat_at r from).width) (sym is) from_has_width
 
     -- the seat that is joined into, as it is read after the other was taken out
     pub into-read : (v : PlainSeat) → v ≡ get_or (set seats from spent) id v → v ≡ get_or seats id spent

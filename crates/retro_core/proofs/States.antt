@@ -308,6 +308,7 @@ module _ (s : PlainStage) (round : ℕ) (is_done : Bool) (st : IsState s round i
   solving_of = record {
     is_board = st.is_board;
     few = st.few;
+    below = round-below;
     buckets = record {
       filed = filed-exactly;
       once = λ v x. filed-few s v x st.stage.filed_are;

@@ -46,6 +46,7 @@ pub record AreOpenMembers (s : Solving) : Type 0 where
 pub record IsSolving (s : Solving) : Type 0 where
   pub is_board : IsBoard s.board
   pub few : configurations s.board ≤ MAX_CONFIGURATIONS
+  pub below : s.rounds < configurations s.board
   pub buckets : AreBuckets s
   pub sources : AreOpenMembers s
   pub forever : s.is_done ≡ true → (rank : ℕ) → rank < configurations s.board

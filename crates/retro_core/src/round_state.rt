@@ -1,11 +1,11 @@
 //! A round as a pure machine, one step after the other.
 
-ghost use Rattle.std.specs.Prelude.{◌≡◌, ℕ, ◌+◌, ◌<◌, ◌≤◌, ◌↔◌, false, [], length, filter, slice_index, slice_index_or, None, Some, IfOk, IfErr, IfSome, IsTrue};
+ghost use Rattle.std.specs.Prelude.{◌≡◌, ℕ, ◌+◌, ◌<◌, ◌≤◌, ◌↔◌, true, false, [], length, filter, slice_index, slice_index_or, None, Some, IfOk, IfErr, IfSome, IsTrue};
 ghost use Rattle.positions.specs.Ranks.{configurations};
 ghost use Rattle.positions.specs.Gaps.{gaps};
 ghost use Rattle.retro_core.specs.Solving.{IsSolving, bucket};
 ghost use Rattle.retro_core.specs.Round.{seat_at, spent, AreFirstCounts, AreFirstValues, AreToStrike, IsOpening, IsLawful, round_of};
-ghost use Rattle.retro_core.specs.Stepping.{Does, Refuses};
+ghost use Rattle.retro_core.specs.Stepping.{Does, IsAllowed, LacksSeat, Refuses};
 
 use crate::seat::Seat;
 use crate::solver::Solver;
@@ -75,23 +75,36 @@ impl<'a, S: ListStore> RoundState<'a, S> {
         ensures refused { IfErr result (λ fault. Refuses self.old step fault × (self.new ≡ self.old)) }
         ensures lawful { IsLawful self.new }
     {
-        let answer = match step {
+        if self.lacks_seat(step) {
+            return Err(StepFault::NoSuchSeat);
+        }
+        match step {
             Step::Strike(seat) => self.strike(seat),
             Step::Try(seat) => self.settle(seat),
             Step::Split(seat) => self.split(seat),
             Step::Join { into, from } => self.join(into, from),
-        };
-        let _ = self.seat_width(0);
-        answer
+        }
+    }
+
+    /// Whether a number of the step is that of no seat, or a seat would be joined with itself.
+    fn lacks_seat(&self, step: Step) -> bool
+        ensures lacks { (result ≡ true) ↔ LacksSeat self.now step }
+        ensures solving { IsSolving self.now.solving }
+        ensures lawful { IsLawful self.now }
+    {
+        match step {
+            Step::Strike(seat) | Step::Try(seat) | Step::Split(seat) => self.seat_width(seat) == 0,
+            Step::Join { into, from } => {
+                self.seat_width(into) == 0 || self.seat_width(from) == 0 || into == from
+            }
+        }
     }
 
     fn strike(&mut self, seat: usize) -> Result<Seen, StepFault>
+        requires { 0 < (seat_at self.old seat).width }
         ensures done { IfOk result (λ seen. Does self.old (Step.Strike seat) seen self.new) }
         ensures refused { IfErr result (λ fault. Refuses self.old (Step.Strike seat) fault × (self.new ≡ self.old)) }
     {
-        if self.seat_width(seat) == 0 {
-            return Err(StepFault::NoSuchSeat);
-        }
         let todo = self.seats[seat].todo();
         if todo.is_empty() {
             return Err(StepFault::NothingToStrike);
@@ -111,13 +124,11 @@ impl<'a, S: ListStore> RoundState<'a, S> {
     }
 
     fn settle(&mut self, seat: usize) -> Result<Seen, StepFault>
+        requires { 0 < (seat_at self.old seat).width }
         ensures done { IfOk result (λ seen. Does self.old (Step.Try seat) seen self.new) }
         ensures refused { IfErr result (λ fault. Refuses self.old (Step.Try seat) fault × (self.new ≡ self.old)) }
     {
         let next = self.solver.round_number() + 1;
-        if self.seat_width(seat) == 0 {
-            return Err(StepFault::NoSuchSeat);
-        }
         let owed = self.seats[seat].owed();
         if owed.is_empty() {
             return Err(StepFault::NothingOwed);
@@ -134,14 +145,11 @@ impl<'a, S: ListStore> RoundState<'a, S> {
     }
 
     fn split(&mut self, seat: usize) -> Result<Seen, StepFault>
+        requires { 0 < (seat_at self.old seat).width }
         ensures done { IfOk result (λ seen. Does self.old (Step.Split seat) seen self.new) }
         ensures refused { IfErr result (λ fault. Refuses self.old (Step.Split seat) fault × (self.new ≡ self.old)) }
     {
-        let width = self.seat_width(seat);
-        if width == 0 {
-            return Err(StepFault::NoSuchSeat);
-        }
-        if width == 1 {
+        if self.seat_width(seat) == 1 {
             return Err(StepFault::TooNarrow);
         }
         let Ok(half) = self.seats[seat].new_half(self.alloc) else {
@@ -156,12 +164,10 @@ impl<'a, S: ListStore> RoundState<'a, S> {
     }
 
     fn join(&mut self, into: usize, from: usize) -> Result<Seen, StepFault>
+        requires { IsAllowed self.old (Step.Join into from) }
         ensures done { IfOk result (λ seen. Does self.old (Step.Join into from) seen self.new) }
         ensures refused { IfErr result (λ fault. Refuses self.old (Step.Join into from) fault × (self.new ≡ self.old)) }
     {
-        if self.seat_width(into) == 0 || self.seat_width(from) == 0 || into == from {
-            return Err(StepFault::NoSuchSeat);
-        }
         let other = mem::replace(&mut self.seats[from], Seat::spent(self.alloc));
         if self.seats[into].absorb(&other).is_err() {
             self.seats[from] = other;

@@ -12,7 +12,6 @@ pub record IsRound (given key : Key) (table : TableId) : Type 0 where
   pub words : table.words ≡ gaps key.solving.board + configurations key.solving.board
   pub slots : table.slots ≡ 0
   pub narrow : key.width < 2 ^ 32
-  pub below : key.solving.rounds < configurations key.solving.board
   pub sound : IsSolving key.solving
 
 abbrev pub round_id : TableId → Key → RoundId

@@ -16,7 +16,7 @@ load-requires g c =
     let r = c.self.invariant in
     let next = claims_next _ k _ _ _ c.seat.inside _ _ c.gaps.result c.in-Some.config _ c.self.view_is c.seat.view_is r c.seat.invariant c.requires.mine c.requires.owed
     c.in-Some.ensures.items c.space.ensures c.gaps.ensures.value in
-    (next.of.0, next.inside, read_allowed k _ _ _ _ r.below next.of.2 next.some_owed next.here)
+    (next.of.0, next.inside, read_allowed k _ _ _ _ r.sound.below next.of.2 next.some_owed next.here)
 
 pub compare_exchange-found-requires : goal.compare_exchange-found-requires
 compare_exchange-found-requires g c =
@@ -32,7 +32,7 @@ compare_exchange-found-requires g c =
     let number = c.round_number.ensures.value in
     let round = ap (λ (q : Key). q.solving.rounds) r.key_is in
     let suc_is : c.from-next.result + 1 ≡ suc k.solving.rounds = omega arith in
-    (e.0 ∙ next.of.0, next.inside, claim_allowed k _ _ _ _ _ r.below ready.0 ready.1 ready.2 suc_is)
+    (e.0 ∙ next.of.0, next.inside, claim_allowed k _ _ _ _ _ r.sound.below ready.0 ready.1 ready.2 suc_is)
 
 pub invariant_of-seat : goal.invariant_of-seat
 invariant_of-seat g c =

@@ -87,5 +87,5 @@ invariant_of-result g c =
           let e : G + (j - G) ≡ j = omega arith in
           let read : slice_index (drop G words) (j - G) ≡ slice_index words j = get_or-drop G words (j - G) 0 ∙ ap (slice_index words) e in
           subst (λ n. (n ≡ OPEN) ⊎ (n < 2 ^ 32)) read
-          (small_value k.solving (drop G words) (take G words) v.has.won c.self.invariant.below c.self.invariant.sound.few end.0.finishes (j - G) (let d = length-drop G words in omega arith));
+          (small_value k.solving (drop G words) (take G words) v.has.won c.self.invariant.sound.below c.self.invariant.sound.few end.0.finishes (j - G) (let d = length-drop G words in omega arith));
     }

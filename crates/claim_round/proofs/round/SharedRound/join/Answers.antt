@@ -18,7 +18,7 @@ join_seat-requires g c =
     let r = c.self.invariant in
     let mine = of_round _ k _ c.into.inside _ c.self.view_is c.into.view_is c.requires.into in
     let theirs = of_round _ k _ c.from.inside _ c.self.view_is c.from.view_is c.requires.from in
-    let some = some_gaps k r.below in
+    let some = some_gaps k r.sound.below in
     let words = r.words in
     (mine.0, theirs.0, c.from.invariant.free, omega arith, join_allowed k _ _ _ _ mine.2 theirs.2)
 
@@ -27,7 +27,7 @@ load-requires g c =
     let k : Key = c.self.inside.table.shared.key in
     let r = c.self.invariant in
     let mine = of_round _ k _ c.into.inside _ c.self.view_is c.into.view_is c.requires.into in
-    let some = some_gaps k r.below in
+    let some = some_gaps k r.sound.below in
     let words = r.words in
     let j = c.join_seat.ensures in
     let wide : 0 < c.join_seat.new.seat.me.0.has.width = subst (λ (m : Me Unit0 View). 0 < m.0.has.width) (sym j.2) (let w = mine.2 in omega arith) in

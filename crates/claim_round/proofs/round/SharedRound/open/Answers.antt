@@ -16,7 +16,7 @@ pub overflow_mul-most : goal.overflow_mul-most
 overflow_mul-most g c =
     let s = c.args.solver.now in
     let k : Key = record { solving = s; width = c.args.width } in
-    let sol = c.round_number.ensures.kept in
+    let sol = c.to_strike-ranks.ensures.kept in
     let all = ranks_due s c.to_strike-ranks.result.now sol c.to_strike-ranks.ensures.ranks in
     let most_is : c.places-most.result ≡ most k = c.places-most.ensures.value ∙ ap places c.space.ensures in
     let m : most k * length c.to_strike-ranks.result.now ≤ most k * size k = mul-le-mul_left (most k) all.few in
@@ -27,14 +27,14 @@ overflow_mul-most g c =
 pub of_words-requires : goal.of_words-requires
 of_words-requires g c =
     let s = c.args.solver.now in
-    opened s c.args.width c.as_slice.result.now c.to_strike-ranks.result.now c.round_number.ensures.kept c.requires.some_width
+    opened s c.args.width c.as_slice.result.now c.to_strike-ranks.result.now c.to_strike-ranks.ensures.kept c.requires.some_width
     (subst (λ (l : List ℕ). AreOpeningWords s l (configurations s.board)) (sym c.as_slice.ensures.value) c.in_ok-words.ensures) c.to_strike-ranks.ensures.ranks
 
 pub invariant_of-seat : goal.invariant_of-seat
 invariant_of-seat g c =
     let s = c.args.solver.now in
     let k : Key = record { solving = s; width = c.args.width } in
-    let sol = c.round_number.ensures.kept in
+    let sol = c.to_strike-ranks.ensures.kept in
     let e = c.in_ok-table.ensures in
     let todo_is : c.from_vec-todo.result.items ≡ c.to_strike-ranks.result.now = c.from_vec-todo.ensures.items ∙ c.in_ok-from_slice.ensures.items in
     let most_is : c.places-most.result ≡ most k = c.places-most.ensures.value ∙ ap places c.space.ensures in
@@ -49,7 +49,7 @@ pub returns : goal.returns
 returns g c =
     let s = c.args.solver.now in
     let k : Key = record { solving = s; width = c.args.width } in
-    let sol = c.round_number.ensures.kept in
+    let sol = c.to_strike-ranks.ensures.kept in
     let e = c.in_ok-table.ensures in
     let view : c.in_ok-table.seat.me.0 ≡ opening k = ap (λ m. m.0) e.4 in
     record {

@@ -19,7 +19,7 @@ split_seat-other-requires g c =
     let r = c.self.invariant in
     let mine = of_round _ k _ c.seat.inside _ c.self.view_is c.seat.view_is c.requires.mine in
     let wide : 2 ≤ v.has.width = subst (λ (p : Place). 2 ≤ p.view.has.width) (sym c.seat.view_is) c.requires.width in
-    let some = some_gaps k r.below in
+    let some = some_gaps k r.sound.below in
     let words = r.words in
     (mine.0, omega arith, split_allowed k _ v wide)
 

@@ -14,28 +14,20 @@ module _ (g : Over) (c : After-index_mut-2 g) where
   from-is : c.replace-other.result ≡ get_or seats c.args.from spent
   from-is =
       c.replace-other.ensures.value ∙ seat-read seats c.args.from c.index_mut.result.now
-      (from_wide _ _ _ _ _ _ c.self.view_is c.self.invariant.0 c.self.invariant.1 c.args.into c.seat_width.result
-      c.seat_width.ensures.value c.if-seat_width-eq0.false
-      c.args.from c.seat_width-else-seat_width-eq0.result c.seat_width-else-seat_width-eq0.ensures.value c.if-seat_width-eq0-2.false
-      c.if-into-from.false) c.index_mut.ensures.value
+      (from_wide _ _ _ _ _ _ c.self.view_is c.self.invariant.0 c.self.invariant.1 c.args.into c.requires.1 c.args.from c.requires.2 c.requires.0) c.index_mut.ensures.value
 
   emptied : c.replace-other.new.dest ≡ spent
   emptied = c.replace-other.ensures.after ∙ c.spent.ensures
 
   into-is : c.index_mut-2.result.now ≡ get_or seats c.args.into spent
   into-is =
-      into-read _ _ _ _ _ _ c.self.view_is c.self.invariant.0 c.self.invariant.1 c.args.into c.seat_width.result
-      c.seat_width.ensures.value c.if-seat_width-eq0.false
-      c.args.from c.seat_width-else-seat_width-eq0.result c.seat_width-else-seat_width-eq0.ensures.value c.if-seat_width-eq0-2.false
-      c.if-into-from.false c.index_mut-2.result.now
+      into-read _ _ _ _ _ _ c.self.view_is c.self.invariant.0 c.self.invariant.1 c.args.into c.requires.1 c.args.from c.requires.2 c.requires.0 c.index_mut-2.result.now
       (c.index_mut-2.ensures.value ∙ ap (λ x. get_or (set seats c.args.from x) c.args.into c.index_mut-2.result.now) emptied)
 
 pub absorb-requires : goal.absorb-requires
 absorb-requires g c =
     let read = (goal.at.absorb-requires g c).After-index_mut-2 in
-    let fit = widths-fit _ _ _ _ _ _ c.self.view_is c.self.invariant.0 c.self.invariant.1 c.args.into c.seat_width.result c.seat_width.ensures.value c.if-seat_width-eq0.false
-    c.args.from c.seat_width-else-seat_width-eq0.result c.seat_width-else-seat_width-eq0.ensures.value c.if-seat_width-eq0-2.false
-    c.if-into-from.false
+    let fit = widths-fit _ _ _ _ _ _ c.self.view_is c.self.invariant.0 c.self.invariant.1 c.args.into c.requires.1 c.args.from c.requires.2 c.requires.0
     c.index_mut-2.result.now c.replace-other.result (into-is g read) (from-is g read) in
     let small = c.self.ranges in
     omega arith
@@ -50,10 +42,7 @@ module _ (g : Over) (c : After-absorb g) where
       → set (set (set had c.args.from c.replace-other.new.dest) c.args.into c.absorb.new.self) c.args.from c.replace-other.result ≡ had
   put-again into-same from-same none =
       ap (λ x. set (set (set had c.args.from x) c.args.into c.absorb.new.self) c.args.from c.replace-other.result) none
-      ∙ put-back _ _ _ _ _ _ c.self.view_is c.self.invariant.0 c.self.invariant.1 c.args.into c.seat_width.result
-      c.seat_width.ensures.value c.if-seat_width-eq0.false
-      c.args.from c.seat_width-else-seat_width-eq0.result c.seat_width-else-seat_width-eq0.ensures.value c.if-seat_width-eq0-2.false
-      c.if-into-from.false c.absorb.new.self c.replace-other.result into-same from-same
+      ∙ put-back _ _ _ _ _ _ c.self.view_is c.self.invariant.0 c.self.invariant.1 c.args.into c.requires.1 c.args.from c.requires.2 c.requires.0 c.absorb.new.self c.replace-other.result into-same from-same
 
 pub invariant_of-self : goal.invariant_of-self
 invariant_of-self g c =
@@ -69,19 +58,16 @@ returns-then-is_err-clause-refused g c =
     let same = put-again g (goal.at.returns-then-is_err-clause-refused g c).After-absorb (unchanged ∙ into-is g read) (from-is g read)
     (emptied g read) in (
       (
-        allowed _ _ _ _ _ _ c.self.view_is c.self.invariant.0 c.self.invariant.1 c.args.into c.seat_width.result c.seat_width.ensures.value c.if-seat_width-eq0.false
-            c.args.from c.seat_width-else-seat_width-eq0.result c.seat_width-else-seat_width-eq0.ensures.value c.if-seat_width-eq0-2.false c.if-into-from.false,
+        allowed _ _ _ _ _ _ c.self.view_is c.self.invariant.0 c.self.invariant.1 c.args.into c.requires.1 c.args.from c.requires.2 c.requires.0,
         tt,
       ),
       ap (round_of c.self.inside.solver.now c.self.inside.width c.self.inside.counts.items c.self.inside.values.items) same ∙ c.self.view_is,
     )
 
-pub invariant_of-self-2 : goal.invariant_of-self-2
-invariant_of-self-2 g c =
-    let read = (goal.at.invariant_of-self-2 g c).After-index_mut-2 in
-    let made = joining _ _ _ _ _ _ c.self.view_is c.self.invariant.0 c.self.invariant.1 c.args.into c.seat_width.result c.seat_width.ensures.value c.if-seat_width-eq0.false
-    c.args.from c.seat_width-else-seat_width-eq0.result c.seat_width-else-seat_width-eq0.ensures.value c.if-seat_width-eq0-2.false
-    c.if-into-from.false
+pub invariant_of-self-else-is_err : goal.invariant_of-self-else-is_err
+invariant_of-self-else-is_err g c =
+    let read = (goal.at.invariant_of-self-else-is_err g c).After-index_mut-2 in
+    let made = joining _ _ _ _ _ _ c.self.view_is c.self.invariant.0 c.self.invariant.1 c.args.into c.requires.1 c.args.from c.requires.2 c.requires.0
     c.index_mut-2.result.now c.replace-other.result c.absorb.new.self (into-is g read) (from-is g read)
     (rw c.if-is_err.ensures.negation at c.absorb.ensures) in (
       c.self.invariant.0,
@@ -93,9 +79,7 @@ invariant_of-self-2 g c =
 pub returns-clause-done : goal.returns-clause-done
 returns-clause-done g c =
     let read = (goal.at.returns-clause-done g c).After-index_mut-2 in
-    let made = joining _ _ _ _ _ _ c.self.view_is c.self.invariant.0 c.self.invariant.1 c.args.into c.seat_width.result c.seat_width.ensures.value c.if-seat_width-eq0.false
-    c.args.from c.seat_width-else-seat_width-eq0.result c.seat_width-else-seat_width-eq0.ensures.value c.if-seat_width-eq0-2.false
-    c.if-into-from.false
+    let made = joining _ _ _ _ _ _ c.self.view_is c.self.invariant.0 c.self.invariant.1 c.args.into c.requires.1 c.args.from c.requires.2 c.requires.0
     c.index_mut-2.result.now c.replace-other.result c.absorb.new.self (into-is g read) (from-is g read)
     (rw c.if-is_err.ensures.negation at c.absorb.ensures) in
     subst (λ (l : List PlainSeat). Joins c.args.self.now c.args.into c.args.from

@@ -8,7 +8,7 @@ pub index-requires-2 : goal.index-requires-2
 index-requires-2 g c =
     let some = some-of _ _ c.is_empty.ensures c.if-is_empty.false in
     let low : get_or c.owed-owed.result.now 0 0 < length c.self.inside.values.items =
-    owed-read _ _ _ _ _ _ c.self.view_is c.self.invariant.0 c.self.invariant.1 c.args.seat c.seat_width.result c.seat_width.ensures.value c.if-seat_width-eq0.false
+    owed-read _ _ _ _ _ _ c.self.view_is c.self.invariant.0 c.self.invariant.1 c.args.seat c.requires
     c.index.result.now c.owed-owed.result.now c.index.ensures c.owed-owed.ensures some in
     search (rules, low, places)
 
@@ -16,7 +16,7 @@ pub index_mut-requires-then-won : goal.index_mut-requires-then-won
 index_mut-requires-then-won g c =
     let some = some-of _ _ c.is_empty.ensures c.if-is_empty.false in
     let low : get_or c.owed-owed.result.now 0 0 < length c.self.inside.values.items =
-    owed-read _ _ _ _ _ _ c.self.view_is c.self.invariant.0 c.self.invariant.1 c.args.seat c.seat_width.result c.seat_width.ensures.value c.if-seat_width-eq0.false
+    owed-read _ _ _ _ _ _ c.self.view_is c.self.invariant.0 c.self.invariant.1 c.args.seat c.requires
     c.index.result.now c.owed-owed.result.now c.index.ensures c.owed-owed.ensures some in
     search (rules, low, places)
 
@@ -26,7 +26,7 @@ invariant_of-self-then-won g c =
     let config : ℕ = get_or c.owed-owed.result.now 0 0 in
     let values : List (Option ℕ) = c.self.inside.values.items in
     let values' : List (Option ℕ) = set values config (Some (c.round_number-next.result + 1)) in
-    let made = trying _ _ _ _ _ _ c.self.view_is c.self.invariant.0 c.self.invariant.1 c.args.seat c.seat_width.result c.seat_width.ensures.value c.if-seat_width-eq0.false
+    let made = trying _ _ _ _ _ _ c.self.view_is c.self.invariant.0 c.self.invariant.1 c.args.seat c.requires
     c.index.result.now c.owed-owed.result.now c.index-2.result.now c.is_none-won.result values' c.index_mut.result.now c.settle.new.self c.index.ensures c.owed-owed.ensures some
     c.index-2.ensures (none-of c.index-2.result.now c.is_none-won.result c.is_none-won.ensures) (ap (λ (n : ℕ). set values config (Some n)) (ap (λ (r : ℕ). r + 1) c.round_number-next.ensures.value ∙ add-one c.self.inside.solver.now.rounds)
     ∙ sym (ap (λ (b : Bool). cond b (set values config (Some (suc c.self.inside.solver.now.rounds))) values) c.if-won.true)) c.index_mut.ensures.value (rw c.if-is_err.ensures.negation at c.settle.ensures.seat) in
@@ -38,7 +38,7 @@ invariant_of-self-else-won g c =
     let config : ℕ = get_or c.owed-owed.result.now 0 0 in
     let values : List (Option ℕ) = c.self.inside.values.items in
     let values' : List (Option ℕ) = values in
-    let made = trying _ _ _ _ _ _ c.self.view_is c.self.invariant.0 c.self.invariant.1 c.args.seat c.seat_width.result c.seat_width.ensures.value c.if-seat_width-eq0.false
+    let made = trying _ _ _ _ _ _ c.self.view_is c.self.invariant.0 c.self.invariant.1 c.args.seat c.requires
     c.index.result.now c.owed-owed.result.now c.index-2.result.now c.is_none-won.result values' c.index_mut.result.now c.settle.new.self c.index.ensures c.owed-owed.ensures some
     c.index-2.ensures (none-of c.index-2.result.now c.is_none-won.result c.is_none-won.ensures) (sym (ap (λ (b : Bool). cond b (set values config (Some (suc c.self.inside.solver.now.rounds))) values) c.if-won.false)) c.index_mut.ensures.value (rw c.if-is_err.ensures.negation at c.settle.ensures.seat) in
     (c.self.invariant.0, made.lawful)
@@ -49,7 +49,7 @@ returns-then-won-clause-done g c =
     let config : ℕ = get_or c.owed-owed.result.now 0 0 in
     let values : List (Option ℕ) = c.self.inside.values.items in
     let values' : List (Option ℕ) = set values config (Some (c.round_number-next.result + 1)) in
-    let made = trying _ _ _ _ _ _ c.self.view_is c.self.invariant.0 c.self.invariant.1 c.args.seat c.seat_width.result c.seat_width.ensures.value c.if-seat_width-eq0.false
+    let made = trying _ _ _ _ _ _ c.self.view_is c.self.invariant.0 c.self.invariant.1 c.args.seat c.requires
     c.index.result.now c.owed-owed.result.now c.index-2.result.now c.is_none-won.result values' c.index_mut.result.now c.settle.new.self c.index.ensures c.owed-owed.ensures some
     c.index-2.ensures (none-of c.index-2.result.now c.is_none-won.result c.is_none-won.ensures) (ap (λ (n : ℕ). set values config (Some n)) (ap (λ (r : ℕ). r + 1) c.round_number-next.ensures.value ∙ add-one c.self.inside.solver.now.rounds)
     ∙ sym (ap (λ (b : Bool). cond b (set values config (Some (suc c.self.inside.solver.now.rounds))) values) c.if-won.true)) c.index_mut.ensures.value (rw c.if-is_err.ensures.negation at c.settle.ensures.seat) in
@@ -61,7 +61,7 @@ returns-else-won-clause-done g c =
     let config : ℕ = get_or c.owed-owed.result.now 0 0 in
     let values : List (Option ℕ) = c.self.inside.values.items in
     let values' : List (Option ℕ) = values in
-    let made = trying _ _ _ _ _ _ c.self.view_is c.self.invariant.0 c.self.invariant.1 c.args.seat c.seat_width.result c.seat_width.ensures.value c.if-seat_width-eq0.false
+    let made = trying _ _ _ _ _ _ c.self.view_is c.self.invariant.0 c.self.invariant.1 c.args.seat c.requires
     c.index.result.now c.owed-owed.result.now c.index-2.result.now c.is_none-won.result values' c.index_mut.result.now c.settle.new.self c.index.ensures c.owed-owed.ensures some
     c.index-2.ensures (none-of c.index-2.result.now c.is_none-won.result c.is_none-won.ensures) (sym (ap (λ (b : Bool). cond b (set values config (Some (suc c.self.inside.solver.now.rounds))) values) c.if-won.false)) c.index_mut.ensures.value (rw c.if-is_err.ensures.negation at c.settle.ensures.seat) in
     made.tries
@@ -72,7 +72,7 @@ returns-then-is_err-clause-refused g c =
     let seats : List PlainSeat = c.self.inside.seats.items in
     let unchanged : c.settle.new.self ≡ c.index_mut.result.now = rw c.if-is_err.ensures.negation at c.settle.ensures.seat in
     let same : set seats c.args.seat c.settle.new.self ≡ seats = ap (set seats c.args.seat) (unchanged ∙ c.index_mut.ensures.value) ∙ set-get_or seats c.args.seat c.index_mut.result.now in (
-      winning _ _ _ _ _ _ c.self.view_is c.self.invariant.0 c.self.invariant.1 c.args.seat c.seat_width.result c.seat_width.ensures.value c.if-seat_width-eq0.false
+      winning _ _ _ _ _ _ c.self.view_is c.self.invariant.0 c.self.invariant.1 c.args.seat c.requires
           c.index.result.now c.owed-owed.result.now c.index-2.result.now c.is_none-won.result c.index.ensures c.owed-owed.ensures some
           c.index-2.ensures (none-of c.index-2.result.now c.is_none-won.result c.is_none-won.ensures) (c.settle.ensures.memory c.if-is_err.ensures.negation),
       ap (round_of c.self.inside.solver.now c.self.inside.width c.self.inside.counts.items c.self.inside.values.items) same ∙ c.self.view_is,

@@ -10,19 +10,19 @@ use Rattle.retro_core.proofs.round_state.RoundState.strike.Goals as goal
 pub dominator-requires : goal.dominator-requires
 dominator-requires g c =
     let some : 0 < length c.todo-todo.result.now = some-of _ _ c.is_empty.ensures c.if-is_empty.false in
-    (due-read _ _ _ _ _ _ c.self.view_is c.self.invariant.0 c.self.invariant.1 c.args.seat c.seat_width.result c.seat_width.ensures.value c.if-seat_width-eq0.false
+    (due-read _ _ _ _ _ _ c.self.view_is c.self.invariant.0 c.self.invariant.1 c.args.seat c.requires
     c.index.result.now c.todo-todo.result.now c.index.ensures c.todo-todo.ensures some).worth.is_rank
 
 pub unreachable-requires : goal.unreachable-requires
 unreachable-requires g c =
     let some : 0 < length c.todo-todo.result.now = some-of _ _ c.is_empty.ensures c.if-is_empty.false in
-    dominated _ _ _ _ _ _ c.self.view_is c.self.invariant.0 c.self.invariant.1 c.args.seat c.seat_width.result c.seat_width.ensures.value c.if-seat_width-eq0.false
+    dominated _ _ _ _ _ _ c.self.view_is c.self.invariant.0 c.self.invariant.1 c.args.seat c.requires
     c.index.result.now c.todo-todo.result.now c.dominator.result c.index.ensures c.todo-todo.ensures some c.dominator.ensures c.in_default.is
 
 pub gap-gap-requires-clause-rank : goal.gap-gap-requires-clause-rank
 gap-gap-requires-clause-rank g c =
     let some : 0 < length c.todo-todo.result.now = some-of _ _ c.is_empty.ensures c.if-is_empty.false in
-    let low = (due-read _ _ _ _ _ _ c.self.view_is c.self.invariant.0 c.self.invariant.1 c.args.seat c.seat_width.result c.seat_width.ensures.value c.if-seat_width-eq0.false
+    let low = (due-read _ _ _ _ _ _ c.self.view_is c.self.invariant.0 c.self.invariant.1 c.args.seat c.requires
     c.index.result.now c.todo-todo.result.now c.index.ensures c.todo-todo.ensures some).worth.is_rank in
     let same = ap configurations c.space.ensures in
     omega arith
@@ -35,7 +35,7 @@ overflow_sub-count g c =
     (let low = c.gap-gap.ensures.below in let same = ap gaps c.space.ensures in let long = c.self.invariant.1.counts_length in omega arith) in
     let gap_is : c.gap-gap.result ≡ gap_of c.self.inside.solver.now.board (configuration_at c.self.inside.solver.now.board config) c.in-Some.pebble =
     c.gap-gap.ensures.gap ∙ ap (λ b. gap_of b (configuration_at b config) c.in-Some.pebble) c.space.ensures in
-    let made = striking _ _ _ _ _ _ c.self.view_is c.self.invariant.0 c.self.invariant.1 c.args.seat c.seat_width.result c.seat_width.ensures.value c.if-seat_width-eq0.false
+    let made = striking _ _ _ _ _ _ c.self.view_is c.self.invariant.0 c.self.invariant.1 c.args.seat c.requires
     c.index.result.now c.todo-todo.result.now c.in-Some.pebble c.gap-gap.result c.index-count.result.now c.index_mut.result.now c.strike.new.self None c.index.ensures c.todo-todo.ensures some
     c.in-Some.ensures.0 gap_is (get_or_read c.self.inside.counts.items c.gap-gap.result c.index-count.result.now inside c.index-count.ensures 0) c.index_mut.ensures.value
     (rw c.if-is_err.ensures.negation at c.strike.ensures.seat) in
@@ -49,7 +49,7 @@ invariant_of-self-2 g c =
     (let low = c.gap-gap.ensures.below in let same = ap gaps c.space.ensures in let long = c.self.invariant.1.counts_length in omega arith) in
     let gap_is : c.gap-gap.result ≡ gap_of c.self.inside.solver.now.board (configuration_at c.self.inside.solver.now.board config) c.in-Some.pebble =
     c.gap-gap.ensures.gap ∙ ap (λ b. gap_of b (configuration_at b config) c.in-Some.pebble) c.space.ensures in
-    let made = striking _ _ _ _ _ _ c.self.view_is c.self.invariant.0 c.self.invariant.1 c.args.seat c.seat_width.result c.seat_width.ensures.value c.if-seat_width-eq0.false
+    let made = striking _ _ _ _ _ _ c.self.view_is c.self.invariant.0 c.self.invariant.1 c.args.seat c.requires
     c.index.result.now c.todo-todo.result.now c.in-Some.pebble c.gap-gap.result c.index-count.result.now c.index_mut.result.now c.strike.new.self None c.index.ensures c.todo-todo.ensures some
     c.in-Some.ensures.0 gap_is (get_or_read c.self.inside.counts.items c.gap-gap.result c.index-count.result.now inside c.index-count.ensures 0) c.index_mut.ensures.value
     (rw c.if-is_err.ensures.negation at c.strike.ensures.seat) in
@@ -63,7 +63,7 @@ returns-clause-done g c =
     (let low = c.gap-gap.ensures.below in let same = ap gaps c.space.ensures in let long = c.self.invariant.1.counts_length in omega arith) in
     let gap_is : c.gap-gap.result ≡ gap_of c.self.inside.solver.now.board (configuration_at c.self.inside.solver.now.board config) c.in-Some.pebble =
     c.gap-gap.ensures.gap ∙ ap (λ b. gap_of b (configuration_at b config) c.in-Some.pebble) c.space.ensures in
-    let made = striking _ _ _ _ _ _ c.self.view_is c.self.invariant.0 c.self.invariant.1 c.args.seat c.seat_width.result c.seat_width.ensures.value c.if-seat_width-eq0.false
+    let made = striking _ _ _ _ _ _ c.self.view_is c.self.invariant.0 c.self.invariant.1 c.args.seat c.requires
     c.index.result.now c.todo-todo.result.now c.in-Some.pebble c.gap-gap.result c.index-count.result.now c.index_mut.result.now c.strike.new.self c.if-count-eq1.closed c.index.ensures c.todo-todo.ensures some
     c.in-Some.ensures.0 gap_is (get_or_read c.self.inside.counts.items c.gap-gap.result c.index-count.result.now inside c.index-count.ensures 0) c.index_mut.ensures.value
     (rw c.if-is_err.ensures.negation at c.strike.ensures.seat) in
@@ -84,7 +84,7 @@ returns-then-is_err-clause-refused g c =
     c.gap-gap.ensures.gap ∙ ap (λ b. gap_of b (configuration_at b config) c.in-Some.pebble) c.space.ensures in
     let unchanged : c.strike.new.self ≡ c.index_mut.result.now = rw c.if-is_err.ensures.negation at c.strike.ensures.seat in
     let same : set seats c.args.seat c.strike.new.self ≡ seats = ap (set seats c.args.seat) (unchanged ∙ c.index_mut.ensures.value) ∙ set-get_or seats c.args.seat c.index_mut.result.now in (
-      closing _ _ _ _ _ _ c.self.view_is c.self.invariant.0 c.self.invariant.1 c.args.seat c.seat_width.result c.seat_width.ensures.value c.if-seat_width-eq0.false
+      closing _ _ _ _ _ _ c.self.view_is c.self.invariant.0 c.self.invariant.1 c.args.seat c.requires
           c.index.result.now c.todo-todo.result.now c.in-Some.pebble c.gap-gap.result c.index-count.result.now c.index.ensures c.todo-todo.ensures some
           c.in-Some.ensures.0 gap_is (get_or_read counts c.gap-gap.result c.index-count.result.now inside c.index-count.ensures 0) (c.strike.ensures.memory c.if-is_err.ensures.negation),
       ap (round_of c.self.inside.solver.now c.self.inside.width counts c.self.inside.values.items) same ∙ c.self.view_is,
