@@ -1,8 +1,9 @@
 //! The faults of board texts.
 
 use crate::assertions::assert_same;
-use crate::texts::{ONE_PAIR, read_board};
+use crate::texts::read_board;
 use board_text::{BoardFault, BoardKind};
+use fakes::boards::ONE_PAIR;
 use std::alloc::Global;
 use std::process::Abort;
 
@@ -26,6 +27,14 @@ fn assert_faults(rt: &impl Abort, alloc: Global, line: u32, kind: BoardKind, tex
     for text in texts {
         let fault = fault_of(alloc, text.as_bytes());
         assert_same(rt, *text, fault, Some((line, kind)));
+    }
+}
+
+/// Asserts that each text has its fault.
+fn assert_each(rt: &impl Abort, alloc: Global, texts: &[(&str, u32, BoardKind)]) {
+    for (text, line, kind) in texts {
+        let fault = fault_of(alloc, text.as_bytes());
+        assert_same(rt, *text, fault, Some((*line, *kind)));
     }
 }
 
@@ -110,43 +119,32 @@ fn starts(rt: HostRuntime) {
     assert_faults(&rt, rt.alloc(), 4, BoardKind::Start, &texts);
 }
 
-/// Asserts that each text has its fault.
-fn assert_each(rt: &impl Abort, alloc: Global, texts: &[(&str, u32, BoardKind)]) {
-    for (text, line, kind) in texts {
-        let fault = fault_of(alloc, text.as_bytes());
-        assert_same(rt, *text, fault, Some((*line, *kind)));
-    }
+#[test]
+fn lines_that_are_no_pair(rt: HostRuntime) {
+    let texts = [
+        after_head!(" end\n"),
+        after_head!("\n"),
+        after_head!("\0end\n"),
+        after_head!("END\n"),
+        after_head!("beats 0 1"),
+        after_head!("beats 1\n"),
+        after_head!("beats 0 1 0\n"),
+        after_head!("beats 0 2\n"),
+        after_head!("beats 2 0\n"),
+        after_head!("beats 2 2\n"),
+        after_head!("beats 01 0\n"),
+        after_head!("beats +1 0\n"),
+        after_head!("beats  1 0\n"),
+        after_head!(" beats 1 0\n"),
+        after_head!("beats 1 0 \n"),
+        after_head!("beats 18446744073709551617 0\n"),
+    ];
+    assert_faults(&rt, rt.alloc(), 5, BoardKind::Beats, &texts);
 }
 
 #[test]
-fn pairs_and_ends(rt: HostRuntime) {
+fn pairs_of_two_labels(rt: HostRuntime) {
     let texts = [
-        (after_head!(""), 5, BoardKind::End),
-        (after_head!("e"), 5, BoardKind::End),
-        (after_head!("end"), 5, BoardKind::End),
-        (after_head!("end \n"), 5, BoardKind::End),
-        (after_head!("end\r\n"), 5, BoardKind::End),
-        (after_head!("else\n"), 5, BoardKind::End),
-        (after_head!(" end\n"), 5, BoardKind::Beats),
-        (after_head!("\n"), 5, BoardKind::Beats),
-        (after_head!("\0end\n"), 5, BoardKind::Beats),
-        (after_head!("END\n"), 5, BoardKind::Beats),
-        (after_head!("beats 0 1"), 5, BoardKind::Beats),
-        (after_head!("beats 1\n"), 5, BoardKind::Beats),
-        (after_head!("beats 0 1 0\n"), 5, BoardKind::Beats),
-        (after_head!("beats 0 2\n"), 5, BoardKind::Beats),
-        (after_head!("beats 2 0\n"), 5, BoardKind::Beats),
-        (after_head!("beats 2 2\n"), 5, BoardKind::Beats),
-        (after_head!("beats 01 0\n"), 5, BoardKind::Beats),
-        (after_head!("beats +1 0\n"), 5, BoardKind::Beats),
-        (after_head!("beats  1 0\n"), 5, BoardKind::Beats),
-        (after_head!(" beats 1 0\n"), 5, BoardKind::Beats),
-        (after_head!("beats 1 0 \n"), 5, BoardKind::Beats),
-        (
-            after_head!("beats 18446744073709551617 0\n"),
-            5,
-            BoardKind::Beats,
-        ),
         (after_head!("beats 1 1\n"), 5, BoardKind::SelfBeat),
         (
             after_head!("beats 1 0\nbeats 0 0\n"),
@@ -168,6 +166,19 @@ fn pairs_and_ends(rt: HostRuntime) {
             6,
             BoardKind::Order,
         ),
+    ];
+    assert_each(&rt, rt.alloc(), &texts);
+}
+
+#[test]
+fn ends_and_what_follows(rt: HostRuntime) {
+    let texts = [
+        (after_head!(""), 5, BoardKind::End),
+        (after_head!("e"), 5, BoardKind::End),
+        (after_head!("end"), 5, BoardKind::End),
+        (after_head!("end \n"), 5, BoardKind::End),
+        (after_head!("end\r\n"), 5, BoardKind::End),
+        (after_head!("else\n"), 5, BoardKind::End),
         (after_head!("beats 1 0\n"), 6, BoardKind::End),
         (after_head!("beats 1 0\nend"), 6, BoardKind::End),
         (after_head!("beats 1 0\nend\n\0"), 7, BoardKind::Trailing),

@@ -1,8 +1,9 @@
 //! What boards say that are read from their texts.
 
 use crate::assertions::assert_same;
-use crate::texts::{LONE_LABEL, THREE_CYCLE, board_of, build_board, largest_text};
+use crate::texts::{board_of, build_board, largest_text};
 use board_text::Board;
+use fakes::boards::{LONE_LABEL, THREE_CYCLE};
 use std::alloc::AllocError;
 use std::process::Abort;
 

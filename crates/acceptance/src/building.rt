@@ -1,8 +1,9 @@
 //! Boards that are built of their parts, and the faults of such parts.
 
 use crate::assertions::assert_same;
-use crate::texts::{PAIR_WITHOUT_LABELS, THREE_CYCLE, build_board, print_board};
+use crate::texts::{build_board, print_board};
 use board_text::BoardKind;
+use fakes::boards::{PAIR_WITHOUT_LABELS, THREE_CYCLE};
 use std::alloc::Global;
 use std::process::Abort;
 

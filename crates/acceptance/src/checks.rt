@@ -1,12 +1,12 @@
 //! What the checker says of documents.
 
 use crate::assertions::assert_same;
-use crate::documents::{
+use crate::documents::check_text;
+use crate::texts::board_of;
+use fakes::boards::{CHAIN_OF_THREE, CYCLE_WITH_A_WAY_IN, ONE_PAIR, THREE_CYCLE, THREE_PEBBLES};
+use fakes::documents::{
     CHAIN_LEAST_TWO, CHAIN_MOST_TWO, CHAIN_VALUE_TWO, CYCLE_FOREVER, PAIR_VALUE_ONE,
-    THREE_PEBBLES_VALUE_ONE, WAY_IN_VALUE_ONE, check_text,
-};
-use crate::texts::{
-    CHAIN_OF_THREE, CYCLE_WITH_A_WAY_IN, ONE_PAIR, THREE_CYCLE, THREE_PEBBLES, board_of,
+    THREE_PEBBLES_VALUE_ONE, WAY_IN_VALUE_ONE,
 };
 use proof_check::{CheckFault, Shown, Side};
 use proof_text::Claim;
@@ -88,7 +88,7 @@ fn documents_that_show_their_claim(rt: HostRuntime) {
 }
 
 #[test]
-fn starts_that_do_not_serve(rt: HostRuntime) {
+fn labellers_without_the_start(rt: HostRuntime) {
     let documents = [
         (
             CHAIN_OF_THREE,
@@ -114,6 +114,20 @@ fn starts_that_do_not_serve(rt: HostRuntime) {
             },
         ),
         (
+            ONE_PAIR,
+            "proof 1\nvalue 1\nlabeller 0\nadversary 2\nat 0 0 for 1 ask 0\nat 1 0 for 0 ask 1\nend\n",
+            CheckFault::StartMissing {
+                side: Side::Labeller,
+            },
+        ),
+    ];
+    assert_refused(&rt, rt.alloc(), &documents);
+}
+
+#[test]
+fn adversaries_without_the_start(rt: HostRuntime) {
+    let documents = [
+        (
             CHAIN_OF_THREE,
             "proof 1\nmost 1\nadversary 0\nend\n",
             CheckFault::StartMissing {
@@ -127,13 +141,13 @@ fn starts_that_do_not_serve(rt: HostRuntime) {
                 side: Side::Adversary,
             },
         ),
-        (
-            ONE_PAIR,
-            "proof 1\nvalue 1\nlabeller 0\nadversary 2\nat 0 0 for 1 ask 0\nat 1 0 for 0 ask 1\nend\n",
-            CheckFault::StartMissing {
-                side: Side::Labeller,
-            },
-        ),
+    ];
+    assert_refused(&rt, rt.alloc(), &documents);
+}
+
+#[test]
+fn starts_with_another_number(rt: HostRuntime) {
+    let documents = [
         (
             CHAIN_OF_THREE,
             "proof 1\nleast 3\nlabeller 3\nat 0 0 for 2 take 1 1\nat 0 1 for 1 take 2 1\n\
@@ -165,37 +179,44 @@ fn starts_that_do_not_serve(rt: HostRuntime) {
 }
 
 #[test]
-fn faulty_labellers(rt: HostRuntime) {
-    let documents = [
+fn labellers_without_a_row(rt: HostRuntime) {
+    for (board, text, at, turn) in [
         (
             THREE_CYCLE,
             "proof 1\nforever\nlabeller 6\nat 0 0 for * take 1 1\nat 0 1 for * take 2 1\n\
                 at 0 2 for * take 0 1\nat 1 0 for * take 1 2\nat 1 2 for * take 0 2\n\
                 at 2 0 for * take 1 0\nend\n",
-            CheckFault::Unlisted {
-                side: Side::Labeller,
-                at: 1,
-                turn: 0,
-            },
+            1,
+            0,
         ),
         (
             CHAIN_OF_THREE,
             "proof 1\nleast 2\nlabeller 2\nat 0 0 for 2 take 1 1\nat 0 1 for 1 take 2 1\nend\n",
-            CheckFault::Unlisted {
-                side: Side::Labeller,
-                at: 0,
-                turn: 0,
-            },
+            0,
+            0,
         ),
         (
             CHAIN_OF_THREE,
             "proof 1\nleast 2\nlabeller 2\nat 0 0 for 2 take 1 1\nat 1 0 for 1 take 1 2\nend\n",
-            CheckFault::Unlisted {
-                side: Side::Labeller,
-                at: 0,
-                turn: 1,
-            },
+            0,
+            1,
         ),
+        (
+            CHAIN_OF_THREE,
+            "proof 1\nleast 2\nlabeller 1\nat 0 0 for 2 take 1 0\nend\n",
+            0,
+            0,
+        ),
+    ] {
+        let side = Side::Labeller;
+        let fault = CheckFault::Unlisted { side, at, turn };
+        assert_checked(&rt, rt.alloc(), board, text, Err(fault));
+    }
+}
+
+#[test]
+fn labellers_with_a_faulty_row(rt: HostRuntime) {
+    let documents = [
         (
             CHAIN_OF_THREE,
             "proof 1\nleast 3\nlabeller 3\nat 0 0 for 3 take 1 1\nat 0 1 for 1 take 2 1\n\
@@ -207,15 +228,6 @@ fn faulty_labellers(rt: HostRuntime) {
             "proof 1\nleast 2\nlabeller 3\nat 0 0 for 2 take 0 1\nat 0 1 for 1 take 2 1\n\
                 at 1 0 for 1 take 1 2\nend\n",
             CheckFault::IllegalAnswer { at: 0, pebble: 0 },
-        ),
-        (
-            CHAIN_OF_THREE,
-            "proof 1\nleast 2\nlabeller 1\nat 0 0 for 2 take 1 0\nend\n",
-            CheckFault::Unlisted {
-                side: Side::Labeller,
-                at: 0,
-                turn: 0,
-            },
         ),
         (
             ONE_PAIR,

@@ -140,15 +140,25 @@ fn climbs(rt: HostRuntime) {
 }
 
 #[test]
-fn wrong_words(rt: HostRuntime) {
+fn words_of_no_command(rt: HostRuntime) {
     for words in [
         ["pebbles", ""].as_slice(),
         ["pebbles", "--"].as_slice(),
         ["pebbles", "chek", "a", "b"].as_slice(),
+        ["pebbles", "--version"].as_slice(),
+    ] {
+        assert_usage(&rt, rt.alloc(), words);
+    }
+}
+
+#[test]
+fn wrong_words_of_checks_and_nested_boards(rt: HostRuntime) {
+    for words in [
         ["pebbles", "check"].as_slice(),
         ["pebbles", "check", "a"].as_slice(),
         ["pebbles", "check", "a", "b", "c"].as_slice(),
         ["pebbles", "check", "-x", "b"].as_slice(),
+        ["pebbles", "check", "--workers=2", "a", "b"].as_slice(),
         ["pebbles", "nested", "3"].as_slice(),
         ["pebbles", "nested", "0", "1"].as_slice(),
         ["pebbles", "nested", "7", "1"].as_slice(),
@@ -157,6 +167,14 @@ fn wrong_words(rt: HostRuntime) {
         ["pebbles", "nested", "-1", "2"].as_slice(),
         ["pebbles", "nested", "1 ", "2"].as_slice(),
         ["pebbles", "nested", "99999999999999999999", "2"].as_slice(),
+    ] {
+        assert_usage(&rt, rt.alloc(), words);
+    }
+}
+
+#[test]
+fn wrong_words_of_solving_and_reports(rt: HostRuntime) {
+    for words in [
         ["pebbles", "solve"].as_slice(),
         ["pebbles", "solve", "a", "b"].as_slice(),
         ["pebbles", "solve", "a", "--workers"].as_slice(),
@@ -166,7 +184,14 @@ fn wrong_words(rt: HostRuntime) {
         ["pebbles", "solve", "--workers=2", "--workers=2", "a"].as_slice(),
         ["pebbles", "report"].as_slice(),
         ["pebbles", "report", "--workers", "17", "a"].as_slice(),
-        ["pebbles", "check", "--workers=2", "a", "b"].as_slice(),
+    ] {
+        assert_usage(&rt, rt.alloc(), words);
+    }
+}
+
+#[test]
+fn wrong_words_of_plays_and_climbs(rt: HostRuntime) {
+    for words in [
         ["pebbles", "play", "a"].as_slice(),
         ["pebbles", "play", "--side", "labeller"].as_slice(),
         ["pebbles", "play", "--side", "person", "a"].as_slice(),
@@ -180,7 +205,6 @@ fn wrong_words(rt: HostRuntime) {
         ["pebbles", "climb", "three"].as_slice(),
         ["pebbles", "climb", "3", "3"].as_slice(),
         ["pebbles", "climb", "--side=labeller", "3"].as_slice(),
-        ["pebbles", "--version"].as_slice(),
     ] {
         assert_usage(&rt, rt.alloc(), words);
     }

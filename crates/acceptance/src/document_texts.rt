@@ -1,14 +1,16 @@
 //! Documents that are read and printed, and the faults of those that are none.
 
 use crate::assertions::assert_same;
-use crate::documents::{
+use crate::documents::{print_document, read_document};
+use crate::texts::board_of;
+use fakes::boards::{
+    CHAIN_OF_THREE, CYCLE_WITH_A_WAY_IN, CYCLE_WITHOUT_LABELS, LONE_WITHOUT_LABEL, ONE_PAIR,
+    PAIR_WITHOUT_LABELS, THREE_CYCLE, THREE_PEBBLES,
+};
+use fakes::documents::{
     CHAIN_LEAST_TWO, CHAIN_MOST_TWO, CHAIN_VALUE_TWO, CYCLE_FOREVER, CYCLE_WITHOUT_LABELS_FOREVER,
     LONE_WITHOUT_LABEL_FOREVER, PAIR_VALUE_ONE, PAIR_WITHOUT_LABELS_VALUE_TWO,
-    THREE_PEBBLES_VALUE_ONE, WAY_IN_VALUE_ONE, print_document, read_document,
-};
-use crate::texts::{
-    CHAIN_OF_THREE, CYCLE_WITH_A_WAY_IN, CYCLE_WITHOUT_LABELS, LONE_WITHOUT_LABEL, ONE_PAIR,
-    PAIR_WITHOUT_LABELS, THREE_CYCLE, THREE_PEBBLES, board_of,
+    THREE_PEBBLES_VALUE_ONE, WAY_IN_VALUE_ONE,
 };
 use positions::{Claim, Space, Turns};
 use proof_text::{AdversaryRow, LabellerRow, ProofKind};
@@ -159,7 +161,7 @@ fn each_front_of_a_least_document(rt: HostRuntime) {
 }
 
 #[test]
-fn heads(rt: HostRuntime) {
+fn versions_and_claims(rt: HostRuntime) {
     let space = space_of(&rt, rt.alloc(), ONE_PAIR);
     let faults = [
         ("", 1, ProofKind::Version),
@@ -175,6 +177,14 @@ fn heads(rt: HostRuntime) {
         ("proof 1\nforever \n", 2, ProofKind::Claim),
         ("proof 1\nforever 1\n", 2, ProofKind::Claim),
         ("proof 1\nValue 1\n", 2, ProofKind::Claim),
+    ];
+    assert_faults(&rt, rt.alloc(), &space, &faults);
+}
+
+#[test]
+fn sections_and_ends(rt: HostRuntime) {
+    let space = space_of(&rt, rt.alloc(), ONE_PAIR);
+    let faults = [
         (
             "proof 1\nvalue 1\nlabeller 1048577\n",
             3,
@@ -313,7 +323,7 @@ fn rows_with_hyphens(rt: HostRuntime) {
 }
 
 #[test]
-fn orders_and_counts_of_rows(rt: HostRuntime) {
+fn orders_and_numbers_of_rows(rt: HostRuntime) {
     let space = space_of(&rt, rt.alloc(), CHAIN_OF_THREE);
     let faults = [
         (
@@ -331,6 +341,19 @@ fn orders_and_counts_of_rows(rt: HostRuntime) {
             5,
             ProofKind::Number,
         ),
+        (
+            "proof 1\nforever\nlabeller 1\nat 0 0 for 1 take 1 1\nend\n",
+            4,
+            ProofKind::Number,
+        ),
+    ];
+    assert_faults(&rt, rt.alloc(), &space, &faults);
+}
+
+#[test]
+fn counts_of_rows(rt: HostRuntime) {
+    let space = space_of(&rt, rt.alloc(), CHAIN_OF_THREE);
+    let faults = [
         (
             "proof 1\nleast 1\nlabeller 2\nat 0 1 for 1 take 2 1\nend\n",
             5,
@@ -350,11 +373,6 @@ fn orders_and_counts_of_rows(rt: HostRuntime) {
             "proof 1\nvalue 1\nlabeller 0\nadversary 0\nat 0 0 for 0 ask 0\nend\n",
             5,
             ProofKind::End,
-        ),
-        (
-            "proof 1\nforever\nlabeller 1\nat 0 0 for 1 take 1 1\nend\n",
-            4,
-            ProofKind::Number,
         ),
     ];
     assert_faults(&rt, rt.alloc(), &space, &faults);

@@ -5,8 +5,9 @@ ghost use Rattle.board_text.specs.Ranges.{InRange};
 ghost use Rattle.nested_cycles.specs.NestedBoard.{IsNestedBoard};
 
 use crate::assertions::assert_same;
-use crate::texts::{LONE_LABEL, THREE_CYCLE, THREE_PEBBLES, board_of, print_board};
+use crate::texts::{board_of, print_board};
 use board_text::{Board, Memory, parse, print};
+use fakes::boards::{LONE_LABEL, THREE_CYCLE, THREE_PEBBLES};
 use nested_cycles::{nested_beats, nested_board};
 use std::alloc::Global;
 use std::process::Abort;

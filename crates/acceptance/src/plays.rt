@@ -4,8 +4,9 @@ ghost use Rattle.std.specs.Prelude.{◌≡◌};
 
 use crate::assertions::assert_same;
 use crate::strategy_documents::values_of;
-use crate::texts::{CHAIN_OF_THREE, THREE_CYCLE, board_of};
+use crate::texts::board_of;
 use board_text::Board;
+use fakes::boards::{CHAIN_OF_THREE, THREE_CYCLE};
 use fakes::{Drip, Failing, Outcome, Trickle, comes_right};
 use player::{PlayEnd, PlayFault, play_adversary_side, play_labeller_side};
 use retro_core::Values;

@@ -1,10 +1,10 @@
 //! Boards that are read, printed and read again.
 
 use crate::assertions::assert_same;
-use crate::texts::{
+use crate::texts::{board_of, largest_text, print_board};
+use fakes::boards::{
     CHAIN_OF_THREE, CYCLE_WITH_A_WAY_IN, CYCLE_WITHOUT_LABELS, LONE_LABEL, LONE_WITHOUT_LABEL,
-    NO_PAIRS, ONE_PAIR, PAIR_WITHOUT_LABELS, SHARED_LABEL, THREE_CYCLE, THREE_PEBBLES, board_of,
-    largest_text, print_board,
+    NO_PAIRS, ONE_PAIR, PAIR_WITHOUT_LABELS, SHARED_LABEL, THREE_CYCLE, THREE_PEBBLES,
 };
 use std::alloc::{AllocError, Global};
 use std::process::Abort;

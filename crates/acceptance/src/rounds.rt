@@ -6,8 +6,9 @@ ghost use Rattle.std.specs.Prelude.{◌≡◌, ◌<◌, ◌^◌, false};
 
 use crate::assertions::assert_same;
 use crate::solving::open;
-use crate::texts::{CHAIN_OF_THREE, THREE_PEBBLES, board_of, build_board};
+use crate::texts::{board_of, build_board};
 use board_text::Board;
+use fakes::boards::{CHAIN_OF_THREE, THREE_PEBBLES};
 use index_lists::LinkLists;
 use retro_core::{RoundState, Seen, Solver, Step, StepFault};
 use std::alloc::Global;

@@ -7,9 +7,10 @@ ghost use Rattle.claim_round.specs.Shared.{IsOf, Stays};
 
 use crate::assertions::assert_same;
 use crate::rounds::{NINE, Tally, has_each, opened};
-use crate::texts::{CHAIN_OF_THREE, THREE_PEBBLES, board_of};
+use crate::texts::board_of;
 use board_text::Memory;
 use claim_round::{NotClosed, RoundSeat, SharedRound, Why};
+use fakes::boards::{CHAIN_OF_THREE, THREE_PEBBLES};
 use index_lists::{LinkLists, ListStore};
 use retro_core::{Seen, Solver};
 use std::alloc::Global;

@@ -3,12 +3,13 @@
 //! A run of the tests may refuse one growth of memory, whichever. So a call that was refused one is made once more.
 
 use crate::assertions::assert_same;
-use crate::texts::{
-    CHAIN_OF_THREE, CYCLE_WITHOUT_LABELS, LONE_LABEL, LONE_WITHOUT_LABEL, ONE_PAIR,
-    PAIR_WITHOUT_LABELS, SHARED_LABEL, THREE_CYCLE, THREE_PEBBLES, board_of,
-};
+use crate::texts::board_of;
 use crate::values::value_at;
 use board_text::Board;
+use fakes::boards::{
+    CHAIN_OF_THREE, CYCLE_WITHOUT_LABELS, LONE_LABEL, LONE_WITHOUT_LABEL, ONE_PAIR,
+    PAIR_WITHOUT_LABELS, SHARED_LABEL, THREE_CYCLE, THREE_PEBBLES,
+};
 use index_lists::{LinkLists, ListStore, PlainLists};
 use positions::{Space, Value};
 use retro_core::{Progress, SolveFault, Solver, Values};

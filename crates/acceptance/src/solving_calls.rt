@@ -5,8 +5,9 @@
 use crate::assertions::assert_same;
 use crate::nested::nested;
 use crate::solving::{open, solve};
-use crate::texts::{CHAIN_OF_THREE, CYCLE_WITH_A_WAY_IN, NO_PAIRS, THREE_PEBBLES, board_of};
+use crate::texts::board_of;
 use board_text::Board;
+use fakes::boards::{CHAIN_OF_THREE, CYCLE_WITH_A_WAY_IN, NO_PAIRS, THREE_PEBBLES};
 use index_lists::{LinkLists, ListStore, PlainLists};
 use positions::Value;
 use retro_core::{Progress, SolveFault, Solver, Values};

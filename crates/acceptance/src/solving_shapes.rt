@@ -3,8 +3,9 @@
 use crate::assertions::assert_same;
 use crate::nested::nested;
 use crate::solving::{assert_solved, solve, value};
-use crate::texts::{CHAIN_OF_THREE, CYCLE_WITH_A_WAY_IN, NO_PAIRS, board_of, build_board};
+use crate::texts::{board_of, build_board};
 use board_text::Board;
+use fakes::boards::{CHAIN_OF_THREE, CYCLE_WITH_A_WAY_IN, NO_PAIRS};
 use index_lists::{LinkLists, ListStore, PlainLists};
 use positions::{Space, Value};
 use retro_core::Values;

@@ -4,12 +4,12 @@ ghost use Rattle.std.specs.Prelude.{◌≡◌, ◌↔◌, IsTrue};
 ghost use Rattle.board_text.specs.PlainBoard.{IsConfiguration};
 
 use crate::assertions::assert_same;
-use crate::texts::{
-    CHAIN_OF_THREE, CYCLE_WITH_A_WAY_IN, CYCLE_WITHOUT_LABELS, LONE_LABEL, LONE_WITHOUT_LABEL,
-    NO_PAIRS, ONE_PAIR, PAIR_WITHOUT_LABELS, SHARED_LABEL, THREE_CYCLE, THREE_PEBBLES, board_of,
-    build_board,
-};
+use crate::texts::{board_of, build_board};
 use board_text::Board;
+use fakes::boards::{
+    CHAIN_OF_THREE, CYCLE_WITH_A_WAY_IN, CYCLE_WITHOUT_LABELS, LONE_LABEL, LONE_WITHOUT_LABEL,
+    NO_PAIRS, ONE_PAIR, PAIR_WITHOUT_LABELS, SHARED_LABEL, THREE_CYCLE, THREE_PEBBLES,
+};
 use positions::{Space, TooLarge, is_legal};
 use std::alloc::Global;
 use std::process::Abort;

@@ -7,17 +7,19 @@ ghost use Rattle.positions.specs.Ranks.{configurations};
 ghost use Rattle.proof_text.specs.Proof.{IsDocument};
 
 use crate::assertions::assert_same;
-use crate::documents::{
-    CHAIN_VALUE_TWO, CYCLE_FOREVER, CYCLE_WITHOUT_LABELS_FOREVER, LONE_WITHOUT_LABEL_FOREVER,
-    PAIR_VALUE_ONE, PAIR_WITHOUT_LABELS_VALUE_TWO, THREE_PEBBLES_VALUE_ONE, WAY_IN_VALUE_ONE,
-    check_document, print_document,
-};
+use crate::documents::{check_document, print_document};
 use crate::nested::nested;
-use crate::texts::{
-    CHAIN_OF_THREE, CYCLE_WITH_A_WAY_IN, CYCLE_WITHOUT_LABELS, LONE_LABEL, LONE_WITHOUT_LABEL,
-    ONE_PAIR, PAIR_WITHOUT_LABELS, SHARED_LABEL, THREE_CYCLE, THREE_PEBBLES, board_of, build_board,
-};
+use crate::texts::{board_of, build_board};
 use board_text::{Board, Memory};
+use fakes::boards::{
+    CHAIN_OF_THREE, CYCLE_WITH_A_WAY_IN, CYCLE_WITHOUT_LABELS, LONE_LABEL, LONE_WITHOUT_LABEL,
+    ONE_PAIR, PAIR_WITHOUT_LABELS, SHARED_LABEL, THREE_CYCLE, THREE_PEBBLES,
+};
+use fakes::documents::{
+    CHAIN_VALUE_TWO, CYCLE_FOREVER, CYCLE_WITHOUT_LABELS_FOREVER, LONE_LABEL_FOREVER,
+    LONE_WITHOUT_LABEL_FOREVER, PAIR_VALUE_ONE, PAIR_WITHOUT_LABELS_VALUE_TWO,
+    SHARED_LABEL_VALUE_ZERO, THREE_PEBBLES_VALUE_ONE, WAY_IN_VALUE_ONE,
+};
 use index_lists::LinkLists;
 use proof_check::{CheckFault, Shown};
 use proof_text::{Claim, Proof};
@@ -26,13 +28,6 @@ use std::alloc::{AllocError, Global};
 use std::process::Abort;
 use std::thread::Threads;
 use strategies::{best_answer, best_request, document};
-
-/// For one label and one pebble: it stays where it is.
-const LONE_LABEL_FOREVER: &str = "proof 1\nforever\nlabeller 1\nat 0 for * take 0\nend\n";
-
-/// For one label and two pebbles: the first request has no answer.
-const SHARED_LABEL_VALUE_ZERO: &str =
-    "proof 1\nvalue 0\nlabeller 0\nadversary 1\nat 0 0 for 0 ask 0\nend\n";
 
 /// A solver of a board, where it is refused no growth.
 fn solver_of(alloc: Global, board: &Board) -> Result<Solver<LinkLists>, SolveFault>

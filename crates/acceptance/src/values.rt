@@ -4,11 +4,12 @@ ghost use Rattle.std.specs.Prelude.{◌<◌, ◌↔◌, IsTrue};
 ghost use Rattle.board_text.specs.PlainBoard.{IsConfiguration};
 
 use crate::assertions::assert_same;
-use crate::texts::{
-    CHAIN_OF_THREE, CYCLE_WITH_A_WAY_IN, LONE_LABEL, NO_PAIRS, ONE_PAIR, SHARED_LABEL, THREE_CYCLE,
-    THREE_PEBBLES, board_of,
-};
+use crate::texts::board_of;
 use board_text::Board;
+use fakes::boards::{
+    CHAIN_OF_THREE, CYCLE_WITH_A_WAY_IN, LONE_LABEL, NO_PAIRS, ONE_PAIR, SHARED_LABEL, THREE_CYCLE,
+    THREE_PEBBLES,
+};
 use positions::{Value, labeller_lasts, value_of};
 use std::alloc::Global;
 use std::process::Abort;

@@ -6,13 +6,14 @@
 ghost use Rattle.std.specs.Prelude.{◌≡◌, ◌≤◌, IfSome};
 
 use crate::assertions::assert_same;
-use crate::documents::THREE_PEBBLES_VALUE_ONE;
 use crate::solving::{solve, value};
 use crate::solving_shapes::chain;
 use crate::strategy_documents::assert_text;
-use crate::texts::{CHAIN_OF_THREE, THREE_CYCLE, THREE_PEBBLES, board_of};
+use crate::texts::board_of;
 use board_text::Board;
 use claim_round::RoundSeat;
+use fakes::boards::{CHAIN_OF_THREE, THREE_CYCLE, THREE_PEBBLES};
+use fakes::documents::THREE_PEBBLES_VALUE_ONE;
 use index_lists::LinkLists;
 use retro_core::{SolveFault, Values};
 use round_workers::{Gate, NoGate, solve_values};

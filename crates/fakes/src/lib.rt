@@ -1,7 +1,10 @@
-//! Readers and writers for tests, slow ones and ones that fail, and asking once more where memory was refused.
+//! What tests share: the texts of boards and of documents, readers and writers that are slow or that fail, and asking once more where
+//! memory was refused.
 #![tactic(auto)]
 
 mod again;
+pub mod boards;
+pub mod documents;
 mod ends;
 
 pub use again::{Outcome, comes_right};
