@@ -7,6 +7,7 @@ use crate::strategy_documents::values_of;
 use crate::texts::board_of;
 use board_text::Board;
 use fakes::boards::{CHAIN_OF_THREE, THREE_CYCLE};
+use fakes::plays::{ANSWERS, ASKED, NO_STRATEGY, REPLIES, REQUESTS};
 use fakes::{Drip, Failing, Outcome, Trickle, comes_right};
 use player::{PlayEnd, PlayFault, play_adversary_side, play_labeller_side};
 use retro_core::Values;
@@ -69,17 +70,15 @@ fn assert_play(
 
 #[test]
 fn a_person_asks(rt: HostRuntime) {
-    let written =
-        b"value 2\nat 0 0\npebble 1 takes 1\nat 0 1\nnot a request\npebble 0 takes 2\nat 2 1\nno label for pebble 1 after 2 requests\n";
     let stuck = PlayEnd::Stuck { requests: 2 };
     assert_play(
         &rt,
         rt.alloc(),
         CHAIN_OF_THREE,
         Person::Adversary,
-        b"1\nx\n0\n1\n",
+        REQUESTS,
         stuck,
-        written,
+        REPLIES,
     );
 }
 
@@ -101,23 +100,20 @@ fn a_person_asks_on_the_cycle(rt: HostRuntime) {
 
 #[test]
 fn a_person_answers(rt: HostRuntime) {
-    let written =
-        b"value 2\nat 0 0\nask 0\nnot an answer\nat 1 0\nask 1\nat 1 2\nask 0\nno label for pebble 0 after 2 requests\n";
     let stuck = PlayEnd::Stuck { requests: 2 };
     assert_play(
         &rt,
         rt.alloc(),
         CHAIN_OF_THREE,
         Person::Labeller,
-        b"0\n1\n2\n",
+        ANSWERS,
         stuck,
-        written,
+        ASKED,
     );
 }
 
 #[test]
 fn no_strategy_against_a_person(rt: HostRuntime) {
-    let written = b"forever\nat 0 0\nno strategy\n";
     assert_play(
         &rt,
         rt.alloc(),
@@ -125,6 +121,6 @@ fn no_strategy_against_a_person(rt: HostRuntime) {
         Person::Labeller,
         b"1\n",
         PlayEnd::NoStrategy,
-        written,
+        NO_STRATEGY,
     );
 }

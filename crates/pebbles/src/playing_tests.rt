@@ -5,6 +5,8 @@ ghost use Rattle.std.specs.Prelude.{false};
 use crate::fault::RunFault;
 use crate::playing::run_play;
 use board_text::{BoardFault, BoardKind, Failed, Sink, Source};
+use fakes::boards::{CHAIN_OF_THREE, THREE_CYCLE, TOO_MANY_CONFIGURATIONS};
+use fakes::plays::{ANSWERS, ASKED, NO_STRATEGY, REPLIES, REQUESTS};
 use fakes::{Drip, Failing, Outcome, Trickle, comes_right};
 use player::PlayEnd;
 use proof_check::Side;
@@ -18,33 +20,15 @@ const ROOM: usize = 200;
 
 const NOTHING: &[u8] = b"";
 
-/// Three labels, of which each dominates all smaller ones, with two pebbles on 0.
-const CHAIN: &[u8] =
-    b"board 1\nlabels 3\npebbles 2\nstart 0 0\nbeats 1 0\nbeats 2 0\nbeats 2 1\nend\n";
-
-/// Three labels, each of which dominates one other, with two pebbles on 0.
-const CYCLE: &[u8] =
-    b"board 1\nlabels 3\npebbles 2\nstart 0 0\nbeats 0 2\nbeats 1 0\nbeats 2 1\nend\n";
-
-const REQUESTS: &[u8] = b"1\nx\n0\n1\n";
-
-const REPLIES: &[u8] =
-    b"value 2\nat 0 0\npebble 1 takes 1\nat 0 1\nnot a request\npebble 0 takes 2\nat 2 1\nno label for pebble 1 after 2 requests\n";
-
 /// The replies to the first three lines, and that the input ended.
 const STOPPED_REPLIES: &[u8] =
     b"value 2\nat 0 0\npebble 1 takes 1\nat 0 1\nnot a request\npebble 0 takes 2\nat 2 1\nstopped after 2 requests\n";
-
-const ANSWERS: &[u8] = b"0\n1\n2\n";
-
-const ASKED: &[u8] =
-    b"value 2\nat 0 0\nask 0\nnot an answer\nat 1 0\nask 1\nat 1 2\nask 0\nno label for pebble 0 after 2 requests\n";
 
 /// A play: the person's side, the texts, and how many calls of each end go well.
 #[derive(Clone, Copy)]
 struct Play {
     side: Side,
-    board: &'static [u8],
+    board: &'static str,
     lines: &'static [u8],
     board_reads: usize,
     line_reads: usize,
@@ -54,7 +38,7 @@ struct Play {
 
 const ASKING: Play = Play {
     side: Side::Adversary,
-    board: CHAIN,
+    board: CHAIN_OF_THREE,
     lines: REQUESTS,
     board_reads: PLENTY,
     line_reads: PLENTY,
@@ -90,7 +74,7 @@ fn outcome(
     wanted: Result<PlayEnd, RunFault>,
     written: &[u8],
 ) -> Outcome {
-    let mut board = Drip::new(play.board, play.board_reads);
+    let mut board = Drip::new(play.board.as_bytes(), play.board_reads);
     let mut lines = Drip::new(play.lines, play.line_reads);
     let mut writer = Trickle::<ROOM>::new(play.writes, play.failing);
     let answer = run_play(rt, alloc, play.side, &mut board, &mut lines, &mut writer);
@@ -156,12 +140,11 @@ fn a_person_who_answers_stops(rt: HostRuntime) {
 #[test]
 fn there_is_no_strategy(rt: HostRuntime) {
     let play = Play {
-        board: CYCLE,
+        board: THREE_CYCLE,
         line_reads: 0,
         ..ANSWERING
     };
-    let written = b"forever\nat 0 0\nno strategy\n";
-    assert!(rt; serves(&rt, rt.alloc(), play, Ok(PlayEnd::NoStrategy), written));
+    assert!(rt; serves(&rt, rt.alloc(), play, Ok(PlayEnd::NoStrategy), NO_STRATEGY));
 }
 
 #[test]
@@ -219,13 +202,13 @@ fn boards_with_faults(rt: HostRuntime) {
         kind: BoardKind::Start,
     }));
     let play = Play {
-        board: b"board 1\nlabels 3\npebbles 2\n",
+        board: "board 1\nlabels 3\npebbles 2\n",
         line_reads: 0,
         ..ASKING
     };
     assert!(rt; serves(&rt, rt.alloc(), play, end, NOTHING));
     let large = Play {
-        board: b"board 1\nlabels 33\npebbles 4\nstart 0 0 0 0\nend\n",
+        board: TOO_MANY_CONFIGURATIONS,
         line_reads: 0,
         ..ANSWERING
     };
@@ -234,7 +217,7 @@ fn boards_with_faults(rt: HostRuntime) {
 
 #[test]
 fn a_read_of_the_board_fails_at_each_call(rt: HostRuntime) {
-    for board_reads in 0..CHAIN.len() + 1 {
+    for board_reads in 0..=CHAIN_OF_THREE.len() {
         let play = Play {
             board_reads,
             ..ASKING
@@ -388,7 +371,7 @@ fn watched_outcome(
         noted: &noted,
         is_late: false,
     };
-    let mut board = Drip::new(CHAIN, PLENTY);
+    let mut board = Drip::new(CHAIN_OF_THREE.as_bytes(), PLENTY);
     let mut writer = Noting { noted: &noted };
     let answer = run_play(rt, alloc, side, &mut board, &mut watching, &mut writer);
     let is_refused = answer == Err(RunFault::Memory);
@@ -451,7 +434,7 @@ impl Source for Junk {
 
 /// Whether a play is broken off behind a million lines, each of which was answered.
 fn million_outcome(rt: &(impl Threads + Sync), alloc: Global) -> Outcome {
-    let mut board = Drip::new(CHAIN, PLENTY);
+    let mut board = Drip::new(CHAIN_OF_THREE.as_bytes(), PLENTY);
     let mut writer = Counting { count: 0 };
     let answer = run_play(
         rt,

@@ -6,6 +6,8 @@ use crate::fault::RunFault;
 use crate::reporting::{report_text, run_report};
 use crate::solving::{run_solve, solve_text};
 use board_text::{BoardFault, BoardKind, Sink, Source};
+use fakes::boards::{ONE_PAIR, TOO_MANY_CONFIGURATIONS};
+use fakes::documents::PAIR_VALUE_ONE;
 use fakes::{Drip, Failing, Outcome, Trickle, comes_right};
 use positions::Value;
 use std::alloc::Global;
@@ -18,14 +20,7 @@ const ROOM: usize = 200;
 
 const NOTHING: &[u8] = b"";
 
-/// Two labels, of which 1 dominates 0, with two pebbles on 0.
-const PAIR: &[u8] = b"board 1\nlabels 2\npebbles 2\nstart 0 0\nbeats 1 0\nend\n";
-
-/// The first request is answered with 1, which nothing dominates.
-const PAIR_DOCUMENT: &[u8] =
-    b"proof 1\nvalue 1\nlabeller 1\nat 0 0 for 1 take 1 1\nadversary 2\nat 0 0 for 1 ask 0\nat 1 0 for 0 ask 1\nend\n";
-
-/// Where a pebble is on 1, the other has no legal label.
+/// Of the board `ONE_PAIR`: where a pebble is on 1, the other has no legal label.
 const PAIR_REPORT: &[u8] =
     b"report 1\nlabels 2\npebbles 2\nconfigurations 4\nstart value 1\nvalue 0: 3\nvalue 1: 1\nforever: 0\nend\n";
 
@@ -39,14 +34,14 @@ enum Command {
 /// A board's text, and how many calls of each end go well.
 #[derive(Clone, Copy)]
 struct Ends {
-    board: &'static [u8],
+    board: &'static str,
     reads: usize,
     writes: usize,
     failing: Failing,
 }
 
 const READY: Ends = Ends {
-    board: PAIR,
+    board: ONE_PAIR,
     reads: PLENTY,
     writes: PLENTY,
     failing: Failing::Refuses,
@@ -73,7 +68,7 @@ fn outcome(
     wanted: Result<Option<Value>, RunFault>,
     written: &[u8],
 ) -> Outcome {
-    let mut reader = Drip::new(ends.board, ends.reads);
+    let mut reader = Drip::new(ends.board.as_bytes(), ends.reads);
     let mut writer = Trickle::<ROOM>::new(ends.writes, ends.failing);
     let answer = match command {
         Command::Solve => run_solve(rt, alloc, 2, &mut reader, &mut writer).map(Some),
@@ -94,7 +89,16 @@ fn outcome(
 fn one_byte_a_call(rt: HostRuntime) {
     let alloc = rt.alloc();
     let value = Ok(Some(Value::Finite(1)));
-    assert!(rt; serves(&rt, alloc, Command::Solve, READY, value, PAIR_DOCUMENT));
+    assert!(rt;
+        serves(
+            &rt,
+            alloc,
+            Command::Solve,
+            READY,
+            value,
+            PAIR_VALUE_ONE.as_bytes()
+        )
+    );
     assert!(rt; serves(&rt, alloc, Command::Report, READY, Ok(None), PAIR_REPORT));
 }
 
@@ -103,12 +107,12 @@ fn text_outcome(rt: &(impl Threads + Wait + Sync), alloc: Global, workers: u8) -
     requires { InRange 1 16 workers }
 {
     let (Ok(solved), Ok(report)) = (
-        solve_text(rt, alloc, workers, PAIR),
-        report_text(rt, alloc, workers, PAIR),
+        solve_text(rt, alloc, workers, ONE_PAIR.as_bytes()),
+        report_text(rt, alloc, workers, ONE_PAIR.as_bytes()),
     ) else {
         return Outcome::Refused;
     };
-    let is_solved = solved.value == Value::Finite(1) && solved.text.as_bytes() == PAIR_DOCUMENT;
+    let is_solved = solved.value == Value::Finite(1) && solved.text.as_str() == PAIR_VALUE_ONE;
     Outcome::of(false, is_solved && report.as_bytes() == PAIR_REPORT)
 }
 
@@ -122,11 +126,11 @@ fn texts_in_memory(rt: HostRuntime) {
 #[test]
 fn faults_write_nothing(rt: HostRuntime) {
     let large = Ends {
-        board: b"board 1\nlabels 33\npebbles 4\nstart 0 0 0 0\nend\n",
+        board: TOO_MANY_CONFIGURATIONS,
         ..READY
     };
     let cut = Ends {
-        board: b"board 1\nlabels 2\npebbles 2\nstart 0 0\nbeats 1 0\n",
+        board: "board 1\nlabels 2\npebbles 2\nstart 0 0\nbeats 1 0\n",
         ..READY
     };
     let end = Err(RunFault::Board(BoardFault {
@@ -151,7 +155,7 @@ fn faults_write_nothing(rt: HostRuntime) {
 #[test]
 fn a_read_fails_at_each_call(rt: HostRuntime) {
     for command in [Command::Solve, Command::Report] {
-        for reads in 0..PAIR.len() + 1 {
+        for reads in 0..=ONE_PAIR.len() {
             let ends = Ends { reads, ..READY };
             assert!(rt;
                 serves(&rt, rt.alloc(), command, ends, Err(RunFault::Read), NOTHING),
@@ -164,7 +168,7 @@ fn a_read_fails_at_each_call(rt: HostRuntime) {
 #[test]
 fn a_write_fails_at_each_call(rt: HostRuntime) {
     for (command, text) in [
-        (Command::Solve, PAIR_DOCUMENT),
+        (Command::Solve, PAIR_VALUE_ONE.as_bytes()),
         (Command::Report, PAIR_REPORT),
     ] {
         for failing in [Failing::Refuses, Failing::TakesNothing] {
