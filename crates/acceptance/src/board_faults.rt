@@ -41,9 +41,7 @@ fn assert_each(rt: &impl Abort, alloc: Global, texts: &[(&str, u32, BoardKind)])
 #[test]
 fn versions(rt: HostRuntime) {
     let texts = [
-        "",
         "\n",
-        "board 1",
         "board 3\nlabels 1\npebbles 1\nstart -\nend\n",
         "board 1\r\nlabels 1\npebbles 1\nstart 0\nend\n",
         "board 01\n",
@@ -60,7 +58,6 @@ fn versions(rt: HostRuntime) {
 #[test]
 fn numbers_of_labels(rt: HostRuntime) {
     let texts = [
-        "board 1\n",
         "board 1\n\nlabels 2\n",
         "board 1\nlabels\n",
         "board 1\nlabels \n",
@@ -83,7 +80,6 @@ fn numbers_of_labels(rt: HostRuntime) {
 #[test]
 fn numbers_of_pebbles(rt: HostRuntime) {
     let texts = [
-        "board 1\nlabels 2\n",
         "board 1\nlabels 2\npebbles 0\n",
         "board 1\nlabels 2\npebbles 7\n",
         "board 1\nlabels 2\npebbles 01\n",
@@ -97,7 +93,6 @@ fn numbers_of_pebbles(rt: HostRuntime) {
 #[test]
 fn starts(rt: HostRuntime) {
     let texts = [
-        "board 1\nlabels 2\npebbles 2\n",
         "board 1\nlabels 2\npebbles 2\nstart\n",
         "board 1\nlabels 2\npebbles 2\nstart 0\n",
         "board 1\nlabels 2\npebbles 2\nstart 0 0 0\n",
@@ -173,14 +168,11 @@ fn pairs_of_two_labels(rt: HostRuntime) {
 #[test]
 fn ends_and_what_follows(rt: HostRuntime) {
     let texts = [
-        (after_head!(""), 5, BoardKind::End),
         (after_head!("e"), 5, BoardKind::End),
         (after_head!("end"), 5, BoardKind::End),
         (after_head!("end \n"), 5, BoardKind::End),
         (after_head!("end\r\n"), 5, BoardKind::End),
         (after_head!("else\n"), 5, BoardKind::End),
-        (after_head!("beats 1 0\n"), 6, BoardKind::End),
-        (after_head!("beats 1 0\nend"), 6, BoardKind::End),
         (after_head!("beats 1 0\nend\n\0"), 7, BoardKind::Trailing),
         (after_head!("beats 1 0\nend\n\n"), 7, BoardKind::Trailing),
         (after_head!("end\nend\n"), 6, BoardKind::Trailing),

@@ -164,7 +164,6 @@ fn each_front_of_a_least_document(rt: HostRuntime) {
 fn versions_and_claims(rt: HostRuntime) {
     let space = space_of(&rt, rt.alloc(), ONE_PAIR);
     let faults = [
-        ("", 1, ProofKind::Version),
         ("proof 2\n", 1, ProofKind::Version),
         ("proof 1\r\n", 1, ProofKind::Version),
         ("board 1\n", 1, ProofKind::Version),
