@@ -5,7 +5,7 @@ use Rattle.std.specs.List.{flat_map}
 use Rattle.board_text.specs.Ranges.{InRange}
 use Rattle.board_text.specs.LineForms.{Lacks}
 use Rattle.board_text.specs.PlainBoard.{PlainBoard, plain_board, IsBoard, IsStart, ArePairs, version_of}
-use Rattle.board_text.specs.BoardText.{version_line, labels_line, pebbles_line, start_line, beats_line, end_line, front, board_text}
+use Rattle.board_text.specs.BoardText.{version_line, labels_line, pebbles_line, start_line, beats_line, end_line, board_front, board_text}
 use Rattle.board_text.specs.BoardFaults.{InPairs, HasBoardFault}
 use Rattle.board_text.specs.declared.fault.BoardFault.{BoardFault}
 use Rattle.board_text.specs.declared.fault.BoardKind.{BoardKind}
@@ -89,7 +89,7 @@ one_reading text v w (inr a) (inr b) =
 regroup : (a b c d e x : List ℕ) → ((a ++ (b ++ (c ++ d))) ++ e) ++ x ≡ a ++ (b ++ (c ++ (d ++ (e ++ x))))
 regroup a b c d e x = simp append_assoc
 
-read_on : (text : List ℕ) (b : PlainBoard) (rest : List ℕ) (found : Finding) → IsBoard b → text ≡ front b ++ rest → Ending b rest found → Reading text found
+read_on : (text : List ℕ) (b : PlainBoard) (rest : List ℕ) (found : Finding) → IsBoard b → text ≡ board_front b ++ rest → Ending b rest found → Reading text found
 read_on text b rest found is e h =
     inr (
       version_of b.labels b.start,
@@ -132,7 +132,7 @@ fault_reading text line Pebbles not h =
 fault_reading text line Start not h =
     inr (h.1, _, h.5, h.8, inr (h.2, _, h.6, refl, inr (h.3, h.4, h.7, refl, inl (h.9, ap (λ (l : ℕ). fault l Start) h.0))))
 fault_reading text line Trailing not (b, first, more, is, e, number) =
-    rw number (read_on text b (end_line ++ first ∷ more) (fault (6 + length b.pairs) Trailing) is (e ∙ append_assoc (front b) end_line (first ∷ more)) (at_end (first ∷ more) refl refl))
+    rw number (read_on text b (end_line ++ first ∷ more) (fault (6 + length b.pairs) Trailing) is (e ∙ append_assoc (board_front b) end_line (first ∷ more)) (at_end (first ∷ more) refl refl))
 fault_reading text line Memory not h = absurd (not refl)
 fault_reading text line Beats not h = pair_reading text line Beats h
 fault_reading text line SelfBeat not h = pair_reading text line SelfBeat h

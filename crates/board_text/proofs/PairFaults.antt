@@ -7,7 +7,7 @@ use Rattle.std.proofs.lemmas.List.Elements.{recursion_from_All}
 use Rattle.board_text.specs.Ranges.{InRange, AreNumbers}
 use Rattle.board_text.specs.PlainBoard.{PlainBoard, plain_board, IsBoard, ArePairs, AreLabels, version_of}
 use Rattle.board_text.specs.BoardText.{version_line, labels_line, pebbles_line, start_line, beats_line, end_line, board_text}
-use Rattle.board_text.specs.Inside.BoardText.{head}
+use Rattle.board_text.specs.Inside.BoardText.{board_head}
 use Rattle.board_text.specs.BoardFaults.{PairFault, HasBoardFault}
 use Rattle.board_text.specs.Inside.PairFaults.{IsPairFault, HasPairFault}
 use Rattle.board_text.specs.declared.fault.BoardFault.{BoardFault}
@@ -128,7 +128,7 @@ parts_fault b f in_labels in_pebbles are (before, p, after, are_before, parts, n
     let rest = beats_line p ++ (flat_map beats_line after ++ end_line) in
     let is : IsBoard front_board = record { labels = in_labels; pebbles = in_pebbles; start = start_from_numbers front_board are; pairs = are_before } in
     has_pair_fault (board_text b) f.line f.kind front_board rest is
-    (ap (λ (ps : List (ℕ × ℕ)). (head b.labels b.pebbles b.start ++ flat_map beats_line ps) ++ end_line) parts ∙ cut_at (head b.labels b.pebbles b.start) before p after end_line)
+    (ap (λ (ps : List (ℕ × ℕ)). (board_head b.labels b.pebbles b.start ++ flat_map beats_line ps) ++ end_line) parts ∙ cut_at (board_head b.labels b.pebbles b.start) before p after end_line)
     number (misfit_found b.labels before p rest (flat_map beats_line after ++ end_line) f.kind in_labels.1 refl h)
 
 -- the misfit at a place of the pairs, where those before it stand

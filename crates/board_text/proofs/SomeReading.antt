@@ -6,8 +6,8 @@ use Rattle.std.proofs.lemmas.List.Elements.{All-nil}
 use Rattle.std.specs.List.{flat_map}
 use Rattle.board_text.specs.Ranges.{InRange, AreNumbers}
 use Rattle.board_text.specs.PlainBoard.{PlainBoard, plain_board, IsBoard, ArePairs, AreLabels}
-use Rattle.board_text.specs.BoardText.{version_line, labels_line, pebbles_line, beats_line, end_line, front, board_text}
-use Rattle.board_text.specs.Inside.BoardText.{head}
+use Rattle.board_text.specs.BoardText.{version_line, labels_line, pebbles_line, beats_line, end_line, board_front, board_text}
+use Rattle.board_text.specs.Inside.BoardText.{board_head}
 use Rattle.board_text.specs.BoardFaults.{NotEnd, IsCut, PairFault}
 use Rattle.board_text.specs.Inside.Parsing.{CanFollow}
 use Rattle.board_text.specs.Readings.{IsBoardText, IsFaulty}
@@ -68,9 +68,9 @@ ended text b [] is e = inl (b, is, e ∙ append-nil (board_text b))
 ended text b (c ∷ more) is e = inr (6 + length b.pairs, Trailing, λ f. cc, (b, c, more, is, e, refl))
 
 -- one line more
-one_more : (b : PlainBoard) (p : ℕ × ℕ) (text rest more : List ℕ) → text ≡ front b ++ rest → rest ≡ beats_line p ++ more → text ≡ front (plain_board b.labels b.pebbles b.start (b.pairs ++ p ∷ [])) ++ more
+one_more : (b : PlainBoard) (p : ℕ × ℕ) (text rest more : List ℕ) → text ≡ board_front b ++ rest → rest ≡ beats_line p ++ more → text ≡ board_front (plain_board b.labels b.pebbles b.start (b.pairs ++ p ∷ [])) ++ more
 one_more b p text rest more e f =
-    let start = head b.labels b.pebbles b.start in
+    let start = board_head b.labels b.pebbles b.start in
     front_taken (plain_board b.labels b.pebbles b.start (b.pairs ++ p ∷ [])) text (flat_map beats_line b.pairs ++ rest) more
     (e ∙ append_assoc start (flat_map beats_line b.pairs) rest)
     (line_push b.pairs p (flat_map beats_line b.pairs ++ rest) rest more refl f)
@@ -78,8 +78,8 @@ one_more b p text rest more e f =
 shorter : (p : ℕ × ℕ) (rest more : List ℕ) → rest ≡ beats_line p ++ more → length more < length rest
 shorter p rest more e = omega (arith, ap length e, length-append (beats_line p) more)
 
-from_line : (size : ℕ) (text : List ℕ) (b : PlainBoard) (rest : List ℕ) → length rest ≤ size → IsBoard b → text ≡ front b ++ rest → NextLine b.labels b.pairs rest → IsBoardText text ⊎ IsFaulty text
-from_line size text b rest fits is e (ends more f) = ended text b more is (e ∙ ap (λ (t : List ℕ). front b ++ t) f ∙ sym (append_assoc (front b) end_line more))
+from_line : (size : ℕ) (text : List ℕ) (b : PlainBoard) (rest : List ℕ) → length rest ≤ size → IsBoard b → text ≡ board_front b ++ rest → NextLine b.labels b.pairs rest → IsBoardText text ⊎ IsFaulty text
+from_line size text b rest fits is e (ends more f) = ended text b more is (e ∙ ap (λ (t : List ℕ). board_front b ++ t) f ∙ sym (append_assoc (board_front b) end_line more))
 from_line size text b rest fits is e (fault kind h) =
     inr (5 + length b.pairs, kind, λ m. subst (λ k. PairFault b.labels b.pairs rest k) m h, has_pair_fault text (5 + length b.pairs) kind b rest is e refl h)
 from_line zero text b rest fits is e (pair p more can f) = absurd (omega (arith, shorter p rest more f, fits))
@@ -97,7 +97,7 @@ no_pairs labels = record {
   one_way = λ x y h g. omega (arith, h.1);
 }
 
-after_start : (text : List ℕ) (labels pebbles : ℕ) (start rest : List ℕ) → InRange 1 MAX_LABELS labels → InRange 1 MAX_PEBBLES pebbles → AreNumbers pebbles (labels + 1) start → text ≡ head labels pebbles start ++ rest → IsBoardText text ⊎ IsFaulty text
+after_start : (text : List ℕ) (labels pebbles : ℕ) (start rest : List ℕ) → InRange 1 MAX_LABELS labels → InRange 1 MAX_PEBBLES pebbles → AreNumbers pebbles (labels + 1) start → text ≡ board_head labels pebbles start ++ rest → IsBoardText text ⊎ IsFaulty text
 after_start text labels pebbles start rest in_labels in_pebbles are e =
     let b = plain_board labels pebbles start [] in
     let is : IsBoard b = record { labels = in_labels; pebbles = in_pebbles; start = start_from_numbers b are; pairs = no_pairs labels } in

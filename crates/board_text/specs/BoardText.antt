@@ -24,11 +24,11 @@ abbrev pub end_line : List ℕ
 end_line = closed (codes "end")
 
 -- the text up to its last pair
-abbrev pub front : PlainBoard → List ℕ
-front board =
+abbrev pub board_front : PlainBoard → List ℕ
+board_front board =
     (version_line (version_of board.labels board.start) ++ (labels_line board.labels
     ++ (pebbles_line board.pebbles ++ start_line board.labels board.start))) ++ flat_map beats_line board.pairs
 
 -- the text of a board
 abbrev pub board_text : PlainBoard → List ℕ
-board_text board = front board ++ end_line
+board_text board = board_front board ++ end_line

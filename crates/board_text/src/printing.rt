@@ -2,7 +2,7 @@
 
 ghost use Rattle.std.specs.Prelude.{◌≡◌, ◌++◌, IfOk, OnOk, string_bytes};
 ghost use Rattle.board_text.specs.BoardText.{board_text};
-ghost use Rattle.board_text.specs.Inside.BoardText.{head};
+ghost use Rattle.board_text.specs.Inside.BoardText.{board_head};
 
 use crate::board::Board;
 use crate::memory::Memory;
@@ -27,7 +27,7 @@ pub fn print(alloc: Global, board: &Board) -> Result<String, Memory>
 
 /// Writes the first four lines of a board's text.
 fn write_head(text: &mut String, board: &Board) -> Result<(), AllocError>
-    ensures { OnOk result (string_bytes text.new ≡ string_bytes text.old ++ head board.now.labels board.now.pebbles board.now.start) }
+    ensures { OnOk result (string_bytes text.new ≡ string_bytes text.old ++ board_head board.now.labels board.now.pebbles board.now.start) }
 {
     let version = board.version();
     let labels = board.labels();

@@ -21,7 +21,7 @@ use Rattle.positions.proofs.Cited.{same_size, size_zero, size_at_most}
 use Rattle.retro_core.specs.Solving.{Solving, IsSolving, AnswerLasts}
 use Rattle.retro_core.specs.Round.{PlainSeat, Round, IsLawful, IsWorkedOff, spent as spent_seat, seat_at, total_width, all_todo}
 use Rattle.retro_core.specs.Round.{all_won}
-use Rattle.retro_core.proofs.Cited.{total as seat_total}
+use Rattle.retro_core.proofs.Cited.{seat_total}
 use Rattle.retro_core.specs.Ending.{IsRoundEnd}
 use Rattle.retro_core.proofs.Cited.{same_or_not, times-together, worked-off}
 use Rattle.claim_round.specs.Shared.{Key, View, Ended, Finishes}

@@ -12,8 +12,8 @@ use Rattle.positions.specs.Gaps.{gaps, member_of}
 use Rattle.positions.specs.declared.space.TheConstants.{MAX_CONFIGURATIONS}
 use Rattle.retro_core.specs.Solving.{Solving, IsSolving, source}
 use Rattle.retro_core.proofs.Cited.{same_or_not, source-once}
-use Rattle.claim_round.specs.Shared.{Key, View, kept_part, new_part, joined}
-use Rattle.claim_round.specs.Inside.Shared.{most, size, load, struck, claimed}
+use Rattle.claim_round.specs.Shared.{Key, View, kept_part, new_part, view_joined}
+use Rattle.claim_round.specs.Inside.Shared.{most, size, load, view_struck, claimed}
 
 -- ---- how many members a gap has
 
@@ -69,7 +69,7 @@ pub length_rest : (xs : List ℕ) → 0 < length xs → length xs ≡ 1 + length
 length_rest [] some = absurd (omega arith)
 length_rest (x ∷ xs) some = omega arith
 
-pub load_struck : (most : ℕ) (v : View) (gap n : ℕ) → 0 < length v.has.todo → length (source v.key.solving gap) ≤ most → load most (struck v gap n) ≤ load most v
+pub load_struck : (most : ℕ) (v : View) (gap n : ℕ) → 0 < length v.has.todo → length (source v.key.solving gap) ≤ most → load most (view_struck v gap n) ≤ load most v
 load_struck most v gap n some few =
     let more : List ℕ = source v.key.solving gap in
     let l = ap (λ (i : ℕ). most * i) (length_rest v.has.todo some) ∙ times_one_more most (length (drop 1 v.has.todo)) in
@@ -89,7 +89,7 @@ load_cut most v =
     let t = ap (λ (i : ℕ). most * i) (let u : length (take n v.has.todo) + length (drop n v.has.todo) ≡ length v.has.todo = omega arith in u) in
     omega arith
 
-pub load_glue : (most : ℕ) (v u : View) → load most (joined v u) ≡ load most v + load most u
+pub load_glue : (most : ℕ) (v u : View) → load most (view_joined v u) ≡ load most v + load most u
 load_glue most v u =
     let o = length-append v.has.owed u.has.owed in
     let t = ap (λ (i : ℕ). most * i) (length-append v.has.todo u.has.todo) ∙ times_sum most (length v.has.todo) (length u.has.todo) in

@@ -20,7 +20,7 @@ use Rattle.retro_core.specs.Inside.Arena.{dominated}
 use Rattle.retro_core.specs.Inside.BoardArena.{arena_of}
 use Rattle.retro_core.proofs.Cited.{same_or_not, dominated-tells, times-filter-true, times-filter-le, opening-lawful}
 use Rattle.claim_round.specs.Shared.{Key}
-use Rattle.claim_round.specs.Inside.Shared.{Kept, opening, most}
+use Rattle.claim_round.specs.Inside.Shared.{Kept, opening_view, most}
 use Rattle.claim_round.proofs.Totals.{knows_push}
 use Rattle.claim_round.specs.Inside.Openings.{HasCounts, AreOpeningWords}
 use Rattle.claim_round.specs.declared.words.TheConstants.{OPEN}
@@ -109,7 +109,7 @@ ranks_due s ranks sol to_strike =
 -- ---- the opening keeps the rule
 
 pub opened : (s : Solving) (width : ℕ) (words ranks : List ℕ) → IsSolving s → 0 < width → AreOpeningWords s words (configurations s.board) → AreToStrike s ranks
-    → Kept (record { solving = s; width = width }) (record { words = words; homes = []; views = opening (record { solving = s; width = width }) ∷ [] })
+    → Kept (record { solving = s; width = width }) (record { words = words; homes = []; views = opening_view (record { solving = s; width = width }) ∷ [] })
 opened s width words ranks sol some are to_strike =
     let b = s.board in
     let G : ℕ = gaps b in
@@ -129,7 +129,7 @@ opened s width words ranks sol some are to_strike =
       sol,
       law,
       record {
-        knows = knows_push k [] (opening k) (λ i v e. absurd (some-ne-none v (sym e))) (λ _. refl);
+        knows = knows_push k [] (opening_view k) (λ i v e. absurd (some-ne-none v (sym e))) (λ _. refl);
         lost = λ x h. absurd (omega arith);
         shut_once = λ gap i. omega arith;
         shut_none = λ gap i h. omega arith;

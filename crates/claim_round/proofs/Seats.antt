@@ -10,8 +10,8 @@ use Rattle.positions.specs.Gaps.{gaps}
 use Rattle.retro_core.specs.Solving.{Solving, IsSolving, source}
 use Rattle.retro_core.specs.Round.{AreToStrike, IsDue, first_of}
 use Rattle.retro_core.proofs.Cited.{times-cut, times_here, split_first, source-rank}
-use Rattle.claim_round.specs.Shared.{Key, View, kept_part, new_part, joined}
-use Rattle.claim_round.specs.Inside.Shared.{IsDueIn, most, size, load, opening, struck, claimed, IsBounded}
+use Rattle.claim_round.specs.Shared.{Key, View, kept_part, new_part, view_joined}
+use Rattle.claim_round.specs.Inside.Shared.{IsDueIn, most, size, load, opening_view, view_struck, claimed, IsBounded}
 use Rattle.claim_round.specs.Inside.Seats.{IsSeated, SeatHasRoom}
 use Rattle.claim_round.specs.declared.seat.RoundSeat.TheInside.{Inside}
 use Rattle.claim_round.specs.declared.words.TheConstants.{OPEN}
@@ -73,7 +73,7 @@ claimed_seat s t n seated some view slots todo owed room_owed won room_won width
 
 -- the same after a strike, of a seat that owed nothing
 pub struck_seat : (s t : Inside) (n gap : ℕ) (k : Key) → IsSeated s → IsSolving k.solving → gap < gaps k.solving.board → s.seat.me.0.key ≡ k → 0 < length s.seat.me.0.has.todo → s.seat.me.0.has.owed ≡ []
-    → t.seat.me.0 ≡ struck s.seat.me.0 gap n → t.seat.me.1 ≡ s.seat.me.1
+    → t.seat.me.0 ≡ view_struck s.seat.me.0 gap n → t.seat.me.1 ≡ s.seat.me.1
     → t.todo.items ≡ drop 1 s.todo.items → t.owed.items ≡ (cond (n == 1) (s.owed.items ++ source k.solving gap) s.owed.items) → deque_capacity t.owed ≡ deque_capacity s.owed
     → t.won.items ≡ s.won.items → vec_capacity t.won ≡ vec_capacity s.won → t.width ≡ s.width → IsSeated t
 struck_seat s t n gap k seated sol in_gaps knows some none_owed view slots todo owed room_owed won room_won width =
@@ -94,11 +94,11 @@ struck_seat s t n gap k seated sol in_gaps knows some none_owed view slots todo 
       due = subst (λ (u : View). (c : ℕ) → 0 < times c u.has.todo → IsDueIn u.key c) (sym view) (λ c there. seated.due c (let r = times_rest c v.has.todo in omega arith));
       inside = subst (λ (u : View). (c : ℕ) → 0 < times c u.has.owed → c < size u.key) (sym view) (λ c there. dite (ℕ_discrete n 1)
           (λ e.
-          let o : times c (struck v gap n).has.owed ≡ times c v.has.owed + times c own = ap (times c) (cond_same n 1 (v.has.owed ++ own) v.has.owed e) ∙ times-append c v.has.owed own in
+          let o : times c (view_struck v gap n).has.owed ≡ times c v.has.owed + times c own = ap (times c) (cond_same n 1 (v.has.owed ++ own) v.has.owed e) ∙ times-append c v.has.owed own in
           let z : times c v.has.owed ≡ 0 = ap (times c) none_owed in
           subst (λ (q : Key). c < size q) (sym knows) (source-rank k.solving sol gap c in_gaps (subst (λ (xs : List ℕ). 0 < times c xs) (sym same) (omega arith))))
           (λ ne.
-          let o : times c (struck v gap n).has.owed ≡ times c v.has.owed = ap (times c) (cond_other n 1 (v.has.owed ++ own) v.has.owed ne) in
+          let o : times c (view_struck v gap n).has.owed ≡ times c v.has.owed = ap (times c) (cond_other n 1 (v.has.owed ++ own) v.has.owed ne) in
           let z : times c v.has.owed ≡ 0 = ap (times c) none_owed in
           absurd (omega arith)));
       room_owed = subst (λ (u : View). most u.key ≤ deque_capacity t.owed) (sym view) (let r = seated.room_owed in omega arith);
@@ -171,7 +171,7 @@ new_seat s t seated view slots todo owed room_owed won room_won width =
     }
 
 -- the seat that a join makes
-pub joined_seat : (s q t : Inside) → IsSeated s → IsSeated q → s.seat.me.0.key ≡ q.seat.me.0.key → t.seat.me.0 ≡ joined s.seat.me.0 q.seat.me.0 → t.seat.me.1 ≡ s.seat.me.1
+pub joined_seat : (s q t : Inside) → IsSeated s → IsSeated q → s.seat.me.0.key ≡ q.seat.me.0.key → t.seat.me.0 ≡ view_joined s.seat.me.0 q.seat.me.0 → t.seat.me.1 ≡ s.seat.me.1
     → t.todo.items ≡ s.todo.items ++ q.todo.items → t.owed.items ≡ s.owed.items ++ q.owed.items → deque_capacity s.owed ≤ deque_capacity t.owed
     → t.won.items ≡ s.won.items ++ q.won.items
     → (size s.seat.me.0.key ≤ vec_capacity t.won) ⊎ (length s.won.items + (length s.owed.items + most s.seat.me.0.key * length s.todo.items) + (length q.won.items + length q.owed.items + most s.seat.me.0.key * length q.todo.items) ≤ vec_capacity t.won)
@@ -204,7 +204,7 @@ joined_seat s q t seated other same view slots todo owed room_owed won room_won 
           let o = ap length owed ∙ length-append s.owed.items q.owed.items in
           let todo' = ap (λ (xs : List ℕ). most v.key * length xs) (todo ∙ ap (λ (p : List ℕ × List ℕ). p.0 ++ p.1) (λ j. (seated.todo j, other.todo j))) in
           let owed' = ap length (owed ∙ ap (λ (p : List ℕ × List ℕ). p.0 ++ p.1) (λ j. (seated.owed j, other.owed j))) in
-          let bound : load (most v.key) (joined v u) ≤ most v.key * size v.key = subst (λ (x : View). load (most x.key) x ≤ most x.key * size x.key) view bounded.load in
+          let bound : load (most v.key) (view_joined v u) ≤ most v.key * size v.key = subst (λ (x : View). load (most x.key) x ≤ most x.key * size x.key) view bounded.load in
           record {
             places = ⊎_elim (λ (a : size v.key ≤ vec_capacity t.won). inl a) (λ b. inr (omega arith)) room_won;
             few = omega arith;
@@ -218,7 +218,7 @@ no_length [] e = refl
 no_length (x ∷ xs) e = absurd (omega arith)
 
 -- the first seat of a round
-pub first_seat : (t : Inside) (k : Key) → IsSolving k.solving → t.seat.me.0 ≡ opening k → t.seat.me.1 ≡ [] → AreToStrike k.solving t.todo.items → t.owed.items ≡ [] → most k ≤ deque_capacity t.owed
+pub first_seat : (t : Inside) (k : Key) → IsSolving k.solving → t.seat.me.0 ≡ opening_view k → t.seat.me.1 ≡ [] → AreToStrike k.solving t.todo.items → t.owed.items ≡ [] → most k ≤ deque_capacity t.owed
     → t.won.items ≡ [] → (size k ≤ vec_capacity t.won) ⊎ (most k * length t.todo.items ≤ vec_capacity t.won) → t.width ≡ k.width → IsSeated t
 first_seat t k sol view slots to_strike owed room_owed won room_won width =
     let all = ranks_due k.solving t.todo.items sol to_strike in

@@ -9,8 +9,8 @@ use Rattle.positions.specs.Gaps.{gaps}
 use Rattle.retro_core.specs.Solving.{IsSolving, source}
 use Rattle.retro_core.specs.Round.{first_of}
 use Rattle.retro_core.proofs.Cited.{same_or_not, times_here}
-use Rattle.claim_round.specs.Shared.{Key, View, kept_part, new_part, joined}
-use Rattle.claim_round.specs.Inside.Shared.{total, most, size, load, IsTraced, struck, claimed, spent}
+use Rattle.claim_round.specs.Shared.{Key, View, kept_part, new_part, view_joined}
+use Rattle.claim_round.specs.Inside.Shared.{total, most, size, load, IsTraced, view_struck, claimed, spent_view}
 use Rattle.claim_round.specs.declared.words.TheConstants.{OPEN}
 use Rattle.claim_round.proofs.Totals.{total_set, total_at, total_cut, total_glue, won_total, knows_set, knows_push}
 use Rattle.claim_round.proofs.Loads.{few_members, load_struck, load_claimed, load_cut, load_glue}
@@ -34,7 +34,7 @@ module _ (k : Key) (words : List ℕ) (views : List View) (traced : IsTraced k w
     found = slice_index words gap
 
     abbrev pub after : View
-    after = struck v gap found
+    after = view_struck v gap found
 
     record IsShut (g : ℕ) : Type 0 where
       once : total (λ u. times g u.shut) (set views id after) ≤ 1
@@ -167,18 +167,18 @@ module _ (k : Key) (words : List ℕ) (views : List View) (traced : IsTraced k w
         few = subst (λ n. n ≤ most k * size k) (sym (total_cut (load (most k)) views id v a b at (load_cut (most k) v))) traced.few;
       }
 
-  pub traced_join : (id other : ℕ) (v u : View) → get_elem? views id ≡ some v → get_elem? (set views id (joined v u)) other ≡ some u → 0 < v.has.width
-      → IsTraced k words (set (set views id (joined v u)) other spent)
+  pub traced_join : (id other : ℕ) (v u : View) → get_elem? views id ≡ some v → get_elem? (set views id (view_joined v u)) other ≡ some u → 0 < v.has.width
+      → IsTraced k words (set (set views id (view_joined v u)) other spent_view)
   traced_join id other v u at there wide =
-      let a : View = joined v u in
-      let all : List View = set (set views id a) other spent in
+      let a : View = view_joined v u in
+      let all : List View = set (set views id a) other spent_view in
       let key : v.key ≡ k = traced.knows id v at wide in
-      let glue : (f : View → ℕ) → f a + f spent ≡ f v + f u → total f all ≡ total f views = λ f e. total_glue f views id other v u a spent at there e in
+      let glue : (f : View → ℕ) → f a + f spent_view ≡ f v + f u → total f all ≡ total f views = λ f e. total_glue f views id other v u a spent_view at there e in
       let lost : (x : ℕ) → total (λ w. times x w.lost) all ≡ total (λ w. times x w.lost) views = λ x. glue (λ w. times x w.lost) (let s = times-append x v.lost u.lost in omega arith) in
       let won : (x : ℕ) → total (λ w. times x w.has.won) all ≡ total (λ w. times x w.has.won) views = λ x. glue (λ w. times x w.has.won) (let s = times-append x v.has.won u.has.won in omega arith) in
       let shut : (g : ℕ) → total (λ w. times g w.shut) all ≡ total (λ w. times g w.shut) views = λ g. glue (λ w. times g w.shut) (let s = times-append g v.shut u.shut in omega arith) in
       record {
-        knows = knows_set k (set views id a) other spent (knows_set k views id a traced.knows (λ _. key)) (λ h. absurd (omega arith));
+        knows = knows_set k (set views id a) other spent_view (knows_set k views id a traced.knows (λ _. key)) (λ h. absurd (omega arith));
         lost = λ x h. subst (λ n. 0 < n) (sym (won_total x all ∙ won x)) (lost_won x (subst (λ n. 0 < n) (lost x) h));
         shut_once = λ g i. subst (λ n. n ≤ 1) (sym (shut g)) (traced.shut_once g i);
         shut_none = λ g i h. shut g ∙ traced.shut_none g i h;

@@ -40,8 +40,8 @@ abbrev pub new_part : View → View
 new_part v = record { key = v.key; has = seat_new v.has; lost = []; shut = [] }
 
 -- the seat after a join
-abbrev pub joined : View → View → View
-joined v u = record { key = v.key; has = seat_joined v.has u.has; lost = v.lost ++ u.lost; shut = v.shut ++ u.shut }
+abbrev pub view_joined : View → View → View
+view_joined v u = record { key = v.key; has = seat_joined v.has u.has; lost = v.lost ++ u.lost; shut = v.shut ++ u.shut }
 
 -- ---- what clauses say
 
@@ -60,7 +60,7 @@ IsSplit seat kept new = (kept.table ≡ seat.table) × (kept.view ≡ kept_part 
 
 -- a seat took over all that another one had
 abbrev pub IsJoined : Place → Place → Place → Type 0
-IsJoined into from both = (both.table ≡ into.table) × (both.view ≡ joined into.view from.view)
+IsJoined into from both = (both.table ≡ into.table) × (both.view ≡ view_joined into.view from.view)
 
 -- what a clause sees of a closed round: the count of each gap, the value of each configuration that has one, and what was won
 pub record Ended : Type 0 where

@@ -12,11 +12,11 @@ pub struct Hand {
 
 impl Model for Hand {
     ghost use Rattle.claim_round.specs.Shared.{View};
-    ghost use Rattle.claim_round.specs.Inside.Shared.{spent};
+    ghost use Rattle.claim_round.specs.Inside.Shared.{spent_view};
 
     ghost Value = { View };
 
-    ghost view = { λ _. spent };
+    ghost view = { λ _. spent_view };
 }
 
 /// What the table is told when it is made.
@@ -72,11 +72,11 @@ impl Split<Hand> for Halves {
 
 impl Join<Hand> for Halves {
     ghost use Rattle.claim_round.specs.Shared.{joined};
-    ghost use Rattle.claim_round.specs.Inside.Shared.{spent};
+    ghost use Rattle.claim_round.specs.Inside.Shared.{spent_view};
 
     ghost both = { joined };
 
-    ghost spent = { spent };
+    ghost spent = { spent_view };
 }
 
 pub struct Read;

@@ -18,9 +18,9 @@ HasNumber rows id most n =
     × (1 ≤ n) × (n ≤ most)
 
 -- the word for a side
-abbrev pub word_of : Player → Text
-word_of Labeller = codes "labeller"
-word_of Adversary = codes "adversary"
+abbrev pub player_word : Player → Text
+player_word Labeller = codes "labeller"
+player_word Adversary = codes "adversary"
 
 -- the command that was named, with its matches, asks for the job
 abbrev pub AsksFor : Text → List Row → Job → Type 0
@@ -37,7 +37,7 @@ AsksFor name rows (Report workers board) = (name ≡ codes "report")
     × HasNumber rows (codes "workers") 16 workers
     × (first_of (codes "board") rows ≡ Some board.now)
 AsksFor name rows (Play side board) = (name ≡ codes "play")
-    × (first_of (codes "side") rows ≡ Some (word_of side))
+    × (first_of (codes "side") rows ≡ Some (player_word side))
     × (first_of (codes "board") rows ≡ Some board.now)
 AsksFor name rows (Climb levels) = (name ≡ codes "climb") × HasNumber rows (codes "levels") MAX_LEVELS levels
 

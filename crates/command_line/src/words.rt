@@ -5,7 +5,7 @@ ghost use Rattle.std.specs.Prelude.{length, codes, option_map};
 ghost use Rattle.clap.specs.Words.{fault_of, first_of, found_of, kind_of, rows_of, subcommand_of, subcommand_rows_of, takes};
 ghost use Rattle.clap.specs.Walk.{texts};
 ghost use Rattle.command_line.specs.Commands as commands;
-ghost use Rattle.command_line.specs.Reading.{AsksFor, HasNumber, IsInRange, IsReadAs, word_of};
+ghost use Rattle.command_line.specs.Reading.{AsksFor, HasNumber, IsInRange, IsReadAs, player_word};
 ghost use Rattle.command_line.specs.Inside.Reading.{asks, has_number, has_side, is_read};
 
 use crate::asked::{Job, JobFault, Player};
@@ -159,7 +159,7 @@ fn climb_job<'a>(values: &ArgMatches<'a>) -> Option<Job<'a>>
 
 fn side(matches: &ArgMatches<'_>) -> Option<Player>
     ensures { MatchOption result (has_side (rows_of (found_of matches.now)) ≡ false)
-        (λ side. first_of (codes "side") (rows_of (found_of matches.now)) ≡ Some (word_of side)) }
+        (λ side. first_of (codes "side") (rows_of (found_of matches.now)) ≡ Some (player_word side)) }
 {
     match text(matches, "side")? {
         "labeller" => Some(Player::Labeller),

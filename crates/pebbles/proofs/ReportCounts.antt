@@ -12,7 +12,7 @@ use Rattle.positions.specs.Ranks.{configurations}
 use Rattle.positions.specs.declared.space.TheConstants.{MAX_CONFIGURATIONS}
 use Rattle.round_workers.proofs.Cited.{value_few}
 use Rattle.retro_core.specs.Sizes.{HasCount, IsGreatest}
-use Rattle.pebbles.specs.Report.{AreCounts, IsCountOfValues, IsReportOf, head_lines, start_line, count_line, count_lines, end_lines}
+use Rattle.pebbles.specs.Report.{AreCounts, IsCountOfValues, IsReportOf, head_lines, start_value_line, count_line, count_lines, end_lines}
 
 -- so many values are counted, and their lines are written
 pub record IsCountedTo (board : PlainBoard) (bound : ℕ) (before text : List ℕ) : Type 0 where
@@ -71,14 +71,14 @@ value_fits board greatest is few = let low = value_few board is.0.0 greatest is.
 
 -- the parts of a report, one behind the other
 pub whole_report : (board : PlainBoard) (start : Value) (counts : List ℕ) (forever : ℕ) (empty head begun counted whole : List ℕ)
-    → empty ≡ [] → head ≡ empty ++ head_lines board → begun ≡ head ++ start_line start → counted ≡ begun ++ count_lines 0 counts → whole ≡ counted ++ end_lines forever
+    → empty ≡ [] → head ≡ empty ++ head_lines board → begun ≡ head ++ start_value_line start → counted ≡ begun ++ count_lines 0 counts → whole ≡ counted ++ end_lines forever
     → HasValue board board.start start → AreCounts board counts → HasCount board Forever forever → IsReportOf board whole
 whole_report board start counts forever empty head begun counted whole none first second third last has are size = record {
   report = record { start = start; counts = counts; forever = forever };
   is_report = record { start = has; counts = are; forever = size };
   text_is = last ∙ ap (λ (t : List ℕ). t ++ end_lines forever)
       (third ∙ ap (λ (t : List ℕ). t ++ count_lines 0 counts)
-      (second ∙ ap (λ (t : List ℕ). t ++ start_line start) (first ∙ ap (λ (t : List ℕ). t ++ head_lines board) none)));
+      (second ∙ ap (λ (t : List ℕ). t ++ start_value_line start) (first ∙ ap (λ (t : List ℕ). t ++ head_lines board) none)));
 }
 
 -- four texts, one behind the other

@@ -47,8 +47,8 @@ abbrev pub head_lines : PlainBoard → List ℕ
 head_lines board = size_lines board.labels board.pebbles (configurations board)
 
 -- the line of the start's value
-abbrev pub start_line : Value → List ℕ
-start_line value = closed (codes "start " ++ claim_words (claim_of value))
+abbrev pub start_value_line : Value → List ℕ
+start_value_line value = closed (codes "start " ++ claim_words (claim_of value))
 
 -- the line of a value and how many configurations have it
 abbrev pub count_line : ℕ → ℕ → List ℕ
@@ -65,7 +65,7 @@ end_lines forever = closed (codes "forever: " ++ decimal forever) ++ closed (cod
 
 -- the text of a report
 abbrev pub report_text : PlainBoard → Report → List ℕ
-report_text board report = head_lines board ++ start_line report.start ++ count_lines 0 report.counts ++ end_lines report.forever
+report_text board report = head_lines board ++ start_value_line report.start ++ count_lines 0 report.counts ++ end_lines report.forever
 
 -- the text is that of the report of the board
 pub record IsReportOf (board : PlainBoard) (text : List ℕ) : Type 0 where

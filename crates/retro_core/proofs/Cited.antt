@@ -9,4 +9,4 @@ pub use Rattle.retro_core.proofs.RoundSteps.{join-lawful, opening-lawful, split-
 pub use Rattle.retro_core.proofs.Lending.{solver_sync}
 pub use Rattle.retro_core.proofs.SeatSteps.{split_first, times_here}
 pub use Rattle.retro_core.proofs.SeatSums.{times-cut, times-together}
-pub use Rattle.retro_core.proofs.Rules.{total}
+pub use Rattle.retro_core.proofs.Rules.{seat_total}

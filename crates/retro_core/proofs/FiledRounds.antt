@@ -15,8 +15,8 @@ use Rattle.retro_core.specs.Inside.BoardArena.{arena_of}
 use Rattle.retro_core.specs.Ending.{IsRoundEnd}
 use Rattle.retro_core.specs.Round.{IsWorth}
 use Rattle.retro_core.specs.Solving.{AnswerLasts}
-use Rattle.retro_core.specs.Inside.Stage.{PlainStage, filed, solving, IsFiled, IsKept, IsStriking, IsUnstruck, FilesAll, TakesCounts}
-use Rattle.retro_core.specs.Inside.Tables.{is_open, alive, IsCounted, AreWords}
+use Rattle.retro_core.specs.Inside.Stage.{PlainStage, filed, as_solving, IsFiled, IsKept, IsStriking, IsUnstruck, FilesAll, TakesCounts}
+use Rattle.retro_core.specs.Inside.Tables.{is_open, is_unstruck, IsCounted, AreWords}
 use Rattle.retro_core.specs.declared.stage.TheConstants.{OPEN}
 use Rattle.retro_core.proofs.Arenas.{IsArena}
 use Rattle.retro_core.proofs.BoardArenas.{arena_is, value_of_lasts, lasts_of_value}
@@ -99,12 +99,12 @@ module _ (s : PlainStage) (unstruck : IsUnstruck s) where
   worth-lasts : (x : ℕ) → IsWorth s.board x (suc (s.value - 1)) → (lasts a (suc r) x ≡ true) × (lasts a (suc (suc r)) x ≡ false)
   worth-lasts x worth = subst (λ k. (lasts a (suc k) x ≡ true) × (lasts a (suc (suc k)) x ≡ false)) rounds-is (lasts_of_value s.board unstruck.small.is_board (suc (s.value - 1)) x worth.is_rank worth.has_value)
 
-  pub worth-open : (won counts : List ℕ) → IsRoundEnd (solving s false) won counts → (x : ℕ) → 0 < times x won → (x < configurations s.board) × (is_open s.values x ≡ true)
+  pub worth-open : (won counts : List ℕ) → IsRoundEnd (as_solving s false) won counts → (x : ℕ) → 0 < times x won → (x < configurations s.board) × (is_open s.values x ≡ true)
   worth-open won counts end x h =
       let worth = (end.next x).0 h in
       (worth.is_rank, unstruck.stage.words_are.opened x worth.is_rank ∙ (worth-lasts x worth).0)
 
-  module _ (won counts : List ℕ) (end : IsRoundEnd (solving s false) won counts)
+  module _ (won counts : List ℕ) (end : IsRoundEnd (as_solving s false) won counts)
       (m t : PlainStage) (files : FilesAll s won m) (takes : TakesCounts m counts t) where
     -- what wasn't won lasts one request more if it lasts so many
     lost-lasts : (x : ℕ) → x < configurations s.board → times x won ≡ 0 → lasts a (suc r) x ≡ true → lasts a (suc (suc r)) x ≡ true
@@ -167,7 +167,7 @@ module _ (s : PlainStage) (unstruck : IsUnstruck s) where
     }
 
     -- with nothing left to strike, what is alive is what lasts longer than the round
-    none-alive : (x : ℕ) → lasts a (suc r) x ≡ alive a r [] x
+    none-alive : (x : ℕ) → lasts a (suc r) x ≡ is_unstruck a r [] x
     none-alive x = by (lasts a (suc r) x)
       where
         by : (b : Bool) → b ≡ cond b true (not (times x [] == 0))
@@ -179,10 +179,10 @@ module _ (s : PlainStage) (unstruck : IsUnstruck s) where
       round = r;
       value_is = files.kept.value_is ∙ unstruck.value_is;
       stage = record {
-        counts_are = subst (λ q. IsCounted (arena_of q) (alive (arena_of q) r []) t.counts) (sym files.kept.board_is)
-            (IsCounted-same a is (lasts a (suc r)) (alive a r []) t.counts (λ x i. none-alive x) end-counts);
-        words_are = subst (λ q. AreWords (arena_of q) (alive (arena_of q) r []) m.values) (sym files.kept.board_is)
-            (AreWords-same a is (lasts a (suc r)) (alive a r []) m.values (λ x i. none-alive x) end-words);
+        counts_are = subst (λ q. IsCounted (arena_of q) (is_unstruck (arena_of q) r []) t.counts) (sym files.kept.board_is)
+            (IsCounted-same a is (lasts a (suc r)) (is_unstruck a r []) t.counts (λ x i. none-alive x) end-counts);
+        words_are = subst (λ q. AreWords (arena_of q) (is_unstruck (arena_of q) r []) m.values) (sym files.kept.board_is)
+            (AreWords-same a is (lasts a (suc r)) (is_unstruck a r []) m.values (λ x i. none-alive x) end-words);
         filed_are = filed-counting m t.counts files.filed_are;
       };
       due = λ x h. absurd (omega arith);

@@ -14,7 +14,7 @@ use Rattle.retro_core.specs.Inside.Arena.{live, lasts}
 use Rattle.retro_core.specs.Inside.BoardArena.{arena_of}
 use Rattle.retro_core.specs.Solving.{Solving, IsSolving, AnswerLasts, source}
 use Rattle.retro_core.specs.Round.{PlainSeat, Round, spent, all_todo, all_owed, all_won, IsWorth, IsDue, IsLawful}
-use Rattle.retro_core.proofs.Rules.{tally, total, home_among, value_before, rules_of, held_in, AreKept}
+use Rattle.retro_core.proofs.Rules.{tally, seat_total, home_among, value_before, rules_of, held_in, AreKept}
 use Rattle.retro_core.proofs.LastingRanks.{same_or_not}
 use Rattle.retro_core.proofs.BoardArenas.{arena_is, at_member, tree_of_lasts, lasts_of_tree}
 use Rattle.retro_core.proofs.EnteredAnswers.{live-size}
@@ -78,20 +78,20 @@ lawful-of round sol counts_length values_length kept =
     let b = round.solving.board in
     let r = round.solving.rounds in
     let k = rules_of round.solving round.width in
-    let won_times : (x : ℕ) → times x (all_won round) ≡ total (λ v. times x v.won) round.seats = λ x. times-together x (λ v. v.won) round.seats in
-    let owed_times : (x : ℕ) → times x (all_owed round) ≡ total (λ v. times x v.owed) round.seats = λ x. times-together x (λ v. v.owed) round.seats in
-    let todo_times : (x : ℕ) → times x (all_todo round) ≡ total (λ v. times x v.todo) round.seats = λ x. times-together x (λ v. v.todo) round.seats in
-    let held_times : (x : ℕ) → total (held_in x) round.seats ≡ times x (all_owed round) + times x (all_won round) = λ x.
+    let won_times : (x : ℕ) → times x (all_won round) ≡ seat_total (λ v. times x v.won) round.seats = λ x. times-together x (λ v. v.won) round.seats in
+    let owed_times : (x : ℕ) → times x (all_owed round) ≡ seat_total (λ v. times x v.owed) round.seats = λ x. times-together x (λ v. v.owed) round.seats in
+    let todo_times : (x : ℕ) → times x (all_todo round) ≡ seat_total (λ v. times x v.todo) round.seats = λ x. times-together x (λ v. v.todo) round.seats in
+    let held_times : (x : ℕ) → seat_total (held_in x) round.seats ≡ times x (all_owed round) + times x (all_won round) = λ x.
     let s = total-sum (λ v. times x v.owed) (λ v. times x v.won) round.seats in let w = won_times x in let o = owed_times x in omega arith in
     let due : (x : ℕ) → 0 < times x (all_todo round) → IsDue b x r = λ x h. (struck-in-is round.solving sol round.width x).0 (kept.due x (let t = todo_times x in omega arith)) in
-    let next : (x : ℕ) → 0 < total (held_in x) round.seats → IsWorth b x (suc r) = λ x h. (to-win-is round.solving sol round.width x).0 (kept.next x h) in
+    let next : (x : ℕ) → 0 < seat_total (held_in x) round.seats → IsWorth b x (suc r) = λ x h. (to-win-is round.solving sol round.width x).0 (kept.next x h) in
     let worth : (x : ℕ) → 0 < times x (all_won round) → IsWorth b x (suc r) = λ x h. next x (let t = held_times x in omega arith) in
     let once : (x : ℕ) → times x (all_todo round) ≤ 1 = λ x. let t = todo_times x in let o = kept.due_once x in omega arith in
     record {
       counts_length = counts_length;
       values_length = values_length;
       values = λ x v i.
-          let T : ℕ = total (λ u. times x u.won) round.seats in
+          let T : ℕ = seat_total (λ u. times x u.won) round.seats in
           let won = won_times x in
           let word = kept.values x i in
           elim (same_or_not T 0) [
@@ -155,14 +155,14 @@ kept-of round sol law =
     let b = round.solving.board in
     let r = round.solving.rounds in
     let k = rules_of round.solving round.width in
-    let won_times : (x : ℕ) → times x (all_won round) ≡ total (λ v. times x v.won) round.seats = λ x. times-together x (λ v. v.won) round.seats in
-    let owed_times : (x : ℕ) → times x (all_owed round) ≡ total (λ v. times x v.owed) round.seats = λ x. times-together x (λ v. v.owed) round.seats in
-    let todo_times : (x : ℕ) → times x (all_todo round) ≡ total (λ v. times x v.todo) round.seats = λ x. times-together x (λ v. v.todo) round.seats in
-    let held_times : (x : ℕ) → total (held_in x) round.seats ≡ times x (all_owed round) + times x (all_won round) = λ x.
+    let won_times : (x : ℕ) → times x (all_won round) ≡ seat_total (λ v. times x v.won) round.seats = λ x. times-together x (λ v. v.won) round.seats in
+    let owed_times : (x : ℕ) → times x (all_owed round) ≡ seat_total (λ v. times x v.owed) round.seats = λ x. times-together x (λ v. v.owed) round.seats in
+    let todo_times : (x : ℕ) → times x (all_todo round) ≡ seat_total (λ v. times x v.todo) round.seats = λ x. times-together x (λ v. v.todo) round.seats in
+    let held_times : (x : ℕ) → seat_total (held_in x) round.seats ≡ times x (all_owed round) + times x (all_won round) = λ x.
     let s = total-sum (λ v. times x v.owed) (λ v. times x v.won) round.seats in let w = won_times x in let o = owed_times x in omega arith in
     record {
       values = λ x i.
-          let T : ℕ = total (λ u. times x u.won) round.seats in
+          let T : ℕ = seat_total (λ u. times x u.won) round.seats in
           let won = won_times x in
           elim (same_or_not T 0) [
             | inl none ↦ same-base x i (omega arith) ∙ sym (word_none k x T none)

@@ -20,7 +20,7 @@ use Rattle.retro_core.specs.declared.step.Step.TheVariants as steps
 use Rattle.retro_core.specs.declared.step.Seen.{Seen}
 use Rattle.retro_core.specs.declared.step.Seen.TheVariants as seen
 use Rattle.retro_core.specs.Stepping.{Does, LeadTo}
-use Rattle.retro_core.proofs.Rules.{total, rules_of}
+use Rattle.retro_core.proofs.Rules.{seat_total, rules_of}
 use Rattle.retro_core.proofs.LastingRanks.{next-fails}
 use Rattle.retro_core.proofs.BoardArenas.{arena_is, at_member, tree_of_lasts, lasts_of_value}
 use Rattle.retro_core.proofs.SeatSums.{total-at, times-together}
@@ -173,7 +173,7 @@ opening-lawful s sol width counts values todo some_width counts_length values_le
 none-together : (list : PlainSeat → List ℕ) → list spent ≡ [] → (seats : List PlainSeat) → ((id : ℕ) → list (get_or seats id spent) ≡ []) → (x : ℕ) → times x (flat_map list seats) ≡ 0
 none-together list none seats each x = times-together x list seats ∙ by seats each
   where
-    by : (seats : List PlainSeat) → ((id : ℕ) → list (get_or seats id spent) ≡ []) → total (λ v. times x (list v)) seats ≡ 0
+    by : (seats : List PlainSeat) → ((id : ℕ) → list (get_or seats id spent) ≡ []) → seat_total (λ v. times x (list v)) seats ≡ 0
     by [] each = refl
     by (v ∷ seats) each = let here = ap (times x) (each 0) in let rest = by seats (λ id. each (suc id)) in omega arith
 

@@ -27,9 +27,9 @@ tally home gap [] = 0
 tally home gap (rank ∷ ranks) = cond (home rank == gap) 1 0 + tally home gap ranks
 
 -- a number of each seat, added up
-abbrev pub total : (PlainSeat → ℕ) → List PlainSeat → ℕ
-total number [] = 0
-total number (seat ∷ seats) = number seat + total number seats
+abbrev pub seat_total : (PlainSeat → ℕ) → List PlainSeat → ℕ
+seat_total number [] = 0
+seat_total number (seat ∷ seats) = number seat + seat_total number seats
 
 -- it has the round's value and a gap in which it is struck
 pub record IsStruckIn (k : Rules) (rank : ℕ) : Type 0 where
@@ -45,9 +45,9 @@ pub record IsToWin (k : Rules) (rank : ℕ) : Type 0 where
   pub is_open : 0 < times rank (k.opens gap)
 
 -- the value word of a configuration that stands so often in won lists
-abbrev pub word_of : Rules → ℕ → ℕ → Option ℕ
-word_of k rank zero = k.base rank
-word_of k rank (suc more) = Some (suc k.round)
+abbrev pub value_word : Rules → ℕ → ℕ → Option ℕ
+value_word k rank zero = k.base rank
+value_word k rank (suc more) = Some (suc k.round)
 
 -- how often it is owed or won
 abbrev pub held_in : ℕ → PlainSeat → ℕ
@@ -68,14 +68,14 @@ pub record AreReadyLists (k : Rules) (count : ℕ → ℕ) (value : ℕ → Opti
 
 -- the words and the seats keep the rules
 pub record AreKept (k : Rules) (count : ℕ → ℕ) (value : ℕ → Option ℕ) (seats : List PlainSeat) : Type 0 where
-  pub values : (rank : ℕ) → rank < k.size → value rank ≡ word_of k rank (total (λ seat. times rank seat.won) seats)
-  pub due : (rank : ℕ) → 0 < total (λ seat. times rank seat.todo) seats → IsStruckIn k rank
-  pub due_once : (rank : ℕ) → total (λ seat. times rank seat.todo) seats ≤ 1
-  pub counts : (gap : ℕ) → gap < k.gaps → count gap ≡ k.live gap + total (λ seat. tally k.home gap seat.todo) seats
-  pub next : (rank : ℕ) → 0 < total (held_in rank) seats → IsToWin k rank
-  pub won_once : (rank : ℕ) → total (λ seat. times rank seat.won) seats ≤ 1
-  pub closed : (gap rank : ℕ) → gap < k.gaps → count gap ≡ 0 → 0 < times rank (k.opens gap) → 0 < total (held_in rank) seats
-  pub widths : total (λ seat. seat.width) seats ≡ k.width
+  pub values : (rank : ℕ) → rank < k.size → value rank ≡ value_word k rank (seat_total (λ seat. times rank seat.won) seats)
+  pub due : (rank : ℕ) → 0 < seat_total (λ seat. times rank seat.todo) seats → IsStruckIn k rank
+  pub due_once : (rank : ℕ) → seat_total (λ seat. times rank seat.todo) seats ≤ 1
+  pub counts : (gap : ℕ) → gap < k.gaps → count gap ≡ k.live gap + seat_total (λ seat. tally k.home gap seat.todo) seats
+  pub next : (rank : ℕ) → 0 < seat_total (held_in rank) seats → IsToWin k rank
+  pub won_once : (rank : ℕ) → seat_total (λ seat. times rank seat.won) seats ≤ 1
+  pub closed : (gap rank : ℕ) → gap < k.gaps → count gap ≡ 0 → 0 < times rank (k.opens gap) → 0 < seat_total (held_in rank) seats
+  pub widths : seat_total (λ seat. seat.width) seats ≡ k.width
   pub fits : (place : ℕ) (seat : PlainSeat) → slice_get seats place ≡ Some seat → seat.width ≡ 0 → seat ≡ spent
 
 -- the gap of a dominating pebble among the first so many, or a number that no gap has

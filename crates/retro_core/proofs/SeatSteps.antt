@@ -3,7 +3,7 @@ use Rattle.std.proofs.Common.{drop, ◌≡◌, ◌≢◌, ◌⊎◌, ℕ, zero, 
 use Rattle.index_lists.specs.Lists.{times}
 use Rattle.index_lists.proofs.Cited.{cond_same, cond_other, times-append}
 use Rattle.retro_core.specs.Round.{PlainSeat, spent, first_of, seat_tried, seat_kept, seat_new, seat_joined}
-use Rattle.retro_core.proofs.Rules.{Rules, tally, total, IsStruckIn, IsToWin, word_of, held_in, AreSound, AreReadyLists, AreKept}
+use Rattle.retro_core.proofs.Rules.{Rules, tally, seat_total, IsStruckIn, IsToWin, value_word, held_in, AreSound, AreReadyLists, AreKept}
 use Rattle.retro_core.proofs.LastingRanks.{same_or_not}
 use Rattle.retro_core.proofs.SeatSums.{same_seat, no_seat, total-set, total-at, total-le, total-cut, total-glue, times-cut, tally-append, tally-cut}
 
@@ -21,11 +21,11 @@ pub split_first : (xs : List ℕ) → 0 < length xs → xs ≡ first_of xs ∷ d
 split_first [] h = absurd (omega arith)
 split_first (x ∷ xs) h = refl
 
-pub word_none : (k : Rules) (c n : ℕ) → n ≡ 0 → word_of k c n ≡ k.base c
+pub word_none : (k : Rules) (c n : ℕ) → n ≡ 0 → value_word k c n ≡ k.base c
 word_none k c zero e = refl
 word_none k c (suc n) e = absurd (omega arith)
 
-pub word_some : (k : Rules) (c n : ℕ) → 0 < n → word_of k c n ≡ Some (suc k.round)
+pub word_some : (k : Rules) (c n : ℕ) → 0 < n → value_word k c n ≡ Some (suc k.round)
 word_some k c zero h = absurd (omega arith)
 word_some k c (suc n) h = refl
 
@@ -92,21 +92,21 @@ strikes k count value seats id v count' law at wide some_todo here elsewhere =
     let known = law.counts g inside in
     let some_left : 0 < n = omega arith in
     let todo_cut : (x : ℕ) → times x v.todo ≡ cond (c == x) 1 0 + times x more = λ x. ap (times x) cut in
-    let todo_all : (x : ℕ) → total (λ u. times x u.todo) (set seats id w) ≤ total (λ u. times x u.todo) seats =
+    let todo_all : (x : ℕ) → seat_total (λ u. times x u.todo) (set seats id w) ≤ seat_total (λ u. times x u.todo) seats =
     λ x. let s = total-set (λ u. times x u.todo) seats id v w at in let p = todo_cut x in omega arith in
-    let won_same : (x : ℕ) → total (λ u. times x u.won) (set seats id w) ≡ total (λ u. times x u.won) seats =
+    let won_same : (x : ℕ) → seat_total (λ u. times x u.won) (set seats id w) ≡ seat_total (λ u. times x u.won) seats =
     λ x. let s = total-set (λ u. times x u.won) seats id v w at in omega arith in
     record {
       some_left = some_left;
       kept = record {
-        values = λ x small. law.values x small ∙ ap (word_of k x) (sym (won_same x));
+        values = λ x small. law.values x small ∙ ap (value_word k x) (sym (won_same x));
         due = λ x there. law.due x (let s = todo_all x in omega arith);
         due_once = λ x. let s = todo_all x in let o = law.due_once x in omega arith;
         counts = λ j small. elim (same_or_not j g) [
           | inl e ↦ (
               let s = total-set (λ u. tally k.home g u.todo) seats id v w at in
-              let sum : n - 1 ≡ k.live g + total (λ u. tally k.home g u.todo) (set seats id w) = omega arith in
-              let P : ℕ → Type 0 = λ m. count' m ≡ k.live m + total (λ u. tally k.home m u.todo) (set seats id w) in
+              let sum : n - 1 ≡ k.live g + seat_total (λ u. tally k.home g u.todo) (set seats id w) = omega arith in
+              let P : ℕ → Type 0 = λ m. count' m ≡ k.live m + seat_total (λ u. tally k.home m u.todo) (set seats id w) in
               subst P (sym e) (here ∙ sum))
           | inr ne ↦ (
               let s = total-set (λ u. tally k.home j u.todo) seats id v w at in
@@ -118,7 +118,7 @@ strikes k count value seats id v count' law at wide some_todo here elsewhere =
         next = λ x there.
             let s = total-set (held_in x) seats id v w at in
             elim (owed-after k v n x) [
-              | inl o ↦ elim (same_or_not (total (held_in x) seats) 0) [
+              | inl o ↦ elim (same_or_not (seat_total (held_in x) seats) 0) [
                 | inl z ↦ record { gap = g; is_gap = inside; none_above = (let one = o.0 in omega arith); is_open = (let sum = o.1 in omega arith) }
                 | inr nz ↦ law.next x (omega arith)
               ]
@@ -136,7 +136,7 @@ strikes k count value seats id v count' law at wide some_todo here elsewhere =
                     | inr o ↦ absurd (o.0 (omega arith))
                   ])
               | inr ne ↦ (
-                  let old : 0 < total (held_in x) seats = law.closed j x small (sym (elsewhere j small ne) ∙ none) there in
+                  let old : 0 < seat_total (held_in x) seats = law.closed j x small (sym (elsewhere j small ne) ∙ none) there in
                   elim (owed-after k v n x) [
                     | inl o ↦ (let sum = o.1 in omega arith)
                     | inr o ↦ (let sum = o.1 in omega arith)
@@ -154,7 +154,7 @@ pub record IsWon (k : Rules) (count : ℕ → ℕ) (value : ℕ → Option ℕ) 
 
 pub record IsNotWon (k : Rules) (count : ℕ → ℕ) (value : ℕ → Option ℕ) (seats : List PlainSeat) (id : ℕ) (v : PlainSeat) : Type 0 where
   pub has_next : value (first_of v.owed) ≡ Some (suc k.round)
-  pub stands : 0 < total (λ u. times (first_of v.owed) u.won) seats
+  pub stands : 0 < seat_total (λ u. times (first_of v.owed) u.won) seats
   pub kept : AreKept k count value (set seats id (seat_tried false v))
 
 module _ (k : Rules) (count : ℕ → ℕ) (value : ℕ → Option ℕ) (seats : List PlainSeat) (id : ℕ) (v : PlainSeat)
@@ -175,25 +175,25 @@ module _ (k : Rules) (count : ℕ → ℕ) (value : ℕ → Option ℕ) (seats :
   pub first-known : (first_of v.owed < k.size) × (k.base (first_of v.owed) ≡ None)
   first-known = let may = first-next in sound.opened may.gap (first_of v.owed) may.is_gap may.is_open
 
-  won-keeps : (value' : ℕ → Option ℕ) → total (λ u. times (first_of v.owed) u.won) seats ≡ 0 → value' (first_of v.owed) ≡ Some (suc k.round)
+  won-keeps : (value' : ℕ → Option ℕ) → seat_total (λ u. times (first_of v.owed) u.won) seats ≡ 0 → value' (first_of v.owed) ≡ Some (suc k.round)
       → ((x : ℕ) → x < k.size → x ≢ first_of v.owed → value' x ≡ value x) → AreKept k count value' (set seats id (seat_tried true v))
   won-keeps value' none here elsewhere =
       let f : ℕ = first_of v.owed in
       let w : PlainSeat = seat_tried true v in
       let is_one : ◌≡◌ {A = ℕ} (cond (f == f) 1 0) 1 = one_if f f refl in
-      let won_sum : (x : ℕ) → total (λ u. times x u.won) (set seats id w) ≡ total (λ u. times x u.won) seats + cond (f == x) 1 0 =
+      let won_sum : (x : ℕ) → seat_total (λ u. times x u.won) (set seats id w) ≡ seat_total (λ u. times x u.won) seats + cond (f == x) 1 0 =
       λ x. let s = total-set (λ u. times x u.won) seats id v w at in let o = one_more x f v.won in omega arith in
-      let won_else : (x : ℕ) → x ≢ f → total (λ u. times x u.won) (set seats id w) ≡ total (λ u. times x u.won) seats =
+      let won_else : (x : ℕ) → x ≢ f → seat_total (λ u. times x u.won) (set seats id w) ≡ seat_total (λ u. times x u.won) seats =
       λ x ne. let s = won_sum x in let z = none_if f x (λ e. ne (sym e)) in omega arith in
-      let won_here : total (λ u. times f u.won) (set seats id w) ≡ 1 = let s = won_sum f in omega arith in
-      let held_same : (x : ℕ) → total (held_in x) (set seats id w) ≡ total (held_in x) seats =
+      let won_here : seat_total (λ u. times f u.won) (set seats id w) ≡ 1 = let s = won_sum f in omega arith in
+      let held_same : (x : ℕ) → seat_total (held_in x) (set seats id w) ≡ seat_total (held_in x) seats =
       λ x. let s = total-set (held_in x) seats id v w at in let o = one_more x f v.won in let cut = owed_cut x in omega arith in
       record {
         values = λ x small. elim (same_or_not x f) [
           | inl e ↦ (
-              let P : ℕ → Type 0 = λ m. value' m ≡ word_of k m (total (λ u. times m u.won) (set seats id w)) in
-              subst P (sym e) (here ∙ sym (word_some k f (total (λ u. times f u.won) (set seats id w)) (omega arith))))
-          | inr ne ↦ elsewhere x small ne ∙ law.values x small ∙ ap (word_of k x) (sym (won_else x ne))
+              let P : ℕ → Type 0 = λ m. value' m ≡ value_word k m (seat_total (λ u. times m u.won) (set seats id w)) in
+              subst P (sym e) (here ∙ sym (word_some k f (seat_total (λ u. times f u.won) (set seats id w)) (omega arith))))
+          | inr ne ↦ elsewhere x small ne ∙ law.values x small ∙ ap (value_word k x) (sym (won_else x ne))
         ];
         due = λ x there. law.due x (let s = total-set (λ u. times x u.todo) seats id v w at in omega arith);
         due_once = λ x. let s = total-set (λ u. times x u.todo) seats id v w at in let o = law.due_once x in omega arith;
@@ -202,32 +202,32 @@ module _ (k : Rules) (count : ℕ → ℕ) (value : ℕ → Option ℕ) (seats :
             let o = law.counts g small in omega arith;
         next = λ x there. law.next x (let s = held_same x in omega arith);
         won_once = λ x. elim (same_or_not x f) [
-          | inl e ↦ subst (λ (m : ℕ). total (λ u. times m u.won) (set seats id w) ≤ 1) (sym e) (omega arith)
+          | inl e ↦ subst (λ (m : ℕ). seat_total (λ u. times m u.won) (set seats id w) ≤ 1) (sym e) (omega arith)
           | inr ne ↦ (let s = won_else x ne in let o = law.won_once x in omega arith)
         ];
         closed = λ g x small none_left there.
-            let o : 0 < total (held_in x) seats = law.closed g x small none_left there in
+            let o : 0 < seat_total (held_in x) seats = law.closed g x small none_left there in
             let s = held_same x in omega arith;
         widths = let s = total-set (λ u. u.width) seats id v w at in let o = law.widths in omega arith;
         fits = fit-set seats id w law.fits (λ no_width. absurd (omega arith));
       }
 
-  not-won-keeps : 0 < total (λ u. times (first_of v.owed) u.won) seats → AreKept k count value (set seats id (seat_tried false v))
+  not-won-keeps : 0 < seat_total (λ u. times (first_of v.owed) u.won) seats → AreKept k count value (set seats id (seat_tried false v))
   not-won-keeps some_won =
       let f : ℕ = first_of v.owed in
       let w : PlainSeat = seat_tried false v in
-      let won_same : (x : ℕ) → total (λ u. times x u.won) (set seats id w) ≡ total (λ u. times x u.won) seats =
+      let won_same : (x : ℕ) → seat_total (λ u. times x u.won) (set seats id w) ≡ seat_total (λ u. times x u.won) seats =
       λ x. let s = total-set (λ u. times x u.won) seats id v w at in omega arith in
-      let held_sum : (x : ℕ) → total (held_in x) seats ≡ total (held_in x) (set seats id w) + cond (f == x) 1 0 =
+      let held_sum : (x : ℕ) → seat_total (held_in x) seats ≡ seat_total (held_in x) (set seats id w) + cond (f == x) 1 0 =
       λ x. let s = total-set (held_in x) seats id v w at in let cut = owed_cut x in omega arith in
-      let held_still : (x : ℕ) → 0 < total (held_in x) seats → 0 < total (held_in x) (set seats id w) = λ x there.
+      let held_still : (x : ℕ) → 0 < seat_total (held_in x) seats → 0 < seat_total (held_in x) (set seats id w) = λ x there.
       elim (same_or_not x f) [
-        | inl e ↦ subst (λ (m : ℕ). 0 < total (held_in m) (set seats id w)) (sym e)
+        | inl e ↦ subst (λ (m : ℕ). 0 < seat_total (held_in m) (set seats id w)) (sym e)
             (let s = won_same f in let l = total-le (λ u. times f u.won) (held_in f) (set seats id w) (λ u. omega arith) in omega arith)
         | inr ne ↦ (let z = none_if f x (λ e. ne (sym e)) in let s = held_sum x in omega arith)
       ] in
       record {
-        values = λ x small. law.values x small ∙ ap (word_of k x) (sym (won_same x));
+        values = λ x small. law.values x small ∙ ap (value_word k x) (sym (won_same x));
         due = λ x there. law.due x (let s = total-set (λ u. times x u.todo) seats id v w at in omega arith);
         due_once = λ x. let s = total-set (λ u. times x u.todo) seats id v w at in let o = law.due_once x in omega arith;
         counts = λ g small. let s = total-set (λ u. tally k.home g u.todo) seats id v w at in let o = law.counts g small in omega arith;
@@ -244,7 +244,7 @@ module _ (k : Rules) (count : ℕ → ℕ) (value : ℕ → Option ℕ) (seats :
       let f : ℕ = first_of v.owed in
       let known = first-known in
       let word = law.values f known.0 in
-      let T : ℕ = total (λ u. times f u.won) seats in
+      let T : ℕ = seat_total (λ u. times f u.won) seats in
       elim (same_or_not T 0) [
         | inl z ↦ inl (λ value'. record { open_yet = word ∙ word_none k f T z ∙ known.1; kept = won-keeps value' z })
         | inr nz ↦ inr (record { has_next = word ∙ word_some k f T (omega arith); stands = omega arith; kept = not-won-keeps (omega arith) })
@@ -259,13 +259,13 @@ splits k count value seats id v law at wide =
     let m : ℕ = length v.todo - length v.todo / 2 in
     let half : v.width / 2 + v.width / 2 ≤ v.width = omega arith in
     let some_half : 0 < v.width / 2 = omega arith in
-    let todo : (x : ℕ) → total (λ u. times x u.todo) all ≡ total (λ u. times x u.todo) seats = λ x. total-cut (λ u. times x u.todo) seats id v a b at (times-cut x m v.todo) in
-    let tallies : (g : ℕ) → total (λ u. tally k.home g u.todo) all ≡ total (λ u. tally k.home g u.todo) seats = λ g. total-cut (λ u. tally k.home g u.todo) seats id v a b at (tally-cut k.home g m v.todo) in
-    let won : (x : ℕ) → total (λ u. times x u.won) all ≡ total (λ u. times x u.won) seats = λ x. total-cut (λ u. times x u.won) seats id v a b at (omega arith) in
-    let held : (x : ℕ) → total (held_in x) all ≡ total (held_in x) seats = λ x. total-cut (held_in x) seats id v a b at (omega arith) in
-    let width : total (λ u. u.width) all ≡ total (λ u. u.width) seats = total-cut (λ u. u.width) seats id v a b at (omega arith) in
+    let todo : (x : ℕ) → seat_total (λ u. times x u.todo) all ≡ seat_total (λ u. times x u.todo) seats = λ x. total-cut (λ u. times x u.todo) seats id v a b at (times-cut x m v.todo) in
+    let tallies : (g : ℕ) → seat_total (λ u. tally k.home g u.todo) all ≡ seat_total (λ u. tally k.home g u.todo) seats = λ g. total-cut (λ u. tally k.home g u.todo) seats id v a b at (tally-cut k.home g m v.todo) in
+    let won : (x : ℕ) → seat_total (λ u. times x u.won) all ≡ seat_total (λ u. times x u.won) seats = λ x. total-cut (λ u. times x u.won) seats id v a b at (omega arith) in
+    let held : (x : ℕ) → seat_total (held_in x) all ≡ seat_total (held_in x) seats = λ x. total-cut (held_in x) seats id v a b at (omega arith) in
+    let width : seat_total (λ u. u.width) all ≡ seat_total (λ u. u.width) seats = total-cut (λ u. u.width) seats id v a b at (omega arith) in
     record {
-      values = λ x small. law.values x small ∙ ap (word_of k x) (sym (won x));
+      values = λ x small. law.values x small ∙ ap (value_word k x) (sym (won x));
       due = λ x there. law.due x (let s = todo x in omega arith);
       due_once = λ x. let s = todo x in let o = law.due_once x in omega arith;
       counts = λ g small. let s = tallies g in let o = law.counts g small in omega arith;
@@ -281,17 +281,17 @@ pub joins : (k : Rules) (count : ℕ → ℕ) (value : ℕ → Option ℕ) (seat
 joins k count value seats id other v u law at there differ wide =
     let a : PlainSeat = seat_joined v u in
     let all : List PlainSeat = set (set seats id a) other spent in
-    let todo : (x : ℕ) → total (λ w. times x w.todo) all ≡ total (λ w. times x w.todo) seats =
+    let todo : (x : ℕ) → seat_total (λ w. times x w.todo) all ≡ seat_total (λ w. times x w.todo) seats =
     λ x. total-glue (λ w. times x w.todo) seats id other v u a spent at there differ (let s = times-append x v.todo u.todo in omega arith) in
-    let tallies : (g : ℕ) → total (λ w. tally k.home g w.todo) all ≡ total (λ w. tally k.home g w.todo) seats =
+    let tallies : (g : ℕ) → seat_total (λ w. tally k.home g w.todo) all ≡ seat_total (λ w. tally k.home g w.todo) seats =
     λ g. total-glue (λ w. tally k.home g w.todo) seats id other v u a spent at there differ (let s = tally-append k.home g v.todo u.todo in omega arith) in
-    let won : (x : ℕ) → total (λ w. times x w.won) all ≡ total (λ w. times x w.won) seats =
+    let won : (x : ℕ) → seat_total (λ w. times x w.won) all ≡ seat_total (λ w. times x w.won) seats =
     λ x. total-glue (λ w. times x w.won) seats id other v u a spent at there differ (let s = times-append x v.won u.won in omega arith) in
-    let held : (x : ℕ) → total (held_in x) all ≡ total (held_in x) seats =
+    let held : (x : ℕ) → seat_total (held_in x) all ≡ seat_total (held_in x) seats =
     λ x. total-glue (held_in x) seats id other v u a spent at there differ (let s = times-append x v.won u.won in let t = times-append x v.owed u.owed in omega arith) in
-    let width : total (λ w. w.width) all ≡ total (λ w. w.width) seats = total-glue (λ w. w.width) seats id other v u a spent at there differ (omega arith) in
+    let width : seat_total (λ w. w.width) all ≡ seat_total (λ w. w.width) seats = total-glue (λ w. w.width) seats id other v u a spent at there differ (omega arith) in
     record {
-      values = λ x small. law.values x small ∙ ap (word_of k x) (sym (won x));
+      values = λ x small. law.values x small ∙ ap (value_word k x) (sym (won x));
       due = λ x here. law.due x (let s = todo x in omega arith);
       due_once = λ x. let s = todo x in let o = law.due_once x in omega arith;
       counts = λ g small. let s = tallies g in let o = law.counts g small in omega arith;

@@ -9,7 +9,7 @@ use Rattle.positions.specs.declared.space.TheConstants.{MAX_CONFIGURATIONS}
 use Rattle.retro_core.specs.Inside.Arena.{Arena, lasts, Dominant}
 use Rattle.retro_core.specs.Inside.BoardArena.{arena_of}
 use Rattle.retro_core.specs.Inside.Stage.{PlainStage, counting, IsFiled, IsKept, Closes, IsStruckAt, IsStriking}
-use Rattle.retro_core.specs.Inside.Tables.{alive, IsCounted, AreWords}
+use Rattle.retro_core.specs.Inside.Tables.{is_unstruck, IsCounted, AreWords}
 use Rattle.retro_core.proofs.Arenas.{IsArena, without, IsBetween}
 use Rattle.retro_core.proofs.BoardArenas.{arena_is}
 use Rattle.retro_core.proofs.StruckTables.{IsCounted-same, AreWords-same, counted-struck, words-some, words-closed, home-now}
@@ -18,10 +18,10 @@ use Rattle.retro_core.proofs.Strikes.{strike-home}
 
 -- ---- what is alive
 
-pub alive-lasts : (a : Arena) (r : ℕ) (todo : List ℕ) (x : ℕ) → lasts a (suc r) x ≡ true → alive a r todo x ≡ true
+pub alive-lasts : (a : Arena) (r : ℕ) (todo : List ℕ) (x : ℕ) → lasts a (suc r) x ≡ true → is_unstruck a r todo x ≡ true
 alive-lasts a r todo x e = rw e refl
 
-pub alive-fails : (a : Arena) (r : ℕ) (todo : List ℕ) (x : ℕ) → lasts a (suc r) x ≡ false → alive a r todo x ≡ not (times x todo == 0)
+pub alive-fails : (a : Arena) (r : ℕ) (todo : List ℕ) (x : ℕ) → lasts a (suc r) x ≡ false → is_unstruck a r todo x ≡ not (times x todo == 0)
 alive-fails a r todo x e = rw e refl
 
 pub some_times : (n : ℕ) → 0 < n → not (n == 0) ≡ true
@@ -34,7 +34,7 @@ times_some : (n : ℕ) → not (n == 0) ≡ true → 0 < n
 times_some n h = grind (arith, nat_tests)
 
 -- what is alive lasts as long as the round
-pub alive-between : (a : Arena) → IsArena a → (r : ℕ) (todo : List ℕ) → ((x : ℕ) → 0 < times x todo → IsStruckAt a r x) → IsBetween a r (alive a r todo)
+pub alive-between : (a : Arena) → IsArena a → (r : ℕ) (todo : List ℕ) → ((x : ℕ) → 0 < times x todo → IsStruckAt a r x) → IsBetween a r (is_unstruck a r todo)
 alive-between a is r todo due = record {
   lower = λ y j e. alive-lasts a r todo y e;
   upper = λ y j e. elim (true_or_false (lasts a (suc r) y)) [
@@ -43,32 +43,32 @@ alive-between a is r todo due = record {
   ];
 }
 
-pub alive-first : (a : Arena) (r c : ℕ) (rest : List ℕ) → lasts a (suc r) c ≡ false → alive a r (c ∷ rest) c ≡ true
+pub alive-first : (a : Arena) (r c : ℕ) (rest : List ℕ) → lasts a (suc r) c ≡ false → is_unstruck a r (c ∷ rest) c ≡ true
 alive-first a r c rest stops = alive-fails a r (c ∷ rest) c stops ∙ some_times (times c (c ∷ rest)) (times-here c c rest refl)
 
 -- without the first, the rest is alive
-pub alive-rest : (a : Arena) (r c : ℕ) (rest : List ℕ) → lasts a (suc r) c ≡ false → times c (c ∷ rest) ≤ 1 → (x : ℕ) → without (alive a r (c ∷ rest)) c x ≡ alive a r rest x
+pub alive-rest : (a : Arena) (r c : ℕ) (rest : List ℕ) → lasts a (suc r) c ≡ false → times c (c ∷ rest) ≤ 1 → (x : ℕ) → without (is_unstruck a r (c ∷ rest)) c x ≡ is_unstruck a r rest x
 alive-rest a r c rest stops once x = elim (same_or_not x c) [
-  | inl here ↦ subst (λ y. without (alive a r (c ∷ rest)) c y ≡ alive a r rest y) (sym here) (gone c ∙ sym (alive-fails a r rest c stops ∙ no_times (times c rest) none))
+  | inl here ↦ subst (λ y. without (is_unstruck a r (c ∷ rest)) c y ≡ is_unstruck a r rest y) (sym here) (gone c ∙ sym (alive-fails a r rest c stops ∙ no_times (times c rest) none))
   | inr other ↦ same other ∙ ap (λ n. cond (lasts a (suc r) x) true (not (n == 0))) (times-later c x rest (λ d. other (sym d)))
 ]
   where
     none : times c rest ≡ 0
     none = let here : times c (c ∷ rest) ≡ 1 + times c rest = rw (same_is c c refl) refl in omega arith
 
-    gone : (y : ℕ) → without (alive a r (c ∷ rest)) y y ≡ false
+    gone : (y : ℕ) → without (is_unstruck a r (c ∷ rest)) y y ≡ false
     gone y = grind (arith, nat_tests)
 
-    same : x ≢ c → without (alive a r (c ∷ rest)) c x ≡ alive a r (c ∷ rest) x
+    same : x ≢ c → without (is_unstruck a r (c ∷ rest)) c x ≡ is_unstruck a r (c ∷ rest) x
     same other = grind (arith, nat_tests)
 
 -- ---- the stage after a strike
 
 -- a stage of a board, in parts
-pub striking-of : (s : PlainStage) (todo : List ℕ) (b : PlainBoard) → s.board ≡ b → (round : ℕ) → s.value ≡ suc round → IsCounted (arena_of b) (alive (arena_of b) round todo) s.counts
-    → AreWords (arena_of b) (alive (arena_of b) round todo) s.values → IsFiled s → ((x : ℕ) → 0 < times x todo → IsStruckAt (arena_of b) round x) → ((x : ℕ) → times x todo ≤ 1) → IsStriking s todo
-striking-of s todo b same = subst (λ (p : PlainBoard). (round : ℕ) → s.value ≡ suc round → IsCounted (arena_of p) (alive (arena_of p) round todo) s.counts
-    → AreWords (arena_of p) (alive (arena_of p) round todo) s.values → IsFiled s → ((x : ℕ) → 0 < times x todo → IsStruckAt (arena_of p) round x) → ((x : ℕ) → times x todo ≤ 1) → IsStriking s todo) same
+pub striking-of : (s : PlainStage) (todo : List ℕ) (b : PlainBoard) → s.board ≡ b → (round : ℕ) → s.value ≡ suc round → IsCounted (arena_of b) (is_unstruck (arena_of b) round todo) s.counts
+    → AreWords (arena_of b) (is_unstruck (arena_of b) round todo) s.values → IsFiled s → ((x : ℕ) → 0 < times x todo → IsStruckAt (arena_of b) round x) → ((x : ℕ) → times x todo ≤ 1) → IsStriking s todo
+striking-of s todo b same = subst (λ (p : PlainBoard). (round : ℕ) → s.value ≡ suc round → IsCounted (arena_of p) (is_unstruck (arena_of p) round todo) s.counts
+    → AreWords (arena_of p) (is_unstruck (arena_of p) round todo) s.values → IsFiled s → ((x : ℕ) → 0 < times x todo → IsStruckAt (arena_of p) round x) → ((x : ℕ) → times x todo ≤ 1) → IsStriking s todo) same
     (λ round value_is counts words filed due once. record {
       round = round;
       value_is = value_is;
@@ -88,7 +88,7 @@ module _ (s : PlainStage) (board_is : IsBoard s.board) (c : ℕ) (rest : List �
   is = arena_is s.board board_is
 
   abbrev above : ℕ → Bool
-  above = alive a k.round (c ∷ rest)
+  above = is_unstruck a k.round (c ∷ rest)
 
   here : IsStruckAt a k.round c
   here = k.due c (times-here c c rest refl)
@@ -96,7 +96,7 @@ module _ (s : PlainStage) (board_is : IsBoard s.board) (c : ℕ) (rest : List �
   is_above : above c ≡ true
   is_above = alive-first a k.round c rest here.stopping
 
-  next : (x : ℕ) → x < a.configurations → without above c x ≡ alive a k.round rest x
+  next : (x : ℕ) → x < a.configurations → without above c x ≡ is_unstruck a k.round rest x
   next x i = alive-rest a k.round c rest here.stopping (k.once c) x
 
   fewer : (x : ℕ) → times x rest ≤ 1
@@ -116,8 +116,8 @@ module _ (s : PlainStage) (board_is : IsBoard s.board) (c : ℕ) (rest : List �
     counted : slice_index s.counts (a.gap c p) ≡ n + 1
     counted = ap (slice_index s.counts) (sym g_is) ∙ n_is
 
-    counts : IsCounted a (alive a k.round rest) (slice_set s.counts g n)
-    counts = IsCounted-same a is (without above c) (alive a k.round rest) (slice_set s.counts g n) next
+    counts : IsCounted a (is_unstruck a k.round rest) (slice_set s.counts g n)
+    counts = IsCounted-same a is (without above c) (is_unstruck a k.round rest) (slice_set s.counts g n) next
         (rw g_is (counted-struck a is above c p n s.counts here.is_rank d is_above counted k.stage.counts_are))
 
     pub struck-some : 0 < n → IsStriking (counting s (slice_set s.counts g n)) rest
@@ -126,7 +126,7 @@ module _ (s : PlainStage) (board_is : IsBoard s.board) (c : ℕ) (rest : List �
       value_is = k.value_is;
       stage = record {
         counts_are = counts;
-        words_are = AreWords-same a is (without above c) (alive a k.round rest) s.values next
+        words_are = AreWords-same a is (without above c) (is_unstruck a k.round rest) s.values next
             (words-some a is above c p n s.values here.is_rank d (home-now a is above c p n s.counts here.is_rank d is_above counted k.stage.counts_are) some k.stage.words_are);
         filed_are = filed-counting s (slice_set s.counts g n) k.stage.filed_are;
       };
@@ -139,7 +139,7 @@ module _ (s : PlainStage) (board_is : IsBoard s.board) (c : ℕ) (rest : List �
         let value_is : s.value ≡ suc k.round = k.value_is in
         striking-of s' rest s.board closes.kept.board_is k.round (closes.kept.value_is ∙ value_is)
         (rw closes.counts_is counts)
-        (AreWords-same a is (without above c) (alive a k.round rest) s'.values next
+        (AreWords-same a is (without above c) (is_unstruck a k.round rest) s'.values next
         (words-closed a is above c p k.round s.values s'.values here.is_rank d (home-now a is above c p n s.counts here.is_rank d is_above counted k.stage.counts_are ∙ none) (λ e. omega arith)
         (alive-between a is k.round (c ∷ rest) k.due) here.stopping (rw (← g_is, ← value_is) closes.words) k.stage.words_are))
         closes.filed_are due fewer

@@ -19,7 +19,7 @@ use Rattle.retro_core.specs.Inside.BoardArena.{arena_of}
 use Rattle.retro_core.specs.Round.{AreToStrike}
 use Rattle.retro_core.specs.Solving.{Solving, AreOpenMembers, IsSolving, NoneHas, AnswerLasts, AnswerForever}
 use Rattle.retro_core.specs.Inside.Stage.{first_lists, PlainStage, filed_at, turned, IsFiled, IsStage, IsKept, IsStriking, IsUnstruck, IsOpened, IsState}
-use Rattle.retro_core.specs.Inside.Tables.{is_open, open_members, alive, struck_rounds, AreWords, AreValues}
+use Rattle.retro_core.specs.Inside.Tables.{is_open, open_members, is_unstruck, struck_rounds, AreWords, AreValues}
 use Rattle.retro_core.proofs.Arenas.{IsArena}
 use Rattle.retro_core.proofs.Counts.{count_below-some, count_below-less, count_below-bound}
 use Rattle.retro_core.proofs.LastingRanks.{both_true, true_or_false, true_not_false, same_or_not, same_is, lasts-less, lasts-at-most}
@@ -94,7 +94,7 @@ module _ (s : PlainStage) (board_is : IsBoard s.board) (few : configurations s.b
 
   pub round-starts : (r : ℕ) → r < configurations s.board → s.value ≡ suc r → s.strikes ≡ filter (dominated a) (filed_at s r) → IsStage (lasts a r) s → IsStriking s s.strikes
   round-starts r i value_is strikes_are stage =
-      let alike : (x : ℕ) → x < a.configurations → dominated a x ≡ true → lasts a r x ≡ alive a r s.strikes x = λ x j holds. elim (true_or_false (lasts a (suc r) x)) [
+      let alike : (x : ℕ) → x < a.configurations → dominated a x ≡ true → lasts a r x ≡ is_unstruck a r s.strikes x = λ x j holds. elim (true_or_false (lasts a (suc r) x)) [
         | inl more ↦ lasts-less a is r x j more ∙ sym (alive-lasts a r s.strikes x more)
         | inr fails ↦
             let times_are : times x s.strikes ≡ times x (filed_at s r) = ap (times x) strikes_are ∙ filtered-times (dominated a) x (filed_at s r) holds in
@@ -113,8 +113,8 @@ module _ (s : PlainStage) (board_is : IsBoard s.board) (few : configurations s.b
         round = r;
         value_is = value_is;
         stage = record {
-          counts_are = counted-alike a is (lasts a r) (alive a r s.strikes) s.counts alike stage.counts_are;
-          words_are = words-alike a is (lasts a r) (alive a r s.strikes) s.values alike stage.words_are;
+          counts_are = counted-alike a is (lasts a r) (is_unstruck a r s.strikes) s.counts alike stage.counts_are;
+          words_are = words-alike a is (lasts a r) (is_unstruck a r s.strikes) s.values alike stage.words_are;
           filed_are = stage.filed_are;
         };
         due = λ x h.
@@ -128,10 +128,10 @@ module _ (s : PlainStage) (board_is : IsBoard s.board) (few : configurations s.b
 
   pub round-ends : (k : IsStriking s []) → IsStage (lasts a (suc k.round)) s
   round-ends k =
-      let alike : (x : ℕ) → x < a.configurations → dominated a x ≡ true → alive a k.round [] x ≡ lasts a (suc k.round) x = λ x j holds. by (lasts a (suc k.round) x) in
+      let alike : (x : ℕ) → x < a.configurations → dominated a x ≡ true → is_unstruck a k.round [] x ≡ lasts a (suc k.round) x = λ x j holds. by (lasts a (suc k.round) x) in
       record {
-        counts_are = counted-alike a is (alive a k.round []) (lasts a (suc k.round)) s.counts alike k.stage.counts_are;
-        words_are = words-alike a is (alive a k.round []) (lasts a (suc k.round)) s.values alike k.stage.words_are;
+        counts_are = counted-alike a is (is_unstruck a k.round []) (lasts a (suc k.round)) s.counts alike k.stage.counts_are;
+        words_are = words-alike a is (is_unstruck a k.round []) (lasts a (suc k.round)) s.values alike k.stage.words_are;
         filed_are = k.stage.filed_are;
       }
     where

@@ -7,7 +7,7 @@ ghost use Rattle.positions.specs.Gaps.{gaps};
 ghost use Rattle.retro_core.specs.Ending.{IsRoundEnd};
 ghost use Rattle.retro_core.specs.Inside.Tables.{is_open};
 ghost use Rattle.retro_core.specs.Inside.Stored.{IsSmall};
-ghost use Rattle.retro_core.specs.Inside.Stage.{counting, solving, IsFiled, IsKept, IsStriking, IsUnstruck, FilesAll, TakesCounts};
+ghost use Rattle.retro_core.specs.Inside.Stage.{counting, as_solving, IsFiled, IsKept, IsStriking, IsUnstruck, FilesAll, TakesCounts};
 
 use crate::end::RoundEnd;
 use crate::stage::Stage;
@@ -17,7 +17,7 @@ impl<S: ListStore> Stage<S> {
     /// Files what a round that was worked off has won, and takes over its counts: all is struck then.
     pub(crate) fn file_end<E: RoundEnd>(&mut self, end: &E)
         requires unstruck { IsUnstruck self.old }
-        requires end { IsRoundEnd (solving self.old false) (E.won_list end.now) (E.counts end.now) }
+        requires end { IsRoundEnd (as_solving self.old false) (E.won_list end.now) (E.counts end.now) }
         ensures struck { IsStriking self.new [] }
         ensures kept { IsKept self.old self.new }
     {

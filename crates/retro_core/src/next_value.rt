@@ -3,7 +3,7 @@
 ghost use Rattle.std.specs.Prelude.{false, []};
 ghost use Rattle.retro_core.specs.Ending.{IsRoundEnd};
 ghost use Rattle.retro_core.specs.Solving.{Solving};
-ghost use Rattle.retro_core.specs.Inside.Stage.{solving, IsKept, IsStriking, IsUnstruck};
+ghost use Rattle.retro_core.specs.Inside.Stage.{as_solving, IsKept, IsStriking, IsUnstruck};
 
 use crate::end::RoundEnd;
 use crate::stage::Stage;
@@ -18,7 +18,7 @@ pub(crate) trait NextValue {
     fn file<S: ListStore>(&self, stage: &mut Stage<S>)
         requires striking { IsStriking stage.old stage.old.strikes }
         requires unstruck { IsUnstruck stage.old }
-        requires serves { serves self.now (solving stage.old false) }
+        requires serves { serves self.now (as_solving stage.old false) }
         ensures struck { IsStriking stage.new [] }
         ensures kept { IsKept stage.old stage.new };
 }

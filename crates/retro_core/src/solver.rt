@@ -39,11 +39,11 @@ impl<S: ListStore> Model for Solver<S> {
     ghost use Rattle.std.specs.Prelude.{◌-◌, vec_capacity};
     ghost use Rattle.retro_core.specs.Solving.{Solving};
     ghost use Rattle.retro_core.specs.Inside.Sizes.{AreSizes};
-    ghost use Rattle.retro_core.specs.Inside.Stage.{IsState, solving};
+    ghost use Rattle.retro_core.specs.Inside.Stage.{IsState, as_solving};
 
     ghost Value = { Solving };
 
-    ghost view = { λ s. solving s.stage s.done };
+    ghost view = { λ s. as_solving s.stage s.done };
 
     ghost invariant = { λ s. IsState s.stage (s.stage.value - 1) s.done × AreSizes s.stage (s.stage.value - 1) (vec_capacity s.sizes) s.sizes.items };
 }

@@ -65,8 +65,8 @@ abbrev pub Kept : Key → State Unit0 View → Type 0
 Kept k s = IsSolving k.solving × IsLawful (round_of_words k.solving k.width s.words (seats_of s.views)) × IsTraced k s.words s.views
 
 -- the first seat's view
-abbrev pub opening : Key → View
-opening k = record {
+abbrev pub opening_view : Key → View
+opening_view k = record {
   key = k;
   has = record { width = k.width; todo = filter (dominated (arena_of k.solving.board)) (bucket k.solving k.solving.rounds); owed = []; won = [] };
   lost = [];
@@ -76,8 +76,8 @@ opening k = record {
 -- ---- what the steps do to a view
 
 -- the seat after a strike in a gap whose count was n
-abbrev pub struck : View → ℕ → ℕ → View
-struck v gap n = record {
+abbrev pub view_struck : View → ℕ → ℕ → View
+view_struck v gap n = record {
   key = v.key;
   has = seat_struck v.key.solving gap n v.has;
   lost = v.lost;
@@ -105,13 +105,13 @@ no_key = record {
   width = 0;
 }
 
-abbrev pub spent : View
-spent = record { key = no_key; has = spent_seat; lost = []; shut = [] }
+abbrev pub spent_view : View
+spent_view = record { key = no_key; has = spent_seat; lost = []; shut = [] }
 
 -- ---- what the steps tell
 
 abbrev pub TableStrikes : Step Unit0 → Me Unit0 View → ℕ → Me Unit0 View → Type 0
-TableStrikes s m n m' = (m'.0 ≡ struck m.0 s.word n) × (m'.1 ≡ m.1) × (0 < n)
+TableStrikes s m n m' = (m'.0 ≡ view_struck m.0 s.word n) × (m'.1 ≡ m.1) × (0 < n)
 
 abbrev pub Claims : Step Unit0 → Me Unit0 View → ℕ → Me Unit0 View → Type 0
 Claims s m n m' = (m'.0 ≡ claimed m.0 n) × (m'.1 ≡ m.1) × (length m'.0.has.won ≤ size m'.0.key)

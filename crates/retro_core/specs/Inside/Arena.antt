@@ -21,11 +21,11 @@ count_below (suc n) test = count_below n test + cond (test n) 1 0
 
 -- how many answers of a gap lead to where the test holds
 abbrev pub live : Arena → (ℕ → Bool) → ℕ → ℕ
-live a above g = count_below a.places (λ v. a.is_answer g v && above (a.member g v))
+live a test g = count_below a.places (λ v. a.is_answer g v && test (a.member g v))
 
 -- each pebble has an answer that leads to where the test holds
 abbrev pub next : Arena → (ℕ → Bool) → ℕ → Bool
-next a above c = count_below a.pebbles (λ p. live a above (a.gap c p) == 0) == 0
+next a test c = count_below a.pebbles (λ p. live a test (a.gap c p) == 0) == 0
 
 -- a labeller answers k requests from c, whichever they are
 abbrev pub lasts : Arena → ℕ → ℕ → Bool

@@ -10,7 +10,7 @@ use Rattle.retro_core.specs.Inside.Arena.{Arena, count_below, lasts, IsLast, dom
 use Rattle.retro_core.specs.Inside.BoardArena.{arena_of}
 use Rattle.retro_core.specs.Solving.{Solving}
 use Rattle.retro_core.specs.Inside.Stored.{IsSmall}
-use Rattle.retro_core.specs.Inside.Tables.{alive, struck_rounds, open_members, IsCounted, AreWords, AreFirstWords, GapIsClosed}
+use Rattle.retro_core.specs.Inside.Tables.{is_unstruck, struck_rounds, open_members, IsCounted, AreWords, AreFirstWords, GapIsClosed}
 
 -- a board, the value that configurations are filed at, a word for each configuration, a count for each gap,
 -- the configurations filed at each value, and those that are struck in the round
@@ -42,12 +42,12 @@ abbrev pub filed_at : PlainStage → ℕ → List ℕ
 filed_at s value = slice_index_or s.buckets value []
 
 -- the stage in which a configuration stands behind the others of the value
-abbrev pub listed : PlainStage → ℕ → PlainStage
-listed s rank = record s { buckets = slice_set s.buckets s.value (filed_at s s.value ++ rank ∷ []) }
+abbrev pub appended : PlainStage → ℕ → PlainStage
+appended s rank = record s { buckets = slice_set s.buckets s.value (filed_at s s.value ++ rank ∷ []) }
 
 -- the stage in which a configuration has the value too
 abbrev pub filed : PlainStage → ℕ → PlainStage
-filed s rank = listed (record s { values = slice_set s.values rank s.value }) rank
+filed s rank = appended (record s { values = slice_set s.values rank s.value }) rank
 
 -- the stage with these counts
 abbrev pub counting : PlainStage → List ℕ → PlainStage
@@ -65,9 +65,9 @@ pub record IsFiled (s : PlainStage) : Type 0 where
   pub once : (v x : ℕ) → v ≤ configurations s.board → x < configurations s.board → times x (filed_at s v) ≡ cond (slice_index s.values x == v) 1 0
 
 -- words and lists together, where the test holds of what is not struck yet
-pub record IsStage (above : ℕ → Bool) (s : PlainStage) : Type 0 where
-  pub counts_are : IsCounted (arena_of s.board) above s.counts
-  pub words_are : AreWords (arena_of s.board) above s.values
+pub record IsStage (test : ℕ → Bool) (s : PlainStage) : Type 0 where
+  pub counts_are : IsCounted (arena_of s.board) test s.counts
+  pub words_are : AreWords (arena_of s.board) test s.values
   pub filed_are : IsFiled s
 
 -- nothing is filed but at the value, and what is to be struck stays
@@ -95,7 +95,7 @@ pub record IsStruckAt (a : Arena) (r x : ℕ) : Type 0 where
 pub record IsStriking (s : PlainStage) (todo : List ℕ) : Type 0 where
   pub round : ℕ
   pub value_is : s.value ≡ suc round
-  pub stage : IsStage (alive (arena_of s.board) round todo) s
+  pub stage : IsStage (is_unstruck (arena_of s.board) round todo) s
   pub due : (x : ℕ) → 0 < times x todo → IsStruckAt (arena_of s.board) round x
   pub once : (x : ℕ) → times x todo ≤ 1
 
@@ -148,8 +148,8 @@ pub record IsState (s : PlainStage) (round : ℕ) (is_done : Bool) : Type 0 wher
   pub strikes_are : s.strikes ≡ filter (dominated (arena_of s.board)) (filed_at s round)
 
 -- a solver, as its callers see it
-abbrev pub solving : PlainStage → Bool → Solving
-solving s is_done = record {
+abbrev pub as_solving : PlainStage → Bool → Solving
+as_solving s is_done = record {
   board = s.board;
   rounds = s.value - 1;
   is_done = is_done;

@@ -22,14 +22,14 @@ abbrev pub open_members : Arena → List ℕ → ℕ → List ℕ
 open_members a values g = members_from a (is_open values) g 0 a.places
 
 -- each gap's count is the number of its answers that lead to where the test holds
-pub record IsCounted (a : Arena) (above : ℕ → Bool) (counts : List ℕ) : Type 0 where
+pub record IsCounted (a : Arena) (test : ℕ → Bool) (counts : List ℕ) : Type 0 where
   pub counts_length : length counts ≡ a.gaps
-  pub counted : (g : ℕ) → g < a.gaps → slice_index counts g ≡ live a above g
+  pub counted : (g : ℕ) → g < a.gaps → slice_index counts g ≡ live a test g
 
 -- a configuration is open exactly where each pebble has an answer that leads to where the test holds, and any other word is a value
-pub record AreWords (a : Arena) (above : ℕ → Bool) (values : List ℕ) : Type 0 where
+pub record AreWords (a : Arena) (test : ℕ → Bool) (values : List ℕ) : Type 0 where
   pub values_length : length values ≡ a.configurations
-  pub opened : (x : ℕ) → x < a.configurations → is_open values x ≡ next a above x
+  pub opened : (x : ℕ) → x < a.configurations → is_open values x ≡ next a test x
   pub lasting : (x : ℕ) → x < a.configurations → is_open values x ≡ false → lasts a (slice_index values x) x ≡ true
   pub stopping : (x : ℕ) → x < a.configurations → is_open values x ≡ false → lasts a (suc (slice_index values x)) x ≡ false
 
@@ -39,8 +39,8 @@ pub record AreFirstWords (a : Arena) (words : List ℕ) : Type 0 where
   pub each : (x : ℕ) → x < a.configurations → slice_index words x ≡ cond (next a (lasts a 0) x) OPEN 0
 
 -- it lasts more than r requests, or stands in the list of what is to strike
-abbrev pub alive : Arena → ℕ → List ℕ → ℕ → Bool
-alive a r todo x = cond (lasts a (suc r) x) true (not (times x todo == 0))
+abbrev pub is_unstruck : Arena → ℕ → List ℕ → ℕ → Bool
+is_unstruck a r todo x = cond (lasts a (suc r) x) true (not (times x todo == 0))
 
 -- the open members of a gap are filed at a value, and nothing else changes
 pub record GapIsClosed (a : Arena) (g value : ℕ) (values values' : List ℕ) : Type 0 where

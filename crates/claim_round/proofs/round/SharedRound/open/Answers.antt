@@ -5,7 +5,7 @@ use Rattle.board_text.specs.PlainBoard.{places}
 use Rattle.positions.specs.Ranks.{configurations}
 use Rattle.retro_core.specs.Round.{AreToStrike}
 use Rattle.claim_round.specs.Shared.{Key, View}
-use Rattle.claim_round.specs.Inside.Shared.{opening, most, size}
+use Rattle.claim_round.specs.Inside.Shared.{opening_view, most, size}
 use Rattle.claim_round.specs.Inside.Openings.{AreOpeningWords}
 use Rattle.claim_round.proofs.Loads.{narrow}
 use Rattle.claim_round.proofs.OpeningWords.{ranks_due, opened}
@@ -51,7 +51,7 @@ returns g c =
     let k : Key = record { solving = s; width = c.args.width } in
     let sol = c.to_strike-ranks.ensures.kept in
     let e = c.in_ok-table.ensures in
-    let view : c.in_ok-table.seat.me.0 ≡ opening k = ap (λ m. m.0) e.4 in
+    let view : c.in_ok-table.seat.me.0 ≡ opening_view k = ap (λ m. m.0) e.4 in
     record {
       key_is = e.5;
       table_is = e.2;
