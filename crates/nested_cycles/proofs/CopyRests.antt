@@ -116,10 +116,6 @@ pub rest_is_word : (count : ℕ) (word : List ℕ) → IsWord (suc count) word �
 rest_is_word count [] is = absurd (omega (arith, is.0))
 rest_is_word count (first ∷ rest) is = (omega (arith, is.0), All-tail (λ d. d < 3) first rest is.1)
 
-pub first_below : (count : ℕ) (word : List ℕ) → IsWord (suc count) word → slice_index word 0 < 3
-first_below count [] is = absurd (omega (arith, is.0))
-first_below count (first ∷ rest) is = All-head (λ d. d < 3) first rest is.1
-
 pub rests_are_words : (digit count : ℕ) (words : List (List ℕ)) → All (IsWord (suc count)) words → All (IsWord count) (rests_in digit words)
 rests_are_words digit count [] each = All-nil (IsWord count)
 rests_are_words digit count (word ∷ words) each =

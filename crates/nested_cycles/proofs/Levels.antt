@@ -10,7 +10,7 @@ use Rattle.nested_cycles.specs.Reply.{IsReply, NestedReply}
 use Rattle.nested_cycles.proofs.WordNumbers.{words_fit}
 use Rattle.nested_cycles.proofs.CopyRests.{each_of, contains_map, contains_none}
 use Rattle.nested_cycles.proofs.GoodReplies.{reply_dominates, good_with_reply}
-use Rattle.nested_cycles.proofs.WordLists.{words_of, number_rests, first_digits_of, rests_of_numbers, rests_below, firsts_below, are_words, none_of_firsts, fewer_number_rests, good_by_rests, good_in_one, good_of_none, not_in_three}
+use Rattle.nested_cycles.proofs.WordLists.{words_of, number_rests, first_digits_of, rests_of_numbers, rests_below, firsts_below, are_words, none_of_firsts, fewer_number_rests, good_by_rests, good_in_one, not_in_three}
 
 -- words have one digit more than their rests, and copies are of this size
 pub record HaveCopies (digits rest_digits size : ℕ) : Type 0 where
@@ -28,9 +28,6 @@ pub low_firsts : (digits rest_digits size : ℕ) (numbers : List ℕ) → HaveCo
 low_firsts digits rest_digits size numbers at each = rw at.size_is (firsts_below rest_digits numbers (rw at.digits_are at each))
 
 -- ---- good words
-
-pub good_if_none : (digits rest_digits size : ℕ) (numbers : List ℕ) → HaveCopies digits rest_digits size → map (λ n. n / size) numbers ≡ [] → AreGood digits (words_of digits numbers)
-good_if_none digits rest_digits size numbers at none = rw at.digits_are (good_of_none rest_digits numbers (rw at.size_is at none))
 
 pub good_if_one : (digits rest_digits size digit : ℕ) (numbers : List ℕ) → HaveCopies digits rest_digits size → AreInOneCopy digit (map (λ n. n / size) numbers)
     → AreGood digits (words_of digits numbers)

@@ -112,9 +112,6 @@ good_by_rests count digit numbers few two =
 pub good_in_one : (count digit : ℕ) (numbers : List ℕ) → AreInOneCopy digit (map (λ n. n / 3 ^ count) numbers) → AreGood (suc count) (words_of (suc count) numbers)
 good_in_one count digit numbers one = inr (inl (digit, rw first_digits_of one))
 
-pub good_of_none : (count : ℕ) (numbers : List ℕ) → map (λ n. n / 3 ^ count) numbers ≡ [] → AreGood (suc count) (words_of (suc count) numbers)
-good_of_none count numbers none = inl (ap (words_of (suc count)) (none_of_firsts (λ n. n / 3 ^ count) numbers none))
-
 three_are_not_good : (count : ℕ) (words : List (List ℕ)) → ((digit : ℕ) → digit < 3 → Contains (first_digits words) digit) → AreGood (suc count) words → ⊥
 three_are_not_good count words three (inl none) = contains_none 0 (subst (λ ws. Contains (first_digits ws) 0) none (three 0 (omega arith)))
 three_are_not_good count words three (inr (inl one)) =

@@ -28,21 +28,6 @@ Consumes-none (Some x) = refl
 pub none_yet : (left : Option (List ℕ)) → HasCome left left [] (record { bytes = []; has_ended = false })
 none_yet left = record { came = inl (refl, Consumes-none left); each = λ k d inside. absurd (omega (arith, inside)) }
 
-pub empty_at_end : (left_old left_now : Option (List ℕ)) (lines : List (List ℕ)) (unread : Unread) → HasCome left_old left_now lines unread → IsEmptyAtEnd unread left_now
-empty_at_end left_old left_now lines unread come ended =
-    elim come.came [
-      | inl goes_on ↦ absurd (differ (sym ended ∙ goes_on.0))
-      | inr over ↦ (over.1, over.2.read.1)
-    ]
-  where
-    differ : true ≡ false → ⊥
-    differ same = cc
-
--- what is left where no line came
-abbrev pub Breaks : LineFault → List ℕ → Type 0
-Breaks Read rest = IsLine rest
-Breaks Limit rest = BeginsTooLong rest
-
 -- what was read, where the end wasn't seen
 closed_so_far : (left_old left_now : Option (List ℕ)) (lines : List (List ℕ)) (unread : Unread) → HasCome left_old left_now lines unread → unread.has_ended ≡ false
     → CameClosed left_old left_now lines unread.bytes
@@ -128,14 +113,6 @@ line_came left_old left_now left_new lines old new word come gives =
 both_empty : (xs ys : List ℕ) → xs ++ ys ≡ [] → (xs ≡ []) × (ys ≡ [])
 both_empty [] ys e = (refl, e)
 both_empty (x ∷ xs) ys e = absurd (omega (arith, ap length e))
-
--- why no line came, where the reader failed or a line is too long
-pub none_came : (left_old left_now left_new : Option (List ℕ)) (lines : List (List ℕ)) (old : Unread) (fault : LineFault) → length lines ≤ MOST_LINES → HasCome left_old left_now lines old
-    → GivesNoLine old left_now left_new fault → (rest : List ℕ) × Came left_old left_new lines rest × Breaks fault rest
-none_came left_old left_now left_new lines old Read few come gives =
-    (old.bytes ++ gives.0, came_with left_old left_now left_new lines old gives.0 few come gives.1 gives.2, gives.3)
-none_came left_old left_now left_new lines old Limit few come gives =
-    (old.bytes ++ gives.0, came_with left_old left_now left_new lines old gives.0 few come gives.1 gives.2, gives.3)
 
 -- no more lines came
 pub all_came : (left_old left_now left_new : Option (List ℕ)) (lines : List (List ℕ)) (old new : Unread) → length lines ≤ MOST_LINES → HasCome left_old left_now lines old
