@@ -19,7 +19,7 @@ use Rattle.retro_core.proofs.Cited.{same_or_not, split-lawful, join-lawful}
 use Rattle.claim_round.proofs.WordSteps.{IsWordStruck, word-strike, word-try}
 use Rattle.claim_round.specs.Shared.{Key, View, kept_part, new_part, view_joined}
 use Rattle.claim_round.specs.Inside.Shared.{Unit0, Kept, IsTraced, TableStrikes, Claims, Reads, Looks, IsBounded, seats_of, total, most, size}
-use Rattle.claim_round.specs.Inside.Shared.{load, struck, claimed, spent}
+use Rattle.claim_round.specs.Inside.Shared.{load, view_struck, claimed, spent_view}
 use Rattle.claim_round.specs.declared.words.TheConstants.{OPEN}
 use Rattle.claim_round.specs.Inside.Words.{value_of_word, round_of_words}
 use Rattle.claim_round.proofs.Totals.{total_at, won_total, seat_read, get_elsewhere}
@@ -50,7 +50,7 @@ pub strike_allowed : (k : Key) (slots id : ℕ) (me : Me Unit0 View) (gap pebble
 strike_allowed k slots id me gap pebble wide some_todo dominates gap_is s kept same at small =
     let b = k.solving.board in
     let n : ℕ = slice_index s.words gap in
-    let w : View = struck me.0 gap n in
+    let w : View = view_struck me.0 gap n in
     let seats : List PlainSeat = seats_of s.views in
     let sol = kept.0 in
     let law = kept.1 in
@@ -168,17 +168,17 @@ split_allowed k id v wide s kept at =
       traced_split k s.words s.views kept.2 id v at (omega arith),
     )
 
-pub join_allowed : (k : Key) (id : ℕ) (v : View) (other : ℕ) (u : View) → 0 < v.has.width → 0 < u.has.width → Joins (Kept k) id v other u (view_joined v u) spent
+pub join_allowed : (k : Key) (id : ℕ) (v : View) (other : ℕ) (u : View) → 0 < v.has.width → 0 < u.has.width → Joins (Kept k) id v other u (view_joined v u) spent_view
 join_allowed k id v other u wide other_wide s kept at apart there =
     let seats : List PlainSeat = seats_of s.views in
     let differ : id ≢ other = λ e. apart (sym e) in
     let there' : get_elem? s.views other ≡ some u = sym (get_elsewhere s.views id other (view_joined v u) differ) ∙ there in
     let read : get_or seats id spent_seat ≡ v.has = seat_read s.views id v at in
     let other_read : get_or seats other spent_seat ≡ u.has = seat_read s.views other u there' in
-    let after : set (set seats id (seat_joined (get_or seats id spent_seat) (get_or seats other spent_seat))) other spent_seat ≡ seats_of (set (set s.views id (view_joined v u)) other spent) =
+    let after : set (set seats id (seat_joined (get_or seats id spent_seat) (get_or seats other spent_seat))) other spent_seat ≡ seats_of (set (set s.views id (view_joined v u)) other spent_view) =
     ap (λ (p : PlainSeat × PlainSeat). set (set seats id (seat_joined p.0 p.1)) other spent_seat) (λ j. (read j, other_read j))
     ∙ ap (λ (l : List PlainSeat). set l other spent_seat) (sym (map-set (λ (w : View). w.has) s.views id (view_joined v u)))
-    ∙ sym (map-set (λ (w : View). w.has) (set s.views id (view_joined v u)) other spent) in (
+    ∙ sym (map-set (λ (w : View). w.has) (set s.views id (view_joined v u)) other spent_view) in (
       kept.0,
       subst (λ (l : List PlainSeat). IsLawful (round_of_words k.solving k.width s.words l)) after
           (join-lawful (round_of_words k.solving k.width s.words seats) kept.0 kept.1 id other differ (subst (λ (w : PlainSeat). 0 < w.width) (sym read) wide) (subst (λ (w : PlainSeat). 0 < w.width) (sym other_read) other_wide)),

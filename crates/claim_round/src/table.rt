@@ -37,11 +37,11 @@ impl<'a, S: ListStore> Model for Plan<'a, S> {
 pub struct Rule;
 
 impl<'a, S: ListStore> TableRule<(), Hand, Plan<'a, S>> for Rule {
-    ghost use Rattle.claim_round.specs.Inside.Shared.{Kept, opening};
+    ghost use Rattle.claim_round.specs.Inside.Shared.{Kept, opening_view};
 
     ghost holds = { Kept };
 
-    ghost first = { opening };
+    ghost first = { opening_view };
 }
 
 pub struct Strike;
@@ -71,10 +71,10 @@ impl Split<Hand> for Halves {
 }
 
 impl Join<Hand> for Halves {
-    ghost use Rattle.claim_round.specs.Shared.{joined};
+    ghost use Rattle.claim_round.specs.Shared.{view_joined};
     ghost use Rattle.claim_round.specs.Inside.Shared.{spent_view};
 
-    ghost both = { joined };
+    ghost both = { view_joined };
 
     ghost spent = { spent_view };
 }

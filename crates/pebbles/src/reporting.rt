@@ -4,7 +4,7 @@ ghost use Rattle.std.specs.Prelude.{◌≡◌, ◌≢◌, ◌↔◌, ◌≤◌, 
 ghost use Rattle.board_text.specs.Ranges.{InRange};
 ghost use Rattle.positions.specs.Ranks.{configurations};
 ghost use Rattle.pebbles.specs.Report.{AreCounts, IsCountOfValues, IsReportOf, IsReportOfText, Reports};
-ghost use Rattle.pebbles.specs.Report.{count_line, count_lines, end_lines, head_lines, size_line, size_lines, start_line};
+ghost use Rattle.pebbles.specs.Report.{count_line, count_lines, end_lines, head_lines, size_line, size_lines, start_value_line};
 ghost use Rattle.pebbles.specs.Run.{Ran, Fails, bytes_of};
 ghost use Rattle.pebbles.specs.SolveRun.{CannotSolve};
 ghost use Rattle.pebbles.specs.Inside.SolveRun.{IsRefused};
@@ -136,7 +136,7 @@ fn write_size(text: &mut String, word: &str, size: u32) -> Result<(), AllocError
 
 /// Writes the value of the start.
 fn write_start(text: &mut String, start: Value) -> Result<(), AllocError>
-    ensures { OnOk result (string_bytes text.new ≡ string_bytes text.old ++ start_line start) }
+    ensures { OnOk result (string_bytes text.new ≡ string_bytes text.old ++ start_value_line start) }
 {
     text.push_str("start ")?;
     write_claim(text, claim(start))?;
