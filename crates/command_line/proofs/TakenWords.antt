@@ -14,6 +14,7 @@ use Rattle.clap.specs.Takes.{built_takes, default_passes, entered_passes, is_giv
 use Rattle.board_text.specs.declared.board.TheConstants.{MAX_PEBBLES}
 use Rattle.nested_cycles.specs.declared.nested_boards.TheConstants.{MAX_BOARD_LEVELS}
 use Rattle.nested_cycles.specs.declared.game.TheConstants.{MAX_LEVELS}
+use Rattle.command_line.specs.declared.asked.TheConstants.{MAX_WORKERS}
 use Rattle.clap.proofs.OnLiterals.{clap_on_literals}
 use Rattle.clap.proofs.WalkLemmas.{both}
 use Rattle.command_line.specs.Commands.{check, climb, nested, play_among, program, program_among, side_words, solving, somewhere, workers}
@@ -68,7 +69,7 @@ can_read name words pass =
     let level = level_fits (built_solving name) words (solving_good name) pass in
     let workers = default_row built_workers (drop 1 rules) (settled rules (walk rules [] nothing_held words).held).rows (omega arith) in
     let board = (both (is_given (codes "board") rows) true level.1).0 in
-    let has_workers = number_there rules _ (codes "workers") 16 rows level.0 refl refl (λ t e. e) workers in
+    let has_workers = number_there rules _ (codes "workers") MAX_WORKERS rows level.0 refl refl (λ t e. e) workers in
     let has_board = text_there rules _ (codes "board") rows level.0 refl (given_row (codes "board") rows board) in
     rw (has_workers, has_board) refl
 

@@ -7,6 +7,7 @@ use Rattle.clap.specs.declared.builder.value_parser.ValueParser.TheVariants as v
 use Rattle.board_text.specs.declared.board.TheConstants.{MAX_PEBBLES}
 use Rattle.nested_cycles.specs.declared.nested_boards.TheConstants.{MAX_BOARD_LEVELS}
 use Rattle.nested_cycles.specs.declared.game.TheConstants.{MAX_LEVELS}
+use Rattle.command_line.specs.declared.asked.TheConstants.{MAX_WORKERS}
 
 -- a word that has to be there, and one that has to be a number from 1 to `most`
 abbrev pub path : Text → Rule
@@ -25,7 +26,7 @@ workers = record (new_rule (codes "workers")) {
   long = Some (codes "workers");
   value_names = 1;
   defaults = codes "1" ∷ [];
-  parser = Some (vp.Signed (pos 1) (pos 16));
+  parser = Some (vp.Signed (pos 1) (pos MAX_WORKERS));
 }
 
 abbrev pub command : Text → List Rule → Shape

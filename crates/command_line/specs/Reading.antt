@@ -6,6 +6,7 @@ use Rattle.clap.specs.Walk.{Row, Text, first_of, one_of}
 use Rattle.board_text.specs.declared.board.TheConstants.{MAX_PEBBLES}
 use Rattle.nested_cycles.specs.declared.nested_boards.TheConstants.{MAX_BOARD_LEVELS}
 use Rattle.nested_cycles.specs.declared.game.TheConstants.{MAX_LEVELS}
+use Rattle.command_line.specs.declared.asked.TheConstants.{MAX_WORKERS}
 use Rattle.command_line.specs.declared.asked.Job.{Job}
 use Rattle.command_line.specs.declared.asked.Job.TheVariants.{Joined, Check, Nested, Solve, Report, Play, Climb}
 use Rattle.command_line.specs.declared.asked.Player.{Player}
@@ -31,10 +32,10 @@ AsksFor name rows (Check board proof) = (name ≡ codes "check")
 AsksFor name rows (Nested levels pebbles) = (name ≡ codes "nested")
     × HasNumber rows (codes "levels") MAX_BOARD_LEVELS levels × HasNumber rows (codes "pebbles") MAX_PEBBLES pebbles
 AsksFor name rows (Solve workers board) = (name ≡ codes "solve")
-    × HasNumber rows (codes "workers") 16 workers
+    × HasNumber rows (codes "workers") MAX_WORKERS workers
     × (first_of (codes "board") rows ≡ Some board.now)
 AsksFor name rows (Report workers board) = (name ≡ codes "report")
-    × HasNumber rows (codes "workers") 16 workers
+    × HasNumber rows (codes "workers") MAX_WORKERS workers
     × (first_of (codes "board") rows ≡ Some board.now)
 AsksFor name rows (Play side board) = (name ≡ codes "play")
     × (first_of (codes "side") rows ≡ Some (player_word side))
@@ -51,7 +52,7 @@ abbrev pub IsInRange : Job → Type 0
 IsInRange Joined = Unit {0}
 IsInRange (Check board proof) = Unit {0}
 IsInRange (Nested levels pebbles) = (1 ≤ levels) × (levels ≤ MAX_BOARD_LEVELS) × (1 ≤ pebbles) × (pebbles ≤ MAX_PEBBLES)
-IsInRange (Solve workers board) = (1 ≤ workers) × (workers ≤ 16)
-IsInRange (Report workers board) = (1 ≤ workers) × (workers ≤ 16)
+IsInRange (Solve workers board) = (1 ≤ workers) × (workers ≤ MAX_WORKERS)
+IsInRange (Report workers board) = (1 ≤ workers) × (workers ≤ MAX_WORKERS)
 IsInRange (Play side board) = Unit {0}
 IsInRange (Climb levels) = (1 ≤ levels) × (levels ≤ MAX_LEVELS)

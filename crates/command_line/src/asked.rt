@@ -5,6 +5,9 @@ ghost use Rattle.command_line.specs.declared.asked.JobFault.TheVariants as fault
 
 use std::alloc::AllocError;
 
+/// How many workers may be asked for at most.
+pub const MAX_WORKERS: u8 = 16;
+
 /// What the program is asked to do.
 #[derive(Clone, Copy, Debug, PartialEq, Eq)]
 pub enum Job<'a> {

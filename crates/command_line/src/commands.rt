@@ -5,6 +5,7 @@ ghost use Rattle.clap.specs.Words.{Text, app_of, fault_of, is_simple, is_simple_
 ghost use Rattle.clap.specs.declared.builder.command.Command.TheViews.{out-Command};
 ghost use Rattle.command_line.specs.Commands as commands;
 
+use crate::asked::MAX_WORKERS;
 use board_text::MAX_PEBBLES;
 use clap::{Arg, Command, value_parser};
 use nested_cycles::{MAX_BOARD_LEVELS, MAX_LEVELS};
@@ -212,7 +213,7 @@ fn count<'a>(alloc: Global, id: &'a str, name: &'a str, most: u8, help: &'a str)
         .help(help)
 }
 
-/// How many workers solve a board, 1 to 16; 1 where the option isn't there.
+/// How many workers solve a board, 1 to `MAX_WORKERS`; 1 where the option isn't there.
 fn workers<'a>(alloc: Global) -> Arg<'a>
     ensures rule { rule_of result ≡ commands.workers }
     ensures local { result.global ≡ false }
@@ -221,6 +222,6 @@ fn workers<'a>(alloc: Global) -> Arg<'a>
         .long("workers")
         .value_name("N")
         .default_value("1")
-        .value_parser(value_parser!(u8).range(1..=16))
+        .value_parser(value_parser!(u8).range(1..=MAX_WORKERS as i64))
         .help("How many workers solve the board, 1 to 16")
 }

@@ -5,5 +5,5 @@ mod asked;
 mod commands;
 mod words;
 
-pub use asked::{Job, JobFault, Player};
+pub use asked::{Job, JobFault, MAX_WORKERS, Player};
 pub use words::job;

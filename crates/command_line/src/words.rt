@@ -8,7 +8,7 @@ ghost use Rattle.command_line.specs.Commands as commands;
 ghost use Rattle.command_line.specs.Reading.{AsksFor, HasNumber, IsInRange, IsReadAs, player_word};
 ghost use Rattle.command_line.specs.Inside.Reading.{asks, has_number, has_side, is_read};
 
-use crate::asked::{Job, JobFault, Player};
+use crate::asked::{Job, JobFault, MAX_WORKERS, Player};
 use crate::commands::program;
 use board_text::MAX_PEBBLES;
 use clap::error::ErrorKind;
@@ -103,7 +103,7 @@ fn solve_job<'a>(values: &ArgMatches<'a>) -> Option<Job<'a>>
         (AsksFor (codes "solve") (rows_of (found_of values.now))) }
     ensures numbers { IfSome result IsInRange }
 {
-    let workers = number(values, "workers", 16)?;
+    let workers = number(values, "workers", MAX_WORKERS)?;
     let board = text(values, "board")?;
     Some(Job::Solve { workers, board })
 }
@@ -123,7 +123,7 @@ fn report_job<'a>(values: &ArgMatches<'a>) -> Option<Job<'a>>
         (AsksFor (codes "report") (rows_of (found_of values.now))) }
     ensures numbers { IfSome result IsInRange }
 {
-    let workers = number(values, "workers", 16)?;
+    let workers = number(values, "workers", MAX_WORKERS)?;
     let board = text(values, "board")?;
     Some(Job::Report { workers, board })
 }

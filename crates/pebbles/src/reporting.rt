@@ -18,6 +18,7 @@ use board_text::{Board, Sink, Source, write_all};
 use positions::{MAX_CONFIGURATIONS, Space, Value};
 use proof_text::write_claim;
 use retro_core::Values;
+use round_workers::MAX_WORKERS;
 use std::alloc::{AllocError, Global};
 use std::fmt::Write;
 use std::sync::Wait;
@@ -26,7 +27,7 @@ use strategies::claim;
 
 /// Reads a board and writes how many of its configurations have each value.
 ///
-/// The number of workers is 1 to 16, and they find the values as in `run_solve`. It may wait for them.
+/// The number of workers is 1 to `MAX_WORKERS`, and they find the values as in `run_solve`. It may wait for them.
 /// The reader and the writer must not have failed before. Nothing is written before the whole text is built:
 /// after a fault nothing was written, but for `Write`, after which a front of the text was.
 pub fn run_report<R: Source, W: Sink>(
@@ -36,7 +37,7 @@ pub fn run_report<R: Source, W: Sink>(
     reader: &mut R,
     writer: &mut W,
 ) -> Result<(), RunFault>
-    requires workers { InRange 1 16 workers }
+    requires workers { InRange 1 MAX_WORKERS workers }
     requires reader_ready { R.has_failed reader.old ≡ false }
     requires writer_ready { W.has_failed writer.old ≡ false }
     ensures ok { IfOk result (Ran Reports (bytes_of R.remaining reader.old reader.new) (bytes_of W.contents writer.old writer.new)) }
@@ -51,14 +52,14 @@ pub fn run_report<R: Source, W: Sink>(
     Ok(write_all(writer, report.as_bytes())?)
 }
 
-/// The report of the board that the bytes are the text of. The number of workers is 1 to 16.
+/// The report of the board that the bytes are the text of. The number of workers is 1 to `MAX_WORKERS`.
 pub fn report_text(
     rt: &(impl Threads + Wait + Sync),
     alloc: Global,
     workers: u8,
     text: &[u8],
 ) -> Result<String, RunFault>
-    requires workers { InRange 1 16 workers }
+    requires workers { InRange 1 MAX_WORKERS workers }
     ensures report { IfOk result (λ report. IsReportOfText text.now (string_bytes report)) }
     ensures fault { IfErr result (CannotSolve workers text.now) }
 {
@@ -74,7 +75,7 @@ fn report_on(
     workers: u8,
 ) -> Result<String, RunFault>
     requires few { configurations board.now ≤ MAX_CONFIGURATIONS }
-    requires workers { InRange 1 16 workers }
+    requires workers { InRange 1 MAX_WORKERS workers }
     ensures text { IfOk result (λ text. IsReportOf board.now (string_bytes text)) }
     ensures refused { IfErr result (IsRefused workers) }
 {

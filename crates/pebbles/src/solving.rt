@@ -18,7 +18,7 @@ use index_lists::PlainLists;
 use positions::{MAX_CONFIGURATIONS, Value};
 use proof_text::print;
 use retro_core::{Solver, Values};
-use round_workers::{NoGate, solve_values};
+use round_workers::{MAX_WORKERS, NoGate, solve_values};
 use std::alloc::Global;
 use std::sync::Wait;
 use std::thread::Threads;
@@ -26,7 +26,7 @@ use strategies::document;
 
 /// Reads a board, finds the value of its start and writes the document that shows it.
 ///
-/// The number of workers is 1 to 16. One finds the values on this thread, and several share each round, each on a thread
+/// The number of workers is 1 to `MAX_WORKERS`. One finds the values on this thread, and several share each round, each on a thread
 /// of its own but the first; what is answered and written is the same for every number of them. It may wait for workers.
 /// The reader and the writer must not have failed before. Nothing is written before the whole text is built:
 /// after a fault nothing was written, but for `Write`, after which a front of the text was.
@@ -37,7 +37,7 @@ pub fn run_solve<R: Source, W: Sink>(
     reader: &mut R,
     writer: &mut W,
 ) -> Result<Value, RunFault>
-    requires workers { InRange 1 16 workers }
+    requires workers { InRange 1 MAX_WORKERS workers }
     requires reader_ready { R.has_failed reader.old ≡ false }
     requires writer_ready { W.has_failed writer.old ≡ false }
     ensures ok { IfOk result (Ran IsSolution (bytes_of R.remaining reader.old reader.new) (bytes_of W.contents writer.old writer.new)) }
@@ -64,14 +64,14 @@ pub struct Solved {
 
 /// The value of the start of the board that the bytes are the text of, and the text of its document, which shows that value.
 ///
-/// The number of workers is 1 to 16, and what is found is the same for every number of them.
+/// The number of workers is 1 to `MAX_WORKERS`, and what is found is the same for every number of them.
 pub fn solve_text(
     rt: &(impl Threads + Wait + Sync),
     alloc: Global,
     workers: u8,
     text: &[u8],
 ) -> Result<Solved, RunFault>
-    requires workers { InRange 1 16 workers }
+    requires workers { InRange 1 MAX_WORKERS workers }
     ensures solved { IfOk result (λ solved. IsSolution text.now solved.value (string_bytes solved.text)) }
     ensures shows { IfOk result (λ solved. ShowsValue text.now solved.value (string_bytes solved.text)) }
     ensures accepted { IfOk result (λ solved. IsAccepted text.now solved.value (string_bytes solved.text)) }
@@ -89,7 +89,7 @@ fn solve(
     workers: u8,
 ) -> Result<Solved, RunFault>
     requires few { configurations board.now ≤ MAX_CONFIGURATIONS }
-    requires workers { InRange 1 16 workers }
+    requires workers { InRange 1 MAX_WORKERS workers }
     ensures solved { IfOk result (λ solved. IsSolved board.now solved.value (string_bytes solved.text)) }
     ensures refused { IfErr result (IsRefused workers) }
 {
@@ -109,7 +109,7 @@ pub(crate) fn values_by(
     workers: u8,
 ) -> Result<Values, RunFault>
     requires few { configurations board.now ≤ MAX_CONFIGURATIONS }
-    requires workers { InRange 1 16 workers }
+    requires workers { InRange 1 MAX_WORKERS workers }
     ensures values { IfOk result (λ values. values ≡ board.now) }
     ensures refused { IfErr result (IsRefused workers) }
 {

@@ -10,6 +10,7 @@ use fakes::boards::{ONE_PAIR, TOO_MANY_CONFIGURATIONS};
 use fakes::documents::PAIR_VALUE_ONE;
 use fakes::{Drip, Failing, Outcome, Trickle, comes_right};
 use positions::Value;
+use round_workers::MAX_WORKERS;
 use std::alloc::Global;
 use std::sync::Wait;
 use std::thread::Threads;
@@ -104,7 +105,7 @@ fn one_byte_a_call(rt: HostRuntime) {
 
 /// Whether the text is solved so and has this report, or memory was refused.
 fn text_outcome(rt: &(impl Threads + Wait + Sync), alloc: Global, workers: u8) -> Outcome
-    requires { InRange 1 16 workers }
+    requires { InRange 1 MAX_WORKERS workers }
 {
     let (Ok(solved), Ok(report)) = (
         solve_text(rt, alloc, workers, ONE_PAIR.as_bytes()),

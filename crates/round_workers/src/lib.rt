@@ -9,4 +9,4 @@ mod tree;
 mod worker;
 
 pub use gate::{Gate, NoGate};
-pub use solving::solve_values;
+pub use solving::{MAX_WORKERS, solve_values};

@@ -16,6 +16,9 @@ use std::alloc::Global;
 use std::sync::Wait;
 use std::thread::Threads;
 
+/// How many workers may share a round at most.
+pub const MAX_WORKERS: u32 = 16;
+
 /// So many workers, each in a thread of its own, work a round to its end. Worker 0 is this thread.
 fn work_round<S: ListStore + Sync, G: Gate, R: Threads + Wait + Sync>(
     rt: &R,
@@ -25,7 +28,7 @@ fn work_round<S: ListStore + Sync, G: Gate, R: Threads + Wait + Sync>(
     gate: &G,
 ) -> Result<Closed, WorkFault>
     requires going { solver.now.is_done ≡ false }
-    requires workers { (1 ≤ workers) × (workers ≤ 16) }
+    requires workers { (1 ≤ workers) × (workers ≤ MAX_WORKERS) }
     ensures end { IfOk result (λ c. IsRoundEnd solver.now c.won c.counts) }
     ensures worker { result ≡ Err WorkFault.Worker → 1 < workers }
 {
@@ -37,7 +40,7 @@ fn work_round<S: ListStore + Sync, G: Gate, R: Threads + Wait + Sync>(
     Ok(closed)
 }
 
-/// The values of a board, found in rounds that so many workers share, 1 to 16.
+/// The values of a board, found in rounds that so many workers share, 1 to `MAX_WORKERS`.
 ///
 /// Each round is shared by all workers: a seat of its own for each, the first on this thread, the others each on a thread
 /// that is started for the round and joined before it ends. One worker starts no thread. It may wait for its workers.
@@ -50,7 +53,7 @@ pub fn solve_values<G: Gate, R: Threads + Wait + Sync>(
     workers: u32,
     gate: &G,
 ) -> Result<Values, SolveFault>
-    requires workers { (1 ≤ workers) × (workers ≤ 16) }
+    requires workers { (1 ≤ workers) × (workers ≤ MAX_WORKERS) }
     ensures values { IfOk result (λ values. values ≡ board.now) }
     ensures too_large { (result ≡ Err SolveFault.TooLarge) ↔ (MAX_CONFIGURATIONS < configurations board.now) }
     ensures worker { result ≡ Err SolveFault.Worker → 1 < workers }

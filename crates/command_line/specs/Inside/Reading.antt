@@ -9,6 +9,7 @@ use Rattle.clap.specs.Walk.{Row, Text, first_of, one_of}
 use Rattle.board_text.specs.declared.board.TheConstants.{MAX_PEBBLES}
 use Rattle.nested_cycles.specs.declared.nested_boards.TheConstants.{MAX_BOARD_LEVELS}
 use Rattle.nested_cycles.specs.declared.game.TheConstants.{MAX_LEVELS}
+use Rattle.command_line.specs.declared.asked.TheConstants.{MAX_WORKERS}
 use Rattle.command_line.specs.Commands.{side_words}
 
 -- the same as a test, of some job
@@ -17,7 +18,7 @@ has_number rows id most = option_map_or (is_unsigned_in 1 most) (one_of id rows)
 
 -- there is a board, and a number of workers to solve it
 abbrev pub can_solve : List Row → Bool
-can_solve rows = has_number rows (codes "workers") 16 && is_some (first_of (codes "board") rows)
+can_solve rows = has_number rows (codes "workers") MAX_WORKERS && is_some (first_of (codes "board") rows)
 
 abbrev pub has_side : List Row → Bool
 has_side rows = option_map_or (λ t. list_any (λ word. bytes_eq word t) side_words)
