@@ -1,5 +1,5 @@
 -- A solver's values, open members and dominators are what a round takes from the game, and its lists are ready for the first step.
-use Rattle.std.proofs.Common.{◌≡◌, ◌⊎◌, ℕ, zero, suc, ◌+◌, ◌<◌, ◌≤◌, ◌↔◌, not, Bool, true, false, cond, List, refl, sym, ap, ◌∙◌, inl, inr, subst, arith, Option, Some, None}
+use Rattle.std.proofs.Common.{◌≡◌, ◌⊎◌, ℕ, zero, suc, ◌+◌, ◌<◌, ◌≤◌, ◌↔◌, Bool, true, false, cond, List, refl, sym, ap, ◌∙◌, inl, inr, subst, arith, Option, Some, None}
 use Rattle.std.specs.List.{filter}
 use Rattle.std.proofs.lemmas.Bool.{cases_lt}
 use Rattle.index_lists.specs.Lists.{times}
@@ -17,7 +17,7 @@ use Rattle.retro_core.specs.Solving.{Solving, IsSolving, AnswerLasts, bucket, so
 use Rattle.retro_core.specs.Round.{IsWorth, IsDue, AreToStrike}
 use Rattle.retro_core.proofs.Arenas.{IsArena}
 use Rattle.retro_core.proofs.Rules.{tally, home_among, value_before, rules_of, IsStruckIn, IsToWin, AreSound, AreReadyLists}
-use Rattle.retro_core.proofs.LastingRanks.{true_or_false, true_not_false, same_is, differ_is, lasts-less, lasts-at-most, next-gives, next-closed, next-fails}
+use Rattle.retro_core.proofs.LastingRanks.{true_or_false, true_not_false, lasts-less, lasts-at-most, next-gives, next-closed, next-fails}
 use Rattle.retro_core.proofs.BoardArenas.{arena_is, at_member, tree_of_lasts, lasts_of_tree, value_of_lasts, lasts_of_value, dominant_is}
 use Rattle.retro_core.proofs.DominatedRanks.{dominated-by, dominated-tells}
 use Rattle.retro_core.proofs.EnteredAnswers.{live-size}

@@ -1,7 +1,6 @@
 -- A round by numbers alone: what it takes from the game, and what its steps keep.
-use Rattle.std.specs.Prelude.{◌≡◌, ℕ, zero, suc, ◌+◌, ◌<◌, ◌≤◌, ◌==◌, not, Bool, cond, List, [], ◌∷◌, Option, Some, None, slice_get}
+use Rattle.std.specs.Prelude.{◌≡◌, ℕ, zero, suc, ◌+◌, ◌<◌, ◌≤◌, ◌==◌, cond, List, [], ◌∷◌, Option, Some, None, slice_get}
 use Rattle.index_lists.specs.Lists.{times}
-use Rattle.board_text.specs.PlainBoard.{PlainBoard}
 use Rattle.positions.specs.Ranks.{configurations}
 use Rattle.positions.specs.Gaps.{gaps}
 use Rattle.retro_core.specs.Inside.Arena.{Arena, count_below, live, lasts}

@@ -1,17 +1,7 @@
-use Rattle.std.proofs.Common.{◌∙◌, subst, arith}
-use Rattle.positions.proofs.Cited.{walk_begins, from_zero, next_of, after_step, none_left}
-use Rattle.retro_core.specs.Inside.Opening.{AreNoted}
+use Rattle.std.proofs.Common.{◌∙◌, arith}
+use Rattle.positions.proofs.Cited.{next_of, after_step, none_left}
 use Rattle.retro_core.proofs.DominatorTable.{HasLabel, has_few, low_label, low_place, noted-end, noted-step}
 use Rattle.retro_core.proofs.gap_answers.note_dominator.Goals as goal
-
-pub loop-label-init : goal.loop-label-init
-loop-label-init c =
-    let begins = from_zero c.args.answers.now c.walk-labels.result c.walk-labels.ensures in
-    record {
-      noted = subst (λ n. AreNoted c.args.space.now n c.args.dominators.now) (let zero = begins in omega arith) c.requires.noted;
-      in_range = omega (arith, begins);
-      left = walk_begins (HasLabel c.args.answers.now) c.args.answers.now c.walk-labels.result c.walk-labels.ensures (λ label small. (λ set. (small, set), λ has. has.1));
-    }
 
 pub rank-requires : goal.rank-requires
 rank-requires c =

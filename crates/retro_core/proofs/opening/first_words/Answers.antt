@@ -4,17 +4,9 @@ use Rattle.positions.specs.Gaps.{gaps}
 use Rattle.retro_core.specs.Inside.BoardArena.{arena_of}
 use Rattle.retro_core.specs.Inside.Opening.{IsRun, AreStopping}
 use Rattle.retro_core.proofs.BoardArenas.{arena_is}
-use Rattle.retro_core.proofs.FirstWords.{AreStopped, stopped-start, stopped-more, first-words}
+use Rattle.retro_core.proofs.FirstWords.{AreStopped, stopped-more, first-words}
 use Rattle.retro_core.proofs.DominatorTable.{written}
 use Rattle.retro_core.proofs.opening.first_words.Goals as goal
-
-pub loop-gap-init : goal.loop-gap-init
-loop-gap-init c =
-    let a = arena_of c.args.space.now in
-    record {
-      stopped = rw (c.in_ok-words.ensures.items_if_clones_equal (λ y e. e)) (stopped-start a c.args.counts.now c.configurations.result c.configurations.ensures.value);
-      inside = omega arith;
-    }
 
 pub loop-gap-preserved : goal.loop-gap-preserved
 loop-gap-preserved c =

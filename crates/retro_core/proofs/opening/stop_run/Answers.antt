@@ -6,11 +6,8 @@ use Rattle.retro_core.specs.Inside.BoardArena.{arena_of}
 use Rattle.retro_core.specs.Inside.Opening.{IsRun}
 use Rattle.retro_core.proofs.Arenas.{IsArena}
 use Rattle.retro_core.proofs.BoardArenas.{arena_is}
-use Rattle.retro_core.proofs.FirstWords.{stopping-start, stopping-more}
+use Rattle.retro_core.proofs.FirstWords.{stopping-more}
 use Rattle.retro_core.proofs.opening.stop_run.Goals as goal
-
-pub loop-place-init : goal.loop-place-init
-loop-place-init c = stopping-start (arena_of c.args.space.now) c.args.gap c.args.counts.now c.args.words.now
 
 -- the members of a run of gaps are configurations
 run-fits : (a : Arena) → IsArena a → (gap run place : ℕ) → gap < a.gaps → IsRun a gap run → place < a.places → a.member gap place + run ≤ a.configurations

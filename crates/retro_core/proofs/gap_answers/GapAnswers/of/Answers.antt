@@ -17,12 +17,6 @@ answers_of b table same is gap tuple words in_gaps tuple_is answers =
     let here = subst (λ (p : PlainBoard). (g : ℕ) → g < gaps p → tuple_of p g ≡ tuple → (label : ℕ) → label < MAX_LABELS → (has_bit words label ≡ true) ↔ IsAnswer p g label) (sym same) answers in
     record { bits = here gap in_gaps (sym tuple_is); is_board = is }
 
-pub note_dominator-requires-clause-answers : goal.note_dominator-requires-clause-answers
-note_dominator-requires-clause-answers c =
-    let b = c.args.space.now in
-    let in_gaps : c.loop-gap.gap < gaps b = omega (arith, c.gaps-gaps.ensures.value, c.loop-gap-test.true) in
-    answers_of b c.in_ok-table.table (c.requires ∙ sym c.in_ok-table.ensures) c.configurations.ensures.is_board c.loop-gap.gap c.gap_tuple.result c.answers-answers.result in_gaps c.gap_tuple.ensures.tuple c.answers-answers.ensures
-
 pub loop-gap-preserved : goal.loop-gap-preserved
 loop-gap-preserved c =
     let b = c.args.space.now in

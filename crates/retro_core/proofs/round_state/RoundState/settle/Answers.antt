@@ -1,7 +1,6 @@
-use Rattle.std.proofs.Common.{◌≡◌, ℕ, ◌+◌, ◌<◌, Bool, suc, length, ap, sym, ◌∙◌, get_or, Option, Some, List, cond, set, add-one, rules}
-use Rattle.std.proofs.lemmas.List.{places, set-get_or}
-use Rattle.retro_core.specs.Round.{PlainSeat, round_of}
-use Rattle.retro_core.proofs.Machine.{some-of, owed-read, trying, winning, none-of}
+use Rattle.std.proofs.Common.{ℕ, ◌+◌, ◌<◌, Bool, suc, length, ap, sym, ◌∙◌, get_or, Option, Some, List, cond, set, add-one, rules}
+use Rattle.std.proofs.lemmas.List.{places}
+use Rattle.retro_core.proofs.Machine.{some-of, owed-read, trying, none-of}
 use Rattle.retro_core.proofs.round_state.RoundState.settle.Goals as goal
 
 pub index-requires-2 : goal.index-requires-2
@@ -65,15 +64,3 @@ returns-else-won-clause-done g c =
     c.index.result.now c.owed-owed.result.now c.index-2.result.now c.is_none-won.result values' c.index_mut.result.now c.settle.new.self c.index.ensures c.owed-owed.ensures some
     c.index-2.ensures (none-of c.index-2.result.now c.is_none-won.result c.is_none-won.ensures) (sym (ap (λ (b : Bool). cond b (set values config (Some (suc c.self.inside.solver.now.rounds))) values) c.if-won.false)) c.index_mut.ensures.value (rw c.if-is_err.ensures.negation at c.settle.ensures.seat) in
     made.tries
-
-pub returns-then-is_err-clause-refused : goal.returns-then-is_err-clause-refused
-returns-then-is_err-clause-refused g c =
-    let some = some-of _ _ c.is_empty.ensures c.if-is_empty.false in
-    let seats : List PlainSeat = c.self.inside.seats.items in
-    let unchanged : c.settle.new.self ≡ c.index_mut.result.now = rw c.if-is_err.ensures.negation at c.settle.ensures.seat in
-    let same : set seats c.args.seat c.settle.new.self ≡ seats = ap (set seats c.args.seat) (unchanged ∙ c.index_mut.ensures.value) ∙ set-get_or seats c.args.seat c.index_mut.result.now in (
-      winning _ _ _ _ _ _ c.self.view_is c.self.invariant.0 c.self.invariant.1 c.args.seat c.requires
-          c.index.result.now c.owed-owed.result.now c.index-2.result.now c.is_none-won.result c.index.ensures c.owed-owed.ensures some
-          c.index-2.ensures (none-of c.index-2.result.now c.is_none-won.result c.is_none-won.ensures) (c.settle.ensures.memory c.if-is_err.ensures.negation),
-      ap (round_of c.self.inside.solver.now c.self.inside.width c.self.inside.counts.items c.self.inside.values.items) same ∙ c.self.view_is,
-    )

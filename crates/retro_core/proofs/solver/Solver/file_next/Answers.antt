@@ -1,7 +1,7 @@
 use Rattle.std.proofs.Common.{◌≡◌, ◌≢◌, ◌-◌, ◌∙◌, ℕ, suc, true, false, refl, sym, ap, subst, arith, vec_capacity}
 use Rattle.retro_core.specs.Inside.Sizes.{AreSizes}
 use Rattle.retro_core.specs.Solving.{Solving, IsSolving, NoneHas}
-use Rattle.retro_core.specs.Inside.Stage.{PlainStage, as_solving, turned, IsState}
+use Rattle.retro_core.specs.Inside.Stage.{PlainStage, turned, IsState}
 use Rattle.retro_core.proofs.States.{solving_of, unstruck-of, none-has, to-begin, last-state, next-below, size-below, none-later, further-state}
 use Rattle.retro_core.proofs.ValueSizes.{sizes-kept, sizes-more, sizes-room}
 use Rattle.retro_core.proofs.solver.Solver.file_next.Goals as goal
@@ -19,11 +19,6 @@ file-requires-clause-striking g c = to-begin c.self.inside.stage _ c.self.inside
 
 pub file-requires-clause-unstruck : goal.file-requires-clause-unstruck
 file-requires-clause-unstruck g c = unstruck-of c.self.inside.stage _ c.self.inside.done c.self.invariant.0 c.if-self.false
-
-pub file-requires-clause-serves : goal.file-requires-clause-serves
-file-requires-clause-serves g c =
-    let going : c.args.self.now.is_done ≡ false = ap (λ (v : Solving). v.is_done) (sym c.self.view_is) ∙ c.if-self.false in
-    subst (g.N.NextValue.serves c.args.by.now) (sym c.self.view_is ∙ ap (as_solving c.self.inside.stage) c.if-self.false) (c.requires going)
 
 pub invariant_of-self : goal.invariant_of-self
 invariant_of-self g c =

@@ -29,9 +29,6 @@ turn-requires-clause-value g c =
     let size = ap configurations (e.board ∙ sym c.requires) in
     omega (arith, some, size, e.opened.value_is)
 
-pub turn-requires-clause-none_later : goal.turn-requires-clause-none_later
-turn-requires-clause-none_later g c = c.in_ok-stage.ensures.opened.none_later _ (omega arith)
-
 pub push_reserved-requires : goal.push_reserved-requires
 push_reserved-requires g c =
     let some = some-configurations c.args.space c.configurations.ensures.is_board in

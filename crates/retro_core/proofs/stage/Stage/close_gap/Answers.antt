@@ -6,7 +6,7 @@ use Rattle.positions.specs.Gaps.{gaps, member_of}
 use Rattle.positions.specs.declared.space.TheConstants.{MAX_CONFIGURATIONS}
 use Rattle.retro_core.specs.Inside.Stage.{PlainStage}
 use Rattle.retro_core.specs.declared.stage.TheConstants.{OPEN}
-use Rattle.retro_core.proofs.ClosingGaps.{IsToClose, gap-start, in_words, gap-takes, gap-skips, gap-closed}
+use Rattle.retro_core.proofs.ClosingGaps.{IsToClose, in_words, gap-takes, gap-skips, gap-closed}
 use Rattle.retro_core.proofs.LastingRanks.{same_is}
 use Rattle.retro_core.proofs.ListedWords.{shut_word}
 use Rattle.retro_core.proofs.stage.Stage.close_gap.Goals as goal
@@ -20,9 +20,6 @@ known s b value gap same value_is is_board few low is_gap = record {
   low = subst (λ p. s.value ≤ configurations p) same (subst (λ n. n ≤ configurations b) value_is low);
   is_gap = is_gap;
 }
-
-pub loop-place-init : goal.loop-place-init
-loop-place-init g c = gap-start c.args.self.now c.args.gap c.requires.filed
 
 pub loop-place-preserved : goal.loop-place-preserved
 loop-place-preserved g c =

@@ -1,13 +1,9 @@
 use Rattle.std.proofs.Common.{ℕ, sym, ap, ◌∙◌, subst, arith, List, [], ◌∷◌, ◌++◌, take, get_or}
-use Rattle.std.proofs.lemmas.List.{take_all}
 use Rattle.positions.specs.Ranks.{configurations}
 use Rattle.retro_core.specs.Inside.Stage.{FilesAll}
 use Rattle.retro_core.proofs.StruckTables.{same-open}
-use Rattle.retro_core.proofs.FiledRounds.{files-none, files-more, is-next}
+use Rattle.retro_core.proofs.FiledRounds.{files-more, is-next}
 use Rattle.retro_core.proofs.stage.Stage.file_all.Goals as goal
-
-pub loop-rank-init : goal.loop-rank-init
-loop-rank-init g c = files-none c.args.self.now c.requires.filed
 
 pub file-requires-clause-rank_in : goal.file-requires-clause-rank_in
 file-requires-clause-rank_in g c =
@@ -15,9 +11,6 @@ file-requires-clause-rank_in g c =
     let same = ap configurations c.loop-rank.invariant.kept.board_is in
     let low = (c.requires.open (get_or c.args.ranks.now c.loop-rank.rank-index 0) next.there).0 in
     omega arith
-
-pub file-requires-clause-filed : goal.file-requires-clause-filed
-file-requires-clause-filed g c = c.loop-rank.invariant.filed_are
 
 pub file-requires-clause-was_open : goal.file-requires-clause-was_open
 file-requires-clause-was_open g c =
@@ -34,8 +27,3 @@ loop-rank-preserved g c =
     let is_open_there = c.requires.open rank next.there in
     let more = files-more c.args.self.now (take i xs) rank c.loop-rank.self c.requires.small.few c.requires.small.low is_open_there.0 is_open_there.1 next.new c.loop-rank.invariant in
     subst (λ (l : List ℕ). FilesAll c.args.self.now l c.file.new.self) (sym next.front) (subst (FilesAll c.args.self.now (take i xs ++ rank ∷ [])) (sym c.file.ensures) more)
-
-pub returns : goal.returns
-returns g c =
-    let all = take_all c.loop-rank.rank-index c.args.ranks.now (omega (arith, c.loop-rank-test.false)) in
-    subst (λ (l : List ℕ). FilesAll c.args.self.now l c.loop-rank.self) all c.loop-rank.invariant

@@ -2,19 +2,9 @@ use Rattle.std.proofs.Common.{◌≡◌, ◌∙◌, ℕ, List, length, slice_ind
 use Rattle.std.proofs.lemmas.List.{get_or_read}
 use Rattle.positions.specs.Ranks.{configurations}
 use Rattle.retro_core.specs.Inside.Stage.{PlainStage}
-use Rattle.retro_core.proofs.FirstLists.{listing-start, listing-skip, listing-more, all-listed}
+use Rattle.retro_core.proofs.FirstLists.{listing-skip, listing-more, all-listed}
 use Rattle.retro_core.proofs.stage.Stage.list_zeros.Goals as goal
 use Rattle.retro_core.proofs.stage.Stage.list_zeros.Goals.{then-index-eq0, else-index-eq0}
-
-pub loop-rank-init : goal.loop-rank-init
-loop-rank-init g c = listing-start c.args.self.now c.requires
-
-pub index-requires : goal.index-requires
-index-requires g c =
-    let size = ap (λ (v : PlainStage). configurations v.board) c.self.view_is in
-    let words = ap (λ (v : PlainStage). length v.values) c.self-in-loop-rank.view_is in
-    let same = ap (λ (xs : List ℕ). length xs) c.loop-rank.invariant.values_is in
-    omega (arith, size, words, same, c.requires.words_are.words_length, c.configurations-rank-end.ensures.value, c.loop-rank-test.true)
 
 pub loop-rank-preserved : goal.loop-rank-preserved
 loop-rank-preserved g c =
