@@ -4,13 +4,13 @@ ghost use Rattle.std.specs.Prelude.{◌≡◌, IfOk};
 ghost use Rattle.positions.specs.Claim.{Shows};
 ghost use Rattle.proof_text.specs.Proof.{IsDocument, answer_rows, plain_proof, request_rows};
 ghost use Rattle.proof_text.specs.Rules.{BreaksNoRule};
-ghost use Rattle.strategies.specs.Document.{AreExactly, AsksAdversary, IsAdversaryRow, IsDocumentOf, claim_of};
+ghost use Rattle.strategies.specs.Document.{IsDocumentOf, claim_of};
 
 use crate::best_moves::BestMoves;
 use crate::gap_best::best_of_gaps;
 use board_text::{Board, Memory};
 use positions::{Claim, Value};
-use proof_text::{AdversaryRow, Proof};
+use proof_text::Proof;
 use retro_core::Values;
 use std::alloc::Global;
 
@@ -28,10 +28,16 @@ pub fn document(alloc: Global, board: &Board, values: &Values) -> Result<Proof, 
     let listed = best_of_gaps(alloc, board, values)?;
     let moves = BestMoves::new(board, values, &listed);
     let value = moves.value(moves.start());
+    let labeller = moves.section(alloc, value)?;
+    // A start that lasts forever has no rows for the adversary.
+    let adversary = match value {
+        Value::Finite(_) => moves.section(alloc, value)?,
+        Value::Forever => Vec::new(alloc),
+    };
     Ok(Proof {
         claim: claim(value),
-        labeller: moves.section(alloc, value)?,
-        adversary: moves.adversary_section(alloc, value)?,
+        labeller,
+        adversary,
     })
 }
 
@@ -42,18 +48,5 @@ pub fn claim(value: Value) -> Claim
     match value {
         Value::Finite(number) => Claim::Exactly(number),
         Value::Forever => Claim::Forever,
-    }
-}
-
-impl BestMoves<'_> {
-    /// The adversary's rows, where the start has the value: none where that is Forever.
-    fn adversary_section(&self, alloc: Global, value: Value) -> Result<Vec<AdversaryRow>, Memory>
-        ensures { IfOk result (λ rows. AreExactly self.now (λ row. AsksAdversary value × IsAdversaryRow self.now row) (λ row. row.at)
-            (request_rows self.now rows.items)) }
-    {
-        match value {
-            Value::Finite(_) => self.section(alloc, value),
-            Value::Forever => Ok(Vec::new(alloc)),
-        }
     }
 }

@@ -3,7 +3,6 @@
 ghost use Rattle.std.specs.Prelude.{◌≡◌, ℕ, ◌<◌, ◌↔◌, true, None, Some, IfOk, IsTrue, length};
 ghost use Rattle.board_text.specs.Domination.{has_bit};
 ghost use Rattle.positions.specs.Gaps.{gaps, IsAnswer};
-ghost use Rattle.positions.specs.declared.value.Value.TheVariants.{Finite};
 ghost use Rattle.strategies.specs.declared.gap_best.Best.{Best as BestOfGap};
 ghost use Rattle.strategies.specs.Best.{IsLess};
 ghost use Rattle.strategies.specs.Inside.GapBest.{IsGapBest, AreGapsBest};
@@ -84,11 +83,4 @@ pub(crate) fn is_less(first: Value, second: Value) -> bool
         (Value::Finite(_), Value::Forever) => true,
         (Value::Forever, _) => false,
     }
-}
-
-/// Whether a value is 1 or more.
-pub(crate) fn is_some(value: Value) -> bool
-    ensures { IsTrue result ↔ IsLess (Finite 0) value }
-{
-    value != Value::Finite(0)
 }

@@ -1,6 +1,6 @@
 //! The sections of a document: a row for each configuration that was reached.
 
-ghost use Rattle.std.specs.Prelude.{◌≡◌, ◌<◌, ◌≤◌, IfOk};
+ghost use Rattle.std.specs.Prelude.{◌≡◌, ◌<◌, ◌≤◌, IfOk, OnOk};
 ghost use Rattle.board_text.specs.PlainBoard.{PlainBoard};
 ghost use Rattle.positions.specs.Ranks.{configurations};
 ghost use Rattle.positions.specs.declared.value.Value.{Value as Worth};
@@ -9,6 +9,8 @@ ghost use Rattle.strategies.specs.Inside.Side.{Side, AreOfReached, AreSection, I
 ghost use Rattle.strategies.specs.Inside.ReachedRanks.{AreRanksOf};
 
 use crate::best_moves::BestMoves;
+use crate::gap_best::is_less;
+use crate::marks::Marks;
 use crate::reached::Reached;
 use board_text::{MAX_PEBBLES, Memory};
 use positions::{MAX_CONFIGURATIONS, Turns, Value};
@@ -21,9 +23,8 @@ pub(crate) trait SectionRow: Copy {
 
     /// The configurations that a row may stand at.
     fn reached(moves: &BestMoves<'_>, alloc: Global) -> Result<Reached, Memory>
-        ensures size { IfOk result (λ reached. reached.size ≡ configurations moves.now) }
         ensures reached { IfOk result (λ reached. (start : Worth) → AreRanksOf moves.now (side moves.now start).IsReached reached.ranks) }
-        ensures rows { (start : Worth) → AreOfReached moves.now (side moves.now start) }
+        ensures rows { OnOk result ((start : Worth) → AreOfReached moves.now (side moves.now start)) }
         ensures few { configurations moves.now ≤ MAX_CONFIGURATIONS };
 
     /// The row of a configuration that was reached, if it has one, where the start has a value.
@@ -36,8 +37,19 @@ pub(crate) trait SectionRow: Copy {
 impl SectionRow for LabellerRow {
     ghost side = { labeller_side };
 
+    /// The configurations of value 1 or more that requests and best answers to them lead to from the start, each asked at such a one.
     fn reached(moves: &BestMoves<'_>, alloc: Global) -> Result<Reached, Memory> {
-        moves.reached_by_answers(alloc)
+        let mut reached = Reached::new(alloc, moves.space().configurations())?;
+        let start = moves.start();
+        if is_less(Value::Finite(0), moves.value(start)) {
+            reached.add(start)?;
+        }
+        let mut place = 0;
+        while let Some(rank) = reached.at(place) {
+            moves.add_answers(&mut reached, rank)?;
+            place += 1;
+        }
+        Ok(reached)
     }
 
     fn at(moves: &BestMoves<'_>, start: Value, rank: u32) -> Option<LabellerRow> {
@@ -58,8 +70,18 @@ impl SectionRow for LabellerRow {
 impl SectionRow for AdversaryRow {
     ghost side = { adversary_side };
 
+    /// The configurations that legal answers to best requests lead to from the start.
     fn reached(moves: &BestMoves<'_>, alloc: Global) -> Result<Reached, Memory> {
-        moves.reached_by_requests(alloc)
+        let space = moves.space();
+        let mut reached = Reached::new(alloc, space.configurations())?;
+        let mut expanded = Marks::new(alloc, space.gaps())?;
+        reached.add(moves.start())?;
+        let mut place = 0;
+        while let Some(rank) = reached.at(place) {
+            moves.add_results(&mut reached, &mut expanded, rank)?;
+            place += 1;
+        }
+        Ok(reached)
     }
 
     fn at(moves: &BestMoves<'_>, _start: Value, rank: u32) -> Option<AdversaryRow> {

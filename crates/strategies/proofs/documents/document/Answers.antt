@@ -1,8 +1,10 @@
+use Rattle.std.proofs.Common.{◌<◌, arith}
 use Rattle.strategies.proofs.SpreadRanks.{start_value}
 use Rattle.strategies.proofs.DocumentForm.{is_formed}
 use Rattle.strategies.proofs.KeptRules.{breaks_no_rule}
 use Rattle.strategies.proofs.ShownClaims.{shows_claim}
 use Rattle.strategies.proofs.documents.document.Goals as goal
+use Rattle.strategies.proofs.documents.document.Goals.{in-Finite+in_ok-adversary-in-Finite, in-Forever}
 
 pub returns-clause-document : goal.returns-clause-document
 returns-clause-document c =
@@ -12,8 +14,18 @@ returns-clause-document c =
       value = c.value-value.result;
       has_value = start_value b c.start.result c.value-value.result start.is_board.start start.rank (rw c.new-moves.ensures at c.value-value.ensures);
       claim = c.claim.ensures;
-      labeller = rw c.new-moves.ensures at c.in_ok-section.ensures.exactly;
-      adversary = rw c.new-moves.ensures at c.in_ok-adversary_section.ensures;
+      labeller = rw c.new-moves.ensures at c.in_ok-labeller.ensures.exactly;
+      adversary = elim c.match-value.branch [
+        | in-Finite+in_ok-adversary-in-Finite w ↦ rw (w.adversary-is, w.in-Finite.is)
+            (let section = rw c.new-moves.ensures at w.in_ok-adversary-in-Finite.ensures.exactly in record {
+              each = λ row. (λ among. (tt, (section.each row).0 among), λ is. (section.each row).1 is.1);
+              ascending = section.ascending;
+            })
+        | in-Forever w ↦ rw (w.adversary-is, w.in-Forever.is, w.new-adversary.ensures.items) (record {
+          each = λ row. (λ among. absurd (let below : among.0 < 0 = among.1 in omega arith), λ is. absurd is.0);
+          ascending = λ i j row before below. absurd (omega (arith, below));
+        })
+      ];
     }
 
 pub returns-clause-form : goal.returns-clause-form
@@ -21,7 +33,7 @@ returns-clause-form c =
     let start = rw c.new-moves.ensures at c.start.ensures in
     record {
       is_proof = is_formed c.args.board.now _ start.is_board.start start.few (returns-clause-document c);
-      padded = rw c.new-moves.ensures at c.in_ok-section.ensures.filled;
+      padded = rw c.new-moves.ensures at c.in_ok-labeller.ensures.filled;
     }
 
 pub returns-clause-rules : goal.returns-clause-rules

@@ -24,12 +24,12 @@ loop-rank-preserved g c =
     let rank = c.in-Some.rank in
     elim c.match-at.branch [
       | in-Some-at+else-is_err w ↦ rw (w.rows-is, w.push.ensures.items, w.if-is_err.ensures.negation)
-          (one_more b side (c.reached.ensures.rows c.args.start) _ (c.in_ok-reached.ensures.reached c.args.start) _ _ c.loop-rank.invariant rank _ c.in-Some.ensures w.in-Some-at.ensures)
+          (one_more b side (c.in_ok-reached.ensures.rows c.args.start) _ (c.in_ok-reached.ensures.reached c.args.start) _ _ c.loop-rank.invariant rank _ c.in-Some.ensures w.in-Some-at.ensures)
       | in_default-at w ↦ rw w.rows-is
-          (none_there b side (c.reached.ensures.rows c.args.start) _ (c.in_ok-reached.ensures.reached c.args.start) _ _ c.loop-rank.invariant rank c.in-Some.ensures w.in_default-at.ensures)
+          (none_there b side (c.in_ok-reached.ensures.rows c.args.start) _ (c.in_ok-reached.ensures.reached c.args.start) _ _ c.loop-rank.invariant rank c.in-Some.ensures w.in_default-at.ensures)
     ]
 
 pub returns : goal.returns
 returns g c =
-    all_gathered c.args.self.now (g.R.SectionRow.side c.args.self.now c.args.start) (c.reached.ensures.rows c.args.start)
+    all_gathered c.args.self.now (g.R.SectionRow.side c.args.self.now c.args.start) (c.in_ok-reached.ensures.rows c.args.start)
     _ (c.in_ok-reached.ensures.reached c.args.start) _ _ c.loop-rank.invariant c.in_default.ensures

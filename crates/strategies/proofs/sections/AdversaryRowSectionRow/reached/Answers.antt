@@ -1,5 +1,47 @@
+use Rattle.std.proofs.Common.{sym, ◌∙◌, arith}
+use Rattle.strategies.proofs.AddedSteps.{none_expanded}
 use Rattle.strategies.proofs.GatheredRows.{adversarys}
+use Rattle.strategies.proofs.SpreadRanks.{place_below, spread_begins, spread_more, spread_ends, spread_below, request_moves}
 use Rattle.strategies.proofs.sections.AdversaryRowSectionRow.reached.Goals as goal
 
+pub add-requires : goal.add-requires
+add-requires c = omega (arith, c.start.ensures.below, c.in_ok-reached.ensures.size, rw c.space-space.ensures.value at c.configurations.ensures.value)
+
+pub loop-rank-init : goal.loop-rank-init
+loop-rank-init c =
+    let b = c.args.moves.now in
+    let is = c.start.ensures.is_board in
+    record {
+      size = c.in_ok-add.ensures.size ∙ c.in_ok-reached.ensures.size ∙ (rw c.space-space.ensures.value at c.configurations.ensures.value);
+      expanded = rw c.in_ok-expanded.ensures (none_expanded b c.gaps.result _ (rw c.space-space.ensures.value at c.gaps.ensures.value));
+      spread = spread_begins b _ _ _ is.start _ tt (rw (c.start.ensures.rank, c.in_ok-reached.ensures.empty) at c.in_ok-add.ensures.added);
+    }
+
+pub add_results-requires-clause-rank : goal.add_results-requires-clause-rank
+add_results-requires-clause-rank c = spread_below _ _ _ _ _ _ _ c.loop-rank.invariant.spread (sym c.in-Some.ensures.rank)
+
+pub overflow_add-place : goal.overflow_add-place
+overflow_add-place c =
+    omega (arith, place_below _ _ _ _ _ (sym c.in-Some.ensures.rank) c.in-Some.ensures.few c.loop-rank.invariant.size, c.start.ensures.few)
+
+pub loop-rank-smaller : goal.loop-rank-smaller
+loop-rank-smaller c =
+    omega (arith, place_below _ _ _ _ _ (sym c.in-Some.ensures.rank) c.in-Some.ensures.few c.loop-rank.invariant.size)
+
+pub loop-rank-preserved : goal.loop-rank-preserved
+loop-rank-preserved c =
+    let is = c.start.ensures.is_board in
+    record {
+      size = c.in_ok-add_results.ensures.size ∙ c.loop-rank.invariant.size;
+      expanded = c.in_ok-add_results.ensures.expanded;
+      spread = spread_more c.args.moves.now _ _ _ is.start (request_moves c.args.moves.now) c.loop-rank.place c.in-Some.rank _ _
+          c.loop-rank.invariant.spread (sym c.in-Some.ensures.rank) c.in_ok-add_results.ensures.added;
+    }
+
+pub returns-clause-reached : goal.returns-clause-reached
+returns-clause-reached c = λ start.
+    let is = c.start.ensures.is_board in
+    spread_ends c.args.moves.now _ _ _ is.start (request_moves c.args.moves.now) c.loop-rank.place _ c.loop-rank.invariant.spread (sym c.in_default.ensures.rank)
+
 pub returns-clause-rows : goal.returns-clause-rows
-returns-clause-rows c = λ start. adversarys c.args.moves.now start c.reached_by_requests.ensures.is_board.start
+returns-clause-rows c = λ start. adversarys c.args.moves.now start c.start.ensures.is_board.start

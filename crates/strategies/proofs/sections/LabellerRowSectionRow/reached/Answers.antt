@@ -1,5 +1,50 @@
+use Rattle.std.proofs.Common.{refl, sym, ◌∙◌, arith}
 use Rattle.strategies.proofs.GatheredRows.{labellers}
+use Rattle.strategies.proofs.SpreadRanks.{place_below, spread_begins, spread_none, spread_more, spread_ends, spread_below, answer_moves, start_answerable, start_worthless}
 use Rattle.strategies.proofs.sections.LabellerRowSectionRow.reached.Goals as goal
+use Rattle.strategies.proofs.sections.LabellerRowSectionRow.reached.Goals.{then-is_less+in_ok-add, else-is_less}
+
+pub add-requires : goal.add-requires
+add-requires c = omega (arith, c.start-start.ensures.below, c.in_ok-reached.ensures.size, rw c.space.ensures.value at c.configurations.ensures.value)
+
+pub loop-rank-init : goal.loop-rank-init
+loop-rank-init c =
+    let b = c.args.moves.now in
+    let is = c.start-start.ensures.is_board.start in
+    let size = c.in_ok-reached.ensures.size ∙ (rw c.space.ensures.value at c.configurations.ensures.value) in
+    elim c.if-is_less.branch [
+      | then-is_less+in_ok-add w ↦ rw w.reached-is (record {
+        size = w.in_ok-add.ensures.size ∙ size;
+        spread = spread_begins b _ _ _ is _ (start_answerable b c.start-start.result c.value.result is c.start-start.ensures.rank c.value.ensures (w.if-is_less.ensures.0 refl))
+            (rw (c.start-start.ensures.rank, c.in_ok-reached.ensures.empty) at w.in_ok-add.ensures.added);
+      })
+      | else-is_less w ↦ rw (w.reached-is, c.in_ok-reached.ensures.empty) (record {
+        size = size;
+        spread = spread_none b _ _ _ is (start_worthless b c.start-start.result c.value.result is c.start-start.ensures.rank c.value.ensures (λ some. let same = w.if-is_less.ensures.1 some in absurd cc));
+      })
+    ]
+
+pub add_answers-requires-clause-rank : goal.add_answers-requires-clause-rank
+add_answers-requires-clause-rank c = spread_below _ _ _ _ _ _ _ c.loop-rank.invariant.spread (sym c.in-Some.ensures.rank)
+
+pub overflow_add-place : goal.overflow_add-place
+overflow_add-place c =
+    omega (arith, place_below _ _ _ _ _ (sym c.in-Some.ensures.rank) c.in-Some.ensures.few c.loop-rank.invariant.size, c.start-start.ensures.few)
+
+pub loop-rank-smaller : goal.loop-rank-smaller
+loop-rank-smaller c =
+    omega (arith, place_below _ _ _ _ _ (sym c.in-Some.ensures.rank) c.in-Some.ensures.few c.loop-rank.invariant.size)
+
+pub loop-rank-preserved : goal.loop-rank-preserved
+loop-rank-preserved c = record {
+  size = c.in_ok-add_answers.ensures.size ∙ c.loop-rank.invariant.size;
+  spread = spread_more c.args.moves.now _ _ _ c.start-start.ensures.is_board.start (answer_moves c.args.moves.now) c.loop-rank.place c.in-Some.rank _ _
+      c.loop-rank.invariant.spread (sym c.in-Some.ensures.rank) c.in_ok-add_answers.ensures.added;
+}
+
+pub returns-clause-reached : goal.returns-clause-reached
+returns-clause-reached c = λ start.
+    spread_ends c.args.moves.now _ _ _ c.start-start.ensures.is_board.start (answer_moves c.args.moves.now) c.loop-rank.place _ c.loop-rank.invariant.spread (sym c.in_default.ensures.rank)
 
 pub returns-clause-rows : goal.returns-clause-rows
-returns-clause-rows c = λ start. labellers c.args.moves.now start c.reached_by_answers.ensures.is_board.start
+returns-clause-rows c = λ start. labellers c.args.moves.now start c.start-start.ensures.is_board.start

@@ -2,14 +2,14 @@ use Rattle.std.proofs.Common.{◌≡◌, ◌-◌}
 use Rattle.positions.specs.Ranks.{configurations}
 use Rattle.strategies.specs.Inside.ReachedRanks.{AreExpanded}
 use Rattle.strategies.proofs.SpreadRanks.{IsSpreadByRequests}
-use Rattle.strategies.proofs.best_moves.BestMoves.reached_by_requests.Given as goal
+use Rattle.strategies.proofs.sections.AdversaryRowSectionRow.reached.Given as goal
 
 abbrev pub invariant-loop-rank : goal.invariant-loop-rank
 invariant-loop-rank l = record {
-  size : l.reached.size ≡ configurations l.self;
-  expanded : AreExpanded l.self l.expanded l.reached.ranks;
-  spread : IsSpreadByRequests l.self l.place l.reached.ranks;
+  size : l.reached.size ≡ configurations l.moves;
+  expanded : AreExpanded l.moves l.expanded l.reached.ranks;
+  spread : IsSpreadByRequests l.moves l.place l.reached.ranks;
 }
 
 abbrev pub decreases-loop-rank : goal.decreases-loop-rank
-decreases-loop-rank l = configurations l.self - l.place
+decreases-loop-rank l = configurations l.moves - l.place
