@@ -1,8 +1,8 @@
 -- The places of rows by rank, one row after the other.
-use Rattle.std.proofs.Common.{◌≡◌, ◌≢◌, ℕ, ◌+◌, ◌<◌, ◌⊎◌, List, length, get_or, set, replicate, sym, ap, ◌∙◌, subst, arith, inl, inr}
+use Rattle.std.proofs.Common.{◌≡◌, ◌≢◌, ℕ, ◌+◌, ◌<◌, ◌⊎◌, List, length, get_or, set, sym, ap, ◌∙◌, subst, arith, inl, inr}
 use Rattle.std.proofs.lemmas.Bool.{cases_eq}
-use Rattle.std.proofs.lemmas.List.{length-set, length-replicate, get_or-replicate, get_or-set_same, get_or-set_other, get_or_default}
-use Rattle.proof_check.specs.Inside.RowIndex.{AreRanked, IsIndex}
+use Rattle.std.proofs.lemmas.List.{length-set, get_or-set_same, get_or-set_other, get_or_default}
+use Rattle.proof_check.specs.Inside.RowIndex.{AreRanked}
 use Rattle.proof_check.specs.declared.row_index.TheConstants.{NO_PLACE}
 
 -- the places of the rows before this one are there, and nothing else is a place

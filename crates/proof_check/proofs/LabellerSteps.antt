@@ -1,5 +1,6 @@
 -- What a look at a labeller's row finds.
-use Rattle.std.proofs.Common.{◌≡◌, ◌↔◌, Bool, false, true≢false, IsTrue, ℕ, zero, suc, ◌<◌, List, [], ◌∷◌, length, take, Some, slice_get, slice_index, refl, sym, ◌∙◌, subst, arith}
+use Rattle.std.proofs.Common.{◌≡◌, ◌↔◌, Bool, true, false, not, true≢false, IsTrue, ℕ, zero, suc, ◌<◌, List, [], ◌∷◌, length, take, Some, slice_get, slice_index, MatchOption, refl, sym, ◌∙◌, subst, arith}
+use Rattle.std.specs.Bool.{then_some}
 use Rattle.board_text.specs.PlainBoard.{PlainBoard, IsConfiguration}
 use Rattle.positions.specs.Game.{Legal, moved}
 use Rattle.positions.specs.Position.{Position, position_at}
@@ -12,9 +13,21 @@ use Rattle.proof_text.specs.Proof.{answer_row}
 use Rattle.proof_text.specs.Rules.{IsEnough, one_less, IsListedFor, Serves, MeetsRequest}
 use Rattle.proof_check.specs.Inside.Checker.{IsRowFor}
 use Rattle.proof_check.specs.CheckFaults.{HasRow}
+use Rattle.proof_check.specs.declared.fault.CheckFault.{CheckFault}
 
 pub told : {P : Type 0} (b : Bool) → IsTrue b ↔ P → b ≡ false → P → ⊥
 told b answers is p = true≢false (sym (answers.1 p) ∙ is)
+
+-- what is told where a test passes, and where it fails
+pub by_test : {Right : Type 0} (Wrong : CheckFault → Type 0) (answer : Bool) (fault : CheckFault) → (answer ≡ false → Right) → (answer ≡ true → Wrong fault)
+    → MatchOption (then_some answer fault) Right Wrong
+by_test Wrong false fault right wrong = right refl
+by_test Wrong true fault right wrong = wrong refl
+
+pub unless : {P Right : Type 0} (Wrong : CheckFault → Type 0) (answer : Bool) (fault : CheckFault) → IsTrue answer ↔ P → (P → Right) → ((P → ⊥) → Wrong fault)
+    → MatchOption (then_some (not answer) fault) Right Wrong
+unless Wrong true fault answers right wrong = right (answers.0 refl)
+unless Wrong false fault answers right wrong = wrong (told false answers refl)
 
 get_front : (n : ℕ) (xs : List ℕ) (k : ℕ) → k < n → k < length xs → slice_get (take n xs) k ≡ Some (slice_index xs k)
 get_front zero xs k below inside = absurd (omega arith)

@@ -1,5 +1,5 @@
 -- Documents that break no rule have no fault, and the fault of a step is that of the document.
-use Rattle.std.proofs.Common.{◌≡◌, ℕ, zero, suc, ◌<◌, List, ◌∷◌, ◌++◌, Option, Some, None, MatchOption, refl, sym, subst, arith, inl, inr}
+use Rattle.std.proofs.Common.{◌≡◌, ◌↔◌, ◌⊎◌, ap, ℕ, zero, suc, ◌<◌, List, ◌∷◌, ◌++◌, Option, Some, None, MatchOption, refl, sym, subst, arith, inl, inr}
 use Rattle.std.specs.List.{All, Contains}
 use Rattle.std.proofs.lemmas.List.Elements.{All-contains, Contains-append_right}
 use Rattle.board_text.specs.PlainBoard.{PlainBoard, IsConfiguration}
@@ -24,15 +24,19 @@ is_among before x after = Contains-append_right before (x ∷ after) x (zero, om
 pub start_right : (board : PlainBoard) (proof : PlainProof) (fault : CheckFault) → Serves proof.labeller board.start (wanted_of proof.claim) → IsWrongStart board proof fault → ⊥
 start_right board proof fault serves (wanted, wrong) = served _ _ fault (listed_for proof.labeller board.start (wanted_of proof.claim)) (serves wanted) wrong
 
-pub bound_met : (rows : List RequestRow) (start : List ℕ) (claim : Claim) (number : ℕ) → bound_of claim ≡ Some number → StartIsBelow rows start claim → IsListedBelow rows start (suc number)
-bound_met rows start (Exactly n) number is below = let same : n ≡ number = cc in subst (λ k. IsListedBelow rows start (suc k)) same below
-bound_met rows start (AtMost n) number is below = let same : n ≡ number = cc in subst (λ k. IsListedBelow rows start (suc k)) same below
-bound_met rows start (AtLeast n) number is below = absurd cc
-bound_met rows start Forever number is below = absurd cc
+pub bound_is : (claim : Claim) (number : ℕ) → (claim ≡ Exactly number) ⊎ (claim ≡ AtMost number) → bound_of claim ≡ Some number
+bound_is claim number (inl exactly) = ap bound_of exactly
+bound_is claim number (inr most) = ap bound_of most
+
+pub bound_met : (rows : List RequestRow) (start : List ℕ) (claim : Claim) (number : ℕ) → bound_of claim ≡ Some number → StartIsBelow rows start claim ↔ IsListedBelow rows start (suc number)
+bound_met rows start (Exactly n) number is = let same : n ≡ number = cc in (subst (λ k. IsListedBelow rows start (suc k)) same, subst (λ k. IsListedBelow rows start (suc k)) (sym same))
+bound_met rows start (AtMost n) number is = let same : n ≡ number = cc in (subst (λ k. IsListedBelow rows start (suc k)) same, subst (λ k. IsListedBelow rows start (suc k)) (sym same))
+bound_met rows start (AtLeast n) number is = absurd cc
+bound_met rows start Forever number is = absurd cc
 
 pub bound_right : (board : PlainBoard) (proof : PlainProof) (fault : CheckFault) → StartIsBelow proof.adversary board.start proof.claim → IsWrongBound board proof fault → ⊥
 bound_right board proof fault below (number, is, wrong) =
-    served _ _ fault (listed_below proof.adversary board.start (suc number)) (bound_met proof.adversary board.start proof.claim number is below) wrong
+    served _ _ fault (listed_below proof.adversary board.start (suc number)) ((bound_met proof.adversary board.start proof.claim number is).0 below) wrong
 
 -- ---- rows
 

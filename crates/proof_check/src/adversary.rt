@@ -4,26 +4,14 @@ ghost use Rattle.std.specs.Prelude.{◌≡◌, MatchOption};
 ghost use Rattle.positions.specs.Game.{Legal, moved};
 ghost use Rattle.positions.specs.Ranks.{configuration_at, rank_of};
 ghost use Rattle.proof_text.specs.Proof.{request_row};
-ghost use Rattle.proof_text.specs.Rules.{MeetsAnswer, MeetsAnswers, AdversaryObeys, StartIsBelow};
-ghost use Rattle.proof_check.specs.CheckFaults as faults;
-ghost use Rattle.proof_check.specs.CheckFaults.{IsWrongAfter, IsWrongRequest, IsWrongBound, AdversaryBreach};
+ghost use Rattle.proof_text.specs.Rules.{MeetsAnswer, MeetsAnswers, StartIsBelow};
+ghost use Rattle.proof_check.specs.CheckFaults.{IsWrongAfter, IsWrongRequest, IsWrongBound};
 ghost use Rattle.proof_check.specs.Inside.Checker.{IsRequesting};
 
-use crate::checked_row::{CheckedRow, first_fault};
+use crate::checked_row::CheckedRow;
 use crate::checker::Checker;
 use crate::fault::{CheckFault, Side};
 use proof_text::{AdversaryRow, Claim};
-use std::thread::Threads;
-
-/// The number that the claim says the value is at most, if it says so.
-fn bound_of(claim: Claim) -> Option<u32>
-    ensures { result ≡ faults.bound_of claim }
-{
-    match claim {
-        Claim::Exactly(most) | Claim::AtMost(most) => Some(most),
-        Claim::AtLeast(_) | Claim::Forever => None,
-    }
-}
 
 impl CheckedRow for AdversaryRow {
     ghost is_ready = { IsRequesting };
@@ -66,18 +54,7 @@ impl Checker<'_> {
                 turn: label,
             });
         };
-        if row.left <= next.left {
-            return Some(CheckFault::TooLarge { at: row.at, label });
-        }
-        None
-    }
-
-    /// The fault of the adversary's first faulty row, if there is one.
-    pub(crate) fn adversary_fault(&self, rt: &(impl Threads + Sync)) -> Option<CheckFault>
-        ensures { MatchOption result (AdversaryObeys self.now.board self.now.proof.adversary)
-            (AdversaryBreach self.now.board self.now.proof.adversary) }
-    {
-        first_fault(rt, self, self.adversary_rows())
+        (row.left <= next.left).then_some(CheckFault::TooLarge { at: row.at, label })
     }
 
     /// What is wrong with the start's number in the adversary's rows, if the claim says that the value is at most some number.
@@ -86,7 +63,7 @@ impl Checker<'_> {
             (StartIsBelow self.now.proof.adversary self.now.board.start self.now.proof.claim)
             (IsWrongBound self.now.board self.now.proof) }
     {
-        let Some(most) = bound_of(self.claim()) else {
+        let (Claim::Exactly(most) | Claim::AtMost(most)) = self.claim() else {
             return None;
         };
         let Some(row) = self.adversary_row(self.start()) else {
@@ -94,12 +71,8 @@ impl Checker<'_> {
                 side: Side::Adversary,
             });
         };
-        if row.left <= most {
-            None
-        } else {
-            Some(CheckFault::StartNumber {
-                side: Side::Adversary,
-            })
-        }
+        (row.left > most).then_some(CheckFault::StartNumber {
+            side: Side::Adversary,
+        })
     }
 }

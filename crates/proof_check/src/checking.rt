@@ -8,6 +8,7 @@ ghost use Rattle.proof_text.specs.Rules.{BreaksNoRule};
 ghost use Rattle.proof_check.specs.CheckFaults.{IsCheckFault, NamesRanks};
 ghost use Rattle.proof_check.specs.declared.fault.CheckFault.TheVariants.{Memory as OutOfMemory};
 
+use crate::checked_row::first_fault;
 use crate::checker::Checker;
 use crate::fault::CheckFault;
 use board_text::Board;
@@ -67,9 +68,9 @@ impl Checker<'_> {
         if let Some(fault) = self.bound_fault() {
             return Some(fault);
         }
-        if let Some(fault) = self.labeller_fault(rt) {
+        if let Some(fault) = first_fault(rt, self, self.labeller_rows()) {
             return Some(fault);
         }
-        self.adversary_fault(rt)
+        first_fault(rt, self, self.adversary_rows())
     }
 }

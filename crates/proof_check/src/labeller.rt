@@ -4,16 +4,15 @@ ghost use Rattle.std.specs.Prelude.{◌≡◌, ◌↔◌, ◌<◌, ◌≤◌, Is
 ghost use Rattle.positions.specs.Position.{position_at};
 ghost use Rattle.proof_text.specs.Proof.{answer_row};
 ghost use Rattle.proof_text.specs.Rules as rules;
-ghost use Rattle.proof_text.specs.Rules.{IsEnough, IsWanted, one_less, Serves, MeetsRequest, MeetsRequests, LabellerObeys};
-ghost use Rattle.proof_check.specs.CheckFaults.{IsWrongAnswer, IsWrongAt, IsWrongStart, LabellerBreach};
+ghost use Rattle.proof_text.specs.Rules.{IsEnough, IsWanted, one_less, Serves, MeetsRequest, MeetsRequests};
+ghost use Rattle.proof_check.specs.CheckFaults.{IsWrongAnswer, IsWrongAt, IsWrongStart};
 ghost use Rattle.proof_check.specs.Inside.Checker.{IsAnswering};
 
-use crate::checked_row::{CheckedRow, first_fault};
+use crate::checked_row::CheckedRow;
 use crate::checker::Checker;
 use crate::fault::{CheckFault, Side};
 use positions::{Moves, Turns};
 use proof_text::{Claim, LabellerRow};
-use std::thread::Threads;
 
 /// Whether so many turns are enough where these are wanted.
 fn is_enough(wanted: Turns, turns: Turns) -> bool
@@ -40,10 +39,7 @@ fn after_one(turns: Turns) -> Turns
 fn is_wanted(turns: Turns) -> bool
     ensures { IsTrue result ↔ IsWanted turns }
 {
-    match turns {
-        Turns::Count(turns) => turns >= 1,
-        Turns::Always => true,
-    }
+    turns != Turns::Count(0)
 }
 
 /// The turns that a claim wants of the start.
@@ -101,19 +97,7 @@ impl Checker<'_> {
                 turn: pebble as u16,
             });
         };
-        if is_enough(left, next.turns) {
-            None
-        } else {
-            Some(CheckFault::TooSmall { at: row.at, pebble })
-        }
-    }
-
-    /// The fault of the labeller's first faulty row, if there is one.
-    pub(crate) fn labeller_fault(&self, rt: &(impl Threads + Sync)) -> Option<CheckFault>
-        ensures { MatchOption result (LabellerObeys self.now.board self.now.proof.labeller)
-            (LabellerBreach self.now.board self.now.proof.labeller) }
-    {
-        first_fault(rt, self, self.labeller_rows())
+        (!is_enough(left, next.turns)).then_some(CheckFault::TooSmall { at: row.at, pebble })
     }
 
     /// What is wrong with the start's number in the labeller's rows, if anything is.
@@ -131,12 +115,8 @@ impl Checker<'_> {
                 side: Side::Labeller,
             });
         };
-        if is_enough(wanted, row.turns) {
-            None
-        } else {
-            Some(CheckFault::StartNumber {
-                side: Side::Labeller,
-            })
-        }
+        (!is_enough(wanted, row.turns)).then_some(CheckFault::StartNumber {
+            side: Side::Labeller,
+        })
     }
 }
