@@ -1,5 +1,5 @@
 -- The rows of a section, one after the other.
-use Rattle.std.proofs.Common.{◌≡◌, ℕ, ◌+◌, ◌-◌, ◌<◌, ◌≤◌, List, [], ◌∷◌, ◌++◌, length, map, get_or, take, AllPairs, refl, sym, ap, subst, ◌∙◌, arith, inl, inr, append_assoc}
+use Rattle.std.proofs.Common.{◌≡◌, true, true≢false, ℕ, ◌+◌, ◌-◌, ◌<◌, ◌≤◌, List, [], ◌∷◌, ◌++◌, length, map, get_or, take, AllPairs, refl, sym, ap, subst, ◌∙◌, arith, inl, inr, append_assoc}
 use Rattle.std.specs.List.{flat_map}
 use Rattle.std.specs.Prelude.{Ok}
 use Rattle.std.proofs.lemmas.Bool.{cases_lt}
@@ -16,7 +16,7 @@ use Rattle.proof_text.specs.declared.fault.ProofKind.{ProofKind}
 use Rattle.proof_text.specs.declared.fault.ProofKind.TheVariants as kinds
 use Rattle.proof_text.specs.Proof.{AreRows, IsBefore}
 use Rattle.proof_text.specs.ProofFaults.{MayFollow, RowsCome, RowFault, InSection}
-use Rattle.proof_text.specs.Inside.RowForm.{RowForm, IsFrom, LineFault, NextRow, SectionFault, at_of}
+use Rattle.proof_text.specs.Inside.RowForm.{RowForm, IsFrom, LineFault, NextRow, PartRead, SectionFault, at_of}
 
 -- what comes after the last row comes after all
 follows_all : {X : Type 0} (board : PlainBoard) (at : X → List ℕ) (rows : List X) (configuration : List ℕ)
@@ -85,6 +85,14 @@ come_none board IsRow at section_line row_line text count rest few e = record { 
 module _ {R : Type 0} (board : PlainBoard) (form : RowForm R) where
   abbrev pub Come : List ℕ → ℕ → List R → List ℕ → Type 0
   Come text count rows rest = RowsCome board form.IsRow (at_of board form) (number_line form.word) form.line text count rows rest
+
+  -- all rows
+  pub part_read : (text : List ℕ) (count : ℕ) (rows : List R) (rest : List ℕ) → form.asked ≡ true → count ≡ length rows → Come text count rows rest → PartRead board form rows text rest
+  part_read text count rows rest asked all come = record {
+    are_rows = come.are_rows;
+    none = λ not. absurd (true≢false (sym asked ∙ not));
+    spelled = rw (asked, ← all) (come.spelled ∙ sym (append_assoc (number_line form.word count) (flat_map form.line rows) rest));
+  }
 
   -- one more row
   pub row_push : (text : List ℕ) (count least : ℕ) (rows new_rows : List R) (row : R) (rest new : List ℕ) → new_rows ≡ rows ++ row ∷ []

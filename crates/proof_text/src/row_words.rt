@@ -29,7 +29,7 @@ pub(crate) struct RequestValues {
     /// The number of answers left, if it is in range.
     pub left: Option<u32>,
     /// The requested pebble, if it is one.
-    pub ask: Option<u8>,
+    pub ask: Option<u16>,
 }
 
 /// Takes the words of a labeller's row.
@@ -74,7 +74,7 @@ pub(crate) fn request_words(
     let are_places = position(text, labels, places, at)?;
     let left = text.numeral()?.within(0, MOST_TURNS);
     text.take(b" ask ")?;
-    let ask = pebble(text.numeral()?, pebbles);
+    let ask = text.numeral()?.below(pebbles as u16);
     text.take(b"\n")?;
     Some(RequestValues {
         are_places,
@@ -126,15 +126,5 @@ fn count(claim: Claim, numeral: Numeral) -> Option<Turns>
             Some(turns) => Some(Turns::Count(turns)),
             None => None,
         },
-    }
-}
-
-/// The pebble of this number, if there is one.
-fn pebble(numeral: Numeral, pebbles: u8) -> Option<u8>
-    ensures { MatchOption result ((n : ℕ) → n < pebbles → numeral ≢ Number n) (λ n. (n < pebbles) × (numeral ≡ Number n)) }
-{
-    match numeral.below(pebbles as u16) {
-        Some(pebble) => Some(pebble as u8),
-        None => None,
     }
 }

@@ -1,10 +1,9 @@
 //! The rows of a document, of either side: how they are read and written.
 
-ghost use Rattle.std.specs.Prelude.{◌≡◌, ◌<◌, ◌++◌, ◌∷◌, List, ℕ, OnOk, string_bytes};
+ghost use Rattle.std.specs.Prelude.{◌≡◌, ◌<◌, ◌++◌, List, ℕ, OnOk, string_bytes};
 ghost use Rattle.board_text.specs.PlainBoard.{PlainBoard};
 ghost use Rattle.positions.specs.Ranks.{configurations};
 ghost use Rattle.positions.specs.declared.claim.Claim.{Claim as Claimed};
-ghost use Rattle.proof_text.specs.ProofText.{turns_text};
 ghost use Rattle.proof_text.specs.Inside.RowForm.{RowForm, NextRow, labeller_form, adversary_form};
 
 use crate::fault::ProofKind;
@@ -102,7 +101,10 @@ impl Row for LabellerRow {
         text.push_str("at")?;
         write_labels(text, space, self.at)?;
         text.push_str(" for")?;
-        write_turns(text, self.turns)?;
+        match self.turns {
+            Turns::Count(number) => write_number(text, number)?,
+            Turns::Always => text.push_str(" *")?,
+        }
         text.push_str(" take")?;
         write_places(text, space.labels(), &self.take[..pebbles])?;
         text.push_str("\n")
@@ -157,7 +159,7 @@ impl Row for AdversaryRow {
         Ok(AdversaryRow {
             at: rank,
             left,
-            ask,
+            ask: ask as u8,
         })
     }
 
@@ -169,15 +171,5 @@ impl Row for AdversaryRow {
         text.push_str(" ask")?;
         write_number(text, u32::from(self.ask))?;
         text.push_str("\n")
-    }
-}
-
-/// Writes a number of turns, or a star where they have no end, with a space before it.
-fn write_turns(text: &mut String, turns: Turns) -> Result<(), AllocError>
-    ensures { OnOk result (string_bytes text.new ≡ string_bytes text.old ++ 32 ∷ turns_text turns) }
-{
-    match turns {
-        Turns::Count(number) => write_number(text, number),
-        Turns::Always => text.push_str(" *"),
     }
 }

@@ -3,7 +3,7 @@
 ghost use Rattle.std.specs.Prelude.{◌≡◌, ◌<◌, ◌≤◌, ◌+◌, ◌++◌, true, if◌then◌else◌, All, IfOk, IfErr, OnOk, string_bytes};
 ghost use Rattle.positions.specs.Ranks.{configurations};
 ghost use Rattle.positions.specs.declared.claim.Claim.{Claim as Claimed};
-ghost use Rattle.proof_text.specs.Inside.RowForm.{SectionRead, PartRead, SectionFault, section_text};
+ghost use Rattle.proof_text.specs.Inside.RowForm.{PartRead, SectionFault, section_text};
 
 use crate::fault::{ProofFault, ProofKind};
 use crate::rows::Row;
@@ -14,39 +14,6 @@ use std::fmt::Write;
 
 /// The least number of bytes of a row.
 const SHORTEST_ROW: usize = 17;
-
-/// Takes a section, whose head stands at this line.
-fn read_section<R: Row>(
-    alloc: Global,
-    text: &mut LineReader<'_>,
-    space: &Space,
-    claim: Claim,
-    line: u32,
-) -> Result<Vec<R>, ProofFault>
-    requires { line ≤ MAX_CONFIGURATIONS + 4 }
-    ensures read { IfOk result (λ rows. SectionRead space.now (R.form space.now claim) rows.items text.old text.new) }
-    ensures fault { IfErr result (λ fault. SectionFault space.now (R.form space.now claim) text.old line fault.line fault.kind) }
-{
-    let Some(count) = text.number_line(R::word().as_bytes(), 0, MAX_CONFIGURATIONS) else {
-        return Err(ProofFault::at(line, ProofKind::Section));
-    };
-    let Ok(mut rows) = Vec::with_capacity(alloc, room(count, text.len())) else {
-        return Err(ProofFault::at(0, ProofKind::Memory));
-    };
-    let mut least = 0;
-    for come in 0..count {
-        match R::read(text, space, claim, least) {
-            Ok(row) => {
-                least = row.rank() + 1;
-                if rows.push(row).is_err() {
-                    return Err(ProofFault::at(0, ProofKind::Memory));
-                }
-            }
-            Err(kind) => return Err(ProofFault::at(line + 1 + come, kind)),
-        }
-    }
-    Ok(rows)
-}
 
 /// Takes a section, whose head stands at this line, if the claim asks for it.
 pub(crate) fn read_part<R: Row>(
@@ -61,11 +28,28 @@ pub(crate) fn read_part<R: Row>(
     ensures fault { IfErr result (λ fault. ((R.form space.now claim).asked ≡ true)
         × SectionFault space.now (R.form space.now claim) text.old line fault.line fault.kind) }
 {
-    if R::is_asked(claim) {
-        read_section(alloc, text, space, claim, line)
-    } else {
-        Ok(Vec::new(alloc))
+    if !R::is_asked(claim) {
+        return Ok(Vec::new(alloc));
     }
+    let Some(count) = text.number_line(R::word().as_bytes(), 0, MAX_CONFIGURATIONS) else {
+        return Err(ProofFault::at(line, ProofKind::Section));
+    };
+    // Room is taken for no more rows than the bytes that are left can hold.
+    let room = (text.len() / SHORTEST_ROW).min(count as usize);
+    let mut rows = Vec::with_capacity(alloc, room)?;
+    let mut least = 0;
+    for come in 0..count {
+        match R::read(text, space, claim, least) {
+            Ok(row) => {
+                least = row.rank() + 1;
+                if rows.push(row).is_err() {
+                    return Err(ProofFault::at(0, ProofKind::Memory));
+                }
+            }
+            Err(kind) => return Err(ProofFault::at(line + 1 + come, kind)),
+        }
+    }
+    Ok(rows)
 }
 
 /// Writes a section, if the claim asks for it.
@@ -95,9 +79,4 @@ pub(crate) fn section_lines(asked: bool, rows: usize) -> u32
     ensures { result ≡ (if asked then 1 + rows else 0) }
 {
     if asked { 1 + rows as u32 } else { 0 }
-}
-
-/// For how many rows room is taken at once: no more than the bytes that are left can hold.
-fn room(count: u32, left: usize) -> usize {
-    (left / SHORTEST_ROW).min(count as usize)
 }

@@ -76,11 +76,6 @@ NextRow board form least (Ok row) old new =
     × (old ≡ form.line row ++ new)
 NextRow board form least (Err kind) old new = LineFault board form (IsFrom board least) old kind
 
--- A section was taken, from its head to its last row.
-pub record SectionRead {R : Type 0} (board : PlainBoard) (form : RowForm R) (rows : List R) (old new : List ℕ) : Type 0 where
-  pub are_rows : AreRows board form.IsRow (at_of board form) rows
-  pub spelled : old ≡ number_line form.word (length rows) ++ (flat_map form.line rows ++ new)
-
 -- the section's text, where there is one
 abbrev pub section_text : {R : Type 0} → RowForm R → List R → List ℕ
 section_text form rows = if form.asked then number_line form.word (length rows) ++ flat_map form.line rows else []

@@ -53,6 +53,6 @@ returns c =
       record {
         places = p.3;
         number = number_of 1000000000 c.within-left.result n.0 c.in_ok-numeral.field-0 (omega arith) n.4 c.within-left.ensures;
-        pebble = pebble_of c.args.pebbles c.pebble-ask.result k.0 c.in_ok-numeral-2.field-0 (omega arith) k.4 c.pebble-ask.ensures;
+        pebble = pebble_of c.args.pebbles c.below-ask.result k.0 c.in_ok-numeral-2.field-0 (omega arith) k.4 c.below-ask.ensures;
       },
     )

@@ -2,7 +2,7 @@ use Rattle.std.proofs.Common.{◌≡◌, ◌≤◌, length}
 use Rattle.positions.specs.declared.space.TheConstants.{MAX_CONFIGURATIONS}
 use Rattle.proof_text.specs.Inside.RowForm.{at_of}
 use Rattle.proof_text.proofs.SectionLemmas.{Come, FollowsFrom}
-use Rattle.proof_text.proofs.sections.read_section.Given as goal
+use Rattle.proof_text.proofs.sections.read_part.Given as goal
 
 abbrev pub invariant-loop-come : goal.invariant-loop-come
 invariant-loop-come g l = record {
