@@ -6,15 +6,6 @@ use Rattle.proof_text.specs.Inside.RowForm.{at_of}
 use Rattle.proof_text.proofs.SectionLemmas.{come_none, row_push, part_read, line_fault_in}
 use Rattle.proof_text.proofs.sections.read_part.Goals as goal
 
-pub returns-in_err-rows-clause-fault : goal.returns-in_err-rows-clause-fault
-returns-in_err-rows-clause-fault g c =
-    let board = c.args.space.now in
-    let form = g.R.Row.form board c.args.claim in
-    let p = err_from_is_err_and c.from_residual.result c.from_residual.ensures.1 in
-    let spelled = c.in-Some.ensures.1 ∙ ap (λ (word : List ℕ). number_line word c.in-Some.count ++ c.number_line.new.self) (c.as_bytes.ensures.value ∙ c.word.ensures board c.args.claim) in
-    let come = come_none board form.IsRow (at_of board form) (number_line form.word) form.line c.args.text.now c.in-Some.count c.number_line.new.self c.in-Some.ensures.0.1 spelled in
-    rw (p.1, p.2) (sym (c.is_asked.ensures board) ∙ c.if-not-is_asked.false, (refl, (c.in-Some.count, [], c.number_line.new.self, come)))
-
 pub returns-clause-read : goal.returns-clause-read
 returns-clause-read g c =
     let board = c.args.space.now in

@@ -67,12 +67,3 @@ returns c = λ configuration pebble is is_pebble its_gap.
     found_all c.args.values.now configuration pebble c.args.gap here c.loop-label.labels.from c.loop-label.best
     (c.loop-label.invariant.found configuration pebble here)
     (none_left (IsAnswer c.args.values.now c.args.gap) (answer_few c.args.values.now c.args.gap (c.space-space.ensures.is_board).labels.1) c.loop-label.labels c.loop-label.invariant.left c.in_default.ensures)
-
-pub loop-label-init : goal.loop-label-init
-loop-label-init c =
-    let begins = from_zero c.args.answers c.walk-labels.result c.walk-labels.ensures in
-    record {
-      most = omega (arith, begins);
-      left = walk_begins (IsAnswer c.args.values.now c.args.gap) c.args.answers c.walk-labels.result c.walk-labels.ensures c.requires.answers;
-      found = λ configuration pebble is other below. absurd (omega (arith, begins, below));
-    }

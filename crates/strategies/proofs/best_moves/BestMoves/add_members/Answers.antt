@@ -50,14 +50,3 @@ returns-clause-added c =
     members_added c.args.self.now c.args.gap c.loop-label.answers.from _ _
     (none_left (IsAnswer c.args.self.now c.args.gap) (answer_few c.args.self.now c.args.gap (rw same at c.answer_set.ensures.few)) c.loop-label.answers c.loop-label.invariant.left c.in_default.ensures)
     c.loop-label.invariant.added
-
-pub loop-label-init : goal.loop-label-init
-loop-label-init c =
-    let same = c.space-space.ensures.value in
-    let begins = from_zero c.answer_set.result c.walk-answers.result c.walk-answers.ensures in
-    record {
-      most = omega (arith, begins);
-      left = walk_begins (IsAnswer c.args.self.now c.args.gap) c.answer_set.result c.walk-answers.result c.walk-answers.ensures (rw same at c.answer_set.ensures.bits);
-      size = refl;
-      added = rw begins (added_start c.args.reached.now.ranks (IsAnswerAt c.args.self.now c.args.gap));
-    }

@@ -4,9 +4,6 @@ use Rattle.strategies.proofs.GatheredRows.{adversarys}
 use Rattle.strategies.proofs.SpreadRanks.{place_below, spread_begins, spread_more, spread_ends, spread_below, request_moves}
 use Rattle.strategies.proofs.sections.AdversaryRowSectionRow.reached.Goals as goal
 
-pub add-requires : goal.add-requires
-add-requires c = omega (arith, c.start.ensures.below, c.in_ok-reached.ensures.size, rw c.space-space.ensures.value at c.configurations.ensures.value)
-
 pub loop-rank-init : goal.loop-rank-init
 loop-rank-init c =
     let b = c.args.moves.now in

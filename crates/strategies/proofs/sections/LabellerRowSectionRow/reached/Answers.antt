@@ -4,9 +4,6 @@ use Rattle.strategies.proofs.SpreadRanks.{place_below, spread_begins, spread_non
 use Rattle.strategies.proofs.sections.LabellerRowSectionRow.reached.Goals as goal
 use Rattle.strategies.proofs.sections.LabellerRowSectionRow.reached.Goals.{then-is_less+in_ok-add, else-is_less}
 
-pub add-requires : goal.add-requires
-add-requires c = omega (arith, c.start-start.ensures.below, c.in_ok-reached.ensures.size, rw c.space.ensures.value at c.configurations.ensures.value)
-
 pub loop-rank-init : goal.loop-rank-init
 loop-rank-init c =
     let b = c.args.moves.now in
