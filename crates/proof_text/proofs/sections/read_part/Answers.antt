@@ -1,9 +1,6 @@
-use Rattle.std.proofs.Common.{◌≡◌, ◌+◌, ◌++◌, ◌∷◌, [], List, ℕ, length, refl, sym, ap, ◌∙◌, arith}
+use Rattle.std.proofs.Common.{◌≡◌, ◌+◌, ◌++◌, ◌∷◌, [], ℕ, length, sym, ap, ◌∙◌, arith}
 use Rattle.std.proofs.lemmas.List.{length_push}
-use Rattle.std.proofs.lemmas.Result.{err_from_is_err_and}
-use Rattle.board_text.specs.LineForms.{number_line}
-use Rattle.proof_text.specs.Inside.RowForm.{at_of}
-use Rattle.proof_text.proofs.SectionLemmas.{come_none, row_push, part_read, line_fault_in}
+use Rattle.proof_text.proofs.SectionLemmas.{row_push, part_read, line_fault_in}
 use Rattle.proof_text.proofs.sections.read_part.Goals as goal
 
 pub returns-clause-read : goal.returns-clause-read
@@ -17,9 +14,11 @@ pub returns-in-Err-clause-fault : goal.returns-in-Err-clause-fault
 returns-in-Err-clause-fault g c =
     let board = c.args.space.now in
     let i = c.loop-come.invariant in
-    rw c.at-in-Err.ensures (sym (c.is_asked.ensures board) ∙ c.if-not-is_asked.false,
-    line_fault_in board (g.R.Row.form board c.args.claim) c.args.text.now c.args.line _ c.in-Some.count c.loop-come.least c.loop-come.rows.items c.loop-come.text c.in-Err.kind i.come
-    (omega (arith, i.number, c.loop-come-test.true)) (omega (arith, i.number)) i.from c.in-Err.ensures)
+    rw c.at-in-Err.ensures (
+      sym (c.is_asked.ensures board) ∙ c.if-not-is_asked.false,
+      line_fault_in board (g.R.Row.form board c.args.claim) c.args.text.now c.args.line _ c.in-Some.count c.loop-come.least c.loop-come.rows.items c.loop-come.text c.in-Err.kind i.come
+          (omega (arith, i.number, c.loop-come-test.true)) (omega (arith, i.number)) i.from c.in-Err.ensures,
+    )
 
 pub loop-come-preserved : goal.loop-come-preserved
 loop-come-preserved g c =

@@ -2,7 +2,7 @@ use Rattle.std.proofs.Common.{◌+◌, ◌<◌, ◌∙◌, arith}
 use Rattle.board_text.proofs.Cited.{label_is_place}
 use Rattle.positions.specs.Ranks.{configurations}
 use Rattle.positions.specs.Gaps.{IsAnswer}
-use Rattle.positions.proofs.Cited.{walk_begins, from_zero, next_of, after_step, none_left}
+use Rattle.positions.proofs.Cited.{next_of, after_step, none_left}
 use Rattle.strategies.proofs.GapAnswers.{IsMemberOf, answer_few, found_forever, found_next, found_all}
 use Rattle.strategies.proofs.gap_best.best_of_gap.Goals as goal
 

@@ -1,9 +1,7 @@
-use Rattle.std.proofs.Common.{refl, ◌∙◌, arith}
+use Rattle.std.proofs.Common.{◌∙◌, arith}
 use Rattle.board_text.proofs.Cited.{label_is_place}
 use Rattle.positions.specs.Gaps.{IsAnswer}
-use Rattle.positions.proofs.Cited.{walk_begins, from_zero, next_of, after_step, none_left}
-use Rattle.strategies.specs.Inside.ReachedRanks.{IsAnswerAt}
-use Rattle.strategies.proofs.AddedRanks.{added_start}
+use Rattle.positions.proofs.Cited.{next_of, after_step, none_left}
 use Rattle.strategies.proofs.GapAnswers.{answer_few}
 use Rattle.strategies.proofs.AddedSteps.{member_added, members_added}
 use Rattle.strategies.proofs.best_moves.BestMoves.add_members.Goals as goal

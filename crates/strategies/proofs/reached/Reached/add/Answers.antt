@@ -1,6 +1,6 @@
-use Rattle.std.proofs.Common.{◌≡◌, ◌<◌, ap, subst, length, sym, ◌∙◌}
-use Rattle.strategies.specs.Inside.ReachedRanks.{IsWith, ReachedRanks}
-use Rattle.strategies.proofs.ReachedMarks.{mark_more, known_stays, new_added}
+use Rattle.std.proofs.Common.{◌≡◌, ◌<◌, ap, length, sym, ◌∙◌}
+use Rattle.strategies.specs.Inside.ReachedRanks.{ReachedRanks}
+use Rattle.strategies.proofs.ReachedMarks.{mark_more, new_added}
 use Rattle.strategies.proofs.reached.Reached.add.Goals as goal
 
 pub invariant_of-self-then-not-get : goal.invariant_of-self-then-not-get
@@ -8,7 +8,3 @@ invariant_of-self-then-not-get c =
     let size : length c.self.inside.marks ≡ c.args.self.now.size = ap (λ (r : ReachedRanks). r.size) c.self.view_is in
     let inside : c.args.rank < length c.self.inside.marks = rw size c.requires in
     rw (c.set.ensures, c.push.ensures.items, c.if-is_err.ensures.negation) (mark_more _ _ _ c.self.invariant inside (new_added _ _ _ c.self.invariant (sym c.get.ensures ∙ c.if-not-get.true)))
-
-pub returns-else-not-get-clause-added : goal.returns-else-not-get-clause-added
-returns-else-not-get-clause-added c =
-    subst (λ (r : ReachedRanks). IsWith r.ranks c.args.rank r.ranks) c.self.view_is (known_stays _ _ _ c.self.invariant (sym c.get.ensures ∙ c.if-not-get.false))
