@@ -19,13 +19,13 @@ pub told : {P : Type 0} (b : Bool) → IsTrue b ↔ P → b ≡ false → P → 
 told b answers is p = true≢false (sym (answers.1 p) ∙ is)
 
 -- what is told where a test passes, and where it fails
-pub by_test : {Right : Type 0} (Wrong : CheckFault → Type 0) (answer : Bool) (fault : CheckFault) → (answer ≡ false → Right) → (answer ≡ true → Wrong fault)
-    → MatchOption (then_some answer fault) Right Wrong
+pub by_test : {Right : Type 0} (Wrong : CheckFault → Type 0) (answer : Bool) (fault : CheckFault)
+    → (answer ≡ false → Right) → (answer ≡ true → Wrong fault) → MatchOption (then_some answer fault) Right Wrong
 by_test Wrong false fault right wrong = right refl
 by_test Wrong true fault right wrong = wrong refl
 
-pub unless : {P Right : Type 0} (Wrong : CheckFault → Type 0) (answer : Bool) (fault : CheckFault) → IsTrue answer ↔ P → (P → Right) → ((P → ⊥) → Wrong fault)
-    → MatchOption (then_some (not answer) fault) Right Wrong
+pub unless : {P Right : Type 0} (Wrong : CheckFault → Type 0) (answer : Bool) (fault : CheckFault)
+    → IsTrue answer ↔ P → (P → Right) → ((P → ⊥) → Wrong fault) → MatchOption (then_some (not answer) fault) Right Wrong
 unless Wrong true fault answers right wrong = right (answers.0 refl)
 unless Wrong false fault answers right wrong = wrong (told false answers refl)
 

@@ -28,9 +28,12 @@ pub bound_is : (claim : Claim) (number : ℕ) → (claim ≡ Exactly number) ⊎
 bound_is claim number (inl exactly) = ap bound_of exactly
 bound_is claim number (inr most) = ap bound_of most
 
-pub bound_met : (rows : List RequestRow) (start : List ℕ) (claim : Claim) (number : ℕ) → bound_of claim ≡ Some number → StartIsBelow rows start claim ↔ IsListedBelow rows start (suc number)
-bound_met rows start (Exactly n) number is = let same : n ≡ number = cc in (subst (λ k. IsListedBelow rows start (suc k)) same, subst (λ k. IsListedBelow rows start (suc k)) (sym same))
-bound_met rows start (AtMost n) number is = let same : n ≡ number = cc in (subst (λ k. IsListedBelow rows start (suc k)) same, subst (λ k. IsListedBelow rows start (suc k)) (sym same))
+pub bound_met : (rows : List RequestRow) (start : List ℕ) (claim : Claim) (number : ℕ) → bound_of claim ≡ Some number
+    → StartIsBelow rows start claim ↔ IsListedBelow rows start (suc number)
+bound_met rows start (Exactly n) number is =
+    let same : n ≡ number = cc in subst (λ k. IsListedBelow rows start (suc n) ↔ IsListedBelow rows start (suc k)) same (λ h. h, λ h. h)
+bound_met rows start (AtMost n) number is =
+    let same : n ≡ number = cc in subst (λ k. IsListedBelow rows start (suc n) ↔ IsListedBelow rows start (suc k)) same (λ h. h, λ h. h)
 bound_met rows start (AtLeast n) number is = absurd cc
 bound_met rows start Forever number is = absurd cc
 

@@ -87,7 +87,8 @@ module _ {R : Type 0} (board : PlainBoard) (form : RowForm R) where
   Come text count rows rest = RowsCome board form.IsRow (at_of board form) (number_line form.word) form.line text count rows rest
 
   -- all rows
-  pub part_read : (text : List ℕ) (count : ℕ) (rows : List R) (rest : List ℕ) → form.asked ≡ true → count ≡ length rows → Come text count rows rest → PartRead board form rows text rest
+  pub part_read : (text : List ℕ) (count : ℕ) (rows : List R) (rest : List ℕ) → form.asked ≡ true → count ≡ length rows
+      → Come text count rows rest → PartRead board form rows text rest
   part_read text count rows rest asked all come = record {
     are_rows = come.are_rows;
     none = λ not. absurd (true≢false (sym asked ∙ not));

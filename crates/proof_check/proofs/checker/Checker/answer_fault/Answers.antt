@@ -64,7 +64,8 @@ returns c =
     let found = answer_row v.board c.in-Some.next.now in
     let rank_is = sym (rank_of-configuration_at v.board row.at c.requires.row.is_rank) in
     rw c.then_some.ensures (unless _ c.is_enough.result _ (rw c.after_one-left.ensures at c.is_enough.ensures)
-    (λ enough. meets v.board v.proof.labeller row pebble c.requires.pebble fits legal (λ _. listed_for v.proof.labeller result found next (one_less row.turns) enough))
+    (λ enough. meets v.board v.proof.labeller row pebble c.requires.pebble fits legal
+    (λ _. listed_for v.proof.labeller result found next (one_less row.turns) enough))
     (λ short. (
       label,
       the_answer v.board v.proof.labeller row pebble c.requires.pebble fits,

@@ -13,13 +13,15 @@ loop-pebble-preserved c =
     elim c.match-answer.branch [
       | in-Some+then-is_less+in_ok-add w ↦ rw w.reached-is (record {
         size = w.in_ok-add.ensures.size ∙ c.loop-pebble.invariant.size;
-        added = added_more _ _ _ step pebble c.loop-pebble.invariant.added (answer_added b c.args.rank pebble _ w.in-Some.best w.with.result _ w.in-Some.ensures (w.if-is_less.ensures.0 refl)
+        added = added_more _ _ _ step pebble c.loop-pebble.invariant.added
+            (answer_added b c.args.rank pebble _ w.in-Some.best w.with.result _ w.in-Some.ensures (w.if-is_less.ensures.0 refl)
             (omega (arith, c.loop-pebble-test.true, rw c.space.ensures.value at c.pebbles-pebble-end.ensures.value))
             (rw w.space-then-is_less.ensures.value at w.with.ensures.rank) w.in_ok-add.ensures.added);
       })
       | in-Some+else-is_less w ↦ rw w.reached-is (record {
         size = c.loop-pebble.invariant.size;
-        added = added_more _ _ _ step pebble c.loop-pebble.invariant.added (worthless_not_added b c.args.rank pebble _ w.in-Some.best w.in-Some.ensures (λ some. let same = w.if-is_less.ensures.1 some in absurd cc));
+        added = added_more _ _ _ step pebble c.loop-pebble.invariant.added
+            (worthless_not_added b c.args.rank pebble _ w.in-Some.best w.in-Some.ensures (λ some. let same = w.if-is_less.ensures.1 some in absurd cc));
       })
       | in_default w ↦ rw w.reached-is (record {
         size = c.loop-pebble.invariant.size;
