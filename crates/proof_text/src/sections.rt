@@ -12,18 +12,17 @@ use positions::{Claim, MAX_CONFIGURATIONS, Space};
 use std::alloc::{AllocError, Global};
 use std::fmt::Write;
 
-/// The least number of bytes of a row.
-const SHORTEST_ROW: usize = 17;
-
 /// Takes a section, whose head stands at this line, if the claim asks for it.
 pub(crate) fn read_part<R: Row>(
     alloc: Global,
     text: &mut LineReader<'_>,
     space: &Space,
     claim: Claim,
+    shortest_row: usize,
     line: u32,
 ) -> Result<Vec<R>, ProofFault>
-    requires { line ≤ MAX_CONFIGURATIONS + 4 }
+    requires some_bytes { 0 < shortest_row }
+    requires line { line ≤ MAX_CONFIGURATIONS + 4 }
     ensures read { IfOk result (λ rows. PartRead space.now (R.form space.now claim) rows.items text.old text.new) }
     ensures fault { IfErr result (λ fault. ((R.form space.now claim).asked ≡ true)
         × SectionFault space.now (R.form space.now claim) text.old line fault.line fault.kind) }
@@ -35,7 +34,7 @@ pub(crate) fn read_part<R: Row>(
         return Err(ProofFault::at(line, ProofKind::Section));
     };
     // Room is taken for no more rows than the bytes that are left can hold.
-    let room = (text.len() / SHORTEST_ROW).min(count as usize);
+    let room = (text.len() / shortest_row).min(count as usize);
     let mut rows = Vec::with_capacity(alloc, room)?;
     let mut least = 0;
     for come in 0..count {

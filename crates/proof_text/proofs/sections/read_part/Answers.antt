@@ -1,6 +1,9 @@
-use Rattle.std.proofs.Common.{◌≡◌, ◌+◌, ◌++◌, ◌∷◌, [], ℕ, length, sym, ap, ◌∙◌, arith}
+use Rattle.std.proofs.Common.{◌≡◌, ◌+◌, ◌++◌, ◌∷◌, List, [], ℕ, length, refl, sym, ap, ◌∙◌, arith}
 use Rattle.std.proofs.lemmas.List.{length_push}
-use Rattle.proof_text.proofs.SectionLemmas.{row_push, part_read, line_fault_in}
+use Rattle.std.proofs.lemmas.Result.{err_from_is_err_and}
+use Rattle.board_text.specs.LineForms.{number_line}
+use Rattle.proof_text.specs.Inside.RowForm.{at_of}
+use Rattle.proof_text.proofs.SectionLemmas.{come_none, row_push, part_read, line_fault_in}
 use Rattle.proof_text.proofs.sections.read_part.Goals as goal
 
 pub returns-clause-read : goal.returns-clause-read
@@ -36,3 +39,17 @@ loop-come-preserved g c =
       from = rw rank step.1;
       least = omega (arith, rank, next.2, next.3);
     }
+
+pub returns-in_err-rows-clause-fault : goal.returns-in_err-rows-clause-fault
+returns-in_err-rows-clause-fault g c =
+    let board = c.args.space.now in
+    let form = g.R.Row.form board c.args.claim in
+    let p = err_from_is_err_and c.from_residual.result c.from_residual.ensures.1 in
+    let word : c.as_bytes.result.now ≡ form.word = c.as_bytes.ensures.value ∙ c.word.ensures board c.args.claim in
+    let head : c.args.text.now ≡ number_line form.word c.in-Some.count ++ c.number_line.new.self =
+        c.in-Some.ensures.1 ∙ ap (λ (w : List ℕ). number_line w c.in-Some.count ++ c.number_line.new.self) word in
+    rw (p.1, p.2) (
+      sym (c.is_asked.ensures board) ∙ c.if-not-is_asked.false,
+      (refl, (c.in-Some.count, [], c.number_line.new.self,
+      come_none board form.IsRow (at_of board form) (number_line form.word) form.line c.args.text.now c.in-Some.count c.number_line.new.self c.in-Some.ensures.0.1 head)),
+    )
