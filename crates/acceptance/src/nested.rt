@@ -46,9 +46,9 @@ fn nested_text(rt: &impl Abort, alloc: Global, levels: u8, pebbles: u8) -> Strin
 fn read_again(alloc: Global, board: &Board) -> Option<Board>
     ensures { IfSome result (λ again. again ≡ board.now) }
 {
-    let _ = board.labels();
     let text = print(alloc, board).ok()?;
-    parse(alloc, text.as_bytes()).ok()
+    let again = parse(alloc, text.as_bytes()).ok()?;
+    (again.labels() == board.labels()).then_some(again)
 }
 
 /// A text, read and printed again: the same text, by what the two calls promise.

@@ -2,7 +2,7 @@
 //!
 //! A run of the tests may refuse one growth of memory, whichever. So a call that was refused one is made once more.
 
-ghost use Rattle.std.specs.Prelude.{◌≡◌, IfOk, IfSome};
+ghost use Rattle.std.specs.Prelude.{◌≡◌, ◌≤◌, IfOk, IfSome};
 ghost use Rattle.positions.specs.Ranks.{configurations};
 ghost use Rattle.proof_text.specs.Proof.{IsDocument};
 
@@ -21,6 +21,7 @@ use fakes::documents::{
     SHARED_LABEL_VALUE_ZERO, THREE_PEBBLES_VALUE_ONE, WAY_IN_VALUE_ONE,
 };
 use index_lists::LinkLists;
+use positions::MAX_CONFIGURATIONS;
 use proof_check::{CheckFault, Shown};
 use proof_text::{Claim, Proof};
 use retro_core::{Progress, SolveFault, Solver, Values};
@@ -41,7 +42,8 @@ fn solver_of(alloc: Global, board: &Board) -> Result<Solver<LinkLists>, SolveFau
 
 /// The values of a board that isn't too large.
 pub(crate) fn values_of(alloc: Global, board: &Board) -> Option<Values>
-    ensures { IfSome result (λ values. values ≡ board.now) }
+    ensures values { IfSome result (λ values. values ≡ board.now) }
+    ensures few { IfSome result (λ _. configurations board.now ≤ MAX_CONFIGURATIONS) }
 {
     let mut solver = solver_of(alloc, board).ok()?;
     for _ in 0..=solver.space().configurations() {
@@ -220,7 +222,6 @@ fn checked(
     board: &Board,
 ) -> Option<Result<Shown, CheckFault>> {
     let values = values_of(alloc, board)?;
-    let _ = values.space().configurations();
     let Ok(proof) = document_of(alloc, board, &values) else {
         return None;
     };
