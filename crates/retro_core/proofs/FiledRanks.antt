@@ -9,7 +9,7 @@ use Rattle.index_lists.proofs.Cited.{cond_same, cond_other, times-append}
 use Rattle.board_text.specs.PlainBoard.{PlainBoard}
 use Rattle.positions.specs.Ranks.{configurations}
 use Rattle.positions.specs.declared.space.TheConstants.{MAX_CONFIGURATIONS}
-use Rattle.retro_core.specs.Inside.Stage.{first_lists, PlainStage, stage_of, filed_at, appended, filed, IsFiled}
+use Rattle.retro_core.specs.Inside.Stage.{first_lists, PlainStage, stage_of, filed_at, listed, filed, IsFiled}
 use Rattle.retro_core.specs.Inside.Tables.{is_open}
 use Rattle.retro_core.proofs.LastingRanks.{same_or_not}
 use Rattle.retro_core.proofs.ListedWords.{open_word, times_one, times_none}
@@ -64,25 +64,25 @@ module _ (s s' : Lists) (to node : ℕ) (same : AreSame s' (pushed s to node)) w
       ])
 
   pub push-shown : (b : PlainBoard) (value : ℕ) (values counts strikes : List ℕ) (v : PlainStage) → value ≡ to → to < s.lists
-      → stage_of b value values counts s strikes ≡ v → stage_of b value values counts s' strikes ≡ appended v node
+      → stage_of b value values counts s strikes ≡ v → stage_of b value values counts s' strikes ≡ listed v node
   push-shown b value values counts strikes v here inside view =
-      subst (λ (w : PlainStage). stage_of b value values counts s' strikes ≡ appended w node) view
+      subst (λ (w : PlainStage). stage_of b value values counts s' strikes ≡ listed w node) view
       (rw (same.same_lists, here) (ap (λ (bs : List (List ℕ)). record (stage_of b to values counts s strikes) { buckets = bs })
       (set-shown inside)))
 
 -- ---- the stage after a configuration is listed
 
 module _ (s : PlainStage) (rank : ℕ) where
-  pub listed-here : s.value < length s.buckets → filed_at (appended s rank) s.value ≡ filed_at s s.value ++ rank ∷ []
+  pub listed-here : s.value < length s.buckets → filed_at (listed s rank) s.value ≡ filed_at s s.value ++ rank ∷ []
   listed-here inside = get_or-set_same s.buckets s.value (filed_at s s.value ++ rank ∷ []) [] inside
 
-  pub listed-away : (v : ℕ) → v ≢ s.value → filed_at (appended s rank) v ≡ filed_at s v
+  pub listed-away : (v : ℕ) → v ≢ s.value → filed_at (listed s rank) v ≡ filed_at s v
   listed-away v away = get_or-set_other s.buckets s.value v (filed_at s s.value ++ rank ∷ []) [] away
 
   -- how often a configuration stands in a list then
-  pub listed-times : s.value < length s.buckets → (v x : ℕ) → times x (filed_at (appended s rank) v) ≡ times x (filed_at s v) + cond (v == s.value) (times x (rank ∷ [])) 0
+  pub listed-times : s.value < length s.buckets → (v x : ℕ) → times x (filed_at (listed s rank) v) ≡ times x (filed_at s v) + cond (v == s.value) (times x (rank ∷ [])) 0
   listed-times inside v x = elim (same_or_not v s.value) [
-    | inl here ↦ ap (λ w. times x (filed_at (appended s rank) w)) here ∙ ap (times x) (listed-here inside) ∙ times-append x (filed_at s s.value) (rank ∷ [])
+    | inl here ↦ ap (λ w. times x (filed_at (listed s rank) w)) here ∙ ap (times x) (listed-here inside) ∙ times-append x (filed_at s s.value) (rank ∷ [])
         ∙ (let at = ap (λ w. times x (filed_at s w)) here in let more = cond_same {A = ℕ} v s.value (times x (rank ∷ [])) 0 here in omega arith)
     | inr away ↦ ap (times x) (listed-away v away) ∙ (let none = cond_other {A = ℕ} v s.value (times x (rank ∷ [])) 0 away in omega arith)
   ]

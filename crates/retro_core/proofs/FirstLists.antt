@@ -10,7 +10,7 @@ use Rattle.positions.specs.Ranks.{configurations}
 use Rattle.positions.specs.declared.space.TheConstants.{MAX_CONFIGURATIONS}
 use Rattle.retro_core.specs.Inside.Arena.{Arena, next, lasts}
 use Rattle.retro_core.specs.Inside.BoardArena.{arena_of}
-use Rattle.retro_core.specs.Inside.Stage.{PlainStage, filed_at, appended, IsUnlisted, IsOpened}
+use Rattle.retro_core.specs.Inside.Stage.{PlainStage, filed_at, listed, IsUnlisted, IsOpened}
 use Rattle.retro_core.specs.Inside.Tables.{is_open, AreWords, AreFirstWords}
 use Rattle.retro_core.specs.declared.stage.TheConstants.{OPEN}
 use Rattle.retro_core.proofs.FiledRanks.{listed-here, listed-away}
@@ -78,12 +78,12 @@ module _ (s : PlainStage) (rank : ℕ) (now : PlainStage) (so_far : IsListing s 
   }
 
   -- the list of 0 after a push
-  longer : filed_at (appended now rank) 0 ≡ filed_at now 0 ++ rank ∷ []
+  longer : filed_at (listed now rank) 0 ≡ filed_at now 0 ++ rank ∷ []
   longer =
       let value_is : now.value ≡ 0 = so_far.value_is in
-      ap (filed_at (appended now rank)) (sym value_is) ∙ listed-here now rank (let size = so_far.lists_length in omega arith) ∙ ap (λ v. filed_at now v ++ rank ∷ []) value_is
+      ap (filed_at (listed now rank)) (sym value_is) ∙ listed-here now rank (let size = so_far.lists_length in omega arith) ∙ ap (λ v. filed_at now v ++ rank ∷ []) value_is
 
-  pub listing-more : slice_index s.values rank ≡ 0 → IsListing s (rank + 1) (appended now rank)
+  pub listing-more : slice_index s.values rank ≡ 0 → IsListing s (rank + 1) (listed now rank)
   listing-more none = record {
     board_is = so_far.board_is;
     value_is = so_far.value_is;

@@ -9,7 +9,7 @@ ghost use Rattle.positions.specs.Counts.{IsSmallest};
 ghost use Rattle.retro_core.specs.Inside.Arena.{dominated};
 ghost use Rattle.retro_core.specs.Inside.BoardArena.{arena_of};
 ghost use Rattle.retro_core.specs.Inside.Tables.{is_open, members_from};
-ghost use Rattle.retro_core.specs.Inside.Stage.{PlainStage, filed_at, appended, filed, turned, IsFiled, IsKept, Closes, IsStriking};
+ghost use Rattle.retro_core.specs.Inside.Stage.{PlainStage, filed_at, listed, filed, turned, IsFiled, IsKept, Closes, IsStriking};
 
 use index_lists::ListStore;
 use positions::Space;
@@ -66,7 +66,7 @@ impl<S: ListStore> Stage<S> {
     pub(crate) fn list(&mut self, rank: u32)
         requires rank_in { rank < configurations self.old.board }
         requires free { (v : ℕ) → times rank (filed_at self.old v) ≡ 0 }
-        ensures { self.new ≡ appended self.old rank }
+        ensures { self.new ≡ listed self.old rank }
     {
         self.buckets.push_back(self.value, rank);
         self.filed += 1;

@@ -42,12 +42,12 @@ abbrev pub filed_at : PlainStage → ℕ → List ℕ
 filed_at s value = slice_index_or s.buckets value []
 
 -- the stage in which a configuration stands behind the others of the value
-abbrev pub appended : PlainStage → ℕ → PlainStage
-appended s rank = record s { buckets = slice_set s.buckets s.value (filed_at s s.value ++ rank ∷ []) }
+abbrev pub listed : PlainStage → ℕ → PlainStage
+listed s rank = record s { buckets = slice_set s.buckets s.value (filed_at s s.value ++ rank ∷ []) }
 
 -- the stage in which a configuration has the value too
 abbrev pub filed : PlainStage → ℕ → PlainStage
-filed s rank = appended (record s { values = slice_set s.values rank s.value }) rank
+filed s rank = listed (record s { values = slice_set s.values rank s.value }) rank
 
 -- the stage with these counts
 abbrev pub counting : PlainStage → List ℕ → PlainStage
