@@ -14,7 +14,7 @@ nothing-first : (none : ℕ) (next prev : ℕ → ℕ) (last before at y : ℕ) 
 nothing-first none next prev last before at y [] c e = refl
 nothing-first none next prev last before at y (x ∷ xs) c e = absurd (let a = c.0 in let b = c.1 in omega arith)
 
-module _ (none nowhere : ℕ) (next prev home first last len : ℕ → ℕ) (list : ℕ → List ℕ) (s : IsStore none nowhere next prev home first last len list) where
+module _ {none nowhere : ℕ} {next prev home first last len : ℕ → ℕ} {list : ℕ → List ℕ} (s : IsStore none nowhere next prev home first last len list) where
   -- a node that stands in a list has it as its home
   pub at-home : (l x : ℕ) → l < nowhere → x < none → 0 < times x (list l) → home x ≡ l
   at-home l x h i some = elim (cases_eq (home x) l) [
@@ -144,7 +144,7 @@ module _ (none nowhere : ℕ) (next prev home first last len : ℕ → ℕ) (lis
   }
 
   -- a push
-  module _ (next' prev' home' first' last' len' : ℕ → ℕ) (to node : ℕ) (to_in : to < nowhere) (node_in : node < none) (loose_node : home node ≡ nowhere)
+  module _ {next' prev' home' first' last' len' : ℕ → ℕ} (to node : ℕ) (to_in : to < nowhere) (node_in : node < none) (loose_node : home node ≡ nowhere)
       (nexts : (x : ℕ) → x < none → next' x ≡ cond (x == last to) node (next x))
       (prevs : (x : ℕ) → x < none → prev' x ≡ cond (x == node) (last to) (prev x))
       (homes' : (x : ℕ) → x < none → home' x ≡ cond (x == node) to (home x))
@@ -237,7 +237,7 @@ module _ (none nowhere : ℕ) (next prev home first last len : ℕ → ℕ) (lis
     }
 
   -- an unlink
-  module _ (next' prev' home' first' last' len' : ℕ → ℕ) (node : ℕ) (node_in : node < none) (home_in : home node < nowhere)
+  module _ {next' prev' home' first' last' len' : ℕ → ℕ} (node : ℕ) (node_in : node < none) (home_in : home node < nowhere)
       (nexts : (x : ℕ) → x < none → next' x ≡ cond (x == node) none (cond (x == prev node) (next node) (next x)))
       (prevs : (x : ℕ) → x < none → prev' x ≡ cond (x == node) none (cond (x == next node) (prev node) (prev x)))
       (homes' : (x : ℕ) → x < none → home' x ≡ cond (x == node) nowhere (home x))

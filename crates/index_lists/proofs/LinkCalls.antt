@@ -2,12 +2,13 @@
 use Rattle.std.proofs.Common.{◌≡◌, ℕ, ◌+◌, ◌-◌, ◌<◌, ◌≤◌, ◌==◌, inl, inr, cond, zero, suc, List, [], ◌∷◌, ◌++◌, length, refl, sym, ap, subst, ◌∙◌, arith, slice_index, slice_set, get_or-set_same, get_or-set_other, length-set, Option, Some, None, IfSome, MatchOption, slice_get, slice_index_or, replicate}
 use Rattle.std.proofs.lemmas.List.{get_or-replicate, length-replicate}
 use Rattle.std.proofs.lemmas.Bool.{cases_eq, cases_lt}
-use Rattle.index_lists.specs.Lists.{times, without_node, IsFree, IsIn, IsHome, AreLists}
+use Rattle.index_lists.specs.Lists.{times, without_node, IsFree, IsIn, IsHome, AreLists, AreSame, empty, pushed, unlinked}
 use Rattle.index_lists.specs.Links.{Chains}
-use Rattle.index_lists.specs.Inside.Links.{follow, IsLinked, IsStore, IsLinks, listed, chained, unless_none}
+use Rattle.index_lists.specs.Inside.Links.{IsLinked, PlainLinks, HoldLists, IsLinks, chains_of, chain_list, chained, unless_none, next_pointed, prev_pointed, placed, loosened, appended, shortened}
 use Rattle.index_lists.proofs.Times.{same_is, differ_is, cond_same, cond_other, length-without}
 use Rattle.index_lists.proofs.AllLists.{store-are, home-of_free, room, at-home, seen, settle, push-store, unlink-store, from_back, from_forth, at-home-once}
 use Rattle.index_lists.proofs.Links.{tail}
+use Rattle.index_lists.proofs.Fields.{bare}
 use Rattle.index_lists.proofs.LinkAnswers.{first-read, last-read, after-read, before-read, front-read, unless-below}
 
 pub read-set : (xs : List ℕ) (i v x : ℕ) → x < length xs → slice_index (slice_set xs i v) x ≡ cond (x == i) v (slice_index xs x)
@@ -27,15 +28,23 @@ end-below none next prev last at xs c = elim (tail none next prev last none at x
   | inr p ↦ (let b = p.2 in omega arith)
 ]
 
+-- what is made from what stood there
+read-changed : (xs : List ℕ) (f : ℕ → ℕ) (i x : ℕ) → x < length xs → slice_index (slice_set xs i (f (slice_index xs i))) x ≡ cond (x == i) (f (slice_index xs x)) (slice_index xs x)
+read-changed xs f i x h = read-set xs i (f (slice_index xs i)) x h ∙ elim (cases_eq x i) [
+  | inl e ↦ rw e refl
+  | inr ne ↦ rw (differ_is x i ne) refl
+]
+
 -- an end of a list, or none
-read-end : (N : ℕ) (ends : List ℕ) (to at node l : ℕ) → l < length ends → slice_index (cond (at == N) (slice_set ends to node) ends) l ≡ cond (l == to) (cond (at == N) node (slice_index ends l)) (slice_index ends l)
-read-end N ends to at node l h = elim (cases_eq at N) [
-  | inl e ↦ rw (same_is at N e) (read-set ends to node l h)
-  | inr ne ↦ rw (differ_is at N ne) (elim (cases_eq l to) [
+read-end : (none : ℕ) (links ends : List ℕ) (to at node l : ℕ) → length links ≡ none → l < length ends
+    → slice_index (cond (at == length links) (slice_set ends to node) ends) l ≡ cond (l == to) (cond (at == none) node (slice_index ends l)) (slice_index ends l)
+read-end none links ends to at node l size h = rw size (elim (cases_eq at none) [
+  | inl e ↦ rw (same_is at none e) (read-set ends to node l h)
+  | inr ne ↦ rw (differ_is at none ne) (elim (cases_eq l to) [
     | inl d ↦ rw (same_is l to d) refl
     | inr d ↦ rw (differ_is l to d) refl
   ])
-]
+])
 
 length-end : (N : ℕ) (ends : List ℕ) (to at node : ℕ) → length (cond (at == N) (slice_set ends to node) ends) ≡ length ends
 length-end N ends to at node = elim (cases_eq at N) [
@@ -43,217 +52,197 @@ length-end N ends to at node = elim (cases_eq at N) [
   | inr ne ↦ rw (differ_is at N ne) refl
 ]
 
-module _ (nodes lists : ℕ) (next prev home first last len : List ℕ) (v : Chains) (view : ◌≡◌ {A = Chains} (record { nodes = nodes; lists = lists; next = next; first = first; len = len }) v) (s : IsLinks nodes lists next prev home first last len) where
+-- the links after a push
+abbrev pub grown : PlainLinks → ℕ → ℕ → PlainLinks
+grown s to node =
+    let at = slice_index s.last to in
+    appended (placed (next_pointed s at to node) node at to) to node
+
+pub push-written : (a : PlainLinks) {b c d : PlainLinks} (to node : ℕ) {at : ℕ} → at ≡ slice_index a.last to → b ≡ next_pointed a at to node → c ≡ placed b node at to → d ≡ appended c to node → d ≡ grown a to node
+push-written a to node at_is one two three = rw (three, two, one, at_is) refl
+
+-- the links after an unlink
+abbrev pub shrunk : ℕ → ℕ → PlainLinks → ℕ → PlainLinks
+shrunk nodes lists s node =
+    let behind = slice_index s.next node in
+    let before = slice_index s.prev node in
+    let list = slice_index s.home node in
+    shortened (loosened (prev_pointed (next_pointed s before list behind) behind list before) node nodes lists) list
+
+pub unlink-written : (nodes lists : ℕ) (a : PlainLinks) {b c d e : PlainLinks} (node : ℕ) {behind before list : ℕ} → behind ≡ slice_index a.next node → before ≡ slice_index a.prev node → list ≡ slice_index a.home node
+    → b ≡ next_pointed a before list behind → c ≡ prev_pointed b behind list before → d ≡ loosened c node nodes lists → e ≡ shortened d list → e ≡ shrunk nodes lists a node
+unlink-written nodes lists a node behind_is before_is list_is one two three four = rw (four, three, two, one, behind_is, before_is, list_is) refl
+
+module _ {nodes lists : ℕ} {s : PlainLinks} {v : Chains} (view : chains_of nodes lists s ≡ v) (is : IsLinks nodes lists s) where
   lists-are : lists ≡ v.lists
   lists-are = ap (λ w. w.lists) view
 
   nodes-are : nodes ≡ v.nodes
   nodes-are = ap (λ w. w.nodes) view
 
-  store_here : IsStore nodes lists (slice_index next) (slice_index prev) (slice_index home) (slice_index first) (slice_index last) (slice_index len) (listed v)
-  store_here = subst (λ w. IsStore nodes lists (slice_index next) (slice_index prev) (slice_index home) (slice_index first) (slice_index last) (slice_index len) (listed w)) view s.store
+  store_here : HoldLists nodes lists s (chain_list v)
+  store_here = subst (λ w. HoldLists nodes lists s (chain_list w)) view is.store
 
-  pub last-in : (to : ℕ) → to < v.lists → slice_index last to ≤ nodes
-  last-in to h = end-below nodes (slice_index next) (slice_index prev) (slice_index last to) (slice_index first to) (listed v to) (store_here.linked to (let e = lists-are in omega arith))
+  pub last-in : (to : ℕ) → to < v.lists → slice_index s.last to ≤ nodes
+  last-in to h = end-below nodes (slice_index s.next) (slice_index s.prev) (slice_index s.last to) (slice_index s.first to) (chain_list v to) (store_here.linked to (rw lists-are h))
 
   -- a push
-  module _ (to node at n : ℕ) (to_in : to < v.lists) (node_in : node < v.nodes) (free : IsFree (chained v) node)
-      (at_is : at ≡ slice_index last to) (n_is : n ≡ slice_index len to) where
-    pub push-room : n < nodes
-    push-room =
-        let e = lists-are in let f = nodes-are in
-        let b = room nodes lists (slice_index next) (slice_index prev) (slice_index home) (slice_index first) (slice_index last) (slice_index len) (listed v) store_here to node (omega arith) (omega arith)
-        (home-of_free nodes lists (slice_index next) (slice_index prev) (slice_index home) (slice_index first) (slice_index last)
-        (slice_index len) (listed v) store_here node (omega arith) free.free) in
-        omega arith
+  module _ (to node : ℕ) (to_in : to < v.lists) (node_in : node < v.nodes) (free : IsFree (chained v) node) where
+    to_here : to < lists
+    to_here = rw lists-are to_in
 
-    module _ (next' first' : List ℕ) (next_is : next' ≡ slice_set next at node) (first_is : first' ≡ cond (at == length next) (slice_set first to node) first) where
-      push-all : IsStore nodes lists (slice_index next') (slice_index (slice_set prev node at)) (slice_index (slice_set home node to)) (slice_index first') (slice_index (slice_set last to node)) (slice_index (slice_set len to (n + 1))) (λ l. cond (l == to) (listed v l ++ node ∷ []) (listed v l))
-      push-all =
-          let to_here : to < lists = (let e = lists-are in omega arith) in
-          let node_here : node < nodes = (let e = nodes-are in omega arith) in
-          push-store nodes lists (slice_index next) (slice_index prev) (slice_index home) (slice_index first) (slice_index last) (slice_index len) (listed v) store_here
-          (slice_index next') (slice_index (slice_set prev node at)) (slice_index (slice_set home node to)) (slice_index first') (slice_index (slice_set last to node)) (slice_index (slice_set len to (n + 1)))
-          to node to_here node_here
-          (home-of_free nodes lists (slice_index next) (slice_index prev) (slice_index home) (slice_index first) (slice_index last)
-          (slice_index len) (listed v) store_here node node_here free.free)
-          (λ x i. rw (next_is, ← at_is) (read-set next at node x (let e = s.next_length in omega arith)))
-          (λ x i. rw (← at_is) (read-set prev node at x (let e = s.prev_length in omega arith)))
-          (λ x i. read-set home node to x (let e = s.home_length in omega arith))
-          (λ l h. rw (first_is, ← at_is, s.next_length) (read-end nodes first to at node l (let e = s.first_length in omega arith)))
-          (λ l h. read-set last to node l (let e = s.last_length in omega arith))
-          (λ l h. read-set len to (n + 1) l (let e = s.len_length in omega arith) ∙ elim (cases_eq l to) [
-            | inl d ↦ cond_same l to (n + 1) (slice_index len l) d ∙ ap (λ k. k + 1) (n_is ∙ sym (ap (slice_index len) d)) ∙ sym (cond_same l to (slice_index len l + 1) (slice_index len l) d)
-            | inr d ↦ cond_other l to (n + 1) (slice_index len l) d ∙ sym (cond_other l to (slice_index len l + 1) (slice_index len l) d)
-          ])
+    new_here : node < nodes
+    new_here = rw nodes-are node_in
 
-      len-past : (l : ℕ) → lists ≤ l → slice_index (slice_set len to (n + 1)) l ≡ 0
-      len-past l h = read-past (slice_set len to (n + 1)) l (let e = s.len_length in let f = length-set len to (n + 1) in omega arith)
+    no_home : slice_index s.home node ≡ lists
+    no_home = home-of_free store_here node new_here free.free
 
-      pub push-links : IsLinks nodes lists next' (slice_set prev node at) (slice_set home node to) first' (slice_set last to node) (slice_set len to (n + 1))
-      push-links = record {
-        next_length = ap length next_is ∙ length-set next at node ∙ s.next_length;
-        prev_length = length-set prev node at ∙ s.prev_length;
-        home_length = length-set home node to ∙ s.home_length;
-        first_length = ap length first_is ∙ length-end (length next) first to at node ∙ s.first_length;
-        last_length = length-set last to node ∙ s.last_length;
-        len_length = length-set len to (n + 1) ∙ s.len_length;
-        store = settle nodes lists (slice_index next') (slice_index (slice_set prev node at)) (slice_index (slice_set home node to)) (slice_index first') (slice_index (slice_set last to node)) (slice_index (slice_set len to (n + 1))) (λ l. cond (l == to) (listed v l ++ node ∷ []) (listed v l)) push-all len-past;
-      }
+    pub push-room : slice_index s.len to < nodes
+    push-room = room store_here to node to_here new_here no_home
 
-      pub push-seen : (l : ℕ) → follow (slice_index next') (slice_index first' l) (slice_index (slice_set len to (n + 1)) l) ≡ cond (l == to) (listed v l ++ node ∷ []) (listed v l)
-      push-seen = seen nodes lists (slice_index next') (slice_index (slice_set prev node at)) (slice_index (slice_set home node to)) (slice_index first') (slice_index (slice_set last to node)) (slice_index (slice_set len to (n + 1))) (λ l. cond (l == to) (listed v l ++ node ∷ []) (listed v l)) push-all len-past
+    pushed-all : HoldLists nodes lists (grown s to node) (λ l. cond (l == to) (chain_list v l ++ node ∷ []) (chain_list v l))
+    pushed-all = push-store store_here to node to_here new_here no_home
+        (λ x i. read-set s.next (slice_index s.last to) node x (rw is.next_length i))
+        (λ x i. read-set s.prev node (slice_index s.last to) x (rw is.prev_length i))
+        (λ x i. read-set s.home node to x (rw is.home_length i))
+        (λ l h. read-end nodes s.next s.first to (slice_index s.last to) node l is.next_length (rw is.first_length h))
+        (λ l h. read-set s.last to node l (rw is.last_length h))
+        (λ l h. read-changed s.len (λ n. n + 1) to l (rw is.len_length h))
 
-    -- what the vectors have after the calls of a push
-    pub push-written : (next' prev' home' first' last' len' : List ℕ) → next' ≡ slice_set next at node → prev' ≡ slice_set prev node at → home' ≡ slice_set home node to
-        → first' ≡ cond (at == length next) (slice_set first to node) first → last' ≡ slice_set last to node → len' ≡ slice_set len to (n + 1) → IsLinks nodes lists next' prev' home' first' last' len'
-    push-written next' prev' home' first' last' len' next_is prev_is home_is first_is last_is len_is = rw (prev_is, home_is, last_is, len_is) (push-links next' first' next_is first_is)
+    none-past : (l : ℕ) → lists ≤ l → slice_index (grown s to node).len l ≡ 0
+    none-past l h = read-past (grown s to node).len l (rw (length-set s.len to (slice_index s.len to + 1), is.len_length) h)
 
-    pub push-shown : (next' first' len' : List ℕ) → next' ≡ slice_set next at node → first' ≡ cond (at == length next) (slice_set first to node) first → len' ≡ slice_set len to (n + 1)
-        → (l : ℕ) → follow (slice_index next') (slice_index first' l) (slice_index len' l) ≡ cond (l == to) (listed v l ++ node ∷ []) (listed v l)
-    push-shown next' first' len' next_is first_is len_is l = rw len_is (push-seen next' first' next_is first_is l)
+    pub push-links : IsLinks nodes lists (grown s to node)
+    push-links = record {
+      next_length = length-set s.next _ node ∙ is.next_length;
+      prev_length = length-set s.prev node _ ∙ is.prev_length;
+      home_length = length-set s.home node to ∙ is.home_length;
+      first_length = length-end _ s.first to _ node ∙ is.first_length;
+      last_length = length-set s.last to node ∙ is.last_length;
+      len_length = length-set s.len to _ ∙ is.len_length;
+      store = settle pushed-all none-past;
+    }
+
+    pub push-same : AreSame (chained (chains_of nodes lists (grown s to node))) (pushed (chained v) to node)
+    push-same = record { same_nodes = nodes-are; same_lists = lists-are; same_list = seen pushed-all none-past }
 
   -- an unlink
-  module _ (node h p z : ℕ) (node_in : node < v.nodes) (stands : IsIn (chained v) node) (h_is : h ≡ slice_index home node)
-      (p_is : p ≡ slice_index prev node) (z_is : z ≡ slice_index next node) where
-    node_here : node < nodes
-    node_here = let e = nodes-are in omega arith
+  module _ (node : ℕ) (node_in : node < v.nodes) (stands : IsIn (chained v) node) where
+    abbrev behind : ℕ
+    behind = slice_index s.next node
 
-    pub home-in : h < lists
+    abbrev before : ℕ
+    before = slice_index s.prev node
+
+    abbrev list : ℕ
+    list = slice_index s.home node
+
+    node_here : node < nodes
+    node_here = rw nodes-are node_in
+
+    pub home-in : list < lists
     home-in =
         let in_one : stands.0 < lists = elim (cases_lt stands.0 lists) [
           | inl lt ↦ lt
           | inr ge ↦ absurd (let e = ap (times node) (store_here.beyond stands.0 ge) in let some = stands.1 in omega arith)
         ] in
-        let b = at-home nodes lists (slice_index next) (slice_index prev) (slice_index home) (slice_index first) (slice_index last) (slice_index len) (listed v) store_here stands.0 node in_one node_here stands.1 in
-        omega arith
+        rw (at-home store_here stands.0 node in_one node_here stands.1) in_one
 
-    home_below : slice_index home node < lists
-    home_below = rw (← h_is) home-in
-
-    pub before-in : p ≤ nodes
-    before-in = elim (from_back nodes lists (slice_index next) (slice_index prev) (slice_index home) (slice_index first) (slice_index last) (slice_index len) (listed v) store_here node node_here home_below) [
+    pub before-in : before ≤ nodes
+    before-in = elim (from_back store_here node node_here home-in) [
       | inl q ↦ (let e = q.1 in omega arith)
       | inr q ↦ (let e = q.0 in omega arith)
     ]
 
-    pub behind-in : z ≤ nodes
-    behind-in = elim (from_forth nodes lists (slice_index next) (slice_index prev) (slice_index home) (slice_index first) (slice_index last) (slice_index len) (listed v) store_here node node_here home_below) [
+    pub behind-in : behind ≤ nodes
+    behind-in = elim (from_forth store_here node node_here home-in) [
       | inl q ↦ (let e = q.0 in omega arith)
       | inr q ↦ (let e = q.0 in omega arith)
     ]
 
-    module _ (n : ℕ) (n_is : n ≡ slice_index len h) where
-      pub some-left : 0 < n
-      some-left =
-          let size = length-without node (listed v h) in
-          let sized = store_here.sized h home-in in
-          let once = at-home-once nodes lists (slice_index next) (slice_index prev) (slice_index home) (slice_index first) (slice_index last) (slice_index len) (listed v) store_here h node home-in node_here (sym h_is) in
-          omega arith
+    pub some-left : 0 < slice_index s.len list
+    some-left =
+        let size = length-without node (chain_list v list) in
+        let sized = store_here.sized list home-in in
+        let once = at-home-once store_here list node home-in node_here refl in
+        omega arith
 
-      module _ (next' first' prev' last' : List ℕ) (next_is : next' ≡ slice_set next p z) (first_is : first' ≡ cond (p == length next) (slice_set first h z) first) (prev_is : prev' ≡ slice_set prev z p) (last_is : last' ≡ cond (z == length prev) (slice_set last h p) last) where
-        next_len : length next' ≡ nodes
-        next_len = ap length next_is ∙ length-set next p z ∙ s.next_length
+    unlinked-all : HoldLists nodes lists (shrunk nodes lists s node) (λ l. without_node node (chain_list v l))
+    unlinked-all = unlink-store store_here node node_here home-in
+        (λ x i. read-set (slice_set s.next before behind) node nodes x (rw (length-set s.next before behind, is.next_length) i) ∙ ap (cond (x == node) nodes) (read-set s.next before behind x (rw is.next_length i)))
+        (λ x i. read-set (slice_set s.prev behind before) node nodes x (rw (length-set s.prev behind before, is.prev_length) i) ∙ ap (cond (x == node) nodes) (read-set s.prev behind before x (rw is.prev_length i)))
+        (λ x i. read-set s.home node lists x (rw is.home_length i))
+        (λ l h. read-end nodes s.next s.first list before behind l is.next_length (rw is.first_length h))
+        (λ l h. read-end nodes s.prev s.last list behind before l is.prev_length (rw is.last_length h))
+        (λ l h. read-changed s.len (λ n. n - 1) list l (rw is.len_length h))
 
-        prev_len : length prev' ≡ nodes
-        prev_len = ap length prev_is ∙ length-set prev z p ∙ s.prev_length
+    left-past : (l : ℕ) → lists ≤ l → slice_index (shrunk nodes lists s node).len l ≡ 0
+    left-past l h = read-past (shrunk nodes lists s node).len l (rw (length-set s.len list (slice_index s.len list - 1), is.len_length) h)
 
-        unlink-all : IsStore nodes lists (slice_index (slice_set next' node nodes)) (slice_index (slice_set prev' node nodes)) (slice_index (slice_set home node lists)) (slice_index first') (slice_index last') (slice_index (slice_set len h (n - 1))) (λ l. without_node node (listed v l))
-        unlink-all =
-            unlink-store nodes lists (slice_index next) (slice_index prev) (slice_index home) (slice_index first) (slice_index last) (slice_index len) (listed v) store_here
-            (slice_index (slice_set next' node nodes)) (slice_index (slice_set prev' node nodes)) (slice_index (slice_set home node lists)) (slice_index first') (slice_index last') (slice_index (slice_set len h (n - 1)))
-            node node_here home_below
-            (λ x i. read-set next' node nodes x (let e = next_len in omega arith) ∙ ap (cond (x == node) nodes) (rw (next_is, ← p_is, ← z_is) (read-set next p z x (let e = s.next_length in omega arith))))
-            (λ x i. read-set prev' node nodes x (let e = prev_len in omega arith) ∙ ap (cond (x == node) nodes) (rw (prev_is, ← p_is, ← z_is) (read-set prev z p x (let e = s.prev_length in omega arith))))
-            (λ x i. read-set home node lists x (let e = s.home_length in omega arith))
-            (λ l g. rw (first_is, ← h_is, ← p_is, ← z_is, s.next_length) (read-end nodes first h p z l (let e = s.first_length in omega arith)))
-            (λ l g. rw (last_is, ← h_is, ← p_is, ← z_is, s.prev_length) (read-end nodes last h z p l (let e = s.last_length in omega arith)))
-            (λ l g. read-set len h (n - 1) l (let e = s.len_length in omega arith) ∙ rw (← h_is) (elim (cases_eq l h) [
-              | inl d ↦ cond_same l h (n - 1) (slice_index len l) d ∙ ap (λ k. k - 1) (n_is ∙ sym (ap (slice_index len) d)) ∙ sym (cond_same l h (slice_index len l - 1) (slice_index len l) d)
-              | inr d ↦ cond_other l h (n - 1) (slice_index len l) d ∙ sym (cond_other l h (slice_index len l - 1) (slice_index len l) d)
-            ]))
+    pub unlink-links : IsLinks nodes lists (shrunk nodes lists s node)
+    unlink-links = record {
+      next_length = length-set _ node nodes ∙ length-set s.next before behind ∙ is.next_length;
+      prev_length = length-set _ node nodes ∙ length-set s.prev behind before ∙ is.prev_length;
+      home_length = length-set s.home node lists ∙ is.home_length;
+      first_length = length-end _ s.first list before behind ∙ is.first_length;
+      last_length = length-end _ s.last list behind before ∙ is.last_length;
+      len_length = length-set s.len list _ ∙ is.len_length;
+      store = settle unlinked-all left-past;
+    }
 
-        left-past : (l : ℕ) → lists ≤ l → slice_index (slice_set len h (n - 1)) l ≡ 0
-        left-past l g = read-past (slice_set len h (n - 1)) l (let e = s.len_length in let f = length-set len h (n - 1) in omega arith)
-
-        pub unlink-links : IsLinks nodes lists (slice_set next' node nodes) (slice_set prev' node nodes) (slice_set home node lists) first' last' (slice_set len h (n - 1))
-        unlink-links = record {
-          next_length = length-set next' node nodes ∙ next_len;
-          prev_length = length-set prev' node nodes ∙ prev_len;
-          home_length = length-set home node lists ∙ s.home_length;
-          first_length = ap length first_is ∙ length-end (length next) first h p z ∙ s.first_length;
-          last_length = ap length last_is ∙ length-end (length prev) last h z p ∙ s.last_length;
-          len_length = length-set len h (n - 1) ∙ s.len_length;
-          store = settle nodes lists (slice_index (slice_set next' node nodes)) (slice_index (slice_set prev' node nodes)) (slice_index (slice_set home node lists)) (slice_index first') (slice_index last') (slice_index (slice_set len h (n - 1))) (λ l. without_node node (listed v l)) unlink-all left-past;
-        }
-
-        pub unlink-seen : (l : ℕ) → follow (slice_index (slice_set next' node nodes)) (slice_index first' l) (slice_index (slice_set len h (n - 1)) l) ≡ without_node node (listed v l)
-        unlink-seen = seen nodes lists (slice_index (slice_set next' node nodes)) (slice_index (slice_set prev' node nodes)) (slice_index (slice_set home node lists)) (slice_index first') (slice_index last') (slice_index (slice_set len h (n - 1))) (λ l. without_node node (listed v l)) unlink-all left-past
-
-      -- what the vectors have after the calls of an unlink
-      pub unlink-written : (next' prev' home' first' last' len' : List ℕ) → next' ≡ slice_set (slice_set next p z) node nodes → prev' ≡ slice_set (slice_set prev z p) node nodes → home' ≡ slice_set home node lists
-          → first' ≡ cond (p == length next) (slice_set first h z) first → last' ≡ cond (z == length prev) (slice_set last h p) last → len' ≡ slice_set len h (n - 1) → IsLinks nodes lists next' prev' home' first' last' len'
-      unlink-written next' prev' home' first' last' len' next_is prev_is home_is first_is last_is len_is =
-          rw (next_is, prev_is, home_is, len_is) (unlink-links (slice_set next p z) first' (slice_set prev z p) last' refl first_is refl last_is)
-
-      pub unlink-shown : (next' first' last' len' : List ℕ) → next' ≡ slice_set (slice_set next p z) node nodes
-          → first' ≡ cond (p == length next) (slice_set first h z) first → last' ≡ cond (z == length prev) (slice_set last h p) last → len' ≡ slice_set len h (n - 1)
-          → (l : ℕ) → follow (slice_index next') (slice_index first' l) (slice_index len' l) ≡ without_node node (listed v l)
-      unlink-shown next' first' last' len' next_is first_is last_is len_is l =
-          rw (next_is, len_is) (unlink-seen (slice_set next p z) first' (slice_set prev z p) last' refl first_is refl last_is l)
+    pub unlink-same : AreSame (chained (chains_of nodes lists (shrunk nodes lists s node))) (unlinked (chained v) node)
+    unlink-same = record { same_nodes = nodes-are; same_lists = lists-are; same_list = seen unlinked-all left-past }
 
   -- what is read
   nothing : unless_none nodes nodes ≡ None
   nothing = cond_same nodes nodes None (Some nodes) refl
 
   pub lists-kept : AreLists (chained v)
-  lists-kept = rw (← nodes-are, ← lists-are) (store-are nodes lists (slice_index next) (slice_index prev) (slice_index home) (slice_index first) (slice_index last) (slice_index len) (listed v) store_here)
+  lists-kept = rw (← nodes-are, ← lists-are) (store-are store_here)
 
-  in-one : (l place node : ℕ) → slice_get (listed v l) place ≡ Some node → l < lists
+  in-one : (l place node : ℕ) → slice_get (chain_list v l) place ≡ Some node → l < lists
   in-one l place node e = elim (cases_lt l lists) [
     | inl i ↦ i
     | inr g ↦ absurd (let none : None ≡ Some node = sym (ap (λ xs. slice_get xs place) (store_here.beyond l g)) ∙ e in cc)
   ]
 
-  pub first-seen : (to at : ℕ) → to < v.lists → at ≡ slice_index first to → slice_get (listed v to) 0 ≡ unless_none nodes at
+  pub first-seen : (to at : ℕ) → to < v.lists → at ≡ slice_index s.first to → slice_get (chain_list v to) 0 ≡ unless_none nodes at
   first-seen to at h e =
-      let i : to < lists = (let d = lists-are in omega arith) in
-      first-read nodes (slice_index next) (slice_index prev) (slice_index last to) nodes (slice_index first to) (listed v to) (store_here.linked to i) ∙ ap (unless_none nodes) (sym e)
+      first-read nodes (slice_index s.next) (slice_index s.prev) (slice_index s.last to) nodes (slice_index s.first to) (chain_list v to) (store_here.linked to (rw lists-are h)) ∙ ap (unless_none nodes) (sym e)
 
-  pub last-seen : (to at : ℕ) → to < v.lists → at ≡ slice_index last to → slice_get (listed v to) (length (listed v to) - 1) ≡ unless_none nodes at
+  pub last-seen : (to at : ℕ) → to < v.lists → at ≡ slice_index s.last to → slice_get (chain_list v to) (length (chain_list v to) - 1) ≡ unless_none nodes at
   last-seen to at h e =
-      let i : to < lists = (let d = lists-are in omega arith) in
-      last-read nodes (slice_index next) (slice_index prev) (slice_index last to) (slice_index first to) (listed v to) (store_here.linked to i) ∙ ap (unless_none nodes) (sym e)
+      last-read nodes (slice_index s.next) (slice_index s.prev) (slice_index s.last to) (slice_index s.first to) (chain_list v to) (store_here.linked to (rw lists-are h)) ∙ ap (unless_none nodes) (sym e)
 
-  pub next-seen : (node at : ℕ) → at ≡ slice_index next node → (l place : ℕ) → slice_get (listed v l) place ≡ Some node → slice_get (listed v l) (place + 1) ≡ unless_none nodes at
+  pub next-seen : (node at : ℕ) → at ≡ slice_index s.next node → (l place : ℕ) → slice_get (chain_list v l) place ≡ Some node → slice_get (chain_list v l) (place + 1) ≡ unless_none nodes at
   next-seen node at e l place stands =
-      after-read nodes (slice_index next) (slice_index prev) (slice_index last l) nodes (slice_index first l) place node (listed v l) (store_here.linked l (in-one l place node stands)) stands ∙ ap (unless_none nodes) (sym e)
+      after-read nodes (slice_index s.next) (slice_index s.prev) (slice_index s.last l) nodes (slice_index s.first l) place node (chain_list v l) (store_here.linked l (in-one l place node stands)) stands ∙ ap (unless_none nodes) (sym e)
 
-  pub prev-seen : (node at : ℕ) → at ≡ slice_index prev node → (l place : ℕ) → slice_get (listed v l) (place + 1) ≡ Some node → slice_get (listed v l) place ≡ unless_none nodes at
+  pub prev-seen : (node at : ℕ) → at ≡ slice_index s.prev node → (l place : ℕ) → slice_get (chain_list v l) (place + 1) ≡ Some node → slice_get (chain_list v l) place ≡ unless_none nodes at
   prev-seen node at e l place stands =
-      before-read nodes (slice_index next) (slice_index prev) (slice_index last l) nodes (slice_index first l) place node (listed v l) (store_here.linked l (in-one l (place + 1) node stands)) stands ∙ ap (unless_none nodes) (sym e)
+      before-read nodes (slice_index s.next) (slice_index s.prev) (slice_index s.last l) nodes (slice_index s.first l) place node (chain_list v l) (store_here.linked l (in-one l (place + 1) node stands)) stands ∙ ap (unless_none nodes) (sym e)
 
-  pub prev-front : (node at : ℕ) → at ≡ slice_index prev node → (l : ℕ) → slice_get (listed v l) 0 ≡ Some node → unless_none nodes at ≡ None
+  pub prev-front : (node at : ℕ) → at ≡ slice_index s.prev node → (l : ℕ) → slice_get (chain_list v l) 0 ≡ Some node → unless_none nodes at ≡ None
   prev-front node at e l stands =
-      cond_same at nodes None (Some at) (e ∙ front-read nodes (slice_index next) (slice_index prev) (slice_index last l) nodes (slice_index first l) node (listed v l) (store_here.linked l (in-one l 0 node stands)) stands)
+      cond_same at nodes None (Some at) (e ∙ front-read nodes (slice_index s.next) (slice_index s.prev) (slice_index s.last l) nodes (slice_index s.first l) node (chain_list v l) (store_here.linked l (in-one l 0 node stands)) stands)
 
   -- a link is the number of a node, or none
-  pub next-below : (node : ℕ) → node < v.nodes → slice_index next node ≤ nodes
+  pub next-below : (node : ℕ) → node < v.nodes → slice_index s.next node ≤ nodes
   next-below node h =
-      let i : node < nodes = (let d = nodes-are in omega arith) in
-      elim (cases_lt (slice_index home node) lists) [
-        | inl lt ↦ elim (from_forth nodes lists (slice_index next) (slice_index prev) (slice_index home) (slice_index first) (slice_index last) (slice_index len) (listed v) store_here node i lt) [
+      let i : node < nodes = rw nodes-are h in
+      elim (cases_lt (slice_index s.home node) lists) [
+        | inl lt ↦ elim (from_forth store_here node i lt) [
           | inl q ↦ (let d = q.0 in omega arith)
           | inr q ↦ (let d = q.0 in omega arith)
         ]
         | inr ge ↦ (let b = store_here.homes node i in let d = (store_here.loose node i (omega arith)).0 in omega arith)
       ]
 
-  pub prev-below : (node : ℕ) → node < v.nodes → slice_index prev node ≤ nodes
+  pub prev-below : (node : ℕ) → node < v.nodes → slice_index s.prev node ≤ nodes
   prev-below node h =
-      let i : node < nodes = (let d = nodes-are in omega arith) in
-      elim (cases_lt (slice_index home node) lists) [
-        | inl lt ↦ elim (from_back nodes lists (slice_index next) (slice_index prev) (slice_index home) (slice_index first) (slice_index last) (slice_index len) (listed v) store_here node i lt) [
+      let i : node < nodes = rw nodes-are h in
+      elim (cases_lt (slice_index s.home node) lists) [
+        | inl lt ↦ elim (from_back store_here node i lt) [
           | inl q ↦ (let d = q.1 in omega arith)
           | inr q ↦ (let d = q.0 in omega arith)
         ]
@@ -264,23 +253,22 @@ module _ (nodes lists : ℕ) (next prev home first last len : List ℕ) (v : Cha
   pub link-below : (at link : ℕ) (o : Option ℕ) → link ≤ nodes → at ≡ link → o ≡ unless_none nodes at → IfSome o (λ node. node < v.nodes)
   link-below at link o h e f = rw (f, e, ← nodes-are) (unless-below nodes link h)
 
-  loose-here : (node : ℕ) → node < v.nodes → IsFree (chained v) node → (slice_index next node ≡ nodes) × (slice_index prev node ≡ nodes)
+  loose-here : (node : ℕ) → node < v.nodes → IsFree (chained v) node → (slice_index s.next node ≡ nodes) × (slice_index s.prev node ≡ nodes)
   loose-here node h free =
-      let i : node < nodes = (let d = nodes-are in omega arith) in
-      store_here.loose node i (home-of_free nodes lists (slice_index next) (slice_index prev) (slice_index home) (slice_index first)
-      (slice_index last) (slice_index len) (listed v) store_here node i free.free)
+      let i : node < nodes = rw nodes-are h in
+      store_here.loose node i (home-of_free store_here node i free.free)
 
-  pub next-none : (node at : ℕ) → node < v.nodes → at ≡ slice_index next node → IsFree (chained v) node → unless_none nodes at ≡ None
+  pub next-none : (node at : ℕ) → node < v.nodes → at ≡ slice_index s.next node → IsFree (chained v) node → unless_none nodes at ≡ None
   next-none node at h e free = cond_same at nodes None (Some at) (e ∙ (loose-here node h free).0)
 
-  pub prev-none : (node at : ℕ) → node < v.nodes → at ≡ slice_index prev node → IsFree (chained v) node → unless_none nodes at ≡ None
+  pub prev-none : (node at : ℕ) → node < v.nodes → at ≡ slice_index s.prev node → IsFree (chained v) node → unless_none nodes at ≡ None
   prev-none node at h e free = cond_same at nodes None (Some at) (e ∙ (loose-here node h free).1)
 
   -- the list of a node
-  pub home-seen : (node at : ℕ) (o : Option ℕ) → node < v.nodes → at ≡ slice_index home node → o ≡ unless_none lists at
+  pub home-seen : (node at : ℕ) (o : Option ℕ) → node < v.nodes → at ≡ slice_index s.home node → o ≡ unless_none lists at
       → MatchOption o (IsFree (chained v) node) (λ found. IsHome (chained v) node found)
   home-seen node at o h e f =
-      let i : node < nodes = (let d = nodes-are in omega arith) in
+      let i : node < nodes = rw nodes-are h in
       elim (cases_lt at lists) [
         | inl low ↦ subst (λ found. MatchOption found (IsFree (chained v) node) (λ l. IsHome (chained v) node l)) (sym (f
             ∙ cond_other at lists None (Some at) (λ same. omega arith))) (record {
@@ -296,7 +284,7 @@ module _ (nodes lists : ℕ) (next prev home first last len : List ℕ) (v : Cha
             subst (λ found. MatchOption found (IsFree (chained v) node) (λ l. IsHome (chained v) node l)) (sym (f
             ∙ cond_same at lists None (Some at) none)) (record {
               free = λ l. elim (cases_lt l lists) [
-                | inl inside ↦ store_here.held l node inside i ∙ cond_other (slice_index home node) l 1 0 (λ same. omega arith)
+                | inl inside ↦ store_here.held l node inside i ∙ cond_other (slice_index s.home node) l 1 0 (λ same. omega arith)
                 | inr beyond ↦ ap (times node) (store_here.beyond l beyond)
               ];
             }))
@@ -314,13 +302,13 @@ replicated n i a d e = elim (cases_lt i n) [
     past (x ∷ xs) zero h = absurd (omega arith)
     past (x ∷ xs) (suc k) h = past xs k (omega arith)
 
-pub empty-shown : (n l i : ℕ) (next first : List ℕ) → follow (slice_index next) (slice_index first i) (slice_index (replicate l 0) i) ≡ []
-empty-shown n l i next first = rw (replicated l i 0 0 refl) refl
+no-nodes : (n l i : ℕ) → chain_list (chains_of n l (bare n l)) i ≡ []
+no-nodes n l i = rw (replicated l i 0 0 refl) refl
 
-pub empty-seen : (l i : ℕ) (next first len : List ℕ) → len ≡ replicate l 0 → follow (slice_index next) (slice_index first i) (slice_index len i) ≡ []
-empty-seen l i next first len e = rw e (empty-shown l l i next first)
+pub empty-same : (n l : ℕ) → AreSame (chained (chains_of n l (bare n l))) (empty n l)
+empty-same n l = record { same_nodes = refl; same_lists = refl; same_list = no-nodes n l }
 
-pub empty-links : (n l : ℕ) → IsLinks n l (replicate n n) (replicate n n) (replicate n l) (replicate l n) (replicate l n) (replicate l 0)
+pub empty-links : (n l : ℕ) → IsLinks n l (bare n l)
 empty-links n l = record {
   next_length = length-replicate n n;
   prev_length = length-replicate n n;
@@ -330,10 +318,10 @@ empty-links n l = record {
   len_length = length-replicate l 0;
   store = record {
     linked = λ i h. subst (λ xs. IsLinked n (slice_index (replicate n n)) (slice_index (replicate n n)) (slice_index (replicate l n) i) n (slice_index (replicate l n) i) xs)
-        (sym (empty-shown n l i (replicate n n) (replicate l n))) (get_or-replicate l i n 0 h, sym (get_or-replicate l i n 0 h));
-    sized = λ i h. replicated l i 0 0 refl ∙ sym (ap length (empty-shown n l i (replicate n n) (replicate l n)));
-    beyond = λ i h. empty-shown n l i (replicate n n) (replicate l n);
-    held = λ i x h j. ap (times x) (empty-shown n l i (replicate n n) (replicate l n)) ∙ sym (cond_other (slice_index (replicate n l) x) i 1 0 (λ e. (let home = get_or-replicate n x l 0 j in omega arith)));
+        (sym (no-nodes n l i)) (get_or-replicate l i n 0 h, sym (get_or-replicate l i n 0 h));
+    sized = λ i h. replicated l i 0 0 refl ∙ sym (ap length (no-nodes n l i));
+    beyond = λ i h. no-nodes n l i;
+    held = λ i x h j. ap (times x) (no-nodes n l i) ∙ sym (cond_other (slice_index (replicate n l) x) i 1 0 (λ e. (let home = get_or-replicate n x l 0 j in omega arith)));
     homes = λ x j. (let home = get_or-replicate n x l 0 j in omega arith);
     loose = λ x j e. (get_or-replicate n x n 0 j, get_or-replicate n x n 0 j);
   };

@@ -1,6 +1,6 @@
 -- A node out of its list, from wherever it was.
 use Rattle.std.proofs.Common.{◌≡◌, ℕ, ◌==◌, ◌++◌, ◌∷◌, [], Bool, true, false, if◌then◌else◌, Option, Some, None, MatchOption, is_some, refl, sym, ap, ◌∙◌, arith}
-use Rattle.index_lists.specs.Lists.{Lists, times, IsFree, IsIn, IsHome, AreSame, pushed, unlinked, moved}
+use Rattle.index_lists.specs.Lists.{Lists, times, IsFree, IsIn, IsHome, AreSame, pushed, unlinked, node_moved}
 use Rattle.index_lists.proofs.Times.{times-without_same, without-absent, cond_same}
 
 pub free-after : (s s' : Lists) (node : ℕ) → AreSame s' (unlinked s node) → IsFree s' node
@@ -16,7 +16,7 @@ same-without s node f = record {
 
 -- a node that was taken out is pushed
 pub moved-same : (s s' s'' : Lists) (node to : ℕ) → AreSame s' (unlinked s node) → AreSame s'' (pushed s' to node)
-    → AreSame s'' (moved s node to)
+    → AreSame s'' (node_moved s node to)
 moved-same s s' s'' node to out in-again = record {
   same_nodes = in-again.same_nodes ∙ out.same_nodes;
   same_lists = in-again.same_lists ∙ out.same_lists;

@@ -1,8 +1,7 @@
 //! Lists linked both ways by index.
 
-ghost use Rattle.std.specs.Prelude.{◌≡◌, ℕ, ◌+◌, ◌-◌, ◌<◌, ◌≤◌, ◌==◌, ◌++◌, ◌∷◌, [], List, length, slice_get, slice_index, slice_set, cond, map};
-ghost use Rattle.index_lists.specs.Links.{Chains};
-ghost use Rattle.index_lists.specs.Inside.Links.{chained, unless_none};
+ghost use Rattle.std.specs.Prelude.{◌≡◌, ◌<◌, ◌≤◌, length, slice_index};
+ghost use Rattle.index_lists.specs.Inside.Links.{chained, unless_none, next_pointed, prev_pointed, placed, loosened, appended, shortened};
 
 use crate::store::ListStore;
 use board_text::Memory;
@@ -13,23 +12,21 @@ use std::marker::Model;
 #[derive(Drop)]
 pub struct LinkLists {
     /// How many nodes there are; as a node it stands for none.
-    none: u32,
+    node_count: u32,
     /// How many lists there are; as a list it stands for none.
-    nowhere: u32,
+    list_count: u32,
     links: Links,
 }
 
 impl Model for LinkLists {
-    ghost use Rattle.std.specs.Prelude.{map};
     ghost use Rattle.index_lists.specs.Links.{Chains};
-    ghost use Rattle.index_lists.specs.Inside.Links.{IsLinks};
+    ghost use Rattle.index_lists.specs.Inside.Links.{IsLinks, chains_of};
 
     ghost Value = { Chains };
 
-    ghost view = { λ s. record { nodes = s.none; lists = s.nowhere; next = map (λ n. n.next) s.links.nodes.items; first = map (λ e. e.first) s.links.ends.items; len = map (λ e. e.len) s.links.ends.items } };
+    ghost view = { λ s. chains_of s.node_count s.list_count s.links };
 
-    ghost invariant = { λ s. IsLinks s.none s.nowhere (map (λ n. n.next) s.links.nodes.items) (map (λ n. n.prev) s.links.nodes.items) (map (λ n. n.home) s.links.nodes.items)
-        (map (λ e. e.first) s.links.ends.items) (map (λ e. e.last) s.links.ends.items) (map (λ e. e.len) s.links.ends.items) };
+    ghost invariant = { λ s. IsLinks s.node_count s.list_count s.links };
 }
 
 impl ListStore for LinkLists {
@@ -49,8 +46,8 @@ impl ListStore for LinkLists {
         let nodes = vec![in alloc; loose; node_count as usize]?;
         let ends = vec![in alloc; empty; list_count as usize]?;
         Ok(LinkLists {
-            none: node_count,
-            nowhere: list_count,
+            node_count,
+            list_count,
             links: Links { nodes, ends },
         })
     }
@@ -66,28 +63,28 @@ impl ListStore for LinkLists {
         let Node { next, prev, home } = self.links.nodes[node as usize];
         self.links.point_next(prev, home, next);
         self.links.point_prev(next, home, prev);
-        self.links.loosen(node, self.none, self.nowhere);
+        self.links.loosen(node, self.node_count, self.list_count);
         self.links.shorten(home);
     }
 
     fn first(&self, of: u32) -> Option<u32> {
-        some_unless(self.none, self.links.ends[of as usize].first)
+        some_unless(self.node_count, self.links.ends[of as usize].first)
     }
 
     fn last(&self, of: u32) -> Option<u32> {
-        some_unless(self.none, self.links.ends[of as usize].last)
+        some_unless(self.node_count, self.links.ends[of as usize].last)
     }
 
     fn next(&self, node: u32) -> Option<u32> {
-        some_unless(self.none, self.links.nodes[node as usize].next)
+        some_unless(self.node_count, self.links.nodes[node as usize].next)
     }
 
     fn prev(&self, node: u32) -> Option<u32> {
-        some_unless(self.none, self.links.nodes[node as usize].prev)
+        some_unless(self.node_count, self.links.nodes[node as usize].prev)
     }
 
     fn home(&self, node: u32) -> Option<u32> {
-        some_unless(self.nowhere, self.links.nodes[node as usize].home)
+        some_unless(self.list_count, self.links.nodes[node as usize].home)
     }
 
     fn len(&self, of: u32) -> u32 {
@@ -133,17 +130,28 @@ struct Ends {
     len: u32,
 }
 
+impl Model for Links {
+    ghost use Rattle.std.specs.Prelude.{map};
+    ghost use Rattle.index_lists.specs.Inside.Links.{PlainLinks};
+
+    ghost Value = { PlainLinks };
+
+    ghost view = { λ s. record {
+      next = map (λ n. n.next) s.nodes.items;
+      prev = map (λ n. n.prev) s.nodes.items;
+      home = map (λ n. n.home) s.nodes.items;
+      first = map (λ e. e.first) s.ends.items;
+      last = map (λ e. e.last) s.ends.items;
+      len = map (λ e. e.len) s.ends.items;
+    } };
+}
+
 impl Links {
     /// Points the link of a node to the one behind it, or, where the node is none, the list to its first.
     fn point_next(&mut self, node: u32, list: u32, to: u32)
-        requires node_in { node ≤ length self.old.nodes.items }
-        requires list_in { list < length self.old.ends.items }
-        ensures next { map (λ n. n.next) self.new.nodes.items ≡ slice_set (map (λ n. n.next) self.old.nodes.items) node to }
-        ensures prev { map (λ n. n.prev) self.new.nodes.items ≡ map (λ n. n.prev) self.old.nodes.items }
-        ensures home { map (λ n. n.home) self.new.nodes.items ≡ map (λ n. n.home) self.old.nodes.items }
-        ensures first { map (λ e. e.first) self.new.ends.items ≡ cond (node == length self.old.nodes.items) (slice_set (map (λ e. e.first) self.old.ends.items) list to) (map (λ e. e.first) self.old.ends.items) }
-        ensures last { map (λ e. e.last) self.new.ends.items ≡ map (λ e. e.last) self.old.ends.items }
-        ensures len { map (λ e. e.len) self.new.ends.items ≡ map (λ e. e.len) self.old.ends.items }
+        requires node_in { node ≤ length self.old.next }
+        requires list_in { list < length self.old.first }
+        ensures { self.new ≡ next_pointed self.old node list to }
     {
         if node as usize == self.nodes.len() {
             self.ends[list as usize].first = to;
@@ -154,14 +162,9 @@ impl Links {
 
     /// Points the link of a node to the one before it, or, where the node is none, the list to its last.
     fn point_prev(&mut self, node: u32, list: u32, to: u32)
-        requires node_in { node ≤ length self.old.nodes.items }
-        requires list_in { list < length self.old.ends.items }
-        ensures next { map (λ n. n.next) self.new.nodes.items ≡ map (λ n. n.next) self.old.nodes.items }
-        ensures prev { map (λ n. n.prev) self.new.nodes.items ≡ slice_set (map (λ n. n.prev) self.old.nodes.items) node to }
-        ensures home { map (λ n. n.home) self.new.nodes.items ≡ map (λ n. n.home) self.old.nodes.items }
-        ensures first { map (λ e. e.first) self.new.ends.items ≡ map (λ e. e.first) self.old.ends.items }
-        ensures last { map (λ e. e.last) self.new.ends.items ≡ cond (node == length self.old.nodes.items) (slice_set (map (λ e. e.last) self.old.ends.items) list to) (map (λ e. e.last) self.old.ends.items) }
-        ensures len { map (λ e. e.len) self.new.ends.items ≡ map (λ e. e.len) self.old.ends.items }
+        requires node_in { node ≤ length self.old.prev }
+        requires list_in { list < length self.old.last }
+        ensures { self.new ≡ prev_pointed self.old node list to }
     {
         if node as usize == self.nodes.len() {
             self.ends[list as usize].last = to;
@@ -172,11 +175,8 @@ impl Links {
 
     /// Notes the list of a node and the node before it.
     fn place(&mut self, node: u32, prev: u32, home: u32)
-        requires { node < length self.old.nodes.items }
-        ensures next { map (λ n. n.next) self.new.nodes.items ≡ map (λ n. n.next) self.old.nodes.items }
-        ensures prev { map (λ n. n.prev) self.new.nodes.items ≡ slice_set (map (λ n. n.prev) self.old.nodes.items) node prev }
-        ensures home { map (λ n. n.home) self.new.nodes.items ≡ slice_set (map (λ n. n.home) self.old.nodes.items) node home }
-        ensures ends { self.new.ends ≡ self.old.ends }
+        requires { node < length self.old.home }
+        ensures { self.new ≡ placed self.old node prev home }
     {
         let place = &mut self.nodes[node as usize];
         place.prev = prev;
@@ -185,11 +185,8 @@ impl Links {
 
     /// Notes that a node is in no list.
     fn loosen(&mut self, node: u32, none: u32, nowhere: u32)
-        requires { node < length self.old.nodes.items }
-        ensures next { map (λ n. n.next) self.new.nodes.items ≡ slice_set (map (λ n. n.next) self.old.nodes.items) node none }
-        ensures prev { map (λ n. n.prev) self.new.nodes.items ≡ slice_set (map (λ n. n.prev) self.old.nodes.items) node none }
-        ensures home { map (λ n. n.home) self.new.nodes.items ≡ slice_set (map (λ n. n.home) self.old.nodes.items) node nowhere }
-        ensures ends { self.new.ends ≡ self.old.ends }
+        requires { node < length self.old.home }
+        ensures { self.new ≡ loosened self.old node none nowhere }
     {
         self.nodes[node as usize] = Node {
             next: none,
@@ -200,12 +197,9 @@ impl Links {
 
     /// Notes that a list has one node more, which is its last.
     fn append(&mut self, list: u32, node: u32)
-        requires list_in { list < length self.old.ends.items }
-        requires room { slice_index (map (λ e. e.len) self.old.ends.items) list < u32.MAX }
-        ensures nodes { self.new.nodes ≡ self.old.nodes }
-        ensures first { map (λ e. e.first) self.new.ends.items ≡ map (λ e. e.first) self.old.ends.items }
-        ensures last { map (λ e. e.last) self.new.ends.items ≡ slice_set (map (λ e. e.last) self.old.ends.items) list node }
-        ensures len { map (λ e. e.len) self.new.ends.items ≡ slice_set (map (λ e. e.len) self.old.ends.items) list (slice_index (map (λ e. e.len) self.old.ends.items) list + 1) }
+        requires list_in { list < length self.old.len }
+        requires room { slice_index self.old.len list < u32.MAX }
+        ensures { self.new ≡ appended self.old list node }
     {
         let ends = &mut self.ends[list as usize];
         ends.last = node;
@@ -214,12 +208,9 @@ impl Links {
 
     /// Notes that a list has one node less.
     fn shorten(&mut self, list: u32)
-        requires list_in { list < length self.old.ends.items }
-        requires some { 0 < slice_index (map (λ e. e.len) self.old.ends.items) list }
-        ensures nodes { self.new.nodes ≡ self.old.nodes }
-        ensures first { map (λ e. e.first) self.new.ends.items ≡ map (λ e. e.first) self.old.ends.items }
-        ensures last { map (λ e. e.last) self.new.ends.items ≡ map (λ e. e.last) self.old.ends.items }
-        ensures len { map (λ e. e.len) self.new.ends.items ≡ slice_set (map (λ e. e.len) self.old.ends.items) list (slice_index (map (λ e. e.len) self.old.ends.items) list - 1) }
+        requires list_in { list < length self.old.len }
+        requires some { 0 < slice_index self.old.len list }
+        ensures { self.new ≡ shortened self.old list }
     {
         self.ends[list as usize].len -= 1;
     }

@@ -1,7 +1,7 @@
 //! What a store of lists is.
 
 ghost use Rattle.std.specs.Prelude.{◌≡◌, ℕ, ◌+◌, ◌-◌, ◌<◌, length, slice_get, IfOk, IfSome, MatchOption};
-ghost use Rattle.index_lists.specs.Lists.{Lists, IsFree, IsIn, IsHome, AreLists, AreSame, empty, pushed, unlinked, moved};
+ghost use Rattle.index_lists.specs.Lists.{Lists, IsFree, IsIn, IsHome, AreLists, AreSame, empty, pushed, unlinked, node_moved};
 
 use board_text::Memory;
 use std::alloc::Global;
@@ -80,7 +80,7 @@ pub trait ListStore {
     fn move_to(&mut self, node: u32, to: u32)
         requires to_in { to < (state self.old).lists }
         requires node_in { node < (state self.old).nodes }
-        ensures moved { AreSame (state self.new) (moved (state self.old) node to) }
+        ensures moved { AreSame (state self.new) (node_moved (state self.old) node to) }
         ensures kept { AreLists (state self.new) }
     {
         if self.home(node).is_some() {

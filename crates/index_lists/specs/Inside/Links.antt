@@ -1,5 +1,5 @@
 -- What this crate's own functions say beside `Links`.
-use Rattle.std.specs.Prelude.{◌≡◌, ℕ, ◌<◌, ◌≤◌, ◌==◌, cond, List, [], ◌∷◌, zero, suc, length, slice_index, Option, None, Some}
+use Rattle.std.specs.Prelude.{◌≡◌, ℕ, ◌+◌, ◌-◌, ◌<◌, ◌≤◌, ◌==◌, cond, List, [], ◌∷◌, zero, suc, length, slice_index, slice_set, Option, None, Some}
 use Rattle.index_lists.specs.Lists.{Lists, times, lists_of}
 use Rattle.index_lists.specs.Links.{Chains}
 
@@ -26,21 +26,68 @@ pub record IsStore (none nowhere : ℕ) (next prev home first last len : ℕ →
   pub homes : (x : ℕ) → x < none → home x ≤ nowhere
   pub loose : (x : ℕ) → x < none → home x ≡ nowhere → (next x ≡ none) × (prev x ≡ none)
 
--- the vectors of links, and the lists that they lead through
-pub record IsLinks (nodes lists : ℕ) (next prev home first last len : List ℕ) : Type 0 where
-  pub next_length : length next ≡ nodes
-  pub prev_length : length prev ≡ nodes
-  pub home_length : length home ≡ nodes
-  pub first_length : length first ≡ lists
-  pub last_length : length last ≡ lists
-  pub len_length : length len ≡ lists
-  pub store : IsStore nodes lists (slice_index next) (slice_index prev) (slice_index home) (slice_index first) (slice_index last) (slice_index len) (λ l. follow (slice_index next) (slice_index first l) (slice_index len l))
+-- what is noted of each node (the node behind it, the one before it, its list), and of each list (its ends, its length)
+pub record PlainLinks : Type 0 where
+  pub next : List ℕ
+  pub prev : List ℕ
+  pub home : List ℕ
+  pub first : List ℕ
+  pub last : List ℕ
+  pub len : List ℕ
 
-abbrev pub listed : Chains → ℕ → List ℕ
-listed c l = follow (slice_index c.next) (slice_index c.first l) (slice_index c.len l)
+-- what callers see of the links
+abbrev pub chains_of : ℕ → ℕ → PlainLinks → Chains
+chains_of nodes lists s = record { nodes = nodes; lists = lists; next = s.next; first = s.first; len = s.len }
+
+abbrev pub chain_list : Chains → ℕ → List ℕ
+chain_list c l = follow (slice_index c.next) (slice_index c.first l) (slice_index c.len l)
 
 abbrev pub chained : Chains → Lists
-chained c = lists_of c.nodes c.lists (listed c)
+chained c = lists_of c.nodes c.lists (chain_list c)
+
+-- the columns show these lists
+abbrev pub HoldLists : ℕ → ℕ → PlainLinks → (ℕ → List ℕ) → Type 0
+HoldLists nodes lists s =
+    IsStore nodes lists (slice_index s.next) (slice_index s.prev) (slice_index s.home)
+    (slice_index s.first) (slice_index s.last) (slice_index s.len)
+
+-- there are links for each node and list, and they are those of the lists that they lead through
+pub record IsLinks (nodes lists : ℕ) (s : PlainLinks) : Type 0 where
+  pub next_length : length s.next ≡ nodes
+  pub prev_length : length s.prev ≡ nodes
+  pub home_length : length s.home ≡ nodes
+  pub first_length : length s.first ≡ lists
+  pub last_length : length s.last ≡ lists
+  pub len_length : length s.len ≡ lists
+  pub store : HoldLists nodes lists s (chain_list (chains_of nodes lists s))
+
+-- the link of a node leads to the one behind it, or, where the node is none, the list begins there
+abbrev pub next_pointed : PlainLinks → ℕ → ℕ → ℕ → PlainLinks
+next_pointed s node list to =
+    record s { next = slice_set s.next node to; first = cond (node == length s.next) (slice_set s.first list to) s.first }
+
+-- the link of a node leads to the one before it, or, where the node is none, the list ends there
+abbrev pub prev_pointed : PlainLinks → ℕ → ℕ → ℕ → PlainLinks
+prev_pointed s node list to =
+    record s { prev = slice_set s.prev node to; last = cond (node == length s.prev) (slice_set s.last list to) s.last }
+
+-- a node has a list and a node before it
+abbrev pub placed : PlainLinks → ℕ → ℕ → ℕ → PlainLinks
+placed s node prev home = record s { prev = slice_set s.prev node prev; home = slice_set s.home node home }
+
+-- a node is in no list
+abbrev pub loosened : PlainLinks → ℕ → ℕ → ℕ → PlainLinks
+loosened s node none nowhere =
+    record s { next = slice_set s.next node none; prev = slice_set s.prev node none; home = slice_set s.home node nowhere }
+
+-- a list has one node more, which is its last
+abbrev pub appended : PlainLinks → ℕ → ℕ → PlainLinks
+appended s list node =
+    record s { last = slice_set s.last list node; len = slice_set s.len list (slice_index s.len list + 1) }
+
+-- a list has one node less
+abbrev pub shortened : PlainLinks → ℕ → PlainLinks
+shortened s list = record s { len = slice_set s.len list (slice_index s.len list - 1) }
 
 -- a number that may stand for none
 abbrev pub unless_none : ℕ → ℕ → Option ℕ

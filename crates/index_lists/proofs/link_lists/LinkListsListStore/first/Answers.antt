@@ -1,5 +1,5 @@
-use Rattle.std.proofs.Common.{◌∙◌, ap, sym, arith}
-use Rattle.std.proofs.lemmas.List.{length-map}
+use Rattle.std.proofs.Common.{◌∙◌, ap, sym}
+use Rattle.index_lists.specs.Inside.Links.{unless_none}
 use Rattle.index_lists.proofs.Fields.{field-read}
 use Rattle.index_lists.proofs.Places.{read-below}
 use Rattle.index_lists.proofs.LinkCalls.{first-seen, lists-kept}
@@ -7,14 +7,11 @@ use Rattle.index_lists.proofs.link_lists.LinkListsListStore.first.Goals as goal
 
 pub returns : goal.returns
 returns c =
-    let items = c.self.inside.links.ends.items in
-    let view = ap (λ w. w.lists) c.self.view_is in
-    let size = c.self.invariant.first_length in
-    let all = length-map items (λ e. e.first) in
-    let e = field-read (λ e. e.first) items c.args.of c.index.result.now (omega arith) c.index.ensures in
-    let shows = c.some_unless.ensures ∙ sym (first-seen _ _ _ _ _ _ _ _ _ c.self.view_is c.self.invariant c.args.of c.index.result.now.first c.requires e) in
+    let read = field-read (λ e. e.first) _ _ _ _ _ (ap (λ s. s.links.first) c.self-inside.view_is) (c.self.invariant.first_length ∙ ap (λ w. w.lists) c.self.view_is) c.requires c.index.ensures in
+    let answer = c.some_unless.ensures ∙ ap (λ s. unless_none s.node_count c.index.result.now.first) c.self-inside.view_is in
+    let shows = answer ∙ sym (first-seen c.self.view_is c.self.invariant c.args.of c.index.result.now.first c.requires read) in
     record {
       first = shows;
-      below = read-below _ c.args.of 0 _ (lists-kept _ _ _ _ _ _ _ _ _ c.self.view_is c.self.invariant) shows;
-      kept = lists-kept _ _ _ _ _ _ _ _ _ c.self.view_is c.self.invariant;
+      below = read-below _ c.args.of 0 _ (lists-kept c.self.view_is c.self.invariant) shows;
+      kept = lists-kept c.self.view_is c.self.invariant;
     }

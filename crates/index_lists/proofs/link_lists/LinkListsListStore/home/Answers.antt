@@ -1,17 +1,14 @@
-use Rattle.std.proofs.Common.{ap, arith}
-use Rattle.std.proofs.lemmas.List.{length-map}
+use Rattle.std.proofs.Common.{ap, ◌∙◌}
+use Rattle.index_lists.specs.Inside.Links.{unless_none}
 use Rattle.index_lists.proofs.Fields.{field-read}
 use Rattle.index_lists.proofs.LinkCalls.{lists-kept, home-seen}
 use Rattle.index_lists.proofs.link_lists.LinkListsListStore.home.Goals as goal
 
 pub returns-clause-home : goal.returns-clause-home
 returns-clause-home c =
-    let items = c.self.inside.links.nodes.items in
-    let view = ap (λ w. w.nodes) c.self.view_is in
-    let size = c.self.invariant.home_length in
-    let all = length-map items (λ n. n.home) in
-    let e = field-read (λ n. n.home) items c.args.node c.index.result.now (omega arith) c.index.ensures in
-    home-seen _ _ _ _ _ _ _ _ _ c.self.view_is c.self.invariant c.args.node c.index.result.now.home c.some_unless.result c.requires e c.some_unless.ensures
+    let read = field-read (λ n. n.home) _ _ _ _ _ (ap (λ s. s.links.home) c.self-inside.view_is) (c.self.invariant.home_length ∙ ap (λ w. w.nodes) c.self.view_is) c.requires c.index.ensures in
+    let answer = c.some_unless.ensures ∙ ap (λ s. unless_none s.list_count c.index.result.now.home) c.self-inside.view_is in
+    home-seen c.self.view_is c.self.invariant c.args.node c.index.result.now.home c.some_unless.result c.requires read answer
 
 pub returns-clause-kept : goal.returns-clause-kept
-returns-clause-kept c = lists-kept _ _ _ _ _ _ _ _ _ c.self.view_is c.self.invariant
+returns-clause-kept c = lists-kept c.self.view_is c.self.invariant

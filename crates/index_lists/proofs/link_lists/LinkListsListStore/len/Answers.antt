@@ -2,4 +2,4 @@ use Rattle.index_lists.proofs.LinkCalls.{lists-kept}
 use Rattle.index_lists.proofs.link_lists.LinkListsListStore.len.Goals as goal
 
 pub returns-clause-kept : goal.returns-clause-kept
-returns-clause-kept c = lists-kept _ _ _ _ _ _ _ _ _ c.self.view_is c.self.invariant
+returns-clause-kept c = lists-kept c.self.view_is c.self.invariant

@@ -1,19 +1,16 @@
-use Rattle.std.proofs.Common.{◌∙◌, ap, sym, arith}
-use Rattle.std.proofs.lemmas.List.{length-map}
+use Rattle.std.proofs.Common.{◌∙◌, ap, sym}
+use Rattle.index_lists.specs.Inside.Links.{unless_none}
 use Rattle.index_lists.proofs.Fields.{field-read}
 use Rattle.index_lists.proofs.LinkCalls.{lists-kept, next-seen, next-none, next-below, link-below}
 use Rattle.index_lists.proofs.link_lists.LinkListsListStore.next.Goals as goal
 
 pub returns : goal.returns
 returns c =
-    let items = c.self.inside.links.nodes.items in
-    let view = ap (λ w. w.nodes) c.self.view_is in
-    let size = c.self.invariant.next_length in
-    let all = length-map items (λ n. n.next) in
-    let e = field-read (λ n. n.next) items c.args.node c.index.result.now (omega arith) c.index.ensures in
+    let read = field-read (λ n. n.next) _ _ _ _ _ (ap (λ s. s.links.next) c.self-inside.view_is) (c.self.invariant.next_length ∙ ap (λ w. w.nodes) c.self.view_is) c.requires c.index.ensures in
+    let answer = c.some_unless.ensures ∙ ap (λ s. unless_none s.node_count c.index.result.now.next) c.self-inside.view_is in
     record {
-      behind = λ l place stands. c.some_unless.ensures ∙ sym (next-seen _ _ _ _ _ _ _ _ _ c.self.view_is c.self.invariant c.args.node c.index.result.now.next e l place stands);
-      free = λ free. c.some_unless.ensures ∙ next-none _ _ _ _ _ _ _ _ _ c.self.view_is c.self.invariant c.args.node c.index.result.now.next c.requires e free;
-      below = link-below _ _ _ _ _ _ _ _ _ c.self.view_is c.self.invariant c.index.result.now.next _ _ (next-below _ _ _ _ _ _ _ _ _ c.self.view_is c.self.invariant c.args.node c.requires) e c.some_unless.ensures;
-      kept = lists-kept _ _ _ _ _ _ _ _ _ c.self.view_is c.self.invariant;
+      behind = λ l place stands. answer ∙ sym (next-seen c.self.view_is c.self.invariant c.args.node c.index.result.now.next read l place stands);
+      free = λ free. answer ∙ next-none c.self.view_is c.self.invariant c.args.node c.index.result.now.next c.requires read free;
+      below = link-below c.self.view_is c.self.invariant c.index.result.now.next _ _ (next-below c.self.view_is c.self.invariant c.args.node c.requires) read answer;
+      kept = lists-kept c.self.view_is c.self.invariant;
     }

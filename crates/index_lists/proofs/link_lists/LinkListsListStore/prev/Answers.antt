@@ -1,20 +1,17 @@
-use Rattle.std.proofs.Common.{◌∙◌, ap, sym, arith}
-use Rattle.std.proofs.lemmas.List.{length-map}
+use Rattle.std.proofs.Common.{◌∙◌, ap, sym}
+use Rattle.index_lists.specs.Inside.Links.{unless_none}
 use Rattle.index_lists.proofs.Fields.{field-read}
 use Rattle.index_lists.proofs.LinkCalls.{lists-kept, prev-seen, prev-front, prev-none, prev-below, link-below}
 use Rattle.index_lists.proofs.link_lists.LinkListsListStore.prev.Goals as goal
 
 pub returns : goal.returns
 returns c =
-    let items = c.self.inside.links.nodes.items in
-    let view = ap (λ w. w.nodes) c.self.view_is in
-    let size = c.self.invariant.prev_length in
-    let all = length-map items (λ n. n.prev) in
-    let e = field-read (λ n. n.prev) items c.args.node c.index.result.now (omega arith) c.index.ensures in
+    let read = field-read (λ n. n.prev) _ _ _ _ _ (ap (λ s. s.links.prev) c.self-inside.view_is) (c.self.invariant.prev_length ∙ ap (λ w. w.nodes) c.self.view_is) c.requires c.index.ensures in
+    let answer = c.some_unless.ensures ∙ ap (λ s. unless_none s.node_count c.index.result.now.prev) c.self-inside.view_is in
     record {
-      before = λ l place stands. c.some_unless.ensures ∙ sym (prev-seen _ _ _ _ _ _ _ _ _ c.self.view_is c.self.invariant c.args.node c.index.result.now.prev e l place stands);
-      first = λ l stands. c.some_unless.ensures ∙ prev-front _ _ _ _ _ _ _ _ _ c.self.view_is c.self.invariant c.args.node c.index.result.now.prev e l stands;
-      free = λ free. c.some_unless.ensures ∙ prev-none _ _ _ _ _ _ _ _ _ c.self.view_is c.self.invariant c.args.node c.index.result.now.prev c.requires e free;
-      below = link-below _ _ _ _ _ _ _ _ _ c.self.view_is c.self.invariant c.index.result.now.prev _ _ (prev-below _ _ _ _ _ _ _ _ _ c.self.view_is c.self.invariant c.args.node c.requires) e c.some_unless.ensures;
-      kept = lists-kept _ _ _ _ _ _ _ _ _ c.self.view_is c.self.invariant;
+      before = λ l place stands. answer ∙ sym (prev-seen c.self.view_is c.self.invariant c.args.node c.index.result.now.prev read l place stands);
+      first = λ l stands. answer ∙ prev-front c.self.view_is c.self.invariant c.args.node c.index.result.now.prev read l stands;
+      free = λ free. answer ∙ prev-none c.self.view_is c.self.invariant c.args.node c.index.result.now.prev c.requires read free;
+      below = link-below c.self.view_is c.self.invariant c.index.result.now.prev _ _ (prev-below c.self.view_is c.self.invariant c.args.node c.requires) read answer;
+      kept = lists-kept c.self.view_is c.self.invariant;
     }
