@@ -4,7 +4,7 @@ use Rattle.std.proofs.lemmas.List.{get_or-replicate, length-replicate}
 use Rattle.std.proofs.lemmas.Bool.{cases_eq, cases_lt}
 use Rattle.index_lists.specs.Lists.{times, without_node, IsFree, IsIn, IsHome, AreLists, AreSame, empty, pushed, unlinked}
 use Rattle.index_lists.specs.Links.{Chains}
-use Rattle.index_lists.specs.Inside.Links.{IsLinked, PlainLinks, HoldLists, IsLinks, chains_of, chain_list, chained, unless_none, next_pointed, prev_pointed, placed, loosened, appended, shortened}
+use Rattle.index_lists.specs.Inside.Links.{IsLinked, PlainLinks, AreLinksOf, IsLinks, chains_of, chain_list, chained, unless_none, next_pointed, prev_pointed, placed, loosened, appended, shortened}
 use Rattle.index_lists.proofs.Times.{same_is, differ_is, cond_same, cond_other, length-without}
 use Rattle.index_lists.proofs.AllLists.{store-are, home-of_free, room, at-home, seen, settle, push-store, unlink-store, from_back, from_forth, at-home-once}
 use Rattle.index_lists.proofs.Links.{tail}
@@ -80,8 +80,11 @@ module _ {nodes lists : ℕ} {s : PlainLinks} {v : Chains} (view : chains_of nod
   nodes-are : nodes ≡ v.nodes
   nodes-are = ap (λ w. w.nodes) view
 
-  store_here : HoldLists nodes lists s (chain_list v)
-  store_here = subst (λ w. HoldLists nodes lists s (chain_list w)) view is.store
+  here : {node : ℕ} → node < v.nodes → node < nodes
+  here h = rw nodes-are h
+
+  store_here : AreLinksOf nodes lists s (chain_list v)
+  store_here = subst (λ w. AreLinksOf nodes lists s (chain_list w)) view is.store
 
   pub last-in : (to : ℕ) → to < v.lists → slice_index s.last to ≤ nodes
   last-in to h = end-below nodes (slice_index s.next) (slice_index s.prev) (slice_index s.last to) (slice_index s.first to) (chain_list v to) (store_here.linked to (rw lists-are h))
@@ -91,17 +94,14 @@ module _ {nodes lists : ℕ} {s : PlainLinks} {v : Chains} (view : chains_of nod
     to_here : to < lists
     to_here = rw lists-are to_in
 
-    new_here : node < nodes
-    new_here = rw nodes-are node_in
-
     no_home : slice_index s.home node ≡ lists
-    no_home = home-of_free store_here node new_here free.free
+    no_home = home-of_free store_here node (here node_in) free.free
 
     pub push-room : slice_index s.len to < nodes
-    push-room = room store_here to node to_here new_here no_home
+    push-room = room store_here to node to_here (here node_in) no_home
 
-    pushed-all : HoldLists nodes lists (grown s to node) (λ l. cond (l == to) (chain_list v l ++ node ∷ []) (chain_list v l))
-    pushed-all = push-store store_here to node to_here new_here no_home
+    pushed-all : AreLinksOf nodes lists (grown s to node) (λ l. cond (l == to) (chain_list v l ++ node ∷ []) (chain_list v l))
+    pushed-all = push-store store_here to node to_here (here node_in) no_home
         (λ x i. read-set s.next (slice_index s.last to) node x (rw is.next_length i))
         (λ x i. read-set s.prev node (slice_index s.last to) x (rw is.prev_length i))
         (λ x i. read-set s.home node to x (rw is.home_length i))
@@ -137,25 +137,22 @@ module _ {nodes lists : ℕ} {s : PlainLinks} {v : Chains} (view : chains_of nod
     abbrev list : ℕ
     list = slice_index s.home node
 
-    node_here : node < nodes
-    node_here = rw nodes-are node_in
-
     pub home-in : list < lists
     home-in =
         let in_one : stands.0 < lists = elim (cases_lt stands.0 lists) [
           | inl lt ↦ lt
           | inr ge ↦ absurd (let e = ap (times node) (store_here.beyond stands.0 ge) in let some = stands.1 in omega arith)
         ] in
-        rw (at-home store_here stands.0 node in_one node_here stands.1) in_one
+        rw (at-home store_here stands.0 node in_one (here node_in) stands.1) in_one
 
     pub before-in : before ≤ nodes
-    before-in = elim (from_back store_here node node_here home-in) [
+    before-in = elim (from_back store_here node (here node_in) home-in) [
       | inl q ↦ (let e = q.1 in omega arith)
       | inr q ↦ (let e = q.0 in omega arith)
     ]
 
     pub behind-in : behind ≤ nodes
-    behind-in = elim (from_forth store_here node node_here home-in) [
+    behind-in = elim (from_forth store_here node (here node_in) home-in) [
       | inl q ↦ (let e = q.0 in omega arith)
       | inr q ↦ (let e = q.0 in omega arith)
     ]
@@ -164,11 +161,11 @@ module _ {nodes lists : ℕ} {s : PlainLinks} {v : Chains} (view : chains_of nod
     some-left =
         let size = length-without node (chain_list v list) in
         let sized = store_here.sized list home-in in
-        let once = at-home-once store_here list node home-in node_here refl in
+        let once = at-home-once store_here list node home-in (here node_in) refl in
         omega arith
 
-    unlinked-all : HoldLists nodes lists (shrunk nodes lists s node) (λ l. without_node node (chain_list v l))
-    unlinked-all = unlink-store store_here node node_here home-in
+    unlinked-all : AreLinksOf nodes lists (shrunk nodes lists s node) (λ l. without_node node (chain_list v l))
+    unlinked-all = unlink-store store_here node (here node_in) home-in
         (λ x i. read-set (slice_set s.next before behind) node nodes x (rw (length-set s.next before behind, is.next_length) i) ∙ ap (cond (x == node) nodes) (read-set s.next before behind x (rw is.next_length i)))
         (λ x i. read-set (slice_set s.prev behind before) node nodes x (rw (length-set s.prev behind before, is.prev_length) i) ∙ ap (cond (x == node) nodes) (read-set s.prev behind before x (rw is.prev_length i)))
         (λ x i. read-set s.home node lists x (rw is.home_length i))
@@ -194,9 +191,6 @@ module _ {nodes lists : ℕ} {s : PlainLinks} {v : Chains} (view : chains_of nod
     unlink-same = record { same_nodes = nodes-are; same_lists = lists-are; same_list = seen unlinked-all left-past }
 
   -- what is read
-  nothing : unless_none nodes nodes ≡ None
-  nothing = cond_same nodes nodes None (Some nodes) refl
-
   pub lists-kept : AreLists (chained v)
   lists-kept = rw (← nodes-are, ← lists-are) (store-are store_here)
 
@@ -206,89 +200,72 @@ module _ {nodes lists : ℕ} {s : PlainLinks} {v : Chains} (view : chains_of nod
     | inr g ↦ absurd (let none : None ≡ Some node = sym (ap (λ xs. slice_get xs place) (store_here.beyond l g)) ∙ e in cc)
   ]
 
-  pub first-seen : (to at : ℕ) → to < v.lists → at ≡ slice_index s.first to → slice_get (chain_list v to) 0 ≡ unless_none nodes at
-  first-seen to at h e =
-      first-read nodes (slice_index s.next) (slice_index s.prev) (slice_index s.last to) nodes (slice_index s.first to) (chain_list v to) (store_here.linked to (rw lists-are h)) ∙ ap (unless_none nodes) (sym e)
+  pub first-seen : (to : ℕ) → to < v.lists → slice_get (chain_list v to) 0 ≡ unless_none nodes (slice_index s.first to)
+  first-seen to h = first-read nodes (slice_index s.next) (slice_index s.prev) (slice_index s.last to) nodes (slice_index s.first to) (chain_list v to) (store_here.linked to (rw lists-are h))
 
-  pub last-seen : (to at : ℕ) → to < v.lists → at ≡ slice_index s.last to → slice_get (chain_list v to) (length (chain_list v to) - 1) ≡ unless_none nodes at
-  last-seen to at h e =
-      last-read nodes (slice_index s.next) (slice_index s.prev) (slice_index s.last to) (slice_index s.first to) (chain_list v to) (store_here.linked to (rw lists-are h)) ∙ ap (unless_none nodes) (sym e)
+  pub last-seen : (to : ℕ) → to < v.lists → slice_get (chain_list v to) (length (chain_list v to) - 1) ≡ unless_none nodes (slice_index s.last to)
+  last-seen to h = last-read nodes (slice_index s.next) (slice_index s.prev) (slice_index s.last to) (slice_index s.first to) (chain_list v to) (store_here.linked to (rw lists-are h))
 
-  pub next-seen : (node at : ℕ) → at ≡ slice_index s.next node → (l place : ℕ) → slice_get (chain_list v l) place ≡ Some node → slice_get (chain_list v l) (place + 1) ≡ unless_none nodes at
-  next-seen node at e l place stands =
-      after-read nodes (slice_index s.next) (slice_index s.prev) (slice_index s.last l) nodes (slice_index s.first l) place node (chain_list v l) (store_here.linked l (in-one l place node stands)) stands ∙ ap (unless_none nodes) (sym e)
+  module _ (l place node : ℕ) where
+    pub next-seen : slice_get (chain_list v l) place ≡ Some node → slice_get (chain_list v l) (place + 1) ≡ unless_none nodes (slice_index s.next node)
+    next-seen e = after-read nodes (slice_index s.next) (slice_index s.prev) (slice_index s.last l) nodes (slice_index s.first l) place node (chain_list v l) (store_here.linked l (in-one l place node e)) e
 
-  pub prev-seen : (node at : ℕ) → at ≡ slice_index s.prev node → (l place : ℕ) → slice_get (chain_list v l) (place + 1) ≡ Some node → slice_get (chain_list v l) place ≡ unless_none nodes at
-  prev-seen node at e l place stands =
-      before-read nodes (slice_index s.next) (slice_index s.prev) (slice_index s.last l) nodes (slice_index s.first l) place node (chain_list v l) (store_here.linked l (in-one l (place + 1) node stands)) stands ∙ ap (unless_none nodes) (sym e)
+    pub prev-seen : slice_get (chain_list v l) (place + 1) ≡ Some node → slice_get (chain_list v l) place ≡ unless_none nodes (slice_index s.prev node)
+    prev-seen e = before-read nodes (slice_index s.next) (slice_index s.prev) (slice_index s.last l) nodes (slice_index s.first l) place node (chain_list v l) (store_here.linked l (in-one l (place + 1) node e)) e
 
-  pub prev-front : (node at : ℕ) → at ≡ slice_index s.prev node → (l : ℕ) → slice_get (chain_list v l) 0 ≡ Some node → unless_none nodes at ≡ None
-  prev-front node at e l stands =
-      cond_same at nodes None (Some at) (e ∙ front-read nodes (slice_index s.next) (slice_index s.prev) (slice_index s.last l) nodes (slice_index s.first l) node (chain_list v l) (store_here.linked l (in-one l 0 node stands)) stands)
+  pub prev-front : (l node : ℕ) → slice_get (chain_list v l) 0 ≡ Some node → unless_none nodes (slice_index s.prev node) ≡ None
+  prev-front l node e =
+      cond_same _ nodes None (Some (slice_index s.prev node)) (front-read nodes (slice_index s.next) (slice_index s.prev) (slice_index s.last l) nodes (slice_index s.first l) node (chain_list v l) (store_here.linked l (in-one l 0 node e)) e)
 
-  -- a link is the number of a node, or none
-  pub next-below : (node : ℕ) → node < v.nodes → slice_index s.next node ≤ nodes
-  next-below node h =
-      let i : node < nodes = rw nodes-are h in
-      elim (cases_lt (slice_index s.home node) lists) [
-        | inl lt ↦ elim (from_forth store_here node i lt) [
-          | inl q ↦ (let d = q.0 in omega arith)
-          | inr q ↦ (let d = q.0 in omega arith)
-        ]
-        | inr ge ↦ (let b = store_here.homes node i in let d = (store_here.loose node i (omega arith)).0 in omega arith)
+  -- what is read of a link that is the number of a node, or none, is below the number of nodes
+  pub link-below : (link : ℕ) (o : Option ℕ) → link ≤ nodes → o ≡ unless_none nodes link → IfSome o (λ node. node < v.nodes)
+  link-below link o h e = rw (e, ← nodes-are) (unless-below nodes link h)
+
+  module _ (node : ℕ) (h : node < v.nodes) where
+    pub next-below : slice_index s.next node ≤ nodes
+    next-below = elim (cases_lt (slice_index s.home node) lists) [
+      | inl lt ↦ elim (from_forth store_here node (here h) lt) [
+        | inl q ↦ (let d = q.0 in omega arith)
+        | inr q ↦ (let d = q.0 in omega arith)
       ]
+      | inr ge ↦ (let b = store_here.homes node (here h) in let d = (store_here.loose node (here h) (omega arith)).0 in omega arith)
+    ]
 
-  pub prev-below : (node : ℕ) → node < v.nodes → slice_index s.prev node ≤ nodes
-  prev-below node h =
-      let i : node < nodes = rw nodes-are h in
-      elim (cases_lt (slice_index s.home node) lists) [
-        | inl lt ↦ elim (from_back store_here node i lt) [
-          | inl q ↦ (let d = q.1 in omega arith)
-          | inr q ↦ (let d = q.0 in omega arith)
-        ]
-        | inr ge ↦ (let b = store_here.homes node i in let d = (store_here.loose node i (omega arith)).1 in omega arith)
+    pub prev-below : slice_index s.prev node ≤ nodes
+    prev-below = elim (cases_lt (slice_index s.home node) lists) [
+      | inl lt ↦ elim (from_back store_here node (here h) lt) [
+        | inl q ↦ (let d = q.1 in omega arith)
+        | inr q ↦ (let d = q.0 in omega arith)
       ]
+      | inr ge ↦ (let b = store_here.homes node (here h) in let d = (store_here.loose node (here h) (omega arith)).1 in omega arith)
+    ]
 
-  -- what is read of them is below the number of nodes
-  pub link-below : (at link : ℕ) (o : Option ℕ) → link ≤ nodes → at ≡ link → o ≡ unless_none nodes at → IfSome o (λ node. node < v.nodes)
-  link-below at link o h e f = rw (f, e, ← nodes-are) (unless-below nodes link h)
+    loose-here : IsFree (chained v) node → (slice_index s.next node ≡ nodes) × (slice_index s.prev node ≡ nodes)
+    loose-here free = store_here.loose node (here h) (home-of_free store_here node (here h) free.free)
 
-  loose-here : (node : ℕ) → node < v.nodes → IsFree (chained v) node → (slice_index s.next node ≡ nodes) × (slice_index s.prev node ≡ nodes)
-  loose-here node h free =
-      let i : node < nodes = rw nodes-are h in
-      store_here.loose node i (home-of_free store_here node i free.free)
+    pub next-none : IsFree (chained v) node → unless_none nodes (slice_index s.next node) ≡ None
+    next-none free = cond_same _ nodes None (Some (slice_index s.next node)) (loose-here free).0
 
-  pub next-none : (node at : ℕ) → node < v.nodes → at ≡ slice_index s.next node → IsFree (chained v) node → unless_none nodes at ≡ None
-  next-none node at h e free = cond_same at nodes None (Some at) (e ∙ (loose-here node h free).0)
+    pub prev-none : IsFree (chained v) node → unless_none nodes (slice_index s.prev node) ≡ None
+    prev-none free = cond_same _ nodes None (Some (slice_index s.prev node)) (loose-here free).1
 
-  pub prev-none : (node at : ℕ) → node < v.nodes → at ≡ slice_index s.prev node → IsFree (chained v) node → unless_none nodes at ≡ None
-  prev-none node at h e free = cond_same at nodes None (Some at) (e ∙ (loose-here node h free).1)
-
-  -- the list of a node
-  pub home-seen : (node at : ℕ) (o : Option ℕ) → node < v.nodes → at ≡ slice_index s.home node → o ≡ unless_none lists at
-      → MatchOption o (IsFree (chained v) node) (λ found. IsHome (chained v) node found)
-  home-seen node at o h e f =
-      let i : node < nodes = rw nodes-are h in
-      elim (cases_lt at lists) [
-        | inl low ↦ subst (λ found. MatchOption found (IsFree (chained v) node) (λ l. IsHome (chained v) node l)) (sym (f
-            ∙ cond_other at lists None (Some at) (λ same. omega arith))) (record {
-              home_in = let d = lists-are in omega arith;
-              times_is = λ l. elim (cases_lt l lists) [
-                | inl inside ↦ store_here.held l node inside i ∙ ap (λ n. cond (n == l) 1 0) (sym e)
-                | inr beyond ↦ ap (times node) (store_here.beyond l beyond) ∙ sym (cond_other at l 1 0 (λ same. omega arith))
-              ];
-            })
-        | inr high ↦ (
-            let b = store_here.homes node i in
-            let none : at ≡ lists = omega arith in
-            subst (λ found. MatchOption found (IsFree (chained v) node) (λ l. IsHome (chained v) node l)) (sym (f
-            ∙ cond_same at lists None (Some at) none)) (record {
-              free = λ l. elim (cases_lt l lists) [
-                | inl inside ↦ store_here.held l node inside i ∙ cond_other (slice_index s.home node) l 1 0 (λ same. omega arith)
-                | inr beyond ↦ ap (times node) (store_here.beyond l beyond)
-              ];
-            }))
-      ]
+    -- the list of a node
+    pub home-seen : (o : Option ℕ) → o ≡ unless_none lists (slice_index s.home node) → MatchOption o (IsFree (chained v) node) (λ found. IsHome (chained v) node found)
+    home-seen o e = rw e (elim (cases_lt (slice_index s.home node) lists) [
+      | inl low ↦ rw (differ_is (slice_index s.home node) lists (λ same. omega arith)) (record {
+        home_in = let d = lists-are in omega arith;
+        times_is = λ l. elim (cases_lt l lists) [
+          | inl inside ↦ store_here.held l node inside (here h)
+          | inr beyond ↦ ap (times node) (store_here.beyond l beyond) ∙ sym (cond_other (slice_index s.home node) l 1 0 (λ same. omega arith))
+        ];
+      })
+      | inr high ↦ rw (same_is (slice_index s.home node) lists (let b = store_here.homes node (here h) in omega arith)) (record {
+        free = λ l. elim (cases_lt l lists) [
+          | inl inside ↦ store_here.held l node inside (here h) ∙ cond_other (slice_index s.home node) l 1 0 (λ same. omega arith)
+          | inr beyond ↦ ap (times node) (store_here.beyond l beyond)
+        ];
+      })
+    ])
 
 -- a store with nothing in its lists
 replicated : (n i a d : ℕ) → (a ≡ d) → slice_index_or (replicate n a) i d ≡ d

@@ -1,5 +1,6 @@
 -- What this crate's own functions say beside `Links`.
-use Rattle.std.specs.Prelude.{◌≡◌, ℕ, ◌+◌, ◌-◌, ◌<◌, ◌≤◌, ◌==◌, cond, List, [], ◌∷◌, zero, suc, length, slice_index, slice_set, Option, None, Some}
+use Rattle.std.specs.Prelude.{◌≡◌, ℕ, ◌+◌, ◌-◌, ◌<◌, ◌≤◌, ◌==◌, cond, List, [], ◌∷◌, zero, suc, length, slice_index, slice_set}
+use Rattle.std.specs.Prelude.{Option, None, Some}
 use Rattle.index_lists.specs.Lists.{Lists, times, lists_of}
 use Rattle.index_lists.specs.Links.{Chains}
 
@@ -17,7 +18,7 @@ IsLinked none next prev last before at (x ∷ xs) = (at ≡ x) × (x < none) × 
 abbrev pub skip : (ℕ → ℕ) → ℕ → ℕ → ℕ
 skip link node x = cond (x == node) (link node) x
 
--- the links are those of the lists
+-- the links, read as functions, are those of the lists
 pub record IsStore (none nowhere : ℕ) (next prev home first last len : ℕ → ℕ) (list : ℕ → List ℕ) : Type 0 where
   pub linked : (l : ℕ) → l < nowhere → IsLinked none next prev (last l) none (first l) (list l)
   pub sized : (l : ℕ) → l < nowhere → len l ≡ length (list l)
@@ -39,15 +40,17 @@ pub record PlainLinks : Type 0 where
 abbrev pub chains_of : ℕ → ℕ → PlainLinks → Chains
 chains_of nodes lists s = record { nodes = nodes; lists = lists; next = s.next; first = s.first; len = s.len }
 
+-- the nodes of a list, along the links
 abbrev pub chain_list : Chains → ℕ → List ℕ
 chain_list c l = follow (slice_index c.next) (slice_index c.first l) (slice_index c.len l)
 
+-- all lists that the links lead through
 abbrev pub chained : Chains → Lists
 chained c = lists_of c.nodes c.lists (chain_list c)
 
--- the columns show these lists
-abbrev pub HoldLists : ℕ → ℕ → PlainLinks → (ℕ → List ℕ) → Type 0
-HoldLists nodes lists s =
+-- the links are those of the lists
+abbrev pub AreLinksOf : ℕ → ℕ → PlainLinks → (ℕ → List ℕ) → Type 0
+AreLinksOf nodes lists s =
     IsStore nodes lists (slice_index s.next) (slice_index s.prev) (slice_index s.home)
     (slice_index s.first) (slice_index s.last) (slice_index s.len)
 
@@ -59,7 +62,7 @@ pub record IsLinks (nodes lists : ℕ) (s : PlainLinks) : Type 0 where
   pub first_length : length s.first ≡ lists
   pub last_length : length s.last ≡ lists
   pub len_length : length s.len ≡ lists
-  pub store : HoldLists nodes lists s (chain_list (chains_of nodes lists s))
+  pub store : AreLinksOf nodes lists s (chain_list (chains_of nodes lists s))
 
 -- the link of a node leads to the one behind it, or, where the node is none, the list begins there
 abbrev pub next_pointed : PlainLinks → ℕ → ℕ → ℕ → PlainLinks
