@@ -1,10 +1,10 @@
 -- All lists of a store under a push and an unlink.
-use Rattle.std.proofs.Common.{◌≡◌, ◌≢◌, ℕ, ◌+◌, ◌-◌, ◌<◌, ◌≤◌, ◌==◌, ◌⊎◌, inl, inr, cond, List, [], ◌∷◌, ◌++◌, length, refl, sym, ap, ◌∙◌, arith, length-append}
+use Rattle.std.proofs.Common.{◌≡◌, ◌≢◌, ℕ, ◌+◌, ◌-◌, ◌<◌, ◌≤◌, ◌==◌, ◌⊎◌, inl, inr, cond, List, [], ◌∷◌, ◌++◌, length, refl, sym, ap, ◌∙◌, arith, length-append, slice_index}
 use Rattle.std.proofs.lemmas.Bool.{cases_eq, cases_lt}
 use Rattle.index_lists.specs.Lists.{times, without_node, AreLists, lists_of}
-use Rattle.index_lists.specs.Inside.Links.{follow, IsLinked, IsStore, skip}
+use Rattle.index_lists.specs.Inside.Links.{follow, IsLinked, AreLinksOf, PlainLinks}
 use Rattle.index_lists.proofs.Times.{same_is, differ_is, cond_same, cond_other, times-append, times-without_same, times-without_other, length-without, distinct-length, times-later}
-use Rattle.index_lists.proofs.Links.{linked-follow, length-follow, back, forth, head, tail, frame, linked-push, linked-unlink}
+use Rattle.index_lists.proofs.Links.{skip, linked-follow, length-follow, back, forth, head, tail, frame, linked-push, linked-unlink}
 
 -- the same links, with the ends and the list written otherwise
 relink : (none : ℕ) (next prev : ℕ → ℕ) (last last' before before' at at' : ℕ) (xs xs' : List ℕ) → last' ≡ last → before' ≡ before → at' ≡ at → xs' ≡ xs → IsLinked none next prev last before at xs → IsLinked none next prev last' before' at' xs'
@@ -14,7 +14,25 @@ nothing-first : (none : ℕ) (next prev : ℕ → ℕ) (last before at y : ℕ) 
 nothing-first none next prev last before at y [] c e = refl
 nothing-first none next prev last before at y (x ∷ xs) c e = absurd (let a = c.0 in let b = c.1 in omega arith)
 
-module _ {none nowhere : ℕ} {next prev home first last len : ℕ → ℕ} {list : ℕ → List ℕ} (s : IsStore none nowhere next prev home first last len list) where
+module _ {none nowhere : ℕ} {links : PlainLinks} {list : ℕ → List ℕ} (s : AreLinksOf none nowhere links list) where
+  abbrev next : ℕ → ℕ
+  next = slice_index links.next
+
+  abbrev prev : ℕ → ℕ
+  prev = slice_index links.prev
+
+  abbrev home : ℕ → ℕ
+  home = slice_index links.home
+
+  abbrev first : ℕ → ℕ
+  first = slice_index links.first
+
+  abbrev last : ℕ → ℕ
+  last = slice_index links.last
+
+  abbrev len : ℕ → ℕ
+  len = slice_index links.len
+
   -- a node that stands in a list has it as its home
   pub at-home : (l x : ℕ) → l < nowhere → x < none → 0 < times x (list l) → home x ≡ l
   at-home l x h i some = elim (cases_eq (home x) l) [
@@ -133,7 +151,7 @@ module _ {none nowhere : ℕ} {next prev home first last len : ℕ → ℕ} {lis
     | inr ge ↦ rw (past l ge, s.beyond l ge) refl
   ]
 
-  pub settle : ((l : ℕ) → nowhere ≤ l → len l ≡ 0) → IsStore none nowhere next prev home first last len (λ l. follow next (first l) (len l))
+  pub settle : ((l : ℕ) → nowhere ≤ l → len l ≡ 0) → AreLinksOf none nowhere links (λ l. follow next (first l) (len l))
   settle past = record {
     linked = λ l h. rw (seen past l) (s.linked l h);
     sized = λ l h. sym (length-follow next (first l) (len l));
@@ -144,13 +162,13 @@ module _ {none nowhere : ℕ} {next prev home first last len : ℕ → ℕ} {lis
   }
 
   -- a push
-  module _ {next' prev' home' first' last' len' : ℕ → ℕ} (to node : ℕ) (to_in : to < nowhere) (node_in : node < none) (loose_node : home node ≡ nowhere)
-      (nexts : (x : ℕ) → x < none → next' x ≡ cond (x == last to) node (next x))
-      (prevs : (x : ℕ) → x < none → prev' x ≡ cond (x == node) (last to) (prev x))
-      (homes' : (x : ℕ) → x < none → home' x ≡ cond (x == node) to (home x))
-      (firsts : (l : ℕ) → l < nowhere → first' l ≡ cond (l == to) (cond (last to == none) node (first l)) (first l))
-      (lasts : (l : ℕ) → l < nowhere → last' l ≡ cond (l == to) node (last l))
-      (lens : (l : ℕ) → l < nowhere → len' l ≡ cond (l == to) (len l + 1) (len l)) where
+  module _ (links' : PlainLinks) (to node : ℕ) (to_in : to < nowhere) (node_in : node < none) (loose_node : home node ≡ nowhere)
+      (nexts : (x : ℕ) → x < none → slice_index links'.next x ≡ cond (x == last to) node (next x))
+      (prevs : (x : ℕ) → x < none → slice_index links'.prev x ≡ cond (x == node) (last to) (prev x))
+      (homes' : (x : ℕ) → x < none → slice_index links'.home x ≡ cond (x == node) to (home x))
+      (firsts : (l : ℕ) → l < nowhere → slice_index links'.first l ≡ cond (l == to) (cond (last to == none) node (first l)) (first l))
+      (lasts : (l : ℕ) → l < nowhere → slice_index links'.last l ≡ cond (l == to) node (last l))
+      (lens : (l : ℕ) → l < nowhere → slice_index links'.len l ≡ cond (l == to) (len l + 1) (len l)) where
     pushed_list : ℕ → List ℕ
     pushed_list l = cond (l == to) (list l ++ node ∷ []) (list l)
 
@@ -180,30 +198,30 @@ module _ {none nowhere : ℕ} {next prev home first last len : ℕ → ℕ} {lis
           )
     ]
 
-    pushed_linked : (l : ℕ) → l < nowhere → IsLinked none next' prev' (last' l) none (first' l) (pushed_list l)
+    pushed_linked : (l : ℕ) → l < nowhere → IsLinked none (slice_index links'.next) (slice_index links'.prev) (slice_index links'.last l) none (slice_index links'.first l) (pushed_list l)
     pushed_linked l h = elim (cases_eq l to) [
       | inl e ↦ (
-          let same : (x : ℕ) → 0 < times x (list to) → x < none → (next' x ≡ cond (x == last to) node (next x)) × (prev' x ≡ prev x) = λ x some i. (
+          let same : (x : ℕ) → 0 < times x (list to) → x < none → (slice_index links'.next x ≡ cond (x == last to) node (next x)) × (slice_index links'.prev x ≡ prev x) = λ x some i. (
           let hx = at-home to x to_in i some in
           (nexts x i, prevs x i ∙ cond_other x node (last to) (prev x) (apart x i (omega arith)))) in
-          let n : next' node ≡ none = nexts node node_in ∙ cond_other node (last to) node (next node) last_loose ∙ (s.loose node node_in loose_node).0 in
-          let p : prev' node ≡ last to = prevs node node_in ∙ cond_same node node (last to) (prev node) refl in
-          let done = linked-push none next prev next' prev' (last to) none (first to) node (list to) node_in same n p (λ i. (last-home to to_in i).1) (s.linked to to_in) in
-          let f : first' l ≡ cond (first to == none) node (first to) = firsts l h ∙ cond_same l to (cond (last to == none) node (first l)) (first l) e ∙ ap (λ k. cond (last to == none) node (first k)) e ∙ same_first in
-          let a : last' l ≡ node = lasts l h ∙ cond_same l to node (last l) e in
+          let n : slice_index links'.next node ≡ none = nexts node node_in ∙ cond_other node (last to) node (next node) last_loose ∙ (s.loose node node_in loose_node).0 in
+          let p : slice_index links'.prev node ≡ last to = prevs node node_in ∙ cond_same node node (last to) (prev node) refl in
+          let done = linked-push none next prev (slice_index links'.next) (slice_index links'.prev) (last to) none (first to) node (list to) node_in same n p (λ i. (last-home to to_in i).1) (s.linked to to_in) in
+          let f : slice_index links'.first l ≡ cond (first to == none) node (first to) = firsts l h ∙ cond_same l to (cond (last to == none) node (first l)) (first l) e ∙ ap (λ k. cond (last to == none) node (first k)) e ∙ same_first in
+          let a : slice_index links'.last l ≡ node = lasts l h ∙ cond_same l to node (last l) e in
           let xs : pushed_list l ≡ list to ++ node ∷ [] = pushed_here l e ∙ ap (λ k. list k ++ node ∷ []) e in
-          relink none next' prev' node (last' l) none none (cond (first to == none) node (first to)) (first' l) (list to ++ node ∷ []) (pushed_list l) a refl f xs done
+          relink none (slice_index links'.next) (slice_index links'.prev) node (slice_index links'.last l) none none (cond (first to == none) node (first to)) (slice_index links'.first l) (list to ++ node ∷ []) (pushed_list l) a refl f xs done
           )
       | inr ne ↦ (
-          let same : (x : ℕ) → 0 < times x (list l) → x < none → (next' x ≡ next x) × (prev' x ≡ prev x) = λ x some i. (
+          let same : (x : ℕ) → 0 < times x (list l) → x < none → (slice_index links'.next x ≡ next x) × (slice_index links'.prev x ≡ prev x) = λ x some i. (
           let hx = at-home l x h i some in
           (nexts x i ∙ cond_other x (last to) node (next x) (last_apart x i (λ d. ne (sym hx ∙ d))), prevs x i ∙ cond_other x node (last to) (prev x) (apart x i (omega arith)))) in
-          let done = frame none next prev next' prev' (last l) none (first l) (list l) same (s.linked l h) in
-          relink none next' prev' (last l) (last' l) none none (first l) (first' l) (list l) (pushed_list l) (lasts l h ∙ cond_other l to node (last l) ne) refl (firsts l h ∙ cond_other l to (cond (last to == none) node (first l)) (first l) ne) (pushed_there l ne) done
+          let done = frame none next prev (slice_index links'.next) (slice_index links'.prev) (last l) none (first l) (list l) same (s.linked l h) in
+          relink none (slice_index links'.next) (slice_index links'.prev) (last l) (slice_index links'.last l) none none (first l) (slice_index links'.first l) (list l) (pushed_list l) (lasts l h ∙ cond_other l to node (last l) ne) refl (firsts l h ∙ cond_other l to (cond (last to == none) node (first l)) (first l) ne) (pushed_there l ne) done
           )
     ]
 
-    pub push-store : IsStore none nowhere next' prev' home' first' last' len' (λ l. cond (l == to) (list l ++ node ∷ []) (list l))
+    pub push-store : AreLinksOf none nowhere links' (λ l. cond (l == to) (list l ++ node ∷ []) (list l))
     unfolding pushed_list
     push-store = record {
       linked = pushed_linked;
@@ -237,14 +255,14 @@ module _ {none nowhere : ℕ} {next prev home first last len : ℕ → ℕ} {lis
     }
 
   -- an unlink
-  module _ {next' prev' home' first' last' len' : ℕ → ℕ} (node : ℕ) (node_in : node < none) (home_in : home node < nowhere)
-      (nexts : (x : ℕ) → x < none → next' x ≡ cond (x == node) none (cond (x == prev node) (next node) (next x)))
-      (prevs : (x : ℕ) → x < none → prev' x ≡ cond (x == node) none (cond (x == next node) (prev node) (prev x)))
-      (homes' : (x : ℕ) → x < none → home' x ≡ cond (x == node) nowhere (home x))
-      (firsts : (l : ℕ) → l < nowhere → first' l ≡ cond (l == home node) (cond (prev node == none) (next node) (first l)) (first l))
-      (lasts : (l : ℕ) → l < nowhere → last' l ≡ cond (l == home node) (cond (next node == none) (prev node) (last l)) (last l))
-      (lens : (l : ℕ) → l < nowhere → len' l ≡ cond (l == home node) (len l - 1) (len l)) where
-    next_skips : (x : ℕ) → x < none → x ≢ node → next' x ≡ skip next node (next x)
+  module _ (links' : PlainLinks) (node : ℕ) (node_in : node < none) (home_in : home node < nowhere)
+      (nexts : (x : ℕ) → x < none → slice_index links'.next x ≡ cond (x == node) none (cond (x == prev node) (next node) (next x)))
+      (prevs : (x : ℕ) → x < none → slice_index links'.prev x ≡ cond (x == node) none (cond (x == next node) (prev node) (prev x)))
+      (homes' : (x : ℕ) → x < none → slice_index links'.home x ≡ cond (x == node) nowhere (home x))
+      (firsts : (l : ℕ) → l < nowhere → slice_index links'.first l ≡ cond (l == home node) (cond (prev node == none) (next node) (first l)) (first l))
+      (lasts : (l : ℕ) → l < nowhere → slice_index links'.last l ≡ cond (l == home node) (cond (next node == none) (prev node) (last l)) (last l))
+      (lens : (l : ℕ) → l < nowhere → slice_index links'.len l ≡ cond (l == home node) (len l - 1) (len l)) where
+    next_skips : (x : ℕ) → x < none → x ≢ node → slice_index links'.next x ≡ skip next node (next x)
     next_skips x i ne = nexts x i ∙ cond_other x node none (cond (x == prev node) (next node) (next x)) ne ∙ elim (cases_eq x (prev node)) [
       | inl e ↦ (
           let to_node : next x ≡ node = elim (from_back node node_in home_in) [
@@ -256,7 +274,7 @@ module _ {none nowhere : ℕ} {next prev home first last len : ℕ → ℕ} {lis
       | inr d ↦ cond_other x (prev node) (next node) (next x) d ∙ sym (cond_other (next x) node (next node) (next x) (λ e. d (sym (next-only node x node_in i e))))
     ]
 
-    prev_skips : (x : ℕ) → x < none → x ≢ node → prev' x ≡ skip prev node (prev x)
+    prev_skips : (x : ℕ) → x < none → x ≢ node → slice_index links'.prev x ≡ skip prev node (prev x)
     prev_skips x i ne = prevs x i ∙ cond_other x node none (cond (x == next node) (prev node) (prev x)) ne ∙ elim (cases_eq x (next node)) [
       | inl e ↦ (
           let to_node : prev x ≡ node = elim (from_forth node node_in home_in) [
@@ -268,7 +286,7 @@ module _ {none nowhere : ℕ} {next prev home first last len : ℕ → ℕ} {lis
       | inr d ↦ cond_other x (next node) (prev node) (prev x) d ∙ sym (cond_other (prev x) node (prev node) (prev x) (λ e. d (sym (prev-only node x node_in i e))))
     ]
 
-    first_skips : (l : ℕ) → l < nowhere → first' l ≡ skip next node (first l)
+    first_skips : (l : ℕ) → l < nowhere → slice_index links'.first l ≡ skip next node (first l)
     first_skips l h = firsts l h ∙ elim (cases_eq l (home node)) [
       | inl e ↦ cond_same l (home node) (cond (prev node == none) (next node) (first l)) (first l) e ∙ elim (cases_eq (prev node) none) [
         | inl p ↦ (
@@ -283,7 +301,7 @@ module _ {none nowhere : ℕ} {next prev home first last len : ℕ → ℕ} {lis
       | inr ne ↦ cond_other l (home node) (cond (prev node == none) (next node) (first l)) (first l) ne ∙ sym (cond_other (first l) node (next node) (first l) (λ d. ne (sym (first-home l h (omega arith)).0 ∙ ap home d)))
     ]
 
-    last_skips : (l : ℕ) → l < nowhere → last' l ≡ skip prev node (last l)
+    last_skips : (l : ℕ) → l < nowhere → slice_index links'.last l ≡ skip prev node (last l)
     last_skips l h = lasts l h ∙ elim (cases_eq l (home node)) [
       | inl e ↦ cond_same l (home node) (cond (next node == none) (prev node) (last l)) (last l) e ∙ elim (cases_eq (next node) none) [
         | inl p ↦ (
@@ -298,12 +316,12 @@ module _ {none nowhere : ℕ} {next prev home first last len : ℕ → ℕ} {lis
       | inr ne ↦ cond_other l (home node) (cond (next node == none) (prev node) (last l)) (last l) ne ∙ sym (cond_other (last l) node (prev node) (last l) (λ d. ne (sym (last-home l h (omega arith)).0 ∙ ap home d)))
     ]
 
-    unlinked_linked : (l : ℕ) → l < nowhere → IsLinked none next' prev' (last' l) none (first' l) (without_node node (list l))
+    unlinked_linked : (l : ℕ) → l < nowhere → IsLinked none (slice_index links'.next) (slice_index links'.prev) (slice_index links'.last l) none (slice_index links'.first l) (without_node node (list l))
     unlinked_linked l h =
-        let done = linked-unlink none next prev next' prev' (last l) none (first l) node (list l) node_in (λ x i ne. (next_skips x i ne, prev_skips x i ne)) (s.linked l h) in
-        relink none next' prev' (skip prev node (last l)) (last' l) (skip prev node none) none (skip next node (first l)) (first' l) (without_node node (list l)) (without_node node (list l)) (last_skips l h) (sym (cond_other none node (prev node) none (λ e. omega arith))) (first_skips l h) refl done
+        let done = linked-unlink none next prev (slice_index links'.next) (slice_index links'.prev) (last l) none (first l) node (list l) node_in (λ x i ne. (next_skips x i ne, prev_skips x i ne)) (s.linked l h) in
+        relink none (slice_index links'.next) (slice_index links'.prev) (skip prev node (last l)) (slice_index links'.last l) (skip prev node none) none (skip next node (first l)) (slice_index links'.first l) (without_node node (list l)) (without_node node (list l)) (last_skips l h) (sym (cond_other none node (prev node) none (λ e. omega arith))) (first_skips l h) refl done
 
-    pub unlink-store : IsStore none nowhere next' prev' home' first' last' len' (λ l. without_node node (list l))
+    pub unlink-store : AreLinksOf none nowhere links' (λ l. without_node node (list l))
     unlink-store = record {
       linked = unlinked_linked;
       sized = λ l h. (

@@ -101,7 +101,7 @@ module _ {nodes lists : ℕ} {s : PlainLinks} {v : Chains} (view : chains_of nod
     push-room = room store_here to node to_here (here node_in) no_home
 
     pushed-all : AreLinksOf nodes lists (grown s to node) (λ l. cond (l == to) (chain_list v l ++ node ∷ []) (chain_list v l))
-    pushed-all = push-store store_here to node to_here (here node_in) no_home
+    pushed-all = push-store store_here (grown s to node) to node to_here (here node_in) no_home
         (λ x i. read-set s.next (slice_index s.last to) node x (rw is.next_length i))
         (λ x i. read-set s.prev node (slice_index s.last to) x (rw is.prev_length i))
         (λ x i. read-set s.home node to x (rw is.home_length i))
@@ -165,7 +165,7 @@ module _ {nodes lists : ℕ} {s : PlainLinks} {v : Chains} (view : chains_of nod
         omega arith
 
     unlinked-all : AreLinksOf nodes lists (shrunk nodes lists s node) (λ l. without_node node (chain_list v l))
-    unlinked-all = unlink-store store_here node (here node_in) home-in
+    unlinked-all = unlink-store store_here (shrunk nodes lists s node) node (here node_in) home-in
         (λ x i. read-set (slice_set s.next before behind) node nodes x (rw (length-set s.next before behind, is.next_length) i) ∙ ap (cond (x == node) nodes) (read-set s.next before behind x (rw is.next_length i)))
         (λ x i. read-set (slice_set s.prev behind before) node nodes x (rw (length-set s.prev behind before, is.prev_length) i) ∙ ap (cond (x == node) nodes) (read-set s.prev behind before x (rw is.prev_length i)))
         (λ x i. read-set s.home node lists x (rw is.home_length i))

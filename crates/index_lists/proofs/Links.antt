@@ -2,8 +2,12 @@
 use Rattle.std.proofs.Common.{◌≡◌, ◌≢◌, ℕ, ◌<◌, ◌==◌, ◌⊎◌, inl, inr, cond, zero, suc, List, [], ◌∷◌, ◌++◌, length, refl, sym, ap, subst, ◌∙◌, arith}
 use Rattle.std.proofs.lemmas.Bool.{cases_eq}
 use Rattle.index_lists.specs.Lists.{times, without_node}
-use Rattle.index_lists.specs.Inside.Links.{follow, IsLinked, skip}
+use Rattle.index_lists.specs.Inside.Links.{follow, IsLinked}
 use Rattle.index_lists.proofs.Times.{same_is, differ_is, cond_same, cond_other, times-here, times-more, times-rest}
+
+-- a link that led to the node leads where the node's own link leads
+abbrev pub skip : (ℕ → ℕ) → ℕ → ℕ → ℕ
+skip link node x = cond (x == node) (link node) x
 
 -- a list through which the links lead is what following them gives
 pub linked-follow : (none : ℕ) (next prev : ℕ → ℕ) (last before at : ℕ) (xs : List ℕ) → IsLinked none next prev last before at xs → follow next at (length xs) ≡ xs

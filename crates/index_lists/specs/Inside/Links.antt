@@ -14,19 +14,6 @@ abbrev pub IsLinked : ℕ → (ℕ → ℕ) → (ℕ → ℕ) → ℕ → ℕ �
 IsLinked none next prev last before at [] = (at ≡ none) × (before ≡ last)
 IsLinked none next prev last before at (x ∷ xs) = (at ≡ x) × (x < none) × (prev x ≡ before) × IsLinked none next prev last x (next x) xs
 
--- a link that led to the node leads where the node's own link leads
-abbrev pub skip : (ℕ → ℕ) → ℕ → ℕ → ℕ
-skip link node x = cond (x == node) (link node) x
-
--- the links, read as functions, are those of the lists
-pub record IsStore (none nowhere : ℕ) (next prev home first last len : ℕ → ℕ) (list : ℕ → List ℕ) : Type 0 where
-  pub linked : (l : ℕ) → l < nowhere → IsLinked none next prev (last l) none (first l) (list l)
-  pub sized : (l : ℕ) → l < nowhere → len l ≡ length (list l)
-  pub beyond : (l : ℕ) → nowhere ≤ l → list l ≡ []
-  pub held : (l x : ℕ) → l < nowhere → x < none → times x (list l) ≡ cond (home x == l) 1 0
-  pub homes : (x : ℕ) → x < none → home x ≤ nowhere
-  pub loose : (x : ℕ) → x < none → home x ≡ nowhere → (next x ≡ none) × (prev x ≡ none)
-
 -- what is noted of each node (the node behind it, the one before it, its list), and of each list (its ends, its length)
 pub record PlainLinks : Type 0 where
   pub next : List ℕ
@@ -49,10 +36,14 @@ abbrev pub chained : Chains → Lists
 chained c = lists_of c.nodes c.lists (chain_list c)
 
 -- the links are those of the lists
-abbrev pub AreLinksOf : ℕ → ℕ → PlainLinks → (ℕ → List ℕ) → Type 0
-AreLinksOf nodes lists s =
-    IsStore nodes lists (slice_index s.next) (slice_index s.prev) (slice_index s.home)
-    (slice_index s.first) (slice_index s.last) (slice_index s.len)
+pub record AreLinksOf (nodes lists : ℕ) (s : PlainLinks) (list : ℕ → List ℕ) : Type 0 where
+  pub linked : (l : ℕ) → l < lists
+      → IsLinked nodes (slice_index s.next) (slice_index s.prev) (slice_index s.last l) nodes (slice_index s.first l) (list l)
+  pub sized : (l : ℕ) → l < lists → slice_index s.len l ≡ length (list l)
+  pub beyond : (l : ℕ) → lists ≤ l → list l ≡ []
+  pub held : (l x : ℕ) → l < lists → x < nodes → times x (list l) ≡ cond (slice_index s.home x == l) 1 0
+  pub homes : (x : ℕ) → x < nodes → slice_index s.home x ≤ lists
+  pub loose : (x : ℕ) → x < nodes → slice_index s.home x ≡ lists → (slice_index s.next x ≡ nodes) × (slice_index s.prev x ≡ nodes)
 
 -- there are links for each node and list, and they are those of the lists that they lead through
 pub record IsLinks (nodes lists : ℕ) (s : PlainLinks) : Type 0 where
