@@ -47,9 +47,16 @@ returns-in_err-rows-clause-fault g c =
     let p = err_from_is_err_and c.from_residual.result c.from_residual.ensures.1 in
     let word : c.as_bytes.result.now ≡ form.word = c.as_bytes.ensures.value ∙ c.word.ensures board c.args.claim in
     let head : c.args.text.now ≡ number_line form.word c.in-Some.count ++ c.number_line.new.self =
-        c.in-Some.ensures.1 ∙ ap (λ (w : List ℕ). number_line w c.in-Some.count ++ c.number_line.new.self) word in
+    c.in-Some.ensures.1 ∙ ap (λ (w : List ℕ). number_line w c.in-Some.count ++ c.number_line.new.self) word in
     rw (p.1, p.2) (
       sym (c.is_asked.ensures board) ∙ c.if-not-is_asked.false,
-      (refl, (c.in-Some.count, [], c.number_line.new.self,
-      come_none board form.IsRow (at_of board form) (number_line form.word) form.line c.args.text.now c.in-Some.count c.number_line.new.self c.in-Some.ensures.0.1 head)),
+      (
+        refl,
+        (
+          c.in-Some.count,
+          [],
+          c.number_line.new.self,
+          come_none board form.IsRow (at_of board form) (number_line form.word) form.line c.args.text.now c.in-Some.count c.number_line.new.self c.in-Some.ensures.0.1 head,
+        ),
+      ),
     )
