@@ -36,9 +36,9 @@ impl<'a, S: ListStore> Model for SharedRound<'a, S> {
 
     ghost Value = { RoundId };
 
-    ghost use Rattle.claim_round.specs.Inside.Rounds.{IsRound};
+    ghost use Rattle.claim_round.specs.Inside.Rounds.{IsRound, round_id};
 
-    ghost view = { λ s. record { table = s.table.shared.table_id; key = s.table.shared.key } };
+    ghost view = { λ s. round_id s.table.shared.table_id s.table.shared.key };
 
     ghost invariant = { λ s. IsRound (record { solving = s.solver.now; width = s.width }) s.table.shared.key s.table.shared.table_id };
 }

@@ -11,8 +11,7 @@ use Rattle.retro_core.specs.Inside.Tables.{is_open}
 use Rattle.retro_core.proofs.Arenas.{IsArena, IsClosing}
 use Rattle.retro_core.proofs.BoardArenas.{arena_is}
 use Rattle.retro_core.proofs.FiledRanks.{listed-away, filed-once}
-use Rattle.retro_core.proofs.StageStrikes.{kept-self}
-use Rattle.retro_core.proofs.ListedWords.{closing-start, closing-step, closing-end, shut-more, shut-same, all-shut}
+use Rattle.retro_core.proofs.ListedWords.{closing-step, closing-end, shut-more, shut-same, all-shut}
 
 -- a board with few configurations, a value that is a word, and one of the board's gaps
 pub record IsToClose (s : PlainStage) (gap : ℕ) : Type 0 where
@@ -28,15 +27,6 @@ pub record IsClosingGap (s : PlainStage) (gap place : ℕ) (now : PlainStage) : 
   pub closing : IsClosing (arena_of s.board) gap s.value s.values now.values
   pub shut : (v : ℕ) → v < place → is_open now.values ((arena_of s.board).member gap v) ≡ false
   pub filed_are : IsFiled now
-
-pub gap-start : (s : PlainStage) (gap : ℕ) → IsFiled s → IsClosingGap s gap 0 s
-gap-start s gap are = record {
-  kept = kept-self s;
-  counts_is = refl;
-  closing = closing-start (arena_of s.board) gap s.value s.values;
-  shut = λ v h. absurd (omega arith);
-  filed_are = are;
-}
 
 module _ (s : PlainStage) (gap place rank : ℕ) (now : PlainStage) (to_close : IsToClose s gap) (inside : place < places s.board) (rank_is : (arena_of s.board).member gap place ≡ rank)
     (so_far : IsClosingGap s gap place now) where

@@ -1,15 +1,18 @@
 -- How many answers of a gap lead to where a test holds.
 use Rattle.std.proofs.Common.{◌≡◌, ℕ, ◌+◌, ◌<◌, ◌&&◌, ◌↔◌, Bool, true, false, cond, zero, suc, refl, arith, sym, ap, ◌∙◌, subst, List, [], ◌∷◌, Contains, length, slice_index}
-use Rattle.board_text.specs.PlainBoard.{PlainBoard, places}
+use Rattle.board_text.specs.PlainBoard.{PlainBoard, IsBoard, places}
 use Rattle.board_text.proofs.Cited.{label_is_place}
-use Rattle.positions.specs.Gaps.{gaps, IsAnswer}
+use Rattle.positions.specs.Game.{LabellerTree}
+use Rattle.positions.specs.Ranks.{rank_of}
+use Rattle.positions.specs.Gaps.{gaps, member_of, IsAnswer}
 use Rattle.positions.specs.Counts.{HasSize}
 use Rattle.positions.proofs.Cited.{size_of, count_below as count_to, count_below-zero as count_to-zero, count_below-add as count_to-add}
 use Rattle.positions.proofs.Cited.{same_size, size_zero}
 use Rattle.retro_core.specs.Inside.Arena.{count_below, live, lasts}
 use Rattle.retro_core.specs.Inside.BoardArena.{answers, arena_of}
+use Rattle.retro_core.specs.Solving.{AnswerLasts}
 use Rattle.retro_core.specs.Inside.Tables.{IsCounted}
-use Rattle.retro_core.proofs.BoardArenas.{answers_is}
+use Rattle.retro_core.proofs.BoardArenas.{answers_is, arena_is, at_member, tree_of_lasts, lasts_of_tree}
 use Rattle.retro_core.proofs.LastingRanks.{both_true, and_true, true_not_false}
 
 -- ---- counts of answers
@@ -57,6 +60,14 @@ live-size b g above P i means =
       λ passes. let both = both_true (answers b g v) (above ((arena_of b).member g v)) passes.1 in
           ((answers_is b g v i).0 both.0, (means v passes.0).0 both.1),
     )))
+
+-- so many answers of a gap last so long
+pub above-size : (b : PlainBoard) → IsBoard b → (depth g : ℕ) → g < gaps b → HasSize (AnswerLasts b g depth) (live (arena_of b) (lasts (arena_of b) depth) g)
+above-size b board_is depth g i = live-size b g (lasts (arena_of b) depth) (λ v. LabellerTree b depth (member_of b g v)) i (λ v j.
+    let low = (arena_is b board_is).member_in g v i j in (
+      λ e. subst (LabellerTree b depth) (at_member b g v i j) (tree_of_lasts b board_is depth (rank_of b (member_of b g v)) low e),
+      λ tree. lasts_of_tree b board_is depth (rank_of b (member_of b g v)) low (subst (LabellerTree b depth) (sym (at_member b g v i j)) tree),
+    ))
 
 -- so many answers there are
 pub answers-size : (b : PlainBoard) (g n : ℕ) → g < gaps b → HasSize (IsAnswer b g) n → n ≡ live (arena_of b) (lasts (arena_of b) 0) g

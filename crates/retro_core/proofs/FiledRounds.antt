@@ -1,8 +1,7 @@
 -- What a finished round has won is filed: all that the next round begins with is there.
-use Rattle.std.proofs.Common.{◌≡◌, ℕ, ◌+◌, ◌-◌, ◌<◌, ◌≤◌, ◌==◌, inl, inr, Bool, true, false, not, cond, suc, refl, arith, sym, ap, ◌∙◌, subst, List, [], ◌∷◌, ◌++◌, length, take, drop, slice_index, slice_set, get_or, get_or-set_other, get_or-set_same}
+use Rattle.std.proofs.Common.{◌≡◌, ℕ, ◌+◌, ◌-◌, ◌<◌, ◌≤◌, inl, inr, true, false, suc, arith, sym, ap, ◌∙◌, subst, List, [], ◌∷◌, ◌++◌, length, take, drop, slice_index, slice_set, get_or, get_or-set_other, get_or-set_same}
 use Rattle.std.proofs.lemmas.Bool.{cases_lt}
 use Rattle.std.proofs.lemmas.List.{take_more, take-append-drop}
-use Rattle.std.proofs.lemmas.Bool.Decides.{nat_tests}
 use Rattle.index_lists.specs.Lists.{times}
 use Rattle.index_lists.proofs.Cited.{times-append}
 use Rattle.positions.specs.Ranks.{configurations}
@@ -15,28 +14,18 @@ use Rattle.retro_core.specs.Inside.BoardArena.{arena_of}
 use Rattle.retro_core.specs.Ending.{IsRoundEnd}
 use Rattle.retro_core.specs.Round.{IsWorth}
 use Rattle.retro_core.specs.Solving.{AnswerLasts}
-use Rattle.retro_core.specs.Inside.Stage.{PlainStage, filed, as_solving, IsFiled, IsKept, IsStriking, IsUnstruck, FilesAll, TakesCounts}
+use Rattle.retro_core.specs.Inside.Stage.{PlainStage, filed, as_solving, IsKept, IsStriking, IsUnstruck, FilesAll, TakesCounts}
 use Rattle.retro_core.specs.Inside.Tables.{is_open, is_unstruck, IsCounted, AreWords}
-use Rattle.retro_core.specs.declared.stage.TheConstants.{OPEN}
 use Rattle.retro_core.proofs.Arenas.{IsArena}
 use Rattle.retro_core.proofs.BoardArenas.{arena_is, value_of_lasts, lasts_of_value}
 use Rattle.retro_core.proofs.StruckTables.{IsCounted-same, AreWords-same, same-open}
 use Rattle.retro_core.proofs.FiledRanks.{listed-away, filed-once}
-use Rattle.retro_core.proofs.LastingRanks.{true_or_false, same_or_not, lasts-less}
-use Rattle.retro_core.proofs.ListedWords.{times_one, times_none}
-use Rattle.retro_core.proofs.RoundLaws.{above-size}
-use Rattle.retro_core.proofs.StageStrikes.{kept-self, filed-counting}
+use Rattle.retro_core.proofs.LastingRanks.{same_test, true_or_false, same_or_not, lasts-less}
+use Rattle.retro_core.proofs.ListedWords.{shut_word, times_one, times_none}
+use Rattle.retro_core.proofs.EnteredAnswers.{above-size}
+use Rattle.retro_core.proofs.StageStrikes.{alive-none, filed-counting}
 
 -- ---- filing one after the other
-
-pub files-none : (s : PlainStage) → IsFiled s → FilesAll s [] s
-files-none s are = record {
-  kept = kept-self s;
-  counts_is = refl;
-  there = λ x h. absurd (omega arith);
-  elsewhere = λ x h. refl;
-  filed_are = are;
-}
 
 pub files-more : (s : PlainStage) (ranks : List ℕ) (rank : ℕ) (now : PlainStage) → configurations s.board ≤ MAX_CONFIGURATIONS → s.value ≤ configurations s.board
     → rank < configurations s.board → is_open s.values rank ≡ true → times rank ranks ≡ 0 → FilesAll s ranks now → FilesAll s (ranks ++ rank ∷ []) (filed now rank)
@@ -136,26 +125,11 @@ module _ (s : PlainStage) (unstruck : IsUnstruck s) where
       ];
     }
       where
-        word_shut : (n value : ℕ) → n ≡ value → value < OPEN → n == OPEN ≡ false
-        word_shut n value e small = grind (arith, nat_tests)
-
         shut : (x : ℕ) → 0 < times x won → is_open m.values x ≡ false
-        shut x some = word_shut (slice_index m.values x) s.value (files.there x some) (let few = unstruck.small.few in let low = unstruck.small.low in omega arith)
+        shut x some = let few = unstruck.small.few in let low = unstruck.small.low in let at = files.there x some in shut_word m.values x (λ e. omega arith)
 
         same_now : (x : ℕ) → x < configurations s.board → times x won ≡ 0 → lasts a (suc r) x ≡ lasts a (suc (suc r)) x
-        same_now x i none = elim (true_or_false (lasts a (suc r) x)) [
-          | inl e ↦ e ∙ sym (lost-lasts x i none e)
-          | inr e ↦ e ∙ sym (both_false (lasts a (suc r) x) (lasts a (suc (suc r)) x) (lasts-less a is (suc r) x i) e)
-        ]
-          where
-            both_false : (b c : Bool) → (c ≡ true → b ≡ true) → b ≡ false → c ≡ false
-            both_false b c less e = elim (true_or_false c) [
-              | inl so ↦ absurd (let up : b ≡ true = less so in different b up e)
-              | inr no_more ↦ no_more
-            ]
-              where
-                different : (b : Bool) → b ≡ true → b ≡ false → ⊥
-                different b e d = cc
+        same_now x i none = same_test (lasts a (suc r) x) (lasts a (suc (suc r)) x) (lost-lasts x i none) (lasts-less a is (suc r) x i)
 
     end-counts : IsCounted a (lasts a (suc r)) t.counts
     end-counts = record {
@@ -166,23 +140,15 @@ module _ (s : PlainStage) (unstruck : IsUnstruck s) where
           (above-size s.board unstruck.small.is_board (suc r) g i);
     }
 
-    -- with nothing left to strike, what is alive is what lasts longer than the round
-    none-alive : (x : ℕ) → lasts a (suc r) x ≡ is_unstruck a r [] x
-    none-alive x = by (lasts a (suc r) x)
-      where
-        by : (b : Bool) → b ≡ cond b true (not (times x [] == 0))
-        by true = refl
-        by false = refl
-
     pub end-struck : IsStriking t []
     end-struck = subst (λ q. IsStriking q []) (sym takes.rest) (record {
       round = r;
       value_is = files.kept.value_is ∙ unstruck.value_is;
       stage = record {
         counts_are = subst (λ q. IsCounted (arena_of q) (is_unstruck (arena_of q) r []) t.counts) (sym files.kept.board_is)
-            (IsCounted-same a is (lasts a (suc r)) (is_unstruck a r []) t.counts (λ x i. none-alive x) end-counts);
+            (IsCounted-same a is (lasts a (suc r)) (is_unstruck a r []) t.counts (λ x i. alive-none a r x) end-counts);
         words_are = subst (λ q. AreWords (arena_of q) (is_unstruck (arena_of q) r []) m.values) (sym files.kept.board_is)
-            (AreWords-same a is (lasts a (suc r)) (is_unstruck a r []) m.values (λ x i. none-alive x) end-words);
+            (AreWords-same a is (lasts a (suc r)) (is_unstruck a r []) m.values (λ x i. alive-none a r x) end-words);
         filed_are = filed-counting m t.counts files.filed_are;
       };
       due = λ x h. absurd (omega arith);

@@ -32,19 +32,6 @@ pub record IsListing (s : PlainStage) (rank : ℕ) (now : PlainStage) : Type 0 w
 none-of : (xs ys : List ℕ) (x : ℕ) → xs ≡ ys → ys ≡ [] → times x xs ≡ 0
 none-of xs ys x e none = ap (times x) (e ∙ none)
 
-pub listing-start : (s : PlainStage) → IsUnlisted s → IsListing s 0 s
-listing-start s are = record {
-  board_is = refl;
-  value_is = are.value_is;
-  values_is = refl;
-  counts_is = refl;
-  lists_length = are.lists_length;
-  others = λ v h. are.lists_are v;
-  below = λ x h. absurd (let none = ap (times x) (are.lists_are 0) in omega arith);
-  once = λ x h. absurd (omega arith);
-  ascending = rw (are.lists_are 0) (λ i j d less inside. absurd (omega arith));
-}
-
 in_list : (xs : List ℕ) (k d : ℕ) → k < length xs → 0 < times (get_or xs k d) xs
 in_list [] k d h = absurd (omega arith)
 in_list (x ∷ xs) zero d h = times-here x x xs refl

@@ -1,8 +1,6 @@
 -- The words before the first round: 0 where some gap has no answer.
-use Rattle.std.proofs.Common.{◌≡◌, ℕ, ◌+◌, ◌-◌, ◌<◌, ◌==◌, ◌⊎◌, inl, inr, cond, refl, arith, sym, ap, ◌∙◌, subst, List, length, replicate, slice_index, slice_set, get_or-set_other, get_or-set_same}
-use Rattle.std.proofs.Math.ListN.{length-set}
+use Rattle.std.proofs.Common.{◌≡◌, ℕ, ◌+◌, ◌-◌, ◌<◌, ◌⊎◌, inl, inr, cond, arith, sym, ap, ◌∙◌, subst, List, length, slice_index}
 use Rattle.std.proofs.lemmas.Bool.{cases_lt}
-use Rattle.std.proofs.lemmas.List.{length-replicate, get_or-replicate}
 use Rattle.retro_core.specs.Inside.Arena.{Arena, next, lasts}
 use Rattle.retro_core.specs.Inside.Opening.{IsRun, IsStoppedMember, AreStopping, IsWritten}
 use Rattle.retro_core.specs.Inside.Tables.{IsCounted, AreFirstWords}
@@ -12,28 +10,6 @@ use Rattle.index_lists.proofs.Cited.{cond_same, cond_other}
 use Rattle.retro_core.proofs.LastingRanks.{true_or_false, same_or_not, next-gives, next-fails}
 
 -- ---- the members of a run of gaps
-
-pub stopping-start : (a : Arena) (gap : ℕ) (counts words : List ℕ) → AreStopping a gap counts 0 words words
-stopping-start a gap counts words = record { same_length = refl; stopped = λ x i is low. absurd (omega arith); others = λ x i. inl refl }
-
-pub written-start : (first : ℕ) (counts words : List ℕ) → IsWritten first counts 0 words words
-written-start first counts words = record { same_length = refl; inside = λ k low. absurd (omega arith); before = λ x low. refl; behind = λ x high. refl }
-
-pub written-more : (first : ℕ) (counts : List ℕ) (count : ℕ) (words new : List ℕ) (word : ℕ) → first + count < length words → IsWritten first counts count words new
-    → word ≡ cond (slice_index counts count == 0) 0 (slice_index new (first + count)) → IsWritten first counts (count + 1) words (slice_set new (first + count) word)
-written-more first counts count words new word low so_far word_is =
-    let within : first + count < length new = (let same = so_far.same_length in omega arith) in record {
-      same_length = length-set new (first + count) word ∙ so_far.same_length;
-      inside = λ k below. elim (cases_lt k count) [
-        | inl early ↦ get_or-set_other new (first + count) (first + k) word 0 (λ e. omega arith) ∙ so_far.inside k early
-        | inr last ↦
-            let here : k ≡ count = omega arith in
-            subst (λ j. slice_index (slice_set new (first + count) word) (first + j) ≡ cond (slice_index counts j == 0) 0 (slice_index words (first + j))) (sym here)
-            (get_or-set_same new (first + count) word 0 within ∙ word_is ∙ ap (λ w. cond (slice_index counts count == 0) 0 w) (so_far.behind (first + count) (omega arith)))
-      ];
-      before = λ x less. get_or-set_other new (first + count) x word 0 (λ e. omega arith) ∙ so_far.before x less;
-      behind = λ x high. get_or-set_other new (first + count) x word 0 (λ e. omega arith) ∙ so_far.behind x (omega arith);
-    }
 
 -- a word after that is 0 or as before
 written_or : (first : ℕ) (counts words new : List ℕ) → IsWritten first counts (length counts) words new → (x : ℕ)
@@ -98,17 +74,6 @@ pub record AreStopped (a : Arena) (counts : List ℕ) (gap : ℕ) (words : List 
   pub either : (x : ℕ) → x < a.configurations → (slice_index words x ≡ OPEN) ⊎ (slice_index words x ≡ 0)
   pub sound : (x : ℕ) → x < a.configurations → slice_index words x ≡ 0 → (p : ℕ) × (p < a.pebbles) × (slice_index counts (a.gap x p) ≡ 0)
   pub found : (x p : ℕ) → x < a.configurations → p < a.pebbles → a.gap x p < gap → slice_index counts (a.gap x p) ≡ 0 → slice_index words x ≡ 0
-
-pub stopped-start : (a : Arena) (counts : List ℕ) (n : ℕ) → n ≡ a.configurations → AreStopped a counts 0 (replicate n OPEN)
-stopped-start a counts n size = record {
-  words_length = length-replicate n OPEN ∙ size;
-  either = λ x i. inl (still x i);
-  sound = λ x i none. absurd (let word = still x i in omega arith);
-  found = λ x p i j low none. absurd (omega arith);
-}
-  where
-    still : (x : ℕ) → x < a.configurations → slice_index (replicate n OPEN) x ≡ OPEN
-    still x i = get_or-replicate n x OPEN 0 (omega arith)
 
 -- a run of gaps more
 pub stopped-more : (a : Arena) → IsArena a → (counts part : List ℕ) (gap : ℕ) (words new : List ℕ) → IsRun a gap (length part) → ((k : ℕ) → k < length part → slice_index part k ≡ slice_index counts (gap + k))

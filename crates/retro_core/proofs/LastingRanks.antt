@@ -1,6 +1,7 @@
 -- How long a labeller lasts.
-use Rattle.std.proofs.Common.{◌≡◌, ◌≢◌, ℕ, ◌+◌, ◌-◌, ◌<◌, ◌≤◌, ◌⊎◌, ◌==◌, ◌&&◌, inl, inr, Bool, true, false, zero, suc, refl, arith, sym, ap, ◌∙◌, subst}
+use Rattle.std.proofs.Common.{◌≡◌, ◌≢◌, ℕ, ◌+◌, ◌-◌, ◌<◌, ◌≤◌, ◌⊎◌, ◌==◌, ◌&&◌, inl, inr, Bool, true, false, zero, suc, refl, arith, sym, ap, ◌∙◌, subst, Some, None}
 use Rattle.std.proofs.lemmas.Bool.Decides.{nat_tests}
+pub use Rattle.index_lists.proofs.Cited.{same_is, differ_is}
 use Rattle.retro_core.specs.Inside.Arena.{Arena, live, next, lasts}
 use Rattle.retro_core.proofs.Arenas.{IsArena}
 use Rattle.retro_core.proofs.Counts.{count_below-same, count_below-none, none_below, some_below, count_below-some, count_below-le}
@@ -95,8 +96,8 @@ true_not_false b e f = cc
 pub same_or_not : (m n : ℕ) → (m ≡ n) ⊎ (m ≢ n)
 same_or_not m n = elim (true_or_false (m == n)) [ inl e ↦ inl (grind (arith, nat_tests)) | inr e ↦ inr (grind (arith, nat_tests)) ]
 
-pub same_is : (m n : ℕ) → m ≡ n → m == n ≡ true
-same_is m n e = grind (arith, nat_tests)
+pub some_same : (m n : ℕ) → Some m ≡ Some n → m ≡ n
+some_same m n e = cc
 
-pub differ_is : (m n : ℕ) → m ≢ n → m == n ≡ false
-differ_is m n e = grind (arith, nat_tests)
+pub none_some : (n : ℕ) → None ≡ Some n → ⊥
+none_some n e = cc

@@ -37,14 +37,6 @@ open-after values rank value i small = ap (λ w. w == OPEN) (get_or-set_same val
 pub open-elsewhere : (values : List ℕ) (rank value x : ℕ) → x ≢ rank → is_open (slice_set values rank value) x ≡ is_open values x
 open-elsewhere values rank value x d = ap (λ w. w == OPEN) (get_or-set_other values rank x value 0 d)
 
-pub closing-start : (a : Arena) (g value : ℕ) (values : List ℕ) → IsClosing a g value values values
-closing-start a g value values = record {
-  same_length = refl;
-  filed = λ x i was shut. absurd (true_not_false (is_open values x) was shut);
-  waiting = λ x i e. e;
-  kept = λ x i shut. refl;
-}
-
 pub closing-step : (a : Arena) (g value : ℕ) (values values' : List ℕ) (rank : ℕ) → rank < a.configurations → length values ≡ a.configurations → value ≢ OPEN → is_open values' rank ≡ true → a.gap rank (a.pebble g) ≡ g
     → IsClosing a g value values values' → IsClosing a g value values (slice_set values' rank value)
 closing-step a g value values values' rank i size small was_open member c =

@@ -1,5 +1,5 @@
 -- The open members of a gap, from a place on.
-use Rattle.std.proofs.Common.{◌≡◌, ◌≢◌, ℕ, zero, suc, ◌+◌, ◌-◌, ◌*◌, ◌<◌, ◌≤◌, ◌∙◌, refl, sym, ap, arith, List, [], ◌∷◌, Some, slice_get, slice_index}
+use Rattle.std.proofs.Common.{◌≡◌, ◌≢◌, ℕ, zero, suc, ◌+◌, ◌-◌, ◌*◌, ◌<◌, ◌≤◌, ◌∙◌, refl, sym, ap, arith, List, ◌∷◌, Some, slice_get, slice_index}
 use Rattle.board_text.specs.PlainBoard.{PlainBoard, places}
 use Rattle.retro_core.specs.Inside.BoardArena.{arena_of}
 use Rattle.retro_core.specs.Inside.SourceWalk.{open_from}
@@ -40,12 +40,6 @@ walk-take values first step place places rank low here word =
     let count : places - place ≡ suc (places - (place + 1)) = omega arith in
     ap (open_from values first step place) count
     ∙ rw (ap (is_open values) (sym here) ∙ same_is (slice_index values rank) OPEN word) (ap (λ x. x ∷ open_from values first step (place + 1) (places - (place + 1))) (sym here))
-
--- behind the last place none is left
-pub walk-end : (values : List ℕ) (first step place places : ℕ) → places ≤ place → open_from values first step place (places - place) ≡ []
-walk-end values first step place places high =
-    let none : places - place ≡ 0 = omega arith in
-    ap (open_from values first step place) none
 
 -- a walk from the first place on has the open members of the gap
 pub walk-all : (b : PlainBoard) (values : List ℕ) (gap first step : ℕ) → ((place : ℕ) → place < places b → first + place * step ≡ (arena_of b).member gap place)

@@ -5,7 +5,6 @@ use Rattle.std.proofs.lemmas.Option.{get_or_from_slice_get}
 use Rattle.index_lists.specs.Lists.{times}
 use Rattle.board_text.specs.PlainBoard.{PlainBoard, IsBoard, places}
 use Rattle.positions.specs.declared.value.Value.TheVariants.{Finite}
-use Rattle.positions.specs.Game.{LabellerTree}
 use Rattle.positions.specs.Ranks.{configurations, rank_of, configuration_at}
 use Rattle.positions.specs.Gaps.{gaps, member_of, IsAnswer}
 use Rattle.positions.specs.Counts.{HasSize}
@@ -15,13 +14,13 @@ use Rattle.retro_core.specs.Inside.BoardArena.{arena_of}
 use Rattle.retro_core.specs.Solving.{Solving, IsSolving, AnswerLasts, source}
 use Rattle.retro_core.specs.Round.{PlainSeat, Round, spent, all_todo, all_owed, all_won, IsWorth, IsDue, IsLawful}
 use Rattle.retro_core.proofs.Rules.{tally, seat_total, home_among, value_before, rules_of, held_in, AreKept}
-use Rattle.retro_core.proofs.LastingRanks.{same_or_not}
-use Rattle.retro_core.proofs.BoardArenas.{arena_is, at_member, tree_of_lasts, lasts_of_tree}
-use Rattle.retro_core.proofs.EnteredAnswers.{live-size}
+use Rattle.retro_core.proofs.LastingRanks.{same_or_not, some_same}
+use Rattle.retro_core.proofs.BoardArenas.{arena_is}
+use Rattle.retro_core.proofs.EnteredAnswers.{live-size, above-size}
 use Rattle.retro_core.proofs.Homes.{stands, stands-true, stands-some, live-tally}
 use Rattle.retro_core.proofs.SeatSums.{total-sum, times-together, tally-together, width-total}
 use Rattle.retro_core.proofs.SeatSteps.{word_none, word_some}
-use Rattle.retro_core.proofs.RoundStart.{base-is, to-win-is, struck-in-is}
+use Rattle.retro_core.proofs.RoundStart.{same-word, base-is, to-win-is, struck-in-is}
 
 -- ---- seats by their numbers
 
@@ -59,30 +58,23 @@ waiting-size b board_is ranks g i inside once =
       λ h. stands-true ranks (rank_of b (member_of b g v)) h,
     )))
 
--- so many answers of a gap last so long
-pub above-size : (b : PlainBoard) → IsBoard b → (depth g : ℕ) → g < gaps b → HasSize (AnswerLasts b g depth) (live (arena_of b) (lasts (arena_of b) depth) g)
-above-size b board_is depth g i = live-size b g (lasts (arena_of b) depth) (λ v. LabellerTree b depth (member_of b g v)) i (λ v j.
-    let low = (arena_is b board_is).member_in g v i j in (
-      λ e. subst (LabellerTree b depth) (at_member b g v i j) (tree_of_lasts b board_is depth (rank_of b (member_of b g v)) low e),
-      λ tree. lasts_of_tree b board_is depth (rank_of b (member_of b g v)) low (subst (LabellerTree b depth) (sym (at_member b g v i j)) tree),
-    ))
-
-some_same : (m n : ℕ) → Some m ≡ Some n → m ≡ n
-some_same m n e = cc
-
 same_number : (m n : ℕ) → Finite m ≡ Finite n → m ≡ n
 same_number m n e = cc
+
+-- what is owed or won
+held-times : (round : Round) (x : ℕ) → seat_total (held_in x) round.seats ≡ times x (all_owed round) + times x (all_won round)
+held-times round x =
+    let s = total-sum (λ v. times x v.owed) (λ v. times x v.won) round.seats in
+    let o = times-together x (λ v. v.owed) round.seats in let w = times-together x (λ v. v.won) round.seats in omega arith
 
 pub lawful-of : (round : Round) → IsSolving round.solving → length round.counts ≡ gaps round.solving.board → length round.values ≡ configurations round.solving.board → RoundKept round → IsLawful round
 lawful-of round sol counts_length values_length kept =
     let b = round.solving.board in
     let r = round.solving.rounds in
     let k = rules_of round.solving round.width in
-    let won_times : (x : ℕ) → times x (all_won round) ≡ seat_total (λ v. times x v.won) round.seats = λ x. times-together x (λ v. v.won) round.seats in
-    let owed_times : (x : ℕ) → times x (all_owed round) ≡ seat_total (λ v. times x v.owed) round.seats = λ x. times-together x (λ v. v.owed) round.seats in
-    let todo_times : (x : ℕ) → times x (all_todo round) ≡ seat_total (λ v. times x v.todo) round.seats = λ x. times-together x (λ v. v.todo) round.seats in
-    let held_times : (x : ℕ) → seat_total (held_in x) round.seats ≡ times x (all_owed round) + times x (all_won round) = λ x.
-    let s = total-sum (λ v. times x v.owed) (λ v. times x v.won) round.seats in let w = won_times x in let o = owed_times x in omega arith in
+    let won_times = λ (x : ℕ). times-together x (λ v. v.won) round.seats in
+    let todo_times = λ (x : ℕ). times-together x (λ v. v.todo) round.seats in
+    let held_times = held-times round in
     let due : (x : ℕ) → 0 < times x (all_todo round) → IsDue b x r = λ x h. (struck-in-is round.solving sol round.width x).0 (kept.due x (let t = todo_times x in omega arith)) in
     let next : (x : ℕ) → 0 < seat_total (held_in x) round.seats → IsWorth b x (suc r) = λ x h. (to-win-is round.solving sol round.width x).0 (kept.next x h) in
     let worth : (x : ℕ) → 0 < times x (all_won round) → IsWorth b x (suc r) = λ x h. next x (let t = held_times x in omega arith) in
@@ -155,11 +147,9 @@ kept-of round sol law =
     let b = round.solving.board in
     let r = round.solving.rounds in
     let k = rules_of round.solving round.width in
-    let won_times : (x : ℕ) → times x (all_won round) ≡ seat_total (λ v. times x v.won) round.seats = λ x. times-together x (λ v. v.won) round.seats in
-    let owed_times : (x : ℕ) → times x (all_owed round) ≡ seat_total (λ v. times x v.owed) round.seats = λ x. times-together x (λ v. v.owed) round.seats in
-    let todo_times : (x : ℕ) → times x (all_todo round) ≡ seat_total (λ v. times x v.todo) round.seats = λ x. times-together x (λ v. v.todo) round.seats in
-    let held_times : (x : ℕ) → seat_total (held_in x) round.seats ≡ times x (all_owed round) + times x (all_won round) = λ x.
-    let s = total-sum (λ v. times x v.owed) (λ v. times x v.won) round.seats in let w = won_times x in let o = owed_times x in omega arith in
+    let won_times = λ (x : ℕ). times-together x (λ v. v.won) round.seats in
+    let todo_times = λ (x : ℕ). times-together x (λ v. v.todo) round.seats in
+    let held_times = held-times round in
     record {
       values = λ x i.
           let T : ℕ = seat_total (λ u. times x u.won) round.seats in
@@ -193,11 +183,6 @@ kept-of round sol law =
           sym here ∙ law.spent_seats id (ap (λ (u : PlainSeat). u.width) here ∙ none);
     }
   where
-    same-word : (one other : Option ℕ) → ((v : ℕ) → one ≡ Some v → other ≡ Some v) → ((v : ℕ) → other ≡ Some v → one ≡ Some v) → one ≡ other
-    same-word (Some n) other there back = sym (there n refl)
-    same-word None None there back = refl
-    same-word None (Some n) there back = back n refl
-
     same-base : (x : ℕ) → x < configurations round.solving.board → times x (all_won round) ≡ 0 → word_at round x ≡ value_before (arena_of round.solving.board) round.solving.rounds x
     same-base x i none = same-word (word_at round x) (value_before (arena_of round.solving.board) round.solving.rounds x)
         (λ v e. elim ((law.values x v i).0 e) [

@@ -3,7 +3,7 @@ use Rattle.std.proofs.Common.{◌≡◌, ◌⊎◌, ℕ, zero, suc, ◌+◌, ◌
 use Rattle.std.specs.List.{filter}
 use Rattle.std.proofs.lemmas.Bool.{cases_lt}
 use Rattle.index_lists.specs.Lists.{times}
-use Rattle.board_text.specs.PlainBoard.{PlainBoard, IsBoard, places}
+use Rattle.board_text.specs.PlainBoard.{PlainBoard, IsBoard}
 use Rattle.positions.specs.declared.value.Value.TheVariants.{Finite}
 use Rattle.positions.specs.Game.{LabellerTree}
 use Rattle.positions.specs.Value.{HasValue}
@@ -17,10 +17,10 @@ use Rattle.retro_core.specs.Solving.{Solving, IsSolving, AnswerLasts, bucket, so
 use Rattle.retro_core.specs.Round.{IsWorth, IsDue, AreToStrike}
 use Rattle.retro_core.proofs.Arenas.{IsArena}
 use Rattle.retro_core.proofs.Rules.{tally, home_among, value_before, rules_of, IsStruckIn, IsToWin, AreSound, AreReadyLists}
-use Rattle.retro_core.proofs.LastingRanks.{true_or_false, true_not_false, lasts-less, lasts-at-most, next-gives, next-closed, next-fails}
+use Rattle.retro_core.proofs.LastingRanks.{none_some, some_same, true_or_false, true_not_false, lasts-less, lasts-at-most, next-gives, next-closed, next-fails}
 use Rattle.retro_core.proofs.BoardArenas.{arena_is, at_member, tree_of_lasts, lasts_of_tree, value_of_lasts, lasts_of_value, dominant_is}
 use Rattle.retro_core.proofs.DominatedRanks.{dominated-by, dominated-tells}
-use Rattle.retro_core.proofs.EnteredAnswers.{live-size}
+use Rattle.retro_core.proofs.EnteredAnswers.{above-size}
 use Rattle.retro_core.proofs.Homes.{home-cases, home-of, stands, stands-true, stands-false, live-tally, live-sum, times-filter-true, times-filter-le, tally-filter}
 
 -- ---- the value before a round
@@ -68,14 +68,8 @@ base-value a is round rank value i most lasting stopping =
       | inl more ↦ absurd (true_not_false (lasts a (suc value) rank) (lasts-at-most a is (suc value) (suc k) rank i (omega arith) more) stopping)
     ]))
 
-none_some : (n : ℕ) → None ≡ Some n → ⊥
-none_some n e = cc
-
-some_same : (m n : ℕ) → Some m ≡ Some n → m ≡ n
-some_same m n e = cc
-
 -- two words that stand for the same values
-same-word : (one other : Option ℕ) → ((v : ℕ) → one ≡ Some v → other ≡ Some v) → ((v : ℕ) → other ≡ Some v → one ≡ Some v) → one ≡ other
+pub same-word : (one other : Option ℕ) → ((v : ℕ) → one ≡ Some v → other ≡ Some v) → ((v : ℕ) → other ≡ Some v → one ≡ Some v) → one ≡ other
 same-word (Some n) other there back = sym (there n refl)
 same-word None None there back = refl
 same-word None (Some n) there back = back n refl
@@ -98,6 +92,26 @@ base-is b board_is round rank value i =
 
 -- ---- what a round takes from the game
 
+-- an open member of a gap lasts longer than the round
+record IsOpenMember (s : Solving) (g rank : ℕ) : Type 0 where
+  pub is_rank : rank < configurations s.board
+  pub lasting : lasts (arena_of s.board) (suc s.rounds) rank ≡ true
+  pub own : (arena_of s.board).gap rank ((arena_of s.board).pebble g) ≡ g
+
+open-member : (s : Solving) → IsSolving s → (g rank : ℕ) → g < gaps s.board → 0 < times rank (source s g) → IsOpenMember s g rank
+open-member s sol g rank in_gaps there =
+    let b = s.board in
+    let is = arena_is b sol.is_board in
+    let m = sol.sources.members g rank in_gaps there in
+    let i : rank < configurations b = subst (λ x. x < configurations b) (sym m.2) (is.member_in g m.0 in_gaps m.1) in
+    let tree = (sol.sources.listed g m.0 in_gaps m.1).0 (subst (λ x. 0 < times x (source s g)) m.2 there) in
+    let at : configuration_at b rank ≡ member_of b g m.0 = ap (configuration_at b) m.2 ∙ at_member b g m.0 in_gaps m.1 in
+    record {
+      is_rank = i;
+      lasting = lasts_of_tree b sol.is_board (suc s.rounds) rank i (subst (LabellerTree b (suc s.rounds)) (sym at) tree);
+      own = ap (λ x. (arena_of b).gap x ((arena_of b).pebble g)) m.2 ∙ is.gap_of_member g m.0 in_gaps m.1;
+    }
+
 -- a configuration is to be won exactly where it has the next value
 pub to-win-is : (s : Solving) → IsSolving s → (width rank : ℕ) → IsToWin (rules_of s width) rank ↔ IsWorth s.board rank (suc s.rounds)
 to-win-is s sol width rank =
@@ -106,16 +120,9 @@ to-win-is s sol width rank =
     let is = arena_is b sol.is_board in
     let r = s.rounds in (
       λ win.
-          let m = sol.sources.members win.gap rank win.is_gap win.is_open in
-          let label : ℕ = m.0 in
-          let low : label < places b = m.1 in
-          let i : rank < configurations b = subst (λ x. x < configurations b) (sym m.2) (is.member_in win.gap label win.is_gap low) in
-          let tree = (sol.sources.listed win.gap label win.is_gap low).0 (subst (λ x. 0 < times x (source s win.gap)) m.2 win.is_open) in
-          let at : configuration_at b rank ≡ member_of b win.gap label = ap (configuration_at b) m.2 ∙ at_member b win.gap label win.is_gap low in
-          let lasting = lasts_of_tree b sol.is_board (suc r) rank i (subst (LabellerTree b (suc r)) (sym at) tree) in
-          let own : a.gap rank (a.pebble win.gap) ≡ win.gap = ap (λ x. a.gap x (a.pebble win.gap)) m.2 ∙ is.gap_of_member win.gap label win.is_gap low in
-          let stopping : lasts a (suc (suc r)) rank ≡ false = next-closed a (lasts a (suc r)) rank (a.pebble win.gap) (is.pebble_in win.gap win.is_gap) (ap (live a (lasts a (suc r))) own ∙ win.none_above) in
-          record { is_rank = i; has_value = value_of_lasts b sol.is_board (suc r) rank i lasting stopping },
+          let member = open-member s sol win.gap rank win.is_gap win.is_open in
+          let stopping : lasts a (suc (suc r)) rank ≡ false = next-closed a (lasts a (suc r)) rank (a.pebble win.gap) (is.pebble_in win.gap win.is_gap) (ap (live a (lasts a (suc r))) member.own ∙ win.none_above) in
+          record { is_rank = member.is_rank; has_value = value_of_lasts b sol.is_board (suc r) rank member.is_rank member.lasting stopping },
       λ worth.
           let i : rank < configurations b = worth.is_rank in
           let last = lasts_of_value b sol.is_board (suc r) rank i worth.has_value in
@@ -167,16 +174,9 @@ home-is s sol rank pebble i dominates =
 
 pub sound-is : (s : Solving) → IsSolving s → (width : ℕ) → AreSound (rules_of s width)
 sound-is s sol width = record {
-  opened = λ g rank in_gaps open_there.
-      let b = s.board in
-      let is = arena_is b sol.is_board in
-      let m = sol.sources.members g rank in_gaps open_there in
-      let label : ℕ = m.0 in
-      let low : label < places b = m.1 in
-      let i : rank < configurations b = subst (λ x. x < configurations b) (sym m.2) (is.member_in g label in_gaps low) in
-      let tree = (sol.sources.listed g label in_gaps low).0 (subst (λ x. 0 < times x (source s g)) m.2 open_there) in
-      let at : configuration_at b rank ≡ member_of b g label = ap (configuration_at b) m.2 ∙ at_member b g label in_gaps low in
-      (i, base-open (arena_of b) s.rounds rank (lasts_of_tree b sol.is_board (suc s.rounds) rank i (subst (LabellerTree b (suc s.rounds)) (sym at) tree)));
+  opened = λ g rank in_gaps there.
+      let member = open-member s sol g rank in_gaps there in
+      (member.is_rank, base-open (arena_of s.board) s.rounds rank member.lasting);
 }
 
 -- ---- before the first step
@@ -227,13 +227,7 @@ live-splits s sol g in_gaps = live-sum a is (lasts a r) (lasts a (suc r)) (stand
 
 first-count : (s : Solving) → IsSolving s → (gap count : ℕ) → gap < gaps s.board → HasSize (AnswerLasts s.board gap s.rounds) count → count ≡ live (arena_of s.board) (lasts (arena_of s.board) s.rounds) gap
 first-count s sol g count i size =
-    let b = s.board in
-    same_size (AnswerLasts b g s.rounds) count (live (arena_of b) (lasts (arena_of b) s.rounds) g) size
-    (live-size b g (lasts (arena_of b) s.rounds) (λ v. LabellerTree b s.rounds (member_of b g v)) i (λ v j.
-    let low = (arena_is b sol.is_board).member_in g v i j in (
-      λ e. subst (LabellerTree b s.rounds) (at_member b g v i j) (tree_of_lasts b sol.is_board s.rounds (rank_of b (member_of b g v)) low e),
-      λ tree. lasts_of_tree b sol.is_board s.rounds (rank_of b (member_of b g v)) low (subst (LabellerTree b s.rounds) (sym (at_member b g v i j)) tree),
-    )))
+    same_size (AnswerLasts s.board g s.rounds) count (live (arena_of s.board) (lasts (arena_of s.board) s.rounds) g) size (above-size s.board sol.is_board s.rounds g i)
 
 pub ready-is : (s : Solving) → IsSolving s → (width : ℕ) (count : ℕ → ℕ) (value : ℕ → Option ℕ) (todo : List ℕ) → 0 < width
     → ((gap : ℕ) → gap < gaps s.board → HasSize (AnswerLasts s.board gap s.rounds) (count gap))
@@ -277,15 +271,8 @@ ready-is s sol width count value todo some_width counts values to_strike =
       settled = λ g x i none. elim (cases_lt 0 (times x (source s g))) [
         | inr nothing ↦ omega arith
         | inl some ↦ absurd (
-            let m = sol.sources.members g x i some in
-            let label : ℕ = m.0 in
-            let low : label < places b = m.1 in
-            let j : x < configurations b = subst (λ y. y < configurations b) (sym m.2) (is.member_in g label i low) in
-            let tree = (sol.sources.listed g label i low).0 (subst (λ y. 0 < times y (source s g)) m.2 some) in
-            let at : configuration_at b x ≡ member_of b g label = ap (configuration_at b) m.2 ∙ at_member b g label i low in
-            let lasting = lasts_of_tree b sol.is_board (suc r) x j (subst (LabellerTree b (suc r)) (sym at) tree) in
-            let own : a.gap x (a.pebble g) ≡ g = ap (λ y. a.gap y (a.pebble g)) m.2 ∙ is.gap_of_member g label i low in
-            let gives : 0 < live a (lasts a r) g = subst (λ h. 0 < live a (lasts a r) h) own (next-gives a (lasts a r) x (a.pebble g) lasting (is.pebble_in g i)) in
+            let member = open-member s sol g x i some in
+            let gives : 0 < live a (lasts a r) g = subst (λ h. 0 < live a (lasts a r) h) member.own (next-gives a (lasts a r) x (a.pebble g) member.lasting (is.pebble_in g i)) in
             let first = first-count s sol g (count g) i (counts g i) in
             omega arith)
       ];

@@ -21,26 +21,21 @@ use Rattle.retro_core.specs.declared.step.Seen.{Seen}
 use Rattle.retro_core.specs.declared.step.Seen.TheVariants as seen
 use Rattle.retro_core.specs.Stepping.{Does, LeadTo}
 use Rattle.retro_core.proofs.Rules.{seat_total, rules_of}
+use Rattle.retro_core.proofs.EnteredAnswers.{above-size}
 use Rattle.retro_core.proofs.LastingRanks.{next-fails}
 use Rattle.retro_core.proofs.BoardArenas.{arena_is, at_member, tree_of_lasts, lasts_of_value}
 use Rattle.retro_core.proofs.SeatSums.{total-at, times-together}
 use Rattle.retro_core.proofs.SeatSteps.{strikes, tries, first-known, splits, joins, opens, split_first, times_here}
 use Rattle.retro_core.proofs.RoundStart.{home-is, sound-is, ready-is}
-use Rattle.retro_core.proofs.RoundLaws.{word_at, seat-there, lawful-of, kept-of, above-size}
+use Rattle.retro_core.proofs.RoundLaws.{word_at, seat-there, lawful-of, kept-of}
 
 -- ---- live seats
 
--- a seat that has something to strike or owes something has a width
-wide-todo : (round : Round) → IsLawful round → (id : ℕ) → 0 < length (seat_at round id).todo → 0 < (seat_at round id).width
-wide-todo round law id some = elim (cases_lt 0 (seat_at round id).width) [
+-- a seat with something in one of its lists has a width
+wide-with : (list : PlainSeat → List ℕ) → list spent ≡ [] → (round : Round) → IsLawful round → (id : ℕ) → 0 < length (list (seat_at round id)) → 0 < (seat_at round id).width
+wide-with list none round law id some = elim (cases_lt 0 (seat_at round id).width) [
   | inl wide ↦ wide
-  | inr none ↦ absurd (let gone = ap (λ (v : PlainSeat). length v.todo) (law.spent_seats id (omega arith)) in omega arith)
-]
-
-wide-owed : (round : Round) → IsLawful round → (id : ℕ) → 0 < length (seat_at round id).owed → 0 < (seat_at round id).width
-wide-owed round law id some = elim (cases_lt 0 (seat_at round id).width) [
-  | inl wide ↦ wide
-  | inr none ↦ absurd (let gone = ap (λ (v : PlainSeat). length v.owed) (law.spent_seats id (omega arith)) in omega arith)
+  | inr no_width ↦ absurd (let gone = ap (λ v. length (list v)) (law.spent_seats id (omega arith)) ∙ ap length none in omega arith)
 ]
 
 -- ---- strike
@@ -50,7 +45,7 @@ pub first-due : (round : Round) → IsLawful round → (id : ℕ) → 0 < length
 first-due round law id some =
     let v = seat_at round id in
     let c : ℕ = first_of v.todo in
-    let at = seat-there round.seats id (wide-todo round law id some) in
+    let at = seat-there round.seats id (wide-with (λ v. v.todo) refl round law id some) in
     let part = total-at (λ (u : PlainSeat). times c u.todo) round.seats id v at in
     let here = ap (times c) (split_first v.todo some) ∙ times_here c (drop 1 v.todo) in
     let all = times-together c (λ u. u.todo) round.seats in
@@ -72,7 +67,7 @@ strike-lawful round sol law id pebble some dominates =
     let due = first-due round law id some in
     let i : c < configurations b = due.worth.is_rank in
     let home : k.home c ≡ gap_of b (configuration_at b c) pebble = home-is round.solving sol c pebble i dominates in
-    let wide = wide-todo round law id some in
+    let wide = wide-with (λ v. v.todo) refl round law id some in
     let in_gaps : k.home c < gaps b = subst (λ g. g < gaps b) (sym home) (gap_below b (configuration_at b c) pebble (configuration_at_is b c i) dominates.is_pebble) in
     let long = law.counts_length in
     let n : ℕ = slice_index round.counts (k.home c) in
@@ -89,10 +84,7 @@ strike-lawful round sol law id pebble some dominates =
 
 -- the round after a try that found the word open or not
 abbrev pub tried_as : Bool → Round → ℕ → Round
-tried_as is_open round seat = record {
-  solving = round.solving;
-  width = round.width;
-  counts = round.counts;
+tried_as is_open round seat = record round {
   values = cond is_open (set round.values (first_of (seat_at round seat).owed) (Some (suc round.solving.rounds))) round.values;
   seats = set round.seats seat (seat_tried is_open (seat_at round seat));
 }
@@ -109,7 +101,7 @@ try-lawful round sol law id some =
     let v = seat_at round id in
     let c : ℕ = first_of v.owed in
     let k = rules_of round.solving round.width in
-    let wide = wide-owed round law id some in
+    let wide = wide-with (λ v. v.owed) refl round law id some in
     let at = seat-there round.seats id wide in
     let kept = kept-of round sol law in
     let sound = sound-is round.solving sol round.width in
@@ -214,45 +206,34 @@ worked-off round board_is law off = λ rank. (
 
 -- ---- any step
 
-pub step-lawful : (before : Round) (step : Step) (answer : Seen) (after : Round) → IsSolving before.solving → IsLawful before → Does before step answer after → IsLawful after
-step-lawful before (steps.Strike seat) (seen.Struck config closed) after sol law does =
+pub stepped : (before : Round) (step : Step) (answer : Seen) (after : Round) → IsSolving before.solving → IsLawful before → Does before step answer after
+    → IsLawful after × (after.solving ≡ before.solving)
+stepped before (steps.Strike seat) (seen.Struck config closed) after sol law does =
     let first : config ≡ first_of (seat_at before seat).todo = does.first in
     let b = before.solving.board in
     let done = strike-lawful before sol law seat does.pebble does.some_todo (subst (λ x. IsDominator b (configuration_at b x) does.pebble) first does.dominates) in
-    subst IsLawful (ap (struck before seat) (ap (λ x. gap_of b (configuration_at b x) does.pebble) (sym first) ∙ sym does.gap_is) ∙ sym does.after_is) done.lawful
-step-lawful before (steps.Try seat) (seen.Tried config won) after sol law does = subst IsLawful (sym does.after_is) (try-lawful before sol law seat does.some_owed).lawful
-step-lawful before (steps.Split seat) (seen.Parted new_seat) after sol law does = subst IsLawful (sym does.after_is) (split-lawful before sol law seat does.wide)
-step-lawful before (steps.Join into from) seen.Joined after sol law does = subst IsLawful (sym does.after_is) (join-lawful before sol law into from does.differ does.has_into does.has_from)
-step-lawful before (steps.Strike seat) (seen.Tried config won) after sol law does = absurd does
-step-lawful before (steps.Strike seat) (seen.Parted new_seat) after sol law does = absurd does
-step-lawful before (steps.Strike seat) seen.Joined after sol law does = absurd does
-step-lawful before (steps.Try seat) (seen.Struck config closed) after sol law does = absurd does
-step-lawful before (steps.Try seat) (seen.Parted new_seat) after sol law does = absurd does
-step-lawful before (steps.Try seat) seen.Joined after sol law does = absurd does
-step-lawful before (steps.Split seat) (seen.Struck config closed) after sol law does = absurd does
-step-lawful before (steps.Split seat) (seen.Tried config won) after sol law does = absurd does
-step-lawful before (steps.Split seat) seen.Joined after sol law does = absurd does
-step-lawful before (steps.Join into from) (seen.Struck config closed) after sol law does = absurd does
-step-lawful before (steps.Join into from) (seen.Tried config won) after sol law does = absurd does
-step-lawful before (steps.Join into from) (seen.Parted new_seat) after sol law does = absurd does
+    let same : struck before seat (gap_of b (configuration_at b (first_of (seat_at before seat).todo)) does.pebble) ≡ after =
+    ap (struck before seat) (ap (λ x. gap_of b (configuration_at b x) does.pebble) (sym first) ∙ sym does.gap_is) ∙ sym does.after_is in
+    (subst IsLawful same done.lawful, ap (λ r. r.solving) does.after_is)
+stepped before (steps.Try seat) (seen.Tried config won) after sol law does = (subst IsLawful (sym does.after_is) (try-lawful before sol law seat does.some_owed).lawful, ap (λ r. r.solving) does.after_is)
+stepped before (steps.Split seat) (seen.Parted new_seat) after sol law does = (subst IsLawful (sym does.after_is) (split-lawful before sol law seat does.wide), ap (λ r. r.solving) does.after_is)
+stepped before (steps.Join into from) seen.Joined after sol law does =
+    (subst IsLawful (sym does.after_is) (join-lawful before sol law into from does.differ does.has_into does.has_from), ap (λ r. r.solving) does.after_is)
+stepped before (steps.Strike seat) (seen.Tried config won) after sol law does = absurd does
+stepped before (steps.Strike seat) (seen.Parted new_seat) after sol law does = absurd does
+stepped before (steps.Strike seat) seen.Joined after sol law does = absurd does
+stepped before (steps.Try seat) (seen.Struck config closed) after sol law does = absurd does
+stepped before (steps.Try seat) (seen.Parted new_seat) after sol law does = absurd does
+stepped before (steps.Try seat) seen.Joined after sol law does = absurd does
+stepped before (steps.Split seat) (seen.Struck config closed) after sol law does = absurd does
+stepped before (steps.Split seat) (seen.Tried config won) after sol law does = absurd does
+stepped before (steps.Split seat) seen.Joined after sol law does = absurd does
+stepped before (steps.Join into from) (seen.Struck config closed) after sol law does = absurd does
+stepped before (steps.Join into from) (seen.Tried config won) after sol law does = absurd does
+stepped before (steps.Join into from) (seen.Parted new_seat) after sol law does = absurd does
 
-pub same-solving : (before : Round) (step : Step) (answer : Seen) (after : Round) → Does before step answer after → after.solving ≡ before.solving
-same-solving before (steps.Strike seat) (seen.Struck config closed) after does = ap (λ r. r.solving) does.after_is
-same-solving before (steps.Try seat) (seen.Tried config won) after does = ap (λ r. r.solving) does.after_is
-same-solving before (steps.Split seat) (seen.Parted new_seat) after does = ap (λ r. r.solving) does.after_is
-same-solving before (steps.Join into from) seen.Joined after does = ap (λ r. r.solving) does.after_is
-same-solving before (steps.Strike seat) (seen.Tried config won) after does = absurd does
-same-solving before (steps.Strike seat) (seen.Parted new_seat) after does = absurd does
-same-solving before (steps.Strike seat) seen.Joined after does = absurd does
-same-solving before (steps.Try seat) (seen.Struck config closed) after does = absurd does
-same-solving before (steps.Try seat) (seen.Parted new_seat) after does = absurd does
-same-solving before (steps.Try seat) seen.Joined after does = absurd does
-same-solving before (steps.Split seat) (seen.Struck config closed) after does = absurd does
-same-solving before (steps.Split seat) (seen.Tried config won) after does = absurd does
-same-solving before (steps.Split seat) seen.Joined after does = absurd does
-same-solving before (steps.Join into from) (seen.Struck config closed) after does = absurd does
-same-solving before (steps.Join into from) (seen.Tried config won) after does = absurd does
-same-solving before (steps.Join into from) (seen.Parted new_seat) after does = absurd does
+pub step-lawful : (before : Round) (step : Step) (answer : Seen) (after : Round) → IsSolving before.solving → IsLawful before → Does before step answer after → IsLawful after
+step-lawful before step answer after sol law does = (stepped before step answer after sol law does).0
 
 -- ---- any steps
 
@@ -260,9 +241,9 @@ pub steps-lawful : (first : Round) (made : List (Step × Seen)) (last : Round) �
 steps-lawful first [] last sol law same = (subst IsLawful same law, ap (λ r. r.solving) (sym same))
 steps-lawful first (one ∷ more) last sol law lead =
     let between : Round = lead.0 in
-    let kept : between.solving ≡ first.solving = same-solving first one.0 one.1 between lead.1 in
-    let rest = steps-lawful between more last (subst IsSolving (sym kept) sol) (step-lawful first one.0 one.1 between sol law lead.1) lead.2 in
-    (rest.0, rest.1 ∙ kept)
+    let done = stepped first one.0 one.1 between sol law lead.1 in
+    let rest = steps-lawful between more last (subst IsSolving (sym done.1) sol) done.0 lead.2 in
+    (rest.0, rest.1 ∙ done.1)
 
 -- a round that was opened from a solver, and worked off by any steps
 pub opened-and-worked-off : (s : Solving) (width : ℕ) (first : Round) (made : List (Step × Seen)) (last : Round)

@@ -50,12 +50,7 @@ one_more x c xs = let r = times-append x xs (c ∷ []) in omega arith
 
 -- the seat after it struck where it found the count n
 abbrev pub seat_after : Rules → ℕ → PlainSeat → PlainSeat
-seat_after k n v = record {
-  width = v.width;
-  todo = drop 1 v.todo;
-  owed = cond (n == 1) (v.owed ++ k.opens (k.home (first_of v.todo))) v.owed;
-  won = v.won;
-}
+seat_after k n v = record v { todo = drop 1 v.todo; owed = cond (n == 1) (v.owed ++ k.opens (k.home (first_of v.todo))) v.owed }
 
 -- what a strike does to the owed list, as its entries are counted
 owed-after : (k : Rules) (v : PlainSeat) (n x : ℕ)
@@ -250,6 +245,23 @@ module _ (k : Rules) (count : ℕ → ℕ) (value : ℕ → Option ℕ) (seats :
         | inr nz ↦ inr (record { has_next = word ∙ word_some k f T (omega arith); stands = omega arith; kept = not-won-keeps (omega arith) })
       ]
 
+-- seats that hold together what others held keep what these kept
+same-kept : (k : Rules) (count : ℕ → ℕ) (value : ℕ → Option ℕ) (seats all : List PlainSeat) → AreKept k count value seats
+    → ((x : ℕ) → seat_total (λ u. times x u.todo) all ≡ seat_total (λ u. times x u.todo) seats) → ((g : ℕ) → seat_total (λ u. tally k.home g u.todo) all ≡ seat_total (λ u. tally k.home g u.todo) seats)
+    → ((x : ℕ) → seat_total (λ u. times x u.won) all ≡ seat_total (λ u. times x u.won) seats) → ((x : ℕ) → seat_total (held_in x) all ≡ seat_total (held_in x) seats)
+    → seat_total (λ u. u.width) all ≡ seat_total (λ u. u.width) seats → ((j : ℕ) (u : PlainSeat) → slice_get all j ≡ Some u → u.width ≡ 0 → u ≡ spent) → AreKept k count value all
+same-kept k count value seats all law todo tallies won held width fits = record {
+  values = λ x small. law.values x small ∙ ap (value_word k x) (sym (won x));
+  due = λ x there. law.due x (let s = todo x in omega arith);
+  due_once = λ x. let s = todo x in let o = law.due_once x in omega arith;
+  counts = λ g small. let s = tallies g in let o = law.counts g small in omega arith;
+  next = λ x there. law.next x (let s = held x in omega arith);
+  won_once = λ x. let s = won x in let o = law.won_once x in omega arith;
+  closed = λ g x small none_left there. let o = law.closed g x small none_left there in let s = held x in omega arith;
+  widths = width ∙ law.widths;
+  fits = fits;
+}
+
 pub splits : (k : Rules) (count : ℕ → ℕ) (value : ℕ → Option ℕ) (seats : List PlainSeat) (id : ℕ) (v : PlainSeat) → AreKept k count value seats → slice_get seats id ≡ Some v
     → 2 ≤ v.width → AreKept k count value (set seats id (seat_kept v) ++ seat_new v ∷ [])
 splits k count value seats id v law at wide =
@@ -259,48 +271,23 @@ splits k count value seats id v law at wide =
     let m : ℕ = length v.todo - length v.todo / 2 in
     let half : v.width / 2 + v.width / 2 ≤ v.width = omega arith in
     let some_half : 0 < v.width / 2 = omega arith in
-    let todo : (x : ℕ) → seat_total (λ u. times x u.todo) all ≡ seat_total (λ u. times x u.todo) seats = λ x. total-cut (λ u. times x u.todo) seats id v a b at (times-cut x m v.todo) in
-    let tallies : (g : ℕ) → seat_total (λ u. tally k.home g u.todo) all ≡ seat_total (λ u. tally k.home g u.todo) seats = λ g. total-cut (λ u. tally k.home g u.todo) seats id v a b at (tally-cut k.home g m v.todo) in
-    let won : (x : ℕ) → seat_total (λ u. times x u.won) all ≡ seat_total (λ u. times x u.won) seats = λ x. total-cut (λ u. times x u.won) seats id v a b at (omega arith) in
-    let held : (x : ℕ) → seat_total (held_in x) all ≡ seat_total (held_in x) seats = λ x. total-cut (held_in x) seats id v a b at (omega arith) in
-    let width : seat_total (λ u. u.width) all ≡ seat_total (λ u. u.width) seats = total-cut (λ u. u.width) seats id v a b at (omega arith) in
-    record {
-      values = λ x small. law.values x small ∙ ap (value_word k x) (sym (won x));
-      due = λ x there. law.due x (let s = todo x in omega arith);
-      due_once = λ x. let s = todo x in let o = law.due_once x in omega arith;
-      counts = λ g small. let s = tallies g in let o = law.counts g small in omega arith;
-      next = λ x there. law.next x (let s = held x in omega arith);
-      won_once = λ x. let s = won x in let o = law.won_once x in omega arith;
-      closed = λ g x small none_left there. let o = law.closed g x small none_left there in let s = held x in omega arith;
-      widths = let o = law.widths in omega arith;
-      fits = fit-push (set seats id a) b (fit-set seats id a law.fits (λ none. absurd (omega arith))) (λ none. absurd (omega arith));
-    }
+    same-kept k count value seats all law
+    (λ x. total-cut (λ u. times x u.todo) seats id v a b at (times-cut x m v.todo)) (λ g. total-cut (λ u. tally k.home g u.todo) seats id v a b at (tally-cut k.home g m v.todo))
+    (λ x. total-cut (λ u. times x u.won) seats id v a b at (omega arith)) (λ x. total-cut (held_in x) seats id v a b at (omega arith))
+    (total-cut (λ u. u.width) seats id v a b at (omega arith)) (fit-push (set seats id a) b (fit-set seats id a law.fits (λ none. absurd (omega arith))) (λ none. absurd (omega arith)))
 
 pub joins : (k : Rules) (count : ℕ → ℕ) (value : ℕ → Option ℕ) (seats : List PlainSeat) (id other : ℕ) (v u : PlainSeat) → AreKept k count value seats → slice_get seats id ≡ Some v → slice_get seats other ≡ Some u
     → id ≢ other → 0 < v.width → AreKept k count value (set (set seats id (seat_joined v u)) other spent)
 joins k count value seats id other v u law at there differ wide =
     let a : PlainSeat = seat_joined v u in
     let all : List PlainSeat = set (set seats id a) other spent in
-    let todo : (x : ℕ) → seat_total (λ w. times x w.todo) all ≡ seat_total (λ w. times x w.todo) seats =
-    λ x. total-glue (λ w. times x w.todo) seats id other v u a spent at there differ (let s = times-append x v.todo u.todo in omega arith) in
-    let tallies : (g : ℕ) → seat_total (λ w. tally k.home g w.todo) all ≡ seat_total (λ w. tally k.home g w.todo) seats =
-    λ g. total-glue (λ w. tally k.home g w.todo) seats id other v u a spent at there differ (let s = tally-append k.home g v.todo u.todo in omega arith) in
-    let won : (x : ℕ) → seat_total (λ w. times x w.won) all ≡ seat_total (λ w. times x w.won) seats =
-    λ x. total-glue (λ w. times x w.won) seats id other v u a spent at there differ (let s = times-append x v.won u.won in omega arith) in
-    let held : (x : ℕ) → seat_total (held_in x) all ≡ seat_total (held_in x) seats =
-    λ x. total-glue (held_in x) seats id other v u a spent at there differ (let s = times-append x v.won u.won in let t = times-append x v.owed u.owed in omega arith) in
-    let width : seat_total (λ w. w.width) all ≡ seat_total (λ w. w.width) seats = total-glue (λ w. w.width) seats id other v u a spent at there differ (omega arith) in
-    record {
-      values = λ x small. law.values x small ∙ ap (value_word k x) (sym (won x));
-      due = λ x here. law.due x (let s = todo x in omega arith);
-      due_once = λ x. let s = todo x in let o = law.due_once x in omega arith;
-      counts = λ g small. let s = tallies g in let o = law.counts g small in omega arith;
-      next = λ x here. law.next x (let s = held x in omega arith);
-      won_once = λ x. let s = won x in let o = law.won_once x in omega arith;
-      closed = λ g x small none_left here. let o = law.closed g x small none_left here in let s = held x in omega arith;
-      widths = let o = law.widths in omega arith;
-      fits = fit-set (set seats id a) other spent (fit-set seats id a law.fits (λ none. absurd (omega arith))) (λ none. refl);
-    }
+    same-kept k count value seats all law
+    (λ x. total-glue (λ w. times x w.todo) seats id other v u a spent at there differ (let s = times-append x v.todo u.todo in omega arith))
+    (λ g. total-glue (λ w. tally k.home g w.todo) seats id other v u a spent at there differ (let s = tally-append k.home g v.todo u.todo in omega arith))
+    (λ x. total-glue (λ w. times x w.won) seats id other v u a spent at there differ (let s = times-append x v.won u.won in omega arith))
+    (λ x. total-glue (held_in x) seats id other v u a spent at there differ (let s = times-append x v.won u.won in let t = times-append x v.owed u.owed in omega arith))
+    (total-glue (λ w. w.width) seats id other v u a spent at there differ (omega arith))
+    (fit-set (set seats id a) other spent (fit-set seats id a law.fits (λ none. absurd (omega arith))) (λ none. refl))
 
 pub opens : (k : Rules) (count : ℕ → ℕ) (value : ℕ → Option ℕ) (todo : List ℕ) → AreReadyLists k count value todo → AreKept k count value (record { width = k.width; todo = todo; owed = []; won = [] } ∷ [])
 opens k count value todo ready = record {

@@ -1,5 +1,5 @@
 -- A strike of the first that is left to be struck.
-use Rattle.std.proofs.Common.{◌≡◌, ◌≢◌, ℕ, ◌+◌, ◌<◌, ◌≤◌, ◌==◌, not, inl, inr, Bool, true, false, cond, suc, refl, arith, sym, ap, ◌∙◌, subst, List, ◌∷◌, slice_index, slice_set}
+use Rattle.std.proofs.Common.{◌≡◌, ◌≢◌, ℕ, ◌+◌, ◌<◌, ◌≤◌, ◌==◌, not, inl, inr, Bool, true, false, cond, suc, refl, arith, sym, ap, ◌∙◌, subst, List, [], ◌∷◌, slice_index, slice_set}
 use Rattle.std.proofs.lemmas.Bool.Decides.{nat_tests}
 use Rattle.index_lists.specs.Lists.{times}
 use Rattle.index_lists.proofs.Cited.{times-here, times-more, times-later}
@@ -23,6 +23,14 @@ alive-lasts a r todo x e = rw e refl
 
 pub alive-fails : (a : Arena) (r : ℕ) (todo : List ℕ) (x : ℕ) → lasts a (suc r) x ≡ false → is_unstruck a r todo x ≡ not (times x todo == 0)
 alive-fails a r todo x e = rw e refl
+
+-- with nothing left to strike, what is alive is what lasts longer than the round
+pub alive-none : (a : Arena) (r x : ℕ) → lasts a (suc r) x ≡ is_unstruck a r [] x
+alive-none a r x = by (lasts a (suc r) x)
+  where
+    by : (b : Bool) → b ≡ cond b true (not (0 == 0))
+    by true = refl
+    by false = refl
 
 pub some_times : (n : ℕ) → 0 < n → not (n == 0) ≡ true
 some_times n h = grind (arith, nat_tests)

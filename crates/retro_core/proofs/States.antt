@@ -1,5 +1,5 @@
 -- What a solver knows between its calls.
-use Rattle.std.proofs.Common.{◌≡◌, ◌≢◌, ℕ, ◌+◌, ◌&&◌, ◌<◌, ◌≤◌, ◌↔◌, ◌==◌, not, inl, inr, Bool, true, false, cond, suc, refl, arith, sym, ap, ◌∙◌, subst, List, [], ◌∷◌, length, get_or, slice_index, Option, Some, None}
+use Rattle.std.proofs.Common.{◌≡◌, ◌≢◌, ℕ, ◌+◌, ◌&&◌, ◌<◌, ◌≤◌, ◌↔◌, ◌==◌, inl, inr, Bool, true, false, cond, suc, refl, arith, sym, ap, ◌∙◌, subst, List, [], ◌∷◌, length, get_or, slice_index, Option, Some, None}
 use Rattle.std.specs.List.{filter, AllPairs}
 use Rattle.std.proofs.lemmas.Bool.{cases_lt}
 use Rattle.std.proofs.lemmas.List.FromFn.{get_or-map-range_with_len}
@@ -22,16 +22,16 @@ use Rattle.retro_core.specs.Inside.Stage.{first_lists, PlainStage, filed_at, tur
 use Rattle.retro_core.specs.Inside.Tables.{is_open, open_members, is_unstruck, struck_rounds, AreWords, AreValues}
 use Rattle.retro_core.proofs.Arenas.{IsArena}
 use Rattle.retro_core.proofs.Counts.{count_below-some, count_below-less, count_below-bound}
-use Rattle.retro_core.proofs.LastingRanks.{both_true, true_or_false, true_not_false, same_or_not, same_is, lasts-less, lasts-at-most}
+use Rattle.retro_core.proofs.LastingRanks.{none_some, some_same, both_true, true_or_false, true_not_false, same_or_not, same_is, lasts-less, lasts-at-most}
 use Rattle.retro_core.proofs.Strikes.{lasts-forever}
 use Rattle.retro_core.proofs.BoardArenas.{at_member, arena_is, tree_of_lasts, lasts_of_tree, value_of_lasts, lasts_of_value}
 use Rattle.retro_core.proofs.DominatedRanks.{tells-dominated, same-filter, counted-alike, words-alike, filtered-times}
-use Rattle.retro_core.proofs.EnteredAnswers.{live-size}
+use Rattle.retro_core.proofs.EnteredAnswers.{live-size, above-size}
 use Rattle.retro_core.proofs.FiledRanks.{past}
 use Rattle.retro_core.proofs.Homes.{times-filter-true, times-filter-le}
 use Rattle.retro_core.proofs.ListedWords.{shut_word, times_true}
 use Rattle.retro_core.proofs.Sources.{waits-times, members-are}
-use Rattle.retro_core.proofs.StageStrikes.{alive-lasts, alive-fails, some_times, no_times}
+use Rattle.retro_core.proofs.StageStrikes.{alive-lasts, alive-fails, alive-none, some_times, no_times}
 
 -- ---- words
 
@@ -128,16 +128,12 @@ module _ (s : PlainStage) (board_is : IsBoard s.board) (few : configurations s.b
 
   pub round-ends : (k : IsStriking s []) → IsStage (lasts a (suc k.round)) s
   round-ends k =
-      let alike : (x : ℕ) → x < a.configurations → dominated a x ≡ true → is_unstruck a k.round [] x ≡ lasts a (suc k.round) x = λ x j holds. by (lasts a (suc k.round) x) in
+      let alike : (x : ℕ) → x < a.configurations → dominated a x ≡ true → is_unstruck a k.round [] x ≡ lasts a (suc k.round) x = λ x j holds. sym (alive-none a k.round x) in
       record {
         counts_are = counted-alike a is (is_unstruck a k.round []) (lasts a (suc k.round)) s.counts alike k.stage.counts_are;
         words_are = words-alike a is (is_unstruck a k.round []) (lasts a (suc k.round)) s.values alike k.stage.words_are;
         filed_are = k.stage.filed_are;
       }
-    where
-      by : (b : Bool) → cond b true (not (0 == 0)) ≡ b
-      by true = refl
-      by false = refl
 
   -- a round that files nothing is the last
   pub round-last : (r : ℕ) → r < configurations s.board → IsStage (lasts a (suc r)) s → filed_at s (suc r) ≡ [] → IsLast a (suc r)
@@ -180,21 +176,21 @@ module _ (s : PlainStage) (board_is : IsBoard s.board) (few : configurations s.b
 not_true : false ≡ true → ⊥
 not_true e = cc
 
+filed-turned : (s : PlainStage) → IsFiled s → IsFiled (turned s)
+filed-turned s f = record { values_length = f.values_length; lists_length = f.lists_length; below = f.below; once = f.once }
+
 pub start-state : (s : PlainStage) → IsBoard s.board → configurations s.board ≤ MAX_CONFIGURATIONS → 0 < configurations s.board → IsOpened s → IsState (turned s) 0 false
 start-state s is_board few some opened = record {
   is_board = is_board;
   few = few;
   value_is = (let zero_is = opened.value_is in omega arith);
-  stage = record { counts_are = opened.stage.counts_are; words_are = opened.stage.words_are; filed_are = same };
+  stage = record { counts_are = opened.stage.counts_are; words_are = opened.stage.words_are; filed_are = filed-turned s opened.stage.filed_are };
   some = count_below-some (configurations s.board) (lasts (arena_of s.board) 0) 0 some refl;
   bound = (let most = count_below-bound (configurations s.board) (lasts (arena_of s.board) 0) in omega arith);
   last = λ e. absurd (not_true e);
   ascending = opened.ascending;
   strikes_are = ap (λ v. filter (dominated (arena_of s.board)) (filed_at s v)) opened.value_is;
 }
-  where
-    same : IsFiled (turned s)
-    same = let f = opened.stage.filed_are in record { values_length = f.values_length; lists_length = f.lists_length; below = f.below; once = f.once }
 
 -- ---- values, by the words
 
@@ -328,9 +324,6 @@ module _ (s : PlainStage) (round : ℕ) (is_done : Bool) (st : IsState s round i
     λ e. absurd (none_some v (sym none ∙ e)),
     λ has. absurd (true_not_false (is_open s.values x) still (value-word v x i has.0 has.1).0),
   )
-    where
-      none_some : (n : ℕ) → None ≡ Some n → ⊥
-      none_some n e = cc
 
   pub value-shut : (x : ℕ) → x < configurations b → is_open s.values x ≡ false → (word : ℕ) → word ≡ slice_index s.values x → (o : Option ℕ) → o ≡ Some word → (v : ℕ) → (o ≡ Some v) ↔ ((v ≤ round) × HasValue b (configuration_at b x) (Finite v))
   value-shut x i shut word word_is o some v = (
@@ -338,18 +331,11 @@ module _ (s : PlainStage) (round : ℕ) (is_done : Bool) (st : IsState s round i
         (subst (λ j. j ≤ round) same (word-few x i shut), subst (λ j. HasValue b (configuration_at b x) (Finite j)) same (word-value x i shut)),
     λ has. some ∙ ap Some (word_is ∙ (value-word v x i has.0 has.1).1),
   )
-    where
-      some_same : (m n : ℕ) → Some m ≡ Some n → m ≡ n
-      some_same m n e = cc
 
   pub counts-before : (g : ℕ) → g < gaps b → is_done ≡ false → HasSize (AnswerLasts b g round) (slice_index s.counts g)
   counts-before g i going =
       subst (HasSize (AnswerLasts b g round)) (sym (st.stage.counts_are.counted g i ∙ ap (λ d. live arena (lasts arena (struck_rounds d round)) g) going))
-      (live-size b g (lasts arena round) (λ v. LabellerTree b round (member_of b g v)) i (λ v j.
-      let low = is-arena.member_in g v i j in (
-        λ e. subst (LabellerTree b round) (at_member b g v i j) (tree_of_lasts b st.is_board round (rank_of b (member_of b g v)) low e),
-        λ tree. lasts_of_tree b st.is_board round (rank_of b (member_of b g v)) low (subst (LabellerTree b round) (sym (at_member b g v i j)) tree),
-      )))
+      (above-size b st.is_board round g i)
 
   pub counts-after : (g : ℕ) → g < gaps b → is_done ≡ true → HasSize (AnswerForever b g) (slice_index s.counts g)
   counts-after g i done =
@@ -455,13 +441,10 @@ module _ (s : PlainStage) (round : ℕ) (is_done : Bool) (st : IsState s round i
           is_board = board';
           few = few';
           value_is = (let at = value_is in omega arith);
-          stage = record { counts_are = after.counts_are; words_are = after.words_are; filed_are = same };
+          stage = record { counts_are = after.counts_are; words_are = after.words_are; filed_are = filed-turned s' after.filed_are };
           some = more.0;
           bound = more.1;
           last = λ e. absurd (not_true e);
           ascending = subst (λ (xs : List ℕ). AllPairs (λ first second. first < second) xs) (sym (other 0 (omega arith))) st.ascending;
           strikes_are = ap (λ v. filter (dominated (arena_of s'.board)) (filed_at s' v)) value_is;
         }
-      where
-        same : IsFiled (turned s')
-        same = let f = after.filed_are in record { values_length = f.values_length; lists_length = f.lists_length; below = f.below; once = f.once }

@@ -24,21 +24,12 @@ use Rattle.retro_core.specs.Inside.Stage.{PlainStage, filed_at, turned, IsFiled,
 use Rattle.retro_core.specs.Inside.Tables.{is_open, AreValues}
 use Rattle.retro_core.proofs.Counts.{some_below, count_below-none, count_below-same, count_below-some, count_below-without}
 use Rattle.retro_core.proofs.EnteredAnswers.{count-same}
+use Rattle.retro_core.proofs.Homes.{stands, stands-true, stands-false}
 use Rattle.retro_core.proofs.LastingRanks.{true_or_false, same_or_not, same_is, differ_is}
 use Rattle.retro_core.proofs.ListedWords.{open_word, shut_word}
 use Rattle.retro_core.proofs.States.{word-few, filed-few, filed-there}
 
 -- ---- lists without repetitions
-
--- the number stands in the list
-abbrev stands : List ℕ → ℕ → Bool
-stands xs x = not (times x xs == 0)
-
-stands_is : (xs : List ℕ) (x : ℕ) → 0 < times x xs → stands xs x ≡ true
-stands_is xs x h = grind (arith, nat_tests)
-
-stands_not : (xs : List ℕ) (x : ℕ) → times x xs ≡ 0 → stands xs x ≡ false
-stands_not xs x e = grind (arith, nat_tests)
 
 -- a list without repetitions of numbers below n is as long as the count of these
 list-size : (n : ℕ) (xs : List ℕ) → ((x : ℕ) → times x xs ≤ 1) → ((x : ℕ) → 0 < times x xs → x < n) → length xs ≡ count_below n (stands xs)
@@ -47,7 +38,7 @@ list-size n (y ∷ ys) once below =
     let rest = list-size n ys (λ x. (let few = once x in omega arith)) (λ x h. below x (times-more y x ys h)) in
     let here : times y (y ∷ ys) ≡ 1 + times y ys = rw (same_is y y refl) refl in
     let few : times y (y ∷ ys) ≤ 1 = once y in
-    let one = count_below-without n y (stands (y ∷ ys)) (stands ys) (below y (times-here y y ys refl)) (stands_is (y ∷ ys) y (times-here y y ys refl)) (stands_not ys y (omega arith))
+    let one = count_below-without n y (stands (y ∷ ys)) (stands ys) (below y (times-here y y ys refl)) (stands-true (y ∷ ys) y (times-here y y ys refl)) (stands-false ys y (omega arith))
     (λ x i d. ap (λ m. not (m == 0)) (times-later y x ys (λ e. d (sym e)))) in
     omega arith
 
@@ -56,8 +47,8 @@ pub filed-size : (s : PlainStage) (v : ℕ) → IsFiled s → v ≤ configuratio
 filed-size s v are low =
     list-size (configurations s.board) (filed_at s v) (λ x. filed-few s v x are) (λ x h. are.below v x h)
     ∙ count_below-same (configurations s.board) (stands (filed_at s v)) (λ x. slice_index s.values x == v) (λ x i. elim (same_or_not (slice_index s.values x) v) [
-      | inl e ↦ stands_is (filed_at s v) x (filed-there s v x are low i e) ∙ sym (same_is (slice_index s.values x) v e)
-      | inr d ↦ stands_not (filed_at s v) x (are.once v x low i ∙ rw (differ_is (slice_index s.values x) v d) refl) ∙ sym (differ_is (slice_index s.values x) v d)
+      | inl e ↦ stands-true (filed_at s v) x (filed-there s v x are low i e) ∙ sym (same_is (slice_index s.values x) v e)
+      | inr d ↦ stands-false (filed_at s v) x (are.once v x low i ∙ rw (differ_is (slice_index s.values x) v d) refl) ∙ sym (differ_is (slice_index s.values x) v d)
     ])
 
 -- ---- the lengths, round by round
@@ -180,6 +171,9 @@ finite_same j k e = cc
 finite_not_forever : (j : ℕ) → Finite j ≡ Forever → ⊥
 finite_not_forever j e = cc
 
+is_same : (m n : ℕ) → m == n ≡ true → m ≡ n
+is_same m n e = grind (arith, nat_tests)
+
 module _ (b : PlainBoard) (values sizes : List ℕ) (forever : ℕ) (few : configurations b ≤ MAX_CONFIGURATIONS) (are : AreValues b values) (counts : AreValueSizes (configurations b) values sizes forever) where
   -- a finite value is the word
   finite-word : (v x : ℕ) → x < configurations b → HasValue b (configuration_at b x) (Finite v) → (is_open values x ≡ false) × (slice_index values x ≡ v)
@@ -201,9 +195,6 @@ module _ (b : PlainBoard) (values sizes : List ℕ) (forever : ℕ) (few : confi
         λ has. (has.0, same_is (slice_index values x) v (finite-word v x has.0 has.1).1),
         λ passes. (passes.0, word-finite v x passes.0 low (is_same (slice_index values x) v passes.1)),
       )))
-    where
-      is_same : (m n : ℕ) → m == n ≡ true → m ≡ n
-      is_same m n e = grind (arith, nat_tests)
 
   pub count-beyond : (v : ℕ) → length sizes ≤ v → HasCount b (Finite v) 0
   count-beyond v high = (size_zero (λ x. (x < configurations b) × HasValue b (configuration_at b x) (Finite v))).1 (λ x has.
@@ -250,6 +241,3 @@ module _ (b : PlainBoard) (values sizes : List ℕ) (forever : ℕ) (few : confi
         (configuration_at b found.0, configuration_at_is b found.0 found.1, word-finite v found.0 found.1 (omega arith) (is_same (slice_index values found.0) v found.2))),
     λ other occurs. (let inside = (occurs-size other occurs).0 in omega arith),
   )
-    where
-      is_same : (m n : ℕ) → m == n ≡ true → m ≡ n
-      is_same m n e = grind (arith, nat_tests)

@@ -7,7 +7,7 @@ use Rattle.std.proofs.lemmas.List.{get_or-set_same, get_or-set_other, get_or_pas
 use Rattle.std.proofs.lemmas.List.Elements.{Contains-get_or, Contains-append_left, Contains-append_right, Contains-append_cases}
 use Rattle.std.proofs.lemmas.List.Quantifiers.{all_pairs_push}
 use Rattle.positions.specs.Counts.{IsSmallest}
-use Rattle.strategies.specs.Inside.ReachedRanks.{AreMarked, IsWith}
+use Rattle.strategies.specs.Inside.ReachedRanks.{AreMarked}
 use Rattle.strategies.proofs.AddedRanks.{few_apart, only_one}
 
 pub false_not_true : (b : Bool) → b ≡ false → b ≡ true → ⊥
@@ -18,13 +18,6 @@ pub all_false : (size rank : ℕ) → slice_index_or (replicate size false) rank
 all_false zero rank = refl
 all_false (suc size) zero = refl
 all_false (suc size) (suc rank) = all_false size rank
-
--- nothing is marked
-pub no_marks : (size : ℕ) → AreMarked (replicate size false) []
-no_marks size = record {
-  marked = λ rank. (λ marked. absurd (false_not_true (slice_index_or (replicate size false) rank false) (all_false size rank) marked), λ among. absurd (let inside : among.0 < 0 = among.1 in omega arith));
-  once = λ i j d less inside. absurd (omega arith);
-}
 
 -- one more is marked
 pub mark_more : (marks : List Bool) (ranks : List ℕ) (rank : ℕ) → AreMarked marks ranks → rank < length marks → ¬ Contains ranks rank
@@ -53,9 +46,6 @@ few_ranks marks ranks are = few_apart ranks (length marks) are.once (λ rank amo
   | inl inside ↦ inside
   | inr beyond ↦ absurd (false_not_true (slice_index_or marks rank false) (get_or_past marks rank false beyond) ((are.marked rank).1 among))
 ])
-
-pub known_stays : (marks : List Bool) (ranks : List ℕ) (rank : ℕ) → AreMarked marks ranks → slice_index_or marks rank false ≡ true → IsWith ranks rank ranks
-known_stays marks ranks rank are marked = record { known = λ _. refl; other = λ not. absurd (not ((are.marked rank).0 marked)) }
 
 pub new_added : (marks : List Bool) (ranks : List ℕ) (rank : ℕ) → AreMarked marks ranks → slice_index_or marks rank false ≡ false → ¬ Contains ranks rank
 new_added marks ranks rank are unmarked among = false_not_true (slice_index_or marks rank false) unmarked ((are.marked rank).1 among)
