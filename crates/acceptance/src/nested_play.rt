@@ -97,7 +97,8 @@ fn games_of_the_highest_and_the_lowest_level(rt: HostRuntime) {
     assert_request(&rt, &mut game_of(&rt, rt.alloc(), 1), 0, 0);
 }
 
-/// Asserts that four requests are answered by labels that are legal on the board, and that lead to configurations from which a labeller lasts for ever.
+/// Asserts that four requests are answered by labels that are legal on the board, and that lead to configurations from which a labeller
+/// lasts for ever.
 ///
 /// The pebbles that are asked for are the digits of a number, from the last one on, with as many digits as there are levels.
 fn assert_lasting(

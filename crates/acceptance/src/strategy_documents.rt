@@ -262,7 +262,8 @@ fn the_document_of_the_nested_board_of_level_four(rt: HostRuntime) {
     assert_accepted(&rt, rt.alloc(), &board, Claim::Forever);
 }
 
-/// Makes a board's document some times. At most one growth of memory is refused, and then that call says so and the others give the document.
+/// Makes a board's document some times. At most one growth of memory is refused, and then that call says so and the others give the
+/// document.
 fn make_in_turn(rt: &impl Abort, alloc: Global, board: &Board, text: &str) {
     let values = values_of(alloc, board).expect(rt, "values");
     let mut was_refused = false;

@@ -44,13 +44,13 @@ HasBoardFault text line Labels = (line ≡ 2) × (version : ℕ) × (rest : List
     × Lacks (InRange 1 MAX_LABELS) labels_line rest
 HasBoardFault text line Pebbles = (line ≡ 3) × (version labels : ℕ) × (rest : List ℕ) × InRange 1 2 version × InRange 1 MAX_LABELS labels
     × (text ≡ version_line version ++ (labels_line labels ++ rest)) × Lacks (InRange 1 MAX_PEBBLES) pebbles_line rest
-HasBoardFault text line Start = (line ≡ 4) × (version labels pebbles : ℕ) × (rest : List ℕ) × InRange 1 2 version × InRange 1 MAX_LABELS labels
-    × InRange 1 MAX_PEBBLES pebbles
+HasBoardFault text line Start = (line ≡ 4) × (version labels pebbles : ℕ) × (rest : List ℕ) × InRange 1 2 version
+    × InRange 1 MAX_LABELS labels × InRange 1 MAX_PEBBLES pebbles
     × (text ≡ version_line version ++ (labels_line labels ++ (pebbles_line pebbles ++ rest)))
     × Lacks (IsStart version labels pebbles) (start_line labels) rest
 HasBoardFault text line Trailing = (b : PlainBoard) × (first : ℕ) × (more : List ℕ) × IsBoard b × (text ≡ board_text b ++ first ∷ more)
     × (line ≡ 6 + length b.pairs)
-HasBoardFault text line Memory = (line ≡ 0) × (version labels pebbles : ℕ) × (rest : List ℕ) × InRange 1 2 version × InRange 1 MAX_LABELS labels
-    × InRange 1 MAX_PEBBLES pebbles
+HasBoardFault text line Memory = (line ≡ 0) × (version labels pebbles : ℕ) × (rest : List ℕ) × InRange 1 2 version
+    × InRange 1 MAX_LABELS labels × InRange 1 MAX_PEBBLES pebbles
     × (text ≡ version_line version ++ (labels_line labels ++ (pebbles_line pebbles ++ rest)))
 HasBoardFault text line kind = InPairs text line kind

@@ -46,7 +46,8 @@ fn build_parts(
     pairs: &[(u16, u16)],
 ) -> Result<Board, BoardFault>
     ensures found { IfOk result (λ board. IsBoard board × (board ≡ plain_board labels pebbles start.now pairs.now)) }
-    ensures fault { IfErr result (λ fault. HasBoardFault (board_text (plain_board labels pebbles start.now pairs.now)) fault.line fault.kind) }
+    ensures fault { IfErr result (λ fault.
+        HasBoardFault (board_text (plain_board labels pebbles start.now pairs.now)) fault.line fault.kind) }
 {
     if labels == 0 || labels as usize > MAX_LABELS {
         return Err(BoardFault::at(2, BoardKind::Labels));

@@ -4,7 +4,8 @@ use Rattle.std.specs.Prelude.{slice_index}
 use Rattle.board_text.specs.declared.board.TheConstants.{MAX_LABELS}
 use Rattle.std.proofs.lemmas.Bool.{cases_lt}
 use Rattle.std.proofs.lemmas.List.{get_or-map, length-map}
-use Rattle.std.specs.List.{flat_map}
+use Rattle.std.specs.List.{flat_map, sum_by}
+use Rattle.std.proofs.lemmas.List.Sums.{sum_by-cons}
 use mathlib.Core.Option.{some}
 use lib.ListN.{get_elem?}
 use Rattle.atomic_table.specs.Seated.{TableId}
@@ -19,9 +20,8 @@ use Rattle.positions.specs.Counts.{HasSize}
 use Rattle.positions.specs.declared.space.TheConstants.{MAX_CONFIGURATIONS}
 use Rattle.positions.proofs.Cited.{same_size, size_zero, size_at_most}
 use Rattle.retro_core.specs.Solving.{Solving, IsSolving, AnswerLasts}
-use Rattle.retro_core.specs.Round.{PlainSeat, Round, IsLawful, IsWorkedOff, spent as spent_seat, seat_at, total_width, all_todo}
+use Rattle.retro_core.specs.Round.{PlainSeat, Round, IsLawful, IsWorkedOff, spent as spent_seat, seat_at, all_todo}
 use Rattle.retro_core.specs.Round.{all_won}
-use Rattle.retro_core.proofs.Cited.{seat_total}
 use Rattle.retro_core.specs.Ending.{IsRoundEnd}
 use Rattle.retro_core.proofs.Cited.{same_or_not, times-together, worked-off}
 use Rattle.claim_round.specs.Shared.{Key, View, Ended, Finishes}
@@ -31,36 +31,23 @@ use Rattle.claim_round.specs.Inside.Rounds.{IsRound}
 use Rattle.claim_round.specs.declared.seat.RoundSeat.TheInside.{Inside}
 use Rattle.claim_round.specs.declared.words.TheConstants.{OPEN}
 use Rattle.claim_round.specs.Inside.Words.{value_of_word, round_of_words}
-use Rattle.claim_round.proofs.Totals.{seat_read, total_at}
+use Rattle.claim_round.proofs.Totals.{seat_read, total_at, two_widths, width_at}
 use Rattle.claim_round.proofs.TableSteps.{words_length}
 use Rattle.claim_round.proofs.Seats.{no_length}
 
 -- ---- one seat has the whole width
 
-width_at : (seats : List PlainSeat) (i : ℕ) → (get_or seats i spent_seat).width ≤ total_width seats
-width_at [] i = omega arith
-width_at (x ∷ xs) zero = omega arith
-width_at (x ∷ xs) (suc i) = let r = width_at xs i in omega arith
-
-two_widths : (seats : List PlainSeat) (i j : ℕ) → i ≢ j → (get_or seats i spent_seat).width + (get_or seats j spent_seat).width ≤ total_width seats
-two_widths [] i j ne = omega arith
-two_widths (x ∷ xs) zero zero ne = absurd (ne refl)
-two_widths (x ∷ xs) zero (suc j) ne = let r = width_at xs j in omega arith
-two_widths (x ∷ xs) (suc i) zero ne = let r = width_at xs i in omega arith
-two_widths (x ∷ xs) (suc i) (suc j) ne = let r = two_widths xs i j (λ e. ne (ap suc e)) in omega arith
-
-none_else : (f : PlainSeat → ℕ) → f spent_seat ≡ 0 → (seats : List PlainSeat) → ((j : ℕ) → get_or seats j spent_seat ≡ spent_seat) → seat_total f seats ≡ 0
+none_else : (f : PlainSeat → ℕ) → f spent_seat ≡ 0 → (seats : List PlainSeat) → ((j : ℕ) → get_or seats j spent_seat ≡ spent_seat) → sum_by f seats ≡ 0
 none_else f z [] idle = refl
-none_else f z (x ∷ xs) idle = let here : f x ≡ 0 = ap f (idle 0) ∙ z in let r = none_else f z xs (λ j. idle (suc j)) in omega arith
+none_else f z (x ∷ xs) idle = let here : f x ≡ 0 = ap f (idle 0) ∙ z in omega (arith, here, none_else f z xs (λ j. idle (suc j)), sum_by-cons f x xs)
 
 -- f of all seats is f of one, where all others are spent
-only : (f : PlainSeat → ℕ) → f spent_seat ≡ 0 → (seats : List PlainSeat) (id : ℕ) → ((j : ℕ) → j ≢ id → get_or seats j spent_seat ≡ spent_seat) → seat_total f seats ≡ f (get_or seats id spent_seat)
+only : (f : PlainSeat → ℕ) → f spent_seat ≡ 0 → (seats : List PlainSeat) (id : ℕ) → ((j : ℕ) → j ≢ id → get_or seats j spent_seat ≡ spent_seat) → sum_by f seats ≡ f (get_or seats id spent_seat)
 only f z [] id idle = sym z
-only f z (x ∷ xs) zero idle = let r = none_else f z xs (λ j. idle (suc j) (λ e. absurd (omega arith))) in omega arith
+only f z (x ∷ xs) zero idle = omega (arith, none_else f z xs (λ j. idle (suc j) (λ e. absurd (omega arith))), sum_by-cons f x xs)
 only f z (x ∷ xs) (suc id) idle =
     let here : f x ≡ 0 = ap f (idle 0 (λ e. absurd (omega arith))) ∙ z in
-    let r = only f z xs id (λ j ne. idle (suc j) (λ e. ne (omega arith))) in
-    omega arith
+    omega (arith, here, only f z xs id (λ j ne. idle (suc j) (λ e. ne (omega arith))), sum_by-cons f x xs)
 
 pub record IsClosed (k : Key) (words : List ℕ) (v : View) : Type 0 where
   pub wide : v.has.width ≡ k.width

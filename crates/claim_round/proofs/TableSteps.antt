@@ -2,8 +2,8 @@
 use Rattle.std.proofs.Common.{◌≡◌, ◌≢◌, ℕ, zero, suc, ◌+◌, ◌-◌, ◌*◌, ◌%◌, ◌^◌, ◌<◌, ◌≤◌, Bool, true, false, eqb, List, [], ◌∷◌, ◌++◌, length, drop, set, get_or, refl, sym, ap, ◌∙◌, subst, inl, inr, arith}
 use Rattle.std.specs.Prelude.{slice_index}
 use Rattle.std.proofs.lemmas.List.{map-set, map_push, length-map, length-take, length-drop}
-use Rattle.std.specs.List.{flat_map}
-use mathlib.Core.Option.{none, some, some-ne-none, some-injective}
+use Rattle.std.specs.List.{flat_map, sum_by}
+use mathlib.Core.Option.{none, some, some-ne-none}
 use prog.Atomic.{either}
 use lib.ListN.{get_elem?}
 use Rattle.atomic_table.specs.Table.{Me, step, stepped, keeps, Allows, Splits, Joins}
@@ -14,15 +14,15 @@ use Rattle.positions.specs.Ranks.{configuration_at, configurations}
 use Rattle.positions.specs.Gaps.{gaps, gap_of, IsDominator}
 use Rattle.retro_core.specs.Solving.{Solving}
 use Rattle.retro_core.specs.Round.{PlainSeat, IsLawful, spent as spent_seat, first_of, seat_struck, seat_tried, seat_kept, seat_new}
-use Rattle.retro_core.specs.Round.{seat_joined, total_width}
+use Rattle.retro_core.specs.Round.{seat_joined}
 use Rattle.retro_core.proofs.Cited.{same_or_not, split-lawful, join-lawful}
 use Rattle.claim_round.proofs.WordSteps.{IsWordStruck, word-strike, word-try}
 use Rattle.claim_round.specs.Shared.{Key, View, kept_part, new_part, view_joined}
-use Rattle.claim_round.specs.Inside.Shared.{Unit0, Kept, IsTraced, TableStrikes, Claims, Reads, Looks, IsBounded, seats_of, total, most, size}
+use Rattle.claim_round.specs.Inside.Shared.{Unit0, Kept, IsTraced, TableStrikes, Claims, Reads, Looks, IsBounded, seats_of, most, size}
 use Rattle.claim_round.specs.Inside.Shared.{load, view_struck, claimed, spent_view}
 use Rattle.claim_round.specs.declared.words.TheConstants.{OPEN}
 use Rattle.claim_round.specs.Inside.Words.{value_of_word, round_of_words}
-use Rattle.claim_round.proofs.Totals.{total_at, won_total, seat_read, get_elsewhere}
+use Rattle.claim_round.proofs.Totals.{get_elsewhere, seat_read, total_at, width_at, won_total}
 use Rattle.claim_round.proofs.Traces.{traced_strike, traced_try, lost_of_win, lost_of_loss, traced_split, traced_join}
 
 pub put_back : (l : List ℕ) (i : ℕ) → set l i (get_or l i 0) ≡ l
@@ -136,7 +136,7 @@ claim_allowed k slots id me i next below wide some_owed here is_next s kept same
           let lawful : IsLawful (round_of_words k.solving k.width (set s.words i n) (seats_of (set s.views id w))) =
           subst (λ (l : List ℕ). IsLawful (round_of_words k.solving k.width l (seats_of (set s.views id w)))) words_same
           (subst (λ (l : List PlainSeat). IsLawful (round_of_words k.solving k.width s.words l)) after lost.lawful) in
-          let stands : 0 < total (λ u. times c u.has.won) s.views = subst (λ m. 0 < m) (won_total c s.views) (subst (λ x. 0 < times x (flat_map (λ seat. seat.won) seats)) first lost.stands) in
+          let stands : 0 < sum_by (λ u. times c u.has.won) s.views = subst (λ m. 0 < m) (won_total c s.views) (subst (λ x. 0 < times x (flat_map (λ seat. seat.won) seats)) first lost.stands) in
           let traced = traced_try k s.words s.views kept.2 id me.0 at wide (set s.words i n) (elsewhere n) n (lost_of_loss k s.words s.views kept.2 id me.0 at wide (set s.words i n) (elsewhere n) n miss stands) in
           exchanged n OPEN next P (λ hit. absurd (miss hit)) (λ _. (lawful, traced)))
     ] in
@@ -191,18 +191,13 @@ look_allowed k slots id me i wide s kept same at small =
     let few = won_few k s.words s.views id me.0 kept.1 at in
     let P : List ℕ × List View → Type 0 = λ p. IsLawful (round_of_words k.solving k.width p.0 (seats_of p.1)) × IsTraced k p.0 p.1 in
     let bounded : IsBounded me.0 = record {
-      width = subst (λ (q : Key). me.0.has.width ≤ q.width) (sym knows) (let all = kept.1.widths in let part = width_at s.views id me.0 at in omega arith);
+      width = subst (λ (q : Key). me.0.has.width ≤ q.width) (sym knows) (let all = kept.1.widths in let part = width_at (seats_of s.views) id in let here = ap (λ (u : PlainSeat). u.width) (seat_read s.views id me.0 at) in omega arith);
       once = few.0;
       won = subst (λ (q : Key). length me.0.has.won ≤ size q) (sym knows) few.1;
       load = subst (λ (q : Key). load (most q) me.0 ≤ most q * size q) (sym knows) (let a = total_at (load (most k)) s.views id me.0 at in let f = kept.2.few in omega arith);
     } in
     let both : P (set s.words i (get_or s.words i 0), set s.views id me.0) = subst P (λ j. (sym (put_back s.words i) j, sym (set_again s.views id me.0 at) j)) (kept.1, kept.2) in
     (me.0, keeps, tt, (kept.0, both.0, both.1), (refl, bounded))
-  where
-    width_at : (views : List View) (j : ℕ) (v : View) → get_elem? views j ≡ some v → v.has.width ≤ total_width (seats_of views)
-    width_at [] j v e = absurd (some-ne-none v (sym e))
-    width_at (x ∷ xs) zero v e = let same : x.has.width ≡ v.has.width = ap (λ (u : View). u.has.width) (some-injective x v e) in omega arith
-    width_at (x ∷ xs) (suc j) v e = let r = width_at xs j v e in omega arith
 
 -- a look at the value of the first that is owed is a look where it has none, and a claim that is lost where it has one
 pub read_allowed : (k : Key) (slots id : ℕ) (me : Me Unit0 View) (i : ℕ) → k.solving.rounds < configurations k.solving.board → 0 < me.0.has.width → 0 < length me.0.has.owed

@@ -3,6 +3,7 @@ use Rattle.std.proofs.Common.{◌≡◌, ◌≢◌, ◌⊎◌, ℕ, ◌+◌, ◌
 use Rattle.std.specs.Prelude.{slice_index}
 use mathlib.Core.Option.{some}
 use lib.ListN.{get_elem?}
+use Rattle.std.specs.List.{sum_by}
 use Rattle.index_lists.specs.Lists.{times}
 use Rattle.index_lists.proofs.Cited.{cond_same, cond_other, times-append, times-later}
 use Rattle.positions.specs.Gaps.{gaps}
@@ -10,7 +11,7 @@ use Rattle.retro_core.specs.Solving.{IsSolving, source}
 use Rattle.retro_core.specs.Round.{first_of}
 use Rattle.retro_core.proofs.Cited.{same_or_not, times_here}
 use Rattle.claim_round.specs.Shared.{Key, View, kept_part, new_part, view_joined}
-use Rattle.claim_round.specs.Inside.Shared.{total, most, size, load, IsTraced, view_struck, claimed, spent_view}
+use Rattle.claim_round.specs.Inside.Shared.{most, size, load, IsTraced, view_struck, claimed, spent_view}
 use Rattle.claim_round.specs.declared.words.TheConstants.{OPEN}
 use Rattle.claim_round.proofs.Totals.{total_set, total_at, total_cut, total_glue, won_total, knows_set, knows_push}
 use Rattle.claim_round.proofs.Loads.{few_members, load_struck, load_claimed, load_cut, load_glue}
@@ -23,7 +24,7 @@ none_of x y ne = times-later x y [] ne
 
 module _ (k : Key) (words : List ℕ) (views : List View) (traced : IsTraced k words views) where
   -- what was claimed stands in a won list, by sums
-  pub lost_won : (x : ℕ) → 0 < total (λ v. times x v.lost) views → 0 < total (λ v. times x v.has.won) views
+  pub lost_won : (x : ℕ) → 0 < sum_by (λ v. times x v.lost) views → 0 < sum_by (λ v. times x v.has.won) views
   lost_won x h = subst (λ n. 0 < n) (won_total x views) (traced.lost x h)
 
   -- ---- strike
@@ -37,10 +38,10 @@ module _ (k : Key) (words : List ℕ) (views : List View) (traced : IsTraced k w
     after = view_struck v gap found
 
     record IsShut (g : ℕ) : Type 0 where
-      once : total (λ u. times g u.shut) (set views id after) ≤ 1
-      none : 0 < slice_index (set words gap (found - 1)) g → total (λ u. times g u.shut) (set views id after) ≡ 0
+      once : sum_by (λ u. times g u.shut) (set views id after) ≤ 1
+      none : 0 < slice_index (set words gap (found - 1)) g → sum_by (λ u. times g u.shut) (set views id after) ≡ 0
       all : slice_index (set words gap (found - 1)) g ≡ 0
-          → ((slice_index words g ≡ 0) × (total (λ u. times g u.shut) (set views id after) ≡ total (λ u. times g u.shut) views)) ⊎ (total (λ u. times g u.shut) (set views id after) ≡ 1)
+          → ((slice_index words g ≡ 0) × (sum_by (λ u. times g u.shut) (set views id after) ≡ sum_by (λ u. times g u.shut) views)) ⊎ (sum_by (λ u. times g u.shut) (set views id after) ≡ 1)
 
     shut_after : (g : ℕ) → g < gaps k.solving.board → IsShut g
     shut_after g i =
@@ -51,7 +52,7 @@ module _ (k : Key) (words : List ℕ) (views : List View) (traced : IsTraced k w
         elim (same_or_not gap g) [
           | inl e ↦ (
               let one : times g (gap ∷ []) ≡ 1 = ap (λ x. times g (x ∷ [])) e ∙ one_of g in
-              let before : total (λ u. times g u.shut) views ≡ 0 = none (subst (λ x. 0 < slice_index words x) e some_left) in
+              let before : sum_by (λ u. times g u.shut) views ≡ 0 = none (subst (λ x. 0 < slice_index words x) e some_left) in
               let part = total_at (λ u. times g u.shut) views id v at in
               let word : slice_index (set words gap (found - 1)) g ≡ found - 1 = ap (λ x. slice_index (set words gap (found - 1)) x) (sym e) ∙ get_or-set_same words gap (found - 1) 0 inside in
               elim (same_or_not found 1) [
@@ -69,7 +70,7 @@ module _ (k : Key) (words : List ℕ) (views : List View) (traced : IsTraced k w
                 | inl last ↦ (let t = ap (times g) (cond_same found 1 (v.shut ++ gap ∷ []) v.shut last) in omega arith)
                 | inr more ↦ ap (times g) (cond_other found 1 (v.shut ++ gap ∷ []) v.shut more)
               ] in
-              let same : total (λ u. times g u.shut) (set views id after) ≡ total (λ u. times g u.shut) views = omega arith in
+              let same : sum_by (λ u. times g u.shut) (set views id after) ≡ sum_by (λ u. times g u.shut) views = omega arith in
               record {
                 once = omega arith;
                 none = λ h. same ∙ none (subst (λ n. 0 < n) word h);
@@ -107,10 +108,10 @@ module _ (k : Key) (words : List ℕ) (views : List View) (traced : IsTraced k w
     abbrev pub tried : View
     tried = claimed v n
 
-    shut_same : (g : ℕ) → total (λ u. times g u.shut) (set views id tried) ≡ total (λ u. times g u.shut) views
+    shut_same : (g : ℕ) → sum_by (λ u. times g u.shut) (set views id tried) ≡ sum_by (λ u. times g u.shut) views
     shut_same g = let s = total_set (λ u. times g u.shut) views id v tried at in omega arith
 
-    pub traced_try : ((x : ℕ) → 0 < total (λ u. times x u.lost) (set views id tried) → 0 < total (λ u. times x u.has.won) (set views id tried)) → IsTraced k words' (set views id tried)
+    pub traced_try : ((x : ℕ) → 0 < sum_by (λ u. times x u.lost) (set views id tried) → 0 < sum_by (λ u. times x u.has.won) (set views id tried)) → IsTraced k words' (set views id tried)
     traced_try lost = record {
       knows = knows_set k views id tried traced.knows (λ _. traced.knows id v at wide);
       lost = λ x h. subst (λ m. 0 < m) (sym (won_total x (set views id tried))) (lost x h);
@@ -124,7 +125,7 @@ module _ (k : Key) (words : List ℕ) (views : List View) (traced : IsTraced k w
           omega arith;
     }
 
-    pub lost_of_win : n ≡ OPEN → (x : ℕ) → 0 < total (λ u. times x u.lost) (set views id tried) → 0 < total (λ u. times x u.has.won) (set views id tried)
+    pub lost_of_win : n ≡ OPEN → (x : ℕ) → 0 < sum_by (λ u. times x u.lost) (set views id tried) → 0 < sum_by (λ u. times x u.has.won) (set views id tried)
     lost_of_win e x h =
         let s = total_set (λ u. times x u.lost) views id v tried at in
         let w = total_set (λ u. times x u.has.won) views id v tried at in
@@ -134,8 +135,8 @@ module _ (k : Key) (words : List ℕ) (views : List View) (traced : IsTraced k w
         let old = lost_won x (omega arith) in
         omega arith
 
-    pub lost_of_loss : n ≢ OPEN → 0 < total (λ u. times (first_of v.has.owed) u.has.won) views
-        → (x : ℕ) → 0 < total (λ u. times x u.lost) (set views id tried) → 0 < total (λ u. times x u.has.won) (set views id tried)
+    pub lost_of_loss : n ≢ OPEN → 0 < sum_by (λ u. times (first_of v.has.owed) u.has.won) views
+        → (x : ℕ) → 0 < sum_by (λ u. times x u.lost) (set views id tried) → 0 < sum_by (λ u. times x u.has.won) (set views id tried)
     lost_of_loss ne stands x h =
         let c : ℕ = first_of v.has.owed in
         let s = total_set (λ u. times x u.lost) views id v tried at in
@@ -143,7 +144,7 @@ module _ (k : Key) (words : List ℕ) (views : List View) (traced : IsTraced k w
         let l : times x tried.lost ≡ times x v.lost + times x (c ∷ []) = ap (times x) (cond_other n OPEN v.lost (v.lost ++ c ∷ []) ne) ∙ times-append x v.lost (c ∷ []) in
         let o : times x tried.has.won ≡ times x v.has.won = ap (times x) (cond_other n OPEN (v.has.won ++ c ∷ []) v.has.won ne) in
         elim (same_or_not c x) [
-          | inl e ↦ (let there = subst (λ y. 0 < total (λ u. times y u.has.won) views) e stands in omega arith)
+          | inl e ↦ (let there = subst (λ y. 0 < sum_by (λ u. times y u.has.won) views) e stands in omega arith)
           | inr other ↦ (let z = none_of c x other in let old = lost_won x (omega arith) in omega arith)
         ]
 
@@ -155,9 +156,9 @@ module _ (k : Key) (words : List ℕ) (views : List View) (traced : IsTraced k w
       let b : View = new_part v in
       let all : List View = set views id a ++ b ∷ [] in
       let key : v.key ≡ k = traced.knows id v at wide in
-      let lost : (x : ℕ) → total (λ u. times x u.lost) all ≡ total (λ u. times x u.lost) views = λ x. total_cut (λ u. times x u.lost) views id v a b at (omega arith) in
-      let won : (x : ℕ) → total (λ u. times x u.has.won) all ≡ total (λ u. times x u.has.won) views = λ x. total_cut (λ u. times x u.has.won) views id v a b at (omega arith) in
-      let shut : (g : ℕ) → total (λ u. times g u.shut) all ≡ total (λ u. times g u.shut) views = λ g. total_cut (λ u. times g u.shut) views id v a b at (omega arith) in
+      let lost : (x : ℕ) → sum_by (λ u. times x u.lost) all ≡ sum_by (λ u. times x u.lost) views = λ x. total_cut (λ u. times x u.lost) views id v a b at (omega arith) in
+      let won : (x : ℕ) → sum_by (λ u. times x u.has.won) all ≡ sum_by (λ u. times x u.has.won) views = λ x. total_cut (λ u. times x u.has.won) views id v a b at (omega arith) in
+      let shut : (g : ℕ) → sum_by (λ u. times g u.shut) all ≡ sum_by (λ u. times g u.shut) views = λ g. total_cut (λ u. times g u.shut) views id v a b at (omega arith) in
       record {
         knows = knows_push k (set views id a) b (knows_set k views id a traced.knows (λ _. key)) (λ _. key);
         lost = λ x h. subst (λ n. 0 < n) (sym (won_total x all ∙ won x)) (lost_won x (subst (λ n. 0 < n) (lost x) h));
@@ -173,10 +174,10 @@ module _ (k : Key) (words : List ℕ) (views : List View) (traced : IsTraced k w
       let a : View = view_joined v u in
       let all : List View = set (set views id a) other spent_view in
       let key : v.key ≡ k = traced.knows id v at wide in
-      let glue : (f : View → ℕ) → f a + f spent_view ≡ f v + f u → total f all ≡ total f views = λ f e. total_glue f views id other v u a spent_view at there e in
-      let lost : (x : ℕ) → total (λ w. times x w.lost) all ≡ total (λ w. times x w.lost) views = λ x. glue (λ w. times x w.lost) (let s = times-append x v.lost u.lost in omega arith) in
-      let won : (x : ℕ) → total (λ w. times x w.has.won) all ≡ total (λ w. times x w.has.won) views = λ x. glue (λ w. times x w.has.won) (let s = times-append x v.has.won u.has.won in omega arith) in
-      let shut : (g : ℕ) → total (λ w. times g w.shut) all ≡ total (λ w. times g w.shut) views = λ g. glue (λ w. times g w.shut) (let s = times-append g v.shut u.shut in omega arith) in
+      let glue : (f : View → ℕ) → f a + f spent_view ≡ f v + f u → sum_by f all ≡ sum_by f views = λ f e. total_glue f views id other v u a spent_view at there e in
+      let lost : (x : ℕ) → sum_by (λ w. times x w.lost) all ≡ sum_by (λ w. times x w.lost) views = λ x. glue (λ w. times x w.lost) (let s = times-append x v.lost u.lost in omega arith) in
+      let won : (x : ℕ) → sum_by (λ w. times x w.has.won) all ≡ sum_by (λ w. times x w.has.won) views = λ x. glue (λ w. times x w.has.won) (let s = times-append x v.has.won u.has.won in omega arith) in
+      let shut : (g : ℕ) → sum_by (λ w. times g w.shut) all ≡ sum_by (λ w. times g w.shut) views = λ g. glue (λ w. times g w.shut) (let s = times-append g v.shut u.shut in omega arith) in
       record {
         knows = knows_set k (set views id a) other spent_view (knows_set k views id a traced.knows (λ _. key)) (λ h. absurd (omega arith));
         lost = λ x h. subst (λ n. 0 < n) (sym (won_total x all ∙ won x)) (lost_won x (subst (λ n. 0 < n) (lost x) h));

@@ -18,7 +18,8 @@ pub fn words_and_numbers()
 /// The first digit of a label is its copy: in one copy the rest of the words decides, and of two copies the one dominates the other
 /// as in the three-cycle.
 pub fn copies_in_a_cycle()
-    ensures one_copy { (digit : ℕ) → (word : List ℕ) → (other : List ℕ) → WordDominates (digit ∷ word) (digit ∷ other) ↔ WordDominates word other }
+    ensures one_copy { (digit : ℕ) → (word : List ℕ) → (other : List ℕ)
+        → WordDominates (digit ∷ word) (digit ∷ other) ↔ WordDominates word other }
     ensures two_copies { (digit : ℕ) → (other_digit : ℕ) → (word : List ℕ) → (other : List ℕ) → digit ≢ other_digit
         → WordDominates (digit ∷ word) (other_digit ∷ other) ↔ (digit ≡ (other_digit + 1) % 3) }
 {}

@@ -56,7 +56,8 @@ pub record BeginsWithBoard (text : List ℕ) (board : PlainBoard) (rest : List �
 -- what is wrong with the text
 abbrev pub IsWrongText : List ℕ → RunFault → Type 0
 IsWrongText text (Board fault) =
-    (size : ℕ) × IsFrontLen text size × board_faults.HasBoardFault (take size text) fault.line fault.kind × (fault.kind ≢ board_kinds.Memory)
+    (size : ℕ) × IsFrontLen text size × board_faults.HasBoardFault (take size text) fault.line fault.kind
+    × (fault.kind ≢ board_kinds.Memory)
 IsWrongText text TooLarge =
     (board : PlainBoard) × (rest : List ℕ) × BeginsWithBoard text board rest × (MAX_CONFIGURATIONS < configurations board)
 IsWrongText text (Proof fault) =

@@ -60,8 +60,9 @@ pub fn run_check<B: Source, P: Source, W: Sink>(
     requires writer_ready { W.has_failed writer.old ≡ false }
     ensures ok { IfOk result (RanCheck (bytes_of B.remaining board.old board.new) (bytes_of P.remaining proof.old proof.new)
         (bytes_of W.contents writer.old writer.new)) }
-    ensures fault { IfErr result (CheckFails MAX_BOARD_BYTES MAX_PROOF_BYTES (proof.new ≡ proof.old) (bytes_of B.remaining board.old board.new)
-        (bytes_of P.remaining proof.old proof.new) (bytes_of W.contents writer.old writer.new)) }
+    ensures fault { IfErr result (CheckFails MAX_BOARD_BYTES MAX_PROOF_BYTES (proof.new ≡ proof.old)
+        (bytes_of B.remaining board.old board.new) (bytes_of P.remaining proof.old proof.new)
+        (bytes_of W.contents writer.old writer.new)) }
     ensures read { ((B.has_failed board.new ≡ true) ⊎ (P.has_failed proof.new ≡ true)) ↔ (result ≡ Err Read) }
     ensures write { (W.has_failed writer.new ≡ true) ↔ (result ≡ Err Write) }
     ensures unwritten { IfErr result (λ fault. fault ≢ Write → writer.new ≡ writer.old) }

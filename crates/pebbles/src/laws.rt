@@ -55,8 +55,9 @@ pub fn accepted_claims_hold()
 {}
 
 /// The value that a solved board is given is the greatest number of requests that a labeller can answer against every adversary:
-/// the labeller's strategy that was written answers that many however requests come, the adversary's leaves every labeller without an answer
-/// by the next, and forever comes with a strategy that is closed over all requests and lists the start. A check accepts what was written.
+/// the labeller's strategy that was written answers that many however requests come, the adversary's leaves every labeller without an
+/// answer by the next, and forever comes with a strategy that is closed over all requests and lists the start. A check accepts what was
+/// written.
 pub fn solved_boards_show_their_value()
     ensures value { (text : List ℕ) → (value : Worth) → (written : List ℕ) → IsSolution text value written → ShowsValue text value written }
     ensures accepted { (text : List ℕ) → (value : Worth) → (written : List ℕ) → IsSolution text value written
@@ -85,5 +86,6 @@ pub fn printed_documents_are_accepted()
 
 /// The counts of a report add up to the number of configurations.
 pub fn reports_add_up()
-    ensures { (board : PlainBoard) → (report : CountReport) → IsReport board report → sum report.counts + report.forever ≡ configurations board }
+    ensures { (board : PlainBoard) → (report : CountReport) → IsReport board report
+        → sum report.counts + report.forever ≡ configurations board }
 {}

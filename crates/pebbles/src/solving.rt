@@ -42,7 +42,8 @@ pub fn run_solve<R: Source, W: Sink>(
     requires writer_ready { W.has_failed writer.old ≡ false }
     ensures ok { IfOk result (Ran IsSolution (bytes_of R.remaining reader.old reader.new) (bytes_of W.contents writer.old writer.new)) }
     ensures shows { IfOk result (Ran ShowsValue (bytes_of R.remaining reader.old reader.new) (bytes_of W.contents writer.old writer.new)) }
-    ensures accepted { IfOk result (Ran IsAccepted (bytes_of R.remaining reader.old reader.new) (bytes_of W.contents writer.old writer.new)) }
+    ensures accepted { IfOk result (Ran IsAccepted (bytes_of R.remaining reader.old reader.new)
+        (bytes_of W.contents writer.old writer.new)) }
     ensures fault { IfErr result (Fails IsSolution (CannotSolve workers) MAX_BOARD_BYTES
         (bytes_of R.remaining reader.old reader.new) (bytes_of W.contents writer.old writer.new)) }
     ensures read { (R.has_failed reader.new ≡ true) ↔ (result ≡ Err Read) }

@@ -27,7 +27,8 @@ pub fn documents_have_no_fault()
 /// For one board a text has one fault at most, want of memory aside.
 pub fn one_fault()
     ensures { (board : PlainBoard) → (text : List ℕ) → (line : ℕ) → (other_line : ℕ) → (kind : Kind) → (other_kind : Kind) → IsBoard board
-        → kind ≢ OutOfMemory → other_kind ≢ OutOfMemory → HasProofFault board text line kind → HasProofFault board text other_line other_kind
+        → kind ≢ OutOfMemory → other_kind ≢ OutOfMemory
+        → HasProofFault board text line kind → HasProofFault board text other_line other_kind
         → (line ≡ other_line) × (kind ≡ other_kind) }
 {}
 

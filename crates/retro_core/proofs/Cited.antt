@@ -8,5 +8,4 @@ pub use Rattle.retro_core.proofs.DominatedRanks.{dominated-tells}
 pub use Rattle.retro_core.proofs.RoundSteps.{join-lawful, opening-lawful, split-lawful, strike-lawful, try-lawful, worked-off}
 pub use Rattle.retro_core.proofs.Lending.{solver_sync}
 pub use Rattle.retro_core.proofs.SeatSteps.{split_first, times_here}
-pub use Rattle.retro_core.proofs.SeatSums.{times-cut, times-together}
-pub use Rattle.retro_core.proofs.Rules.{seat_total}
+pub use Rattle.retro_core.proofs.SeatSums.{times-cut, times-together, total-at, total-cut, total-set}

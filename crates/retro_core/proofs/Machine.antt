@@ -13,7 +13,7 @@ use Rattle.retro_core.specs.declared.step.Step.TheVariants as steps
 use Rattle.retro_core.specs.declared.step.StepFault.TheVariants as faults
 use Rattle.retro_core.specs.Stepping.{Strikes, Tries, Splits, Joins, ClosesGap, Refuses}
 use Rattle.index_lists.proofs.Cited.{cond_other}
-use Rattle.retro_core.proofs.SeatSums.{total-set, total-at, get-elsewhere, width-total}
+use Rattle.retro_core.proofs.SeatSums.{total-set, total-at, get-elsewhere}
 use Rattle.retro_core.proofs.RoundLaws.{seat-there}
 use Rattle.retro_core.proofs.RoundSteps.{first-due, strike-lawful, try-lawful, split-lawful, join-lawful}
 
@@ -203,7 +203,6 @@ module _ (s : Solving) (w : ℕ) (counts : List ℕ) (values : List (Option ℕ)
         let part = total-at (λ x. x.width) (set seats from spent) id (get_or seats id spent)
         (subst (λ (o : Option PlainSeat). o ≡ Some (get_or seats id spent)) (sym (get-elsewhere seats from id spent (λ e. differ (sym e)))) at) in
         let all = law.widths in
-        let sum = width-total seats in
         omega arith
 
     -- where nothing was taken over, all is put back

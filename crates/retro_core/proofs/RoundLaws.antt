@@ -2,6 +2,7 @@
 use Rattle.std.proofs.Common.{◌≡◌, ℕ, zero, suc, ◌+◌, ◌<◌, ◌≤◌, List, [], ◌∷◌, length, refl, sym, ap, ◌∙◌, inl, inr, subst, arith, Option, Some, None, get_or, slice_get, slice_index}
 use Rattle.std.proofs.lemmas.Bool.{cases_lt}
 use Rattle.std.proofs.lemmas.Option.{get_or_from_slice_get}
+use Rattle.std.specs.List.{sum_by}
 use Rattle.index_lists.specs.Lists.{times}
 use Rattle.board_text.specs.PlainBoard.{PlainBoard, IsBoard, places}
 use Rattle.positions.specs.declared.value.Value.TheVariants.{Finite}
@@ -13,12 +14,12 @@ use Rattle.retro_core.specs.Inside.Arena.{live, lasts}
 use Rattle.retro_core.specs.Inside.BoardArena.{arena_of}
 use Rattle.retro_core.specs.Solving.{Solving, IsSolving, AnswerLasts, source}
 use Rattle.retro_core.specs.Round.{PlainSeat, Round, spent, all_todo, all_owed, all_won, IsWorth, IsDue, IsLawful}
-use Rattle.retro_core.proofs.Rules.{tally, seat_total, home_among, value_before, rules_of, held_in, AreKept}
+use Rattle.retro_core.proofs.Rules.{tally, home_among, value_before, rules_of, held_in, AreKept}
 use Rattle.retro_core.proofs.LastingRanks.{same_or_not, some_same}
 use Rattle.retro_core.proofs.BoardArenas.{arena_is}
 use Rattle.retro_core.proofs.EnteredAnswers.{live-size, above-size}
 use Rattle.retro_core.proofs.Homes.{stands, stands-true, stands-some, live-tally}
-use Rattle.retro_core.proofs.SeatSums.{total-sum, times-together, tally-together, width-total}
+use Rattle.retro_core.proofs.SeatSums.{total-sum, times-together, tally-together}
 use Rattle.retro_core.proofs.SeatSteps.{word_none, word_some}
 use Rattle.retro_core.proofs.RoundStart.{same-word, base-is, to-win-is, struck-in-is}
 
@@ -62,7 +63,7 @@ same_number : (m n : ℕ) → Finite m ≡ Finite n → m ≡ n
 same_number m n e = cc
 
 -- what is owed or won
-held-times : (round : Round) (x : ℕ) → seat_total (held_in x) round.seats ≡ times x (all_owed round) + times x (all_won round)
+held-times : (round : Round) (x : ℕ) → sum_by (held_in x) round.seats ≡ times x (all_owed round) + times x (all_won round)
 held-times round x =
     let s = total-sum (λ v. times x v.owed) (λ v. times x v.won) round.seats in
     let o = times-together x (λ v. v.owed) round.seats in let w = times-together x (λ v. v.won) round.seats in omega arith
@@ -76,14 +77,14 @@ lawful-of round sol counts_length values_length kept =
     let todo_times = λ (x : ℕ). times-together x (λ v. v.todo) round.seats in
     let held_times = held-times round in
     let due : (x : ℕ) → 0 < times x (all_todo round) → IsDue b x r = λ x h. (struck-in-is round.solving sol round.width x).0 (kept.due x (let t = todo_times x in omega arith)) in
-    let next : (x : ℕ) → 0 < seat_total (held_in x) round.seats → IsWorth b x (suc r) = λ x h. (to-win-is round.solving sol round.width x).0 (kept.next x h) in
+    let next : (x : ℕ) → 0 < sum_by (held_in x) round.seats → IsWorth b x (suc r) = λ x h. (to-win-is round.solving sol round.width x).0 (kept.next x h) in
     let worth : (x : ℕ) → 0 < times x (all_won round) → IsWorth b x (suc r) = λ x h. next x (let t = held_times x in omega arith) in
     let once : (x : ℕ) → times x (all_todo round) ≤ 1 = λ x. let t = todo_times x in let o = kept.due_once x in omega arith in
     record {
       counts_length = counts_length;
       values_length = values_length;
       values = λ x v i.
-          let T : ℕ = seat_total (λ u. times x u.won) round.seats in
+          let T : ℕ = sum_by (λ u. times x u.won) round.seats in
           let won = won_times x in
           let word = kept.values x i in
           elim (same_or_not T 0) [
@@ -126,7 +127,7 @@ lawful-of round sol counts_length values_length kept =
             | inl some ↦ inl some
             | inr none_owed ↦ inr (omega arith)
           ];
-      widths = width-total round.seats ∙ kept.widths;
+      widths = kept.widths;
       spent_seats = seat-fits round.seats kept.fits;
     }
 
@@ -152,7 +153,7 @@ kept-of round sol law =
     let held_times = held-times round in
     record {
       values = λ x i.
-          let T : ℕ = seat_total (λ u. times x u.won) round.seats in
+          let T : ℕ = sum_by (λ u. times x u.won) round.seats in
           let won = won_times x in
           elim (same_or_not T 0) [
             | inl none ↦ same-base x i (omega arith) ∙ sym (word_none k x T none)
@@ -177,7 +178,7 @@ kept-of round sol law =
             | inl owed ↦ (let h : 0 < times x (all_owed round) = subst (λ y. 0 < times y (all_owed round)) (sym m.2) owed in omega arith)
             | inr won ↦ (let h : 0 < times x (all_won round) = subst (λ y. 0 < times y (all_won round)) (sym m.2) won in omega arith)
           ];
-      widths = sym (width-total round.seats) ∙ law.widths;
+      widths = law.widths;
       fits = λ id v at none.
           let here = seat-here round.seats id v at in
           sym here ∙ law.spent_seats id (ap (λ (u : PlainSeat). u.width) here ∙ none);

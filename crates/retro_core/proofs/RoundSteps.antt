@@ -2,7 +2,8 @@
 use Rattle.std.proofs.Common.{drop, ◌≡◌, ◌≢◌, ◌⊎◌, ℕ, suc, ◌-◌, ◌<◌, ◌≤◌, Bool, true, false, cond, List, [], ◌∷◌, length, set, refl, sym, ap, ◌∙◌, inl, inr, subst, arith, Option, Some, None, get_or, slice_index, length-set, get_or-set_same, get_or-set_other}
 use Rattle.std.specs.Option.{is_none}
 use Rattle.std.proofs.lemmas.Bool.{cases_lt}
-use Rattle.std.specs.List.{flat_map}
+use Rattle.std.specs.List.{flat_map, sum_by}
+use Rattle.std.proofs.lemmas.List.Sums.{sum_by-cons}
 use Rattle.index_lists.specs.Lists.{times}
 use Rattle.board_text.specs.PlainBoard.{IsBoard}
 use Rattle.positions.specs.Game.{LabellerTree}
@@ -20,7 +21,7 @@ use Rattle.retro_core.specs.declared.step.Step.TheVariants as steps
 use Rattle.retro_core.specs.declared.step.Seen.{Seen}
 use Rattle.retro_core.specs.declared.step.Seen.TheVariants as seen
 use Rattle.retro_core.specs.Stepping.{Does, LeadTo}
-use Rattle.retro_core.proofs.Rules.{seat_total, rules_of}
+use Rattle.retro_core.proofs.Rules.{rules_of}
 use Rattle.retro_core.proofs.EnteredAnswers.{above-size}
 use Rattle.retro_core.proofs.LastingRanks.{next-fails}
 use Rattle.retro_core.proofs.BoardArenas.{arena_is, at_member, tree_of_lasts, lasts_of_value}
@@ -165,9 +166,13 @@ opening-lawful s sol width counts values todo some_width counts_length values_le
 none-together : (list : PlainSeat → List ℕ) → list spent ≡ [] → (seats : List PlainSeat) → ((id : ℕ) → list (get_or seats id spent) ≡ []) → (x : ℕ) → times x (flat_map list seats) ≡ 0
 none-together list none seats each x = times-together x list seats ∙ by seats each
   where
-    by : (seats : List PlainSeat) → ((id : ℕ) → list (get_or seats id spent) ≡ []) → seat_total (λ v. times x (list v)) seats ≡ 0
+    by : (seats : List PlainSeat) → ((id : ℕ) → list (get_or seats id spent) ≡ []) → sum_by (λ v. times x (list v)) seats ≡ 0
     by [] each = refl
-    by (v ∷ seats) each = let here = ap (times x) (each 0) in let rest = by seats (λ id. each (suc id)) in omega arith
+    by (v ∷ seats) each =
+        let here = ap (times x) (each 0) in
+        let rest = by seats (λ id. each (suc id)) in
+        let first = sum_by-cons (λ v. times x (list v)) v seats in
+        omega arith
 
 -- with no work left, what is won is what has the next value, each once
 pub worked-off : (round : Round) → IsBoard round.solving.board → IsLawful round → IsWorkedOff round → HasWonAll round

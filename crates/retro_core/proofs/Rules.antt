@@ -1,5 +1,6 @@
 -- A round by numbers alone: what it takes from the game, and what its steps keep.
 use Rattle.std.specs.Prelude.{◌≡◌, ℕ, zero, suc, ◌+◌, ◌<◌, ◌≤◌, ◌==◌, cond, List, [], ◌∷◌, Option, Some, None, slice_get}
+use Rattle.std.specs.List.{sum_by}
 use Rattle.index_lists.specs.Lists.{times}
 use Rattle.positions.specs.Ranks.{configurations}
 use Rattle.positions.specs.Gaps.{gaps}
@@ -24,11 +25,6 @@ pub record Rules : Type 0 where
 abbrev pub tally : (ℕ → ℕ) → ℕ → List ℕ → ℕ
 tally home gap [] = 0
 tally home gap (rank ∷ ranks) = cond (home rank == gap) 1 0 + tally home gap ranks
-
--- a number of each seat, added up
-abbrev pub seat_total : (PlainSeat → ℕ) → List PlainSeat → ℕ
-seat_total number [] = 0
-seat_total number (seat ∷ seats) = number seat + seat_total number seats
 
 -- it has the round's value and a gap in which it is struck
 pub record IsStruckIn (k : Rules) (rank : ℕ) : Type 0 where
@@ -67,14 +63,14 @@ pub record AreReadyLists (k : Rules) (count : ℕ → ℕ) (value : ℕ → Opti
 
 -- the words and the seats keep the rules
 pub record AreKept (k : Rules) (count : ℕ → ℕ) (value : ℕ → Option ℕ) (seats : List PlainSeat) : Type 0 where
-  pub values : (rank : ℕ) → rank < k.size → value rank ≡ value_word k rank (seat_total (λ seat. times rank seat.won) seats)
-  pub due : (rank : ℕ) → 0 < seat_total (λ seat. times rank seat.todo) seats → IsStruckIn k rank
-  pub due_once : (rank : ℕ) → seat_total (λ seat. times rank seat.todo) seats ≤ 1
-  pub counts : (gap : ℕ) → gap < k.gaps → count gap ≡ k.live gap + seat_total (λ seat. tally k.home gap seat.todo) seats
-  pub next : (rank : ℕ) → 0 < seat_total (held_in rank) seats → IsToWin k rank
-  pub won_once : (rank : ℕ) → seat_total (λ seat. times rank seat.won) seats ≤ 1
-  pub closed : (gap rank : ℕ) → gap < k.gaps → count gap ≡ 0 → 0 < times rank (k.opens gap) → 0 < seat_total (held_in rank) seats
-  pub widths : seat_total (λ seat. seat.width) seats ≡ k.width
+  pub values : (rank : ℕ) → rank < k.size → value rank ≡ value_word k rank (sum_by (λ seat. times rank seat.won) seats)
+  pub due : (rank : ℕ) → 0 < sum_by (λ seat. times rank seat.todo) seats → IsStruckIn k rank
+  pub due_once : (rank : ℕ) → sum_by (λ seat. times rank seat.todo) seats ≤ 1
+  pub counts : (gap : ℕ) → gap < k.gaps → count gap ≡ k.live gap + sum_by (λ seat. tally k.home gap seat.todo) seats
+  pub next : (rank : ℕ) → 0 < sum_by (held_in rank) seats → IsToWin k rank
+  pub won_once : (rank : ℕ) → sum_by (λ seat. times rank seat.won) seats ≤ 1
+  pub closed : (gap rank : ℕ) → gap < k.gaps → count gap ≡ 0 → 0 < times rank (k.opens gap) → 0 < sum_by (held_in rank) seats
+  pub widths : sum_by (λ seat. seat.width) seats ≡ k.width
   pub fits : (place : ℕ) (seat : PlainSeat) → slice_get seats place ≡ Some seat → seat.width ≡ 0 → seat ≡ spent
 
 -- the gap of a dominating pebble among the first so many, or a number that no gap has

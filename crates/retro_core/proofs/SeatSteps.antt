@@ -1,11 +1,14 @@
 -- Each step of a round keeps its rules.
 use Rattle.std.proofs.Common.{drop, ◌≡◌, ◌≢◌, ◌⊎◌, ℕ, zero, suc, ◌+◌, ◌-◌, ◌/◌, ◌<◌, ◌≤◌, ◌==◌, true, false, cond, List, [], ◌∷◌, ◌++◌, length, set, refl, sym, ap, ◌∙◌, inl, inr, subst, arith, Option, Some, None, slice_get}
+use Rattle.std.specs.List.{sum_by}
+use Rattle.std.proofs.lemmas.List.Sums.{sum_by-le-sum_by}
+use Rattle.std.proofs.lemmas.Option.{same_Some, none-some}
 use Rattle.index_lists.specs.Lists.{times}
 use Rattle.index_lists.proofs.Cited.{cond_same, cond_other, times-append}
 use Rattle.retro_core.specs.Round.{PlainSeat, spent, first_of, seat_tried, seat_kept, seat_new, seat_joined}
-use Rattle.retro_core.proofs.Rules.{Rules, tally, seat_total, IsStruckIn, IsToWin, value_word, held_in, AreSound, AreReadyLists, AreKept}
+use Rattle.retro_core.proofs.Rules.{Rules, tally, IsStruckIn, IsToWin, value_word, held_in, AreSound, AreReadyLists, AreKept}
 use Rattle.retro_core.proofs.LastingRanks.{same_or_not}
-use Rattle.retro_core.proofs.SeatSums.{same_seat, no_seat, total-set, total-at, total-le, total-cut, total-glue, times-cut, tally-append, tally-cut}
+use Rattle.retro_core.proofs.SeatSums.{total-set, total-at, total-cut, total-glue, times-cut, tally-append, tally-cut}
 
 one_if : (x y : ℕ) → x ≡ y → ◌≡◌ {A = ℕ} (cond (x == y) 1 0) 1
 one_if x y e = cond_same {A = ℕ} x y 1 0 e
@@ -32,16 +35,16 @@ word_some k c (suc n) h = refl
 -- who has no width is spent
 fit-set : (seats : List PlainSeat) (id : ℕ) (w : PlainSeat) → ((j : ℕ) (u : PlainSeat) → slice_get seats j ≡ Some u → u.width ≡ 0 → u ≡ spent) → (w.width ≡ 0 → w ≡ spent)
     → (j : ℕ) (u : PlainSeat) → slice_get (set seats id w) j ≡ Some u → u.width ≡ 0 → u ≡ spent
-fit-set [] id w fits mine j u at = absurd (no_seat u at)
-fit-set (x ∷ xs) zero w fits mine zero u at = subst (λ (s : PlainSeat). s.width ≡ 0 → s ≡ spent) (same_seat w u at) mine
+fit-set [] id w fits mine j u at = absurd (none-some u at)
+fit-set (x ∷ xs) zero w fits mine zero u at = subst (λ (s : PlainSeat). s.width ≡ 0 → s ≡ spent) (same_Some w u at) mine
 fit-set (x ∷ xs) zero w fits mine (suc j) u at = fits (suc j) u at
 fit-set (x ∷ xs) (suc id) w fits mine zero u at = fits zero u at
 fit-set (x ∷ xs) (suc id) w fits mine (suc j) u at = fit-set xs id w (λ i v e. fits (suc i) v e) mine j u at
 
 fit-push : (seats : List PlainSeat) (w : PlainSeat) → ((j : ℕ) (u : PlainSeat) → slice_get seats j ≡ Some u → u.width ≡ 0 → u ≡ spent) → (w.width ≡ 0 → w ≡ spent)
     → (j : ℕ) (u : PlainSeat) → slice_get (seats ++ w ∷ []) j ≡ Some u → u.width ≡ 0 → u ≡ spent
-fit-push [] w fits mine zero u at = subst (λ (s : PlainSeat). s.width ≡ 0 → s ≡ spent) (same_seat w u at) mine
-fit-push [] w fits mine (suc j) u at = absurd (no_seat u at)
+fit-push [] w fits mine zero u at = subst (λ (s : PlainSeat). s.width ≡ 0 → s ≡ spent) (same_Some w u at) mine
+fit-push [] w fits mine (suc j) u at = absurd (none-some u at)
 fit-push (x ∷ xs) w fits mine zero u at = fits zero u at
 fit-push (x ∷ xs) w fits mine (suc j) u at = fit-push xs w (λ i v e. fits (suc i) v e) mine j u at
 
@@ -87,9 +90,9 @@ strikes k count value seats id v count' law at wide some_todo here elsewhere =
     let known = law.counts g inside in
     let some_left : 0 < n = omega arith in
     let todo_cut : (x : ℕ) → times x v.todo ≡ cond (c == x) 1 0 + times x more = λ x. ap (times x) cut in
-    let todo_all : (x : ℕ) → seat_total (λ u. times x u.todo) (set seats id w) ≤ seat_total (λ u. times x u.todo) seats =
+    let todo_all : (x : ℕ) → sum_by (λ u. times x u.todo) (set seats id w) ≤ sum_by (λ u. times x u.todo) seats =
     λ x. let s = total-set (λ u. times x u.todo) seats id v w at in let p = todo_cut x in omega arith in
-    let won_same : (x : ℕ) → seat_total (λ u. times x u.won) (set seats id w) ≡ seat_total (λ u. times x u.won) seats =
+    let won_same : (x : ℕ) → sum_by (λ u. times x u.won) (set seats id w) ≡ sum_by (λ u. times x u.won) seats =
     λ x. let s = total-set (λ u. times x u.won) seats id v w at in omega arith in
     record {
       some_left = some_left;
@@ -100,8 +103,8 @@ strikes k count value seats id v count' law at wide some_todo here elsewhere =
         counts = λ j small. elim (same_or_not j g) [
           | inl e ↦ (
               let s = total-set (λ u. tally k.home g u.todo) seats id v w at in
-              let sum : n - 1 ≡ k.live g + seat_total (λ u. tally k.home g u.todo) (set seats id w) = omega arith in
-              let P : ℕ → Type 0 = λ m. count' m ≡ k.live m + seat_total (λ u. tally k.home m u.todo) (set seats id w) in
+              let sum : n - 1 ≡ k.live g + sum_by (λ u. tally k.home g u.todo) (set seats id w) = omega arith in
+              let P : ℕ → Type 0 = λ m. count' m ≡ k.live m + sum_by (λ u. tally k.home m u.todo) (set seats id w) in
               subst P (sym e) (here ∙ sum))
           | inr ne ↦ (
               let s = total-set (λ u. tally k.home j u.todo) seats id v w at in
@@ -113,7 +116,7 @@ strikes k count value seats id v count' law at wide some_todo here elsewhere =
         next = λ x there.
             let s = total-set (held_in x) seats id v w at in
             elim (owed-after k v n x) [
-              | inl o ↦ elim (same_or_not (seat_total (held_in x) seats) 0) [
+              | inl o ↦ elim (same_or_not (sum_by (held_in x) seats) 0) [
                 | inl z ↦ record { gap = g; is_gap = inside; none_above = (let one = o.0 in omega arith); is_open = (let sum = o.1 in omega arith) }
                 | inr nz ↦ law.next x (omega arith)
               ]
@@ -131,7 +134,7 @@ strikes k count value seats id v count' law at wide some_todo here elsewhere =
                     | inr o ↦ absurd (o.0 (omega arith))
                   ])
               | inr ne ↦ (
-                  let old : 0 < seat_total (held_in x) seats = law.closed j x small (sym (elsewhere j small ne) ∙ none) there in
+                  let old : 0 < sum_by (held_in x) seats = law.closed j x small (sym (elsewhere j small ne) ∙ none) there in
                   elim (owed-after k v n x) [
                     | inl o ↦ (let sum = o.1 in omega arith)
                     | inr o ↦ (let sum = o.1 in omega arith)
@@ -149,7 +152,7 @@ pub record IsWon (k : Rules) (count : ℕ → ℕ) (value : ℕ → Option ℕ) 
 
 pub record IsNotWon (k : Rules) (count : ℕ → ℕ) (value : ℕ → Option ℕ) (seats : List PlainSeat) (id : ℕ) (v : PlainSeat) : Type 0 where
   pub has_next : value (first_of v.owed) ≡ Some (suc k.round)
-  pub stands : 0 < seat_total (λ u. times (first_of v.owed) u.won) seats
+  pub stands : 0 < sum_by (λ u. times (first_of v.owed) u.won) seats
   pub kept : AreKept k count value (set seats id (seat_tried false v))
 
 module _ (k : Rules) (count : ℕ → ℕ) (value : ℕ → Option ℕ) (seats : List PlainSeat) (id : ℕ) (v : PlainSeat)
@@ -170,24 +173,24 @@ module _ (k : Rules) (count : ℕ → ℕ) (value : ℕ → Option ℕ) (seats :
   pub first-known : (first_of v.owed < k.size) × (k.base (first_of v.owed) ≡ None)
   first-known = let may = first-next in sound.opened may.gap (first_of v.owed) may.is_gap may.is_open
 
-  won-keeps : (value' : ℕ → Option ℕ) → seat_total (λ u. times (first_of v.owed) u.won) seats ≡ 0 → value' (first_of v.owed) ≡ Some (suc k.round)
+  won-keeps : (value' : ℕ → Option ℕ) → sum_by (λ u. times (first_of v.owed) u.won) seats ≡ 0 → value' (first_of v.owed) ≡ Some (suc k.round)
       → ((x : ℕ) → x < k.size → x ≢ first_of v.owed → value' x ≡ value x) → AreKept k count value' (set seats id (seat_tried true v))
   won-keeps value' none here elsewhere =
       let f : ℕ = first_of v.owed in
       let w : PlainSeat = seat_tried true v in
       let is_one : ◌≡◌ {A = ℕ} (cond (f == f) 1 0) 1 = one_if f f refl in
-      let won_sum : (x : ℕ) → seat_total (λ u. times x u.won) (set seats id w) ≡ seat_total (λ u. times x u.won) seats + cond (f == x) 1 0 =
+      let won_sum : (x : ℕ) → sum_by (λ u. times x u.won) (set seats id w) ≡ sum_by (λ u. times x u.won) seats + cond (f == x) 1 0 =
       λ x. let s = total-set (λ u. times x u.won) seats id v w at in let o = one_more x f v.won in omega arith in
-      let won_else : (x : ℕ) → x ≢ f → seat_total (λ u. times x u.won) (set seats id w) ≡ seat_total (λ u. times x u.won) seats =
+      let won_else : (x : ℕ) → x ≢ f → sum_by (λ u. times x u.won) (set seats id w) ≡ sum_by (λ u. times x u.won) seats =
       λ x ne. let s = won_sum x in let z = none_if f x (λ e. ne (sym e)) in omega arith in
-      let won_here : seat_total (λ u. times f u.won) (set seats id w) ≡ 1 = let s = won_sum f in omega arith in
-      let held_same : (x : ℕ) → seat_total (held_in x) (set seats id w) ≡ seat_total (held_in x) seats =
+      let won_here : sum_by (λ u. times f u.won) (set seats id w) ≡ 1 = let s = won_sum f in omega arith in
+      let held_same : (x : ℕ) → sum_by (held_in x) (set seats id w) ≡ sum_by (held_in x) seats =
       λ x. let s = total-set (held_in x) seats id v w at in let o = one_more x f v.won in let cut = owed_cut x in omega arith in
       record {
         values = λ x small. elim (same_or_not x f) [
           | inl e ↦ (
-              let P : ℕ → Type 0 = λ m. value' m ≡ value_word k m (seat_total (λ u. times m u.won) (set seats id w)) in
-              subst P (sym e) (here ∙ sym (word_some k f (seat_total (λ u. times f u.won) (set seats id w)) (omega arith))))
+              let P : ℕ → Type 0 = λ m. value' m ≡ value_word k m (sum_by (λ u. times m u.won) (set seats id w)) in
+              subst P (sym e) (here ∙ sym (word_some k f (sum_by (λ u. times f u.won) (set seats id w)) (omega arith))))
           | inr ne ↦ elsewhere x small ne ∙ law.values x small ∙ ap (value_word k x) (sym (won_else x ne))
         ];
         due = λ x there. law.due x (let s = total-set (λ u. times x u.todo) seats id v w at in omega arith);
@@ -197,28 +200,28 @@ module _ (k : Rules) (count : ℕ → ℕ) (value : ℕ → Option ℕ) (seats :
             let o = law.counts g small in omega arith;
         next = λ x there. law.next x (let s = held_same x in omega arith);
         won_once = λ x. elim (same_or_not x f) [
-          | inl e ↦ subst (λ (m : ℕ). seat_total (λ u. times m u.won) (set seats id w) ≤ 1) (sym e) (omega arith)
+          | inl e ↦ subst (λ (m : ℕ). sum_by (λ u. times m u.won) (set seats id w) ≤ 1) (sym e) (omega arith)
           | inr ne ↦ (let s = won_else x ne in let o = law.won_once x in omega arith)
         ];
         closed = λ g x small none_left there.
-            let o : 0 < seat_total (held_in x) seats = law.closed g x small none_left there in
+            let o : 0 < sum_by (held_in x) seats = law.closed g x small none_left there in
             let s = held_same x in omega arith;
         widths = let s = total-set (λ u. u.width) seats id v w at in let o = law.widths in omega arith;
         fits = fit-set seats id w law.fits (λ no_width. absurd (omega arith));
       }
 
-  not-won-keeps : 0 < seat_total (λ u. times (first_of v.owed) u.won) seats → AreKept k count value (set seats id (seat_tried false v))
+  not-won-keeps : 0 < sum_by (λ u. times (first_of v.owed) u.won) seats → AreKept k count value (set seats id (seat_tried false v))
   not-won-keeps some_won =
       let f : ℕ = first_of v.owed in
       let w : PlainSeat = seat_tried false v in
-      let won_same : (x : ℕ) → seat_total (λ u. times x u.won) (set seats id w) ≡ seat_total (λ u. times x u.won) seats =
+      let won_same : (x : ℕ) → sum_by (λ u. times x u.won) (set seats id w) ≡ sum_by (λ u. times x u.won) seats =
       λ x. let s = total-set (λ u. times x u.won) seats id v w at in omega arith in
-      let held_sum : (x : ℕ) → seat_total (held_in x) seats ≡ seat_total (held_in x) (set seats id w) + cond (f == x) 1 0 =
+      let held_sum : (x : ℕ) → sum_by (held_in x) seats ≡ sum_by (held_in x) (set seats id w) + cond (f == x) 1 0 =
       λ x. let s = total-set (held_in x) seats id v w at in let cut = owed_cut x in omega arith in
-      let held_still : (x : ℕ) → 0 < seat_total (held_in x) seats → 0 < seat_total (held_in x) (set seats id w) = λ x there.
+      let held_still : (x : ℕ) → 0 < sum_by (held_in x) seats → 0 < sum_by (held_in x) (set seats id w) = λ x there.
       elim (same_or_not x f) [
-        | inl e ↦ subst (λ (m : ℕ). 0 < seat_total (held_in m) (set seats id w)) (sym e)
-            (let s = won_same f in let l = total-le (λ u. times f u.won) (held_in f) (set seats id w) (λ u. omega arith) in omega arith)
+        | inl e ↦ subst (λ (m : ℕ). 0 < sum_by (held_in m) (set seats id w)) (sym e)
+            (let s = won_same f in let l = sum_by-le-sum_by (λ u. times f u.won) (held_in f) (set seats id w) (λ u. omega arith) in omega arith)
         | inr ne ↦ (let z = none_if f x (λ e. ne (sym e)) in let s = held_sum x in omega arith)
       ] in
       record {
@@ -239,7 +242,7 @@ module _ (k : Rules) (count : ℕ → ℕ) (value : ℕ → Option ℕ) (seats :
       let f : ℕ = first_of v.owed in
       let known = first-known in
       let word = law.values f known.0 in
-      let T : ℕ = seat_total (λ u. times f u.won) seats in
+      let T : ℕ = sum_by (λ u. times f u.won) seats in
       elim (same_or_not T 0) [
         | inl z ↦ inl (λ value'. record { open_yet = word ∙ word_none k f T z ∙ known.1; kept = won-keeps value' z })
         | inr nz ↦ inr (record { has_next = word ∙ word_some k f T (omega arith); stands = omega arith; kept = not-won-keeps (omega arith) })
@@ -247,9 +250,9 @@ module _ (k : Rules) (count : ℕ → ℕ) (value : ℕ → Option ℕ) (seats :
 
 -- seats that hold together what others held keep what these kept
 same-kept : (k : Rules) (count : ℕ → ℕ) (value : ℕ → Option ℕ) (seats all : List PlainSeat) → AreKept k count value seats
-    → ((x : ℕ) → seat_total (λ u. times x u.todo) all ≡ seat_total (λ u. times x u.todo) seats) → ((g : ℕ) → seat_total (λ u. tally k.home g u.todo) all ≡ seat_total (λ u. tally k.home g u.todo) seats)
-    → ((x : ℕ) → seat_total (λ u. times x u.won) all ≡ seat_total (λ u. times x u.won) seats) → ((x : ℕ) → seat_total (held_in x) all ≡ seat_total (held_in x) seats)
-    → seat_total (λ u. u.width) all ≡ seat_total (λ u. u.width) seats → ((j : ℕ) (u : PlainSeat) → slice_get all j ≡ Some u → u.width ≡ 0 → u ≡ spent) → AreKept k count value all
+    → ((x : ℕ) → sum_by (λ u. times x u.todo) all ≡ sum_by (λ u. times x u.todo) seats) → ((g : ℕ) → sum_by (λ u. tally k.home g u.todo) all ≡ sum_by (λ u. tally k.home g u.todo) seats)
+    → ((x : ℕ) → sum_by (λ u. times x u.won) all ≡ sum_by (λ u. times x u.won) seats) → ((x : ℕ) → sum_by (held_in x) all ≡ sum_by (held_in x) seats)
+    → sum_by (λ u. u.width) all ≡ sum_by (λ u. u.width) seats → ((j : ℕ) (u : PlainSeat) → slice_get all j ≡ Some u → u.width ≡ 0 → u ≡ spent) → AreKept k count value all
 same-kept k count value seats all law todo tallies won held width fits = record {
   values = λ x small. law.values x small ∙ ap (value_word k x) (sym (won x));
   due = λ x there. law.due x (let s = todo x in omega arith);
@@ -303,5 +306,5 @@ opens k count value todo ready = record {
 }
   where
     one : (i : ℕ) (v : PlainSeat) → slice_get (record { width = k.width; todo = todo; owed = []; won = [] } ∷ []) i ≡ Some v → v.width ≡ 0 → v ≡ spent
-    one zero v e = subst (λ (s : PlainSeat). s.width ≡ 0 → s ≡ spent) (same_seat _ v e) (λ none. absurd (let s = ready.some_width in omega arith))
-    one (suc i) v e = absurd (no_seat v e)
+    one zero v e = subst (λ (s : PlainSeat). s.width ≡ 0 → s ≡ spent) (same_Some _ v e) (λ none. absurd (let s = ready.some_width in omega arith))
+    one (suc i) v e = absurd (none-some v e)

@@ -6,7 +6,8 @@ use Rattle.positions.specs.Counts.{HasSize}
 use Rattle.retro_core.specs.Solving.{Solving, AnswerLasts}
 use Rattle.retro_core.specs.Round.{IsWorth}
 
--- what was won is what has the value behind the round's, each once, and each count is the number of the gap's answers that lead above the round's value
+-- what was won is what has the value behind the round's, each once, and each count is the number of the gap's answers that lead above the
+-- round's value
 pub record IsRoundEnd (s : Solving) (won counts : List ℕ) : Type 0 where
   pub once : (rank : ℕ) → times rank won ≤ 1
   pub next : (rank : ℕ) → (0 < times rank won) ↔ IsWorth s.board rank (suc s.rounds)

@@ -2,7 +2,7 @@
 use Rattle.std.specs.Prelude.{◌≡◌, ℕ, suc, ◌+◌, ◌-◌, ◌/◌, ◌<◌, ◌≤◌, ◌↔◌, ◌⊎◌, ◌==◌, Bool, true, cond, List, [], ◌∷◌, ◌++◌, length, take}
 use Rattle.std.specs.Prelude.{drop, filter, slice_index, slice_index_or, slice_set, Option, Some, None}
 use Rattle.std.specs.Option.{is_none}
-use Rattle.std.specs.List.{flat_map}
+use Rattle.std.specs.List.{flat_map, sum_by}
 use Rattle.index_lists.specs.Lists.{times}
 use Rattle.board_text.specs.PlainBoard.{PlainBoard, places}
 use Rattle.positions.specs.declared.value.Value.TheVariants.{Finite}
@@ -52,11 +52,6 @@ all_owed round = flat_map (λ seat. seat.owed) round.seats
 abbrev pub all_won : Round → List ℕ
 all_won round = flat_map (λ seat. seat.won) round.seats
 
--- the widths, added up
-abbrev pub total_width : List PlainSeat → ℕ
-total_width [] = 0
-total_width (seat ∷ seats) = seat.width + total_width seats
-
 -- the rank is that of a configuration of this finite value
 pub record IsWorth (board : PlainBoard) (rank value : ℕ) : Type 0 where
   pub is_rank : rank < configurations board
@@ -97,7 +92,7 @@ pub record IsLawful (round : Round) : Type 0 where
       → LabellerTree round.solving.board (suc round.solving.rounds) (member_of round.solving.board gap label)
       → (0 < times (rank_of round.solving.board (member_of round.solving.board gap label)) (all_owed round))
       ⊎ (0 < times (rank_of round.solving.board (member_of round.solving.board gap label)) (all_won round))
-  pub widths : total_width round.seats ≡ round.width
+  pub widths : sum_by (λ seat. seat.width) round.seats ≡ round.width
   pub spent_seats : (seat : ℕ) → (seat_at round seat).width ≡ 0 → seat_at round seat ≡ spent
 
 -- the test tells which configurations have a dominating pebble
@@ -116,7 +111,8 @@ AreFirstCounts s counts = (gap : ℕ) → gap < gaps s.board → HasSize (Answer
 -- each configuration has its value, where that is at most the round's
 abbrev pub AreFirstValues : Solving → List (Option ℕ) → Type 0
 AreFirstValues s values = (rank value : ℕ) → rank < configurations s.board
-    → (slice_index_or values rank None ≡ Some value) ↔ ((value ≤ s.rounds) × HasValue s.board (configuration_at s.board rank) (Finite value))
+    → (slice_index_or values rank None ≡ Some value)
+    ↔ ((value ≤ s.rounds) × HasValue s.board (configuration_at s.board rank) (Finite value))
 
 -- the round with one seat, which has the whole width and all to strike
 abbrev pub opening : Solving → ℕ → List ℕ → List (Option ℕ) → List ℕ → Round
@@ -136,7 +132,8 @@ pub record IsWorkedOff (round : Round) : Type 0 where
 
 -- what is won is exactly what has the value behind the round's, each configuration once
 abbrev pub HasWonAll : Round → Type 0
-HasWonAll round = (rank : ℕ) → (times rank (all_won round) ≤ 1) × ((0 < times rank (all_won round)) ↔ IsWorth round.solving.board rank (suc round.solving.rounds))
+HasWonAll round = (rank : ℕ) → (times rank (all_won round) ≤ 1)
+    × ((0 < times rank (all_won round)) ↔ IsWorth round.solving.board rank (suc round.solving.rounds))
 
 -- the first of a list
 abbrev pub first_of : List ℕ → ℕ
@@ -160,7 +157,12 @@ seat_new seat = record { width = seat.width / 2; todo = drop (length seat.todo -
 
 -- two seats as one
 abbrev pub seat_joined : PlainSeat → PlainSeat → PlainSeat
-seat_joined into from = record { width = into.width + from.width; todo = into.todo ++ from.todo; owed = into.owed ++ from.owed; won = into.won ++ from.won }
+seat_joined into from = record {
+  width = into.width + from.width;
+  todo = into.todo ++ from.todo;
+  owed = into.owed ++ from.owed;
+  won = into.won ++ from.won;
+}
 
 -- the round after the seat struck in the gap
 abbrev pub struck : Round → ℕ → ℕ → Round
@@ -176,13 +178,16 @@ first_is_open round seat = is_none (slice_index_or round.values (first_of (seat_
 -- the round after the seat tried to win the first that it owes
 abbrev pub tried : Round → ℕ → Round
 tried round seat = record round {
-  values = cond (first_is_open round seat) (slice_set round.values (first_of (seat_at round seat).owed) (Some (suc round.solving.rounds))) round.values;
+  values = cond (first_is_open round seat)
+      (slice_set round.values (first_of (seat_at round seat).owed) (Some (suc round.solving.rounds))) round.values;
   seats = slice_set round.seats seat (seat_tried (first_is_open round seat) (seat_at round seat));
 }
 
 -- the round after the seat was split
 abbrev pub split : Round → ℕ → Round
-split round seat = record round { seats = slice_set round.seats seat (seat_kept (seat_at round seat)) ++ seat_new (seat_at round seat) ∷ [] }
+split round seat = record round {
+  seats = slice_set round.seats seat (seat_kept (seat_at round seat)) ++ seat_new (seat_at round seat) ∷ [];
+}
 
 -- the round after one seat was joined into another
 abbrev pub joined : Round → ℕ → ℕ → Round

@@ -1,5 +1,5 @@
 -- A solver as plain data, and what it knows of the game.
-use Rattle.std.specs.Prelude.{◌≡◌, ℕ, suc, ◌<◌, ◌≤◌, ◌↔◌, Bool, true, List, [], AllPairs, slice_index_or}
+use Rattle.std.specs.Prelude.{◌≡◌, ℕ, suc, ◌+◌, ◌<◌, ◌≤◌, ◌↔◌, Bool, true, false, List, [], length, AllPairs, slice_index_or}
 use Rattle.board_text.specs.PlainBoard.{PlainBoard, IsBoard, IsConfiguration, places}
 use Rattle.index_lists.specs.Lists.{times}
 use Rattle.positions.specs.declared.value.Value.TheVariants.{Finite, Forever}
@@ -37,7 +37,8 @@ pub record AreBuckets (s : Solving) : Type 0 where
 -- the members of a gap that have no value of at most the number of rounds, each once
 pub record AreOpenMembers (s : Solving) : Type 0 where
   pub listed : (gap place : ℕ) → gap < gaps s.board → place < places s.board
-      → (0 < times (rank_of s.board (member_of s.board gap place)) (source s gap)) ↔ LabellerTree s.board (suc s.rounds) (member_of s.board gap place)
+      → (0 < times (rank_of s.board (member_of s.board gap place)) (source s gap))
+      ↔ LabellerTree s.board (suc s.rounds) (member_of s.board gap place)
   pub once : (gap rank : ℕ) → gap < gaps s.board → rank < configurations s.board → times rank (source s gap) ≤ 1
   pub members : (gap rank : ℕ) → gap < gaps s.board → 0 < times rank (source s gap)
       → (place : ℕ) × (place < places s.board) × (rank ≡ rank_of s.board (member_of s.board gap place))
@@ -55,6 +56,15 @@ pub record IsSolving (s : Solving) : Type 0 where
 -- no configuration has the value
 abbrev pub NoneHas : PlainBoard → ℕ → Type 0
 NoneHas board value = (configuration : List ℕ) → IsConfiguration board configuration → HasValue board configuration (Finite value) → ⊥
+
+-- the configurations of the next value were filed, so many
+abbrev pub HasFiled : Solving → Solving → ℕ → Type 0
+HasFiled before after n = (0 < n) × (n ≡ length (bucket after (suc before.rounds))) × (after.rounds ≡ before.rounds + 1)
+    × (after.is_done ≡ false)
+
+-- no configuration has the next value, and nothing was filed
+abbrev pub HasFoundNone : Solving → Solving → Type 0
+HasFoundNone before after = NoneHas before.board (suc before.rounds) × (after.rounds ≡ before.rounds) × (after.is_done ≡ true)
 
 -- the label is an answer, and a labeller lasts so many requests more after it
 abbrev pub AnswerLasts : PlainBoard → ℕ → ℕ → ℕ → Type 0

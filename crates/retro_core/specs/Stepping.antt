@@ -72,7 +72,8 @@ IsAllowed round (steps.Join into from) = (into ≡ from → ⊥) × (0 < (seat_a
 pub record ClosesGap (round : Round) (seat : ℕ) : Type 0 where
   pub pebble : ℕ
   pub dominates : IsDominator round.solving.board (configuration_at round.solving.board (first_of (seat_at round seat).todo)) pebble
-  pub last : slice_index round.counts (gap_of round.solving.board (configuration_at round.solving.board (first_of (seat_at round seat).todo)) pebble) ≡ 1
+  pub last : slice_index round.counts
+      (gap_of round.solving.board (configuration_at round.solving.board (first_of (seat_at round seat).todo)) pebble) ≡ 1
 
 -- the step makes a list longer or makes a seat, for which memory is taken
 abbrev pub TakesMemory : Round → Step → Type 0

@@ -29,7 +29,8 @@ impl<S: ListStore> Stage<S> {
     fn file_all(&mut self, ranks: &[u32])
         requires small { IsSmall self.old.board self.old.value }
         requires filed { IsFiled self.old }
-        requires open { (rank : ℕ) → 0 < times rank ranks.now → (rank < configurations self.old.board) × (is_open self.old.values rank ≡ true) }
+        requires open { (rank : ℕ) → 0 < times rank ranks.now
+            → (rank < configurations self.old.board) × (is_open self.old.values rank ≡ true) }
         requires once { (rank : ℕ) → times rank ranks.now ≤ 1 }
         ensures { FilesAll self.old ranks.now self.new }
     {

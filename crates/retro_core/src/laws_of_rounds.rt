@@ -14,7 +14,8 @@ ghost use Rattle.retro_core.specs.declared.step.Seen.{Seen as Answer};
 pub fn rounds_open_lawfully()
     ensures { (s : Solving) → IsSolving s → (width : ℕ) → 0 < width → (counts : List ℕ) → (values : List (Option ℕ)) → (ranks : List ℕ)
         → length counts ≡ gaps s.board → length values ≡ configurations s.board
-        → AreFirstCounts s counts → AreFirstValues s values → AreToStrike s ranks → IsOpening s width (opening s width counts values ranks) }
+        → AreFirstCounts s counts → AreFirstValues s values → AreToStrike s ranks
+        → IsOpening s width (opening s width counts values ranks) }
 {}
 
 /// Each step of a lawful round leads to a lawful one, and so do any steps, in any order and of any seats.

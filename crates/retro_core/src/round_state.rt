@@ -1,6 +1,7 @@
 //! A round as a pure machine, one step after the other.
 
-ghost use Rattle.std.specs.Prelude.{◌≡◌, ℕ, ◌+◌, ◌<◌, ◌≤◌, ◌↔◌, true, false, [], length, filter, slice_index, slice_index_or, None, Some, IfOk, IfErr, IfSome, IsTrue};
+ghost use Rattle.std.specs.Prelude.{◌≡◌, ℕ, ◌+◌, ◌<◌, ◌≤◌, ◌↔◌, true, false, [], length, filter, slice_index, slice_index_or};
+ghost use Rattle.std.specs.Prelude.{None, Some, IfOk, IfErr, IfSome, IsTrue};
 ghost use Rattle.positions.specs.Ranks.{configurations};
 ghost use Rattle.positions.specs.Gaps.{gaps};
 ghost use Rattle.retro_core.specs.Solving.{IsSolving, bucket};
@@ -38,7 +39,8 @@ impl<'a, S: ListStore> Model for RoundState<'a, S> {
 
     ghost view = { λ s. round_of s.solver.now s.width s.counts.items s.values.items s.seats.items };
 
-    ghost invariant = { λ s. IsSolving s.solver.now × IsLawful (round_of s.solver.now s.width s.counts.items s.values.items s.seats.items) };
+    ghost invariant = { λ s. IsSolving s.solver.now
+        × IsLawful (round_of s.solver.now s.width s.counts.items s.values.items s.seats.items) };
 }
 
 impl<'a, S: ListStore> RoundState<'a, S> {

@@ -8,7 +8,7 @@ ghost use Rattle.positions.specs.Gaps.{gaps, IsDominator};
 ghost use Rattle.positions.specs.Counts.{HasSize, IsSmallest};
 ghost use Rattle.retro_core.specs.Round.{AreToStrike};
 ghost use Rattle.retro_core.specs.Ending.{IsRoundEnd};
-ghost use Rattle.retro_core.specs.Solving.{IsSolving, bucket, source, NoneHas, AnswerLasts, AnswerForever};
+ghost use Rattle.retro_core.specs.Solving.{IsSolving, HasFiled, HasFoundNone, bucket, source, NoneHas, AnswerLasts, AnswerForever};
 
 use crate::end::RoundEnd;
 use crate::fault::SolveFault;
@@ -45,7 +45,8 @@ impl<S: ListStore> Model for Solver<S> {
 
     ghost view = { λ s. as_solving s.stage s.done };
 
-    ghost invariant = { λ s. IsState s.stage (s.stage.value - 1) s.done × AreSizes s.stage (s.stage.value - 1) (vec_capacity s.sizes) s.sizes.items };
+    ghost invariant = { λ s. IsState s.stage (s.stage.value - 1) s.done
+        × AreSizes s.stage (s.stage.value - 1) (vec_capacity s.sizes) s.sizes.items };
 }
 
 impl<S: ListStore + Drop> Solver<S> {
@@ -89,23 +90,22 @@ impl<S: ListStore> Solver<S> {
     pub fn round(&mut self) -> Progress
         ensures board { self.new.board ≡ self.old.board }
         ensures after_done { self.old.is_done ≡ true → (result ≡ Progress.Done) × (self.new ≡ self.old) }
-        ensures filed { (n : ℕ) → result ≡ Progress.Filed n
-            → (0 < n) × (n ≡ length (bucket self.new (suc self.old.rounds))) × (self.new.rounds ≡ self.old.rounds + 1) × (self.new.is_done ≡ false) }
-        ensures none { result ≡ Progress.Done → NoneHas self.old.board (suc self.old.rounds) × (self.new.rounds ≡ self.old.rounds) × (self.new.is_done ≡ true) }
+        ensures filed { (n : ℕ) → result ≡ Progress.Filed n → HasFiled self.old self.new n }
+        ensures none { result ≡ Progress.Done → HasFoundNone self.old self.new }
         ensures filed_before { (value : ℕ) → value ≤ self.old.rounds → bucket self.new value ≡ bucket self.old value }
         ensures kept { IsSolving self.new }
     {
         self.file_next(&ByStrikes)
     }
 
-    /// Files what a round of this value that was worked off has won, and takes over its counts; or finds that no configuration has the next value.
+    /// Files what a round of this value that was worked off has won, and takes over its counts; or finds that no configuration has the next
+    /// value.
     pub fn file_round<E: RoundEnd>(&mut self, end: &E) -> Progress
         requires { IsRoundEnd self.old (E.won_list end.now) (E.counts end.now) }
         ensures board { self.new.board ≡ self.old.board }
         ensures after_done { self.old.is_done ≡ true → (result ≡ Progress.Done) × (self.new ≡ self.old) }
-        ensures filed { (n : ℕ) → result ≡ Progress.Filed n
-            → (0 < n) × (n ≡ length (bucket self.new (suc self.old.rounds))) × (self.new.rounds ≡ self.old.rounds + 1) × (self.new.is_done ≡ false) }
-        ensures none { result ≡ Progress.Done → NoneHas self.old.board (suc self.old.rounds) × (self.new.rounds ≡ self.old.rounds) × (self.new.is_done ≡ true) }
+        ensures filed { (n : ℕ) → result ≡ Progress.Filed n → HasFiled self.old self.new n }
+        ensures none { result ≡ Progress.Done → HasFoundNone self.old self.new }
         ensures filed_before { (value : ℕ) → value ≤ self.old.rounds → bucket self.new value ≡ bucket self.old value }
         ensures kept { IsSolving self.new }
     {
@@ -117,9 +117,8 @@ impl<S: ListStore> Solver<S> {
         requires { self.old.is_done ≡ false → N.serves by.now self.old }
         ensures board { self.new.board ≡ self.old.board }
         ensures after_done { self.old.is_done ≡ true → (result ≡ Progress.Done) × (self.new ≡ self.old) }
-        ensures filed { (n : ℕ) → result ≡ Progress.Filed n
-            → (0 < n) × (n ≡ length (bucket self.new (suc self.old.rounds))) × (self.new.rounds ≡ self.old.rounds + 1) × (self.new.is_done ≡ false) }
-        ensures none { result ≡ Progress.Done → NoneHas self.old.board (suc self.old.rounds) × (self.new.rounds ≡ self.old.rounds) × (self.new.is_done ≡ true) }
+        ensures filed { (n : ℕ) → result ≡ Progress.Filed n → HasFiled self.old self.new n }
+        ensures none { result ≡ Progress.Done → HasFoundNone self.old self.new }
         ensures filed_before { (value : ℕ) → value ≤ self.old.rounds → bucket self.new value ≡ bucket self.old value }
         ensures kept { IsSolving self.new }
     {
@@ -159,7 +158,8 @@ impl<S: ListStore> Solver<S> {
         self.stage.space()
     }
 
-    /// The smallest pebble that dominates all others at the configuration of a rank, if one does. A lone pebble does where it holds a label.
+    /// The smallest pebble that dominates all others at the configuration of a rank, if one does. A lone pebble does where it holds a
+    /// label.
     pub fn dominator(&self, rank: u32) -> Option<u8>
         requires { rank < configurations self.now.board }
         ensures { IsSmallest (IsDominator self.now.board (configuration_at self.now.board rank)) result }
@@ -170,7 +170,8 @@ impl<S: ListStore> Solver<S> {
     /// The value of a configuration, if it is at most the number of rounds.
     pub fn value_at(&self, rank: u32) -> Option<u32>
         requires { rank < configurations self.now.board }
-        ensures { (value : ℕ) → (result ≡ Some value) ↔ ((value ≤ self.now.rounds) × HasValue self.now.board (configuration_at self.now.board rank) (Finite value)) }
+        ensures { (value : ℕ) → (result ≡ Some value)
+            ↔ ((value ≤ self.now.rounds) × HasValue self.now.board (configuration_at self.now.board rank) (Finite value)) }
     {
         let value = self.stage.word(rank);
         if value == OPEN { None } else { Some(value) }
@@ -196,7 +197,8 @@ impl<S: ListStore> Solver<S> {
     /// The configuration behind a filed one, among those of the same value. One that isn't filed has none.
     pub fn next_filed(&self, rank: u32) -> Option<u32>
         requires { rank < configurations self.now.board }
-        ensures behind { (value : ℕ) → (place : ℕ) → slice_get (bucket self.now value) place ≡ Some rank → result ≡ slice_get (bucket self.now value) (place + 1) }
+        ensures behind { (value : ℕ) → (place : ℕ) → slice_get (bucket self.now value) place ≡ Some rank
+            → result ≡ slice_get (bucket self.now value) (place + 1) }
         ensures not_filed { ((value : ℕ) → (place : ℕ) → slice_get (bucket self.now value) place ≡ Some rank → ⊥) → result ≡ None }
     {
         self.stage.next_filed(rank)
@@ -231,7 +233,8 @@ impl<S: ListStore> Solver<S> {
     pub fn next_source(&self, gap: u32, rank: u32) -> Option<u32>
         requires gap { gap < gaps self.now.board }
         requires rank { rank < configurations self.now.board }
-        ensures behind { (place : ℕ) → slice_get (source self.now gap) place ≡ Some rank → result ≡ slice_get (source self.now gap) (place + 1) }
+        ensures behind { (place : ℕ) → slice_get (source self.now gap) place ≡ Some rank
+            → result ≡ slice_get (source self.now gap) (place + 1) }
         ensures not_listed { ((place : ℕ) → slice_get (source self.now gap) place ≡ Some rank → ⊥) → result ≡ None }
     {
         let space = self.stage.space();

@@ -78,7 +78,8 @@ impl<S: ListStore> Stage<S> {
     /// The configuration behind a filed one, among those of the same value. One that isn't filed has none.
     pub(crate) fn next_filed(&self, rank: u32) -> Option<u32>
         requires { rank < configurations self.now.board }
-        ensures behind { (value : ℕ) → (place : ℕ) → slice_get (filed_at self.now value) place ≡ Some rank → result ≡ slice_get (filed_at self.now value) (place + 1) }
+        ensures behind { (value : ℕ) → (place : ℕ) → slice_get (filed_at self.now value) place ≡ Some rank
+            → result ≡ slice_get (filed_at self.now value) (place + 1) }
         ensures not_filed { ((value : ℕ) → (place : ℕ) → slice_get (filed_at self.now value) place ≡ Some rank → ⊥) → result ≡ None }
     {
         self.buckets.next(rank)
@@ -101,7 +102,8 @@ impl<S: ListStore> Stage<S> {
     pub(crate) fn open_member(&self, gap: u32, from: u16) -> Option<u32>
         requires gap { gap < gaps self.now.board }
         requires from { from ≤ places self.now.board }
-        ensures { result ≡ slice_get (members_from (arena_of self.now.board) (is_open self.now.values) gap from (places self.now.board - from)) 0 }
+        ensures { result ≡ slice_get (members_from (arena_of self.now.board) (is_open self.now.values) gap from
+            (places self.now.board - from)) 0 }
     {
         let members = self.space.members(gap);
         for place in from..self.space.places() {

@@ -57,7 +57,8 @@ impl Values {
     ) -> Values
         requires values { AreValues space values.items }
         requires dominators { AreDominators space dominators.items }
-        requires counts { AreValueSizes (configurations space) values.items sizes.items (count_below (configurations space) (is_open values.items)) }
+        requires counts { AreValueSizes (configurations space) values.items sizes.items
+            (count_below (configurations space) (is_open values.items)) }
         ensures { result ≡ space }
     {
         let forever = space.configurations() - total(&sizes);

@@ -30,7 +30,8 @@ pairs_of labels rows = pairs_below labels (mark_of labels rows) (labels * labels
 -- the place after that of the last pair
 abbrev pub EndsAt : ℕ → List (ℕ × ℕ) → ℕ → Type 0
 EndsAt labels pairs next = ((pairs ≡ []) × (next ≡ 0))
-    ⊎ ((before : List (ℕ × ℕ)) × (last : ℕ × ℕ) × (pairs ≡ before ++ last ∷ []) × AreLabels labels last × (next ≡ last.0 * labels + last.1 + 1))
+    ⊎ ((before : List (ℕ × ℕ)) × (last : ℕ × ℕ) × (pairs ≡ before ++ last ∷ []) × AreLabels labels last
+    × (next ≡ last.0 * labels + last.1 + 1))
 
 -- no pair from a place on is in the rows, and no bit that stands for no label is set
 abbrev pub ClearFrom : ℕ → List ℕ → ℕ → Type 0

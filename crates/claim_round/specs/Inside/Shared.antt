@@ -1,7 +1,7 @@
 -- What this crate's own functions say beside `Shared`.
 use Rattle.std.specs.Prelude.{◌≡◌, ℕ, ◌+◌, ◌*◌, ◌<◌, ◌≤◌, ◌==◌, Bool, cond, List, [], ◌∷◌, ◌++◌, length, map, filter}
 use Rattle.std.specs.Prelude.{slice_index}
-use Rattle.std.specs.List.{flat_map}
+use Rattle.std.specs.List.{flat_map, sum_by}
 use Rattle.atomic_table.specs.Table.{State, Me, Step}
 use mathlib.Core.Option.{some}
 use lib.ListN.{get_elem?}
@@ -26,11 +26,6 @@ Unit0 = Unit {0}
 abbrev pub seats_of : List View → List PlainSeat
 seats_of views = map (λ view. view.has) views
 
--- f of each view, added up
-abbrev pub total : (View → ℕ) → List View → ℕ
-total f [] = 0
-total f (v ∷ vs) = f v + total f vs
-
 -- no gap has more members, and no more configurations are without a value
 abbrev pub most : Key → ℕ
 most k = places k.solving.board
@@ -51,14 +46,14 @@ pub record IsTraced (k : Key) (words : List ℕ) (views : List View) : Type 0 wh
   -- who has a width knows the round
   pub knows : (id : ℕ) (v : View) → get_elem? views id ≡ some v → 0 < v.has.width → v.key ≡ k
   -- what was claimed and not won stands in a won list
-  pub lost : (rank : ℕ) → 0 < total (λ v. times rank v.lost) views → 0 < times rank (flat_map (λ seat. seat.won) (seats_of views))
+  pub lost : (rank : ℕ) → 0 < sum_by (λ v. times rank v.lost) views → 0 < times rank (flat_map (λ seat. seat.won) (seats_of views))
   -- a gap is closed at most once, never while it has a count, and always where it had one
-  pub shut_once : (gap : ℕ) → gap < gaps k.solving.board → total (λ v. times gap v.shut) views ≤ 1
-  pub shut_none : (gap : ℕ) → gap < gaps k.solving.board → 0 < slice_index words gap → total (λ v. times gap v.shut) views ≡ 0
+  pub shut_once : (gap : ℕ) → gap < gaps k.solving.board → sum_by (λ v. times gap v.shut) views ≤ 1
+  pub shut_none : (gap : ℕ) → gap < gaps k.solving.board → 0 < slice_index words gap → sum_by (λ v. times gap v.shut) views ≡ 0
   pub shut_all : (gap label : ℕ) → gap < gaps k.solving.board → slice_index words gap ≡ 0
-      → AnswerLasts k.solving.board gap k.solving.rounds label → total (λ v. times gap v.shut) views ≡ 1
+      → AnswerLasts k.solving.board gap k.solving.rounds label → sum_by (λ v. times gap v.shut) views ≡ 1
   -- no more is owed, or may be, than for each configuration that could be struck
-  pub few : total (load (most k)) views ≤ most k * size k
+  pub few : sum_by (load (most k)) views ≤ most k * size k
 
 -- the words and the seats are a lawful round of the solver
 abbrev pub Kept : Key → State Unit0 View → Type 0
@@ -68,7 +63,12 @@ Kept k s = IsSolving k.solving × IsLawful (round_of_words k.solving k.width s.w
 abbrev pub opening_view : Key → View
 opening_view k = record {
   key = k;
-  has = record { width = k.width; todo = filter (dominated (arena_of k.solving.board)) (bucket k.solving k.solving.rounds); owed = []; won = [] };
+  has = record {
+    width = k.width;
+    todo = filter (dominated (arena_of k.solving.board)) (bucket k.solving k.solving.rounds);
+    owed = [];
+    won = [];
+  };
   lost = [];
   shut = [];
 }
@@ -77,20 +77,16 @@ opening_view k = record {
 
 -- the seat after a strike in a gap whose count was n
 abbrev pub view_struck : View → ℕ → ℕ → View
-view_struck v gap n = record {
-  key = v.key;
+view_struck v gap n = record v {
   has = seat_struck v.key.solving gap n v.has;
-  lost = v.lost;
   shut = cond (n == 1) (v.shut ++ gap ∷ []) v.shut;
 }
 
 -- the seat after a claim that found the word n
 abbrev pub claimed : View → ℕ → View
-claimed v n = record {
-  key = v.key;
+claimed v n = record v {
   has = seat_tried (n == OPEN) v.has;
   lost = cond (n == OPEN) v.lost (v.lost ++ first_of v.has.owed ∷ []);
-  shut = v.shut;
 }
 
 abbrev pub no_key : Key

@@ -37,8 +37,10 @@ pub record IsStoppedMember (a : Arena) (gap : ℕ) (counts : List ℕ) (x : ℕ)
 -- the members at the first places of such gaps have the word 0, and no other word is changed
 pub record AreStopping (a : Arena) (gap : ℕ) (counts : List ℕ) (place : ℕ) (old new : List ℕ) : Type 0 where
   pub same_length : length new ≡ length old
-  pub stopped : (x : ℕ) → x < a.configurations → (is : IsStoppedMember a gap counts x) → a.place x (a.pebble (gap + is.more)) < place → slice_index new x ≡ 0
-  pub others : (x : ℕ) → x < a.configurations → (slice_index new x ≡ slice_index old x) ⊎ ((slice_index new x ≡ 0) × IsStoppedMember a gap counts x)
+  pub stopped : (x : ℕ) → x < a.configurations → (is : IsStoppedMember a gap counts x)
+      → a.place x (a.pebble (gap + is.more)) < place → slice_index new x ≡ 0
+  pub others : (x : ℕ) → x < a.configurations
+      → (slice_index new x ≡ slice_index old x) ⊎ ((slice_index new x ≡ 0) × IsStoppedMember a gap counts x)
 
 -- of the words from one on those of the first counts that are 0 are 0, and no other word is changed
 pub record IsWritten (first : ℕ) (counts : List ℕ) (count : ℕ) (words new : List ℕ) : Type 0 where

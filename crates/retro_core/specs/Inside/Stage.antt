@@ -1,5 +1,6 @@
 -- A stage as plain data, and what a round does to it.
-use Rattle.std.specs.Prelude.{◌≡◌, ◌≢◌, ℕ, suc, ◌+◌, ◌-◌, ◌<◌, ◌≤◌, ◌==◌, Bool, true, false, cond, List, [], ◌∷◌, ◌++◌, length, map, filter, AllPairs, slice_index, slice_index_or, slice_set}
+use Rattle.std.specs.Prelude.{◌≡◌, ◌≢◌, ℕ, suc, ◌+◌, ◌-◌, ◌<◌, ◌≤◌, ◌==◌, Bool, true, false, cond}
+use Rattle.std.specs.Prelude.{List, [], ◌∷◌, ◌++◌, length, map, filter, AllPairs, slice_index, slice_index_or, slice_set}
 use Rattle.std.specs.List.{range_with_len}
 use Rattle.index_lists.specs.Lists.{Lists, times}
 use Rattle.board_text.specs.PlainBoard.{PlainBoard, IsBoard}
@@ -62,7 +63,8 @@ pub record IsFiled (s : PlainStage) : Type 0 where
   pub values_length : length s.values ≡ configurations s.board
   pub lists_length : length s.buckets ≡ configurations s.board + 1
   pub below : (v x : ℕ) → 0 < times x (filed_at s v) → x < configurations s.board
-  pub once : (v x : ℕ) → v ≤ configurations s.board → x < configurations s.board → times x (filed_at s v) ≡ cond (slice_index s.values x == v) 1 0
+  pub once : (v x : ℕ) → v ≤ configurations s.board → x < configurations s.board
+      → times x (filed_at s v) ≡ cond (slice_index s.values x == v) 1 0
 
 -- words and lists together, where the test holds of what is not struck yet
 pub record IsStage (test : ℕ → Bool) (s : PlainStage) : Type 0 where

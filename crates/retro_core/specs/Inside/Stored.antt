@@ -23,7 +23,8 @@ known_pebble byte = cond (byte == NO_PEBBLE) None (Some byte)
 -- a byte for each configuration, which stands for its dominator
 pub record AreDominators (board : PlainBoard) (dominators : List ℕ) : Type 0 where
   pub dominators_length : length dominators ≡ configurations board
-  pub each : (c : ℕ) → c < configurations board → IsSmallest (IsDominator board (configuration_at board c)) (known_pebble (slice_index dominators c))
+  pub each : (c : ℕ) → c < configurations board
+      → IsSmallest (IsDominator board (configuration_at board c)) (known_pebble (slice_index dominators c))
 
 -- a store of a list for each value, of configurations
 pub record AreStored (board : PlainBoard) (s : Lists) : Type 0 where

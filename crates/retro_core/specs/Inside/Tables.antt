@@ -56,5 +56,6 @@ struck_rounds is_done round = cond is_done (suc round) round
 -- each word is a value or the word of what is worth forever
 pub record AreValues (board : PlainBoard) (values : List ℕ) : Type 0 where
   pub values_length : length values ≡ configurations board
-  pub finite : (x : ℕ) → x < configurations board → is_open values x ≡ false → HasValue board (configuration_at board x) (Finite (slice_index values x))
+  pub finite : (x : ℕ) → x < configurations board → is_open values x ≡ false
+      → HasValue board (configuration_at board x) (Finite (slice_index values x))
   pub forever : (x : ℕ) → x < configurations board → is_open values x ≡ true → HasValue board (configuration_at board x) Forever
