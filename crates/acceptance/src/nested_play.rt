@@ -1,6 +1,6 @@
 //! Replies on nested boards, and games that are answered without a search.
 
-ghost use Rattle.std.specs.Prelude.{◌≡◌, ◌<◌, ◌≤◌, ◌↔◌, All, IfOk, IsTrue, replicate};
+ghost use Rattle.std.specs.Prelude.{◌≡◌, ◌<◌, ◌↔◌, All, IfOk, IsTrue, replicate};
 ghost use Rattle.board_text.specs.Ranges.{InRange};
 ghost use Rattle.nested_cycles.specs.Domination.{labels_of};
 ghost use Rattle.nested_cycles.specs.NestedGame.{plain_game};

@@ -3,7 +3,7 @@
 //! A run of the tests may refuse one growth of memory, whichever. So a call that was refused one is made once more.
 
 ghost use Rattle.std.specs.Prelude.{◌≡◌, ◌<◌, ◌≤◌, false};
-ghost use Rattle.claim_round.specs.Shared.{IsOf, Stays};
+ghost use Rattle.claim_round.specs.Shared.{IsOf};
 
 use crate::assertions::assert_same;
 use crate::rounds::{NINE, Tally, has_each, opened};

@@ -1,6 +1,5 @@
 //! A shared round that a caller drives from two threads of its own, with one seat each, a thousand times.
 
-ghost use Rattle.std.specs.Prelude.{◌≡◌, ◌≤◌};
 ghost use Rattle.claim_round.specs.Shared.{IsOf, RoundId};
 
 use crate::assertions::assert_same;

@@ -1,6 +1,6 @@
 //! Which labels dominate which, as bits.
 
-ghost use Rattle.std.specs.Prelude.{◌≡◌, ℕ, ◌+◌, ◌*◌, ◌/◌, ◌≤◌, ◌<◌, ◌++◌, ◌∷◌, [], List, length, true, IfOk, OnOk, string_bytes};
+ghost use Rattle.std.specs.Prelude.{◌≡◌, ℕ, ◌+◌, ◌*◌, ◌/◌, ◌≤◌, ◌<◌, ◌++◌, ◌∷◌, [], length, true, IfOk, OnOk, string_bytes};
 ghost use Rattle.std.specs.Prelude.{IsTrue, ◌↔◌, Contains};
 ghost use Rattle.board_text.specs.Ranges.{InRange};
 ghost use Rattle.board_text.specs.PlainBoard.{AreLabels};

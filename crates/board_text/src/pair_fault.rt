@@ -1,6 +1,6 @@
 //! Which pair of labels can follow others in a board.
 
-ghost use Rattle.std.specs.Prelude.{◌≡◌, MatchOption};
+ghost use Rattle.std.specs.Prelude.{MatchOption};
 ghost use Rattle.board_text.specs.PlainBoard.{AreLabels};
 ghost use Rattle.board_text.specs.Inside.Parsing.{CanFollow};
 ghost use Rattle.board_text.specs.Inside.PairFaults.{IsPairFault};

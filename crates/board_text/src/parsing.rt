@@ -1,9 +1,9 @@
 //! Reading a board's text.
 
-ghost use Rattle.std.specs.Prelude.{◌≡◌, ◌≢◌, ℕ, ◌+◌, ◌-◌, ◌*◌, ◌≤◌, ◌<◌, ◌++◌, ◌∷◌, [], List, length, option_map, MatchOption};
+ghost use Rattle.std.specs.Prelude.{◌≡◌, ◌+◌, ◌-◌, ◌≤◌, ◌<◌, [], length, option_map};
 ghost use Rattle.std.specs.Prelude.{MatchResult, IfOk, IfErr};
 ghost use Rattle.board_text.specs.LineForms.{Takes};
-ghost use Rattle.board_text.specs.PlainBoard.{PlainBoard, AreLabels, IsBoard, IsStart, ArePairs};
+ghost use Rattle.board_text.specs.PlainBoard.{PlainBoard, AreLabels, IsBoard, IsStart};
 ghost use Rattle.board_text.specs.BoardText.{start_line, beats_line, board_text};
 ghost use Rattle.board_text.specs.declared.fault.BoardKind.TheVariants.{Memory as OutOfMemory};
 ghost use Rattle.board_text.specs.BoardFaults.{HasBoardFault};

@@ -22,7 +22,7 @@ pub(crate) struct PairWalk<'a> {
 }
 
 impl<'a> Model for PairWalk<'a> {
-    ghost use Rattle.std.specs.Prelude.{◌≤◌, length, drop};
+    ghost use Rattle.std.specs.Prelude.{length, drop};
     ghost use Rattle.index_lists.specs.Inside.Runs.{PairWalkState, IsWalk};
 
     ghost Value = { PairWalkState };

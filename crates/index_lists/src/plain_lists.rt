@@ -1,6 +1,6 @@
 //! Lists as one vector of nodes.
 
-ghost use Rattle.std.specs.Prelude.{◌≡◌, ℕ, ◌+◌, ◌^◌, ◌<◌, ◌≤◌, ◌==◌, [], List, length, slice_get, Some};
+ghost use Rattle.std.specs.Prelude.{◌≡◌, ◌+◌, ◌^◌, ◌<◌, ◌==◌, length, slice_get, Some};
 ghost use Rattle.index_lists.specs.Lists.{times};
 ghost use Rattle.index_lists.specs.Inside.Pairs.{ArePlain, nodes_of, paired, home_in, after, before_from, last_from};
 ghost use Rattle.index_lists.specs.Inside.Runs.{pairs_left};

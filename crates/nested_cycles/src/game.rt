@@ -1,6 +1,6 @@
 //! A game on a nested board that is never built.
 
-ghost use Rattle.std.specs.Prelude.{◌≡◌, ◌≢◌, ◌+◌, ◌<◌, ℕ, length, replicate, slice_index, slice_set, IfOk};
+ghost use Rattle.std.specs.Prelude.{◌≡◌, ◌≢◌, ◌+◌, ◌<◌, ℕ, replicate, slice_index, slice_set, IfOk};
 ghost use Rattle.board_text.specs.Ranges.{InRange};
 ghost use Rattle.nested_cycles.specs.Domination.{labels_of, NestedBeats};
 ghost use Rattle.nested_cycles.specs.NestedGame.{PlainGame, plain_game, IsGood, other_words};

@@ -1,6 +1,6 @@
 //! The one line that a check writes.
 
-ghost use Rattle.std.specs.Prelude.{◌≡◌, ◌<◌, ◌++◌, IfOk, OnOk, string_bytes, codes};
+ghost use Rattle.std.specs.Prelude.{◌≡◌, ◌<◌, ◌++◌, IfOk, OnOk, string_bytes};
 ghost use Rattle.positions.specs.Ranks.{configurations};
 ghost use Rattle.proof_check.specs.CheckFaults.{NamesRanks};
 ghost use Rattle.pebbles.specs.Output.{line_of, side_word as word_of_side, turn_word as word_of_turn, row_words, fault_words};

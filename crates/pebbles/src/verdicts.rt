@@ -1,12 +1,10 @@
 //! The answer to a text: its verdict and its line.
 
-ghost use Rattle.std.specs.Prelude.{◌≡◌, ◌≤◌, IfOk, IfErr, string_bytes};
+ghost use Rattle.std.specs.Prelude.{◌≡◌, IfOk, IfErr, string_bytes};
 ghost use Rattle.proof_text.specs.Proof.{IsDocument, plain_proof};
 ghost use Rattle.positions.specs.Ranks.{configurations};
-ghost use Rattle.proof_check.specs.CheckFaults.{NamesRanks};
 ghost use Rattle.pebbles.specs.Verdicts.{IsAnswered, IsChecked, IsVerdict, CannotAnswer};
 ghost use Rattle.pebbles.specs.Inside.Verdicts.{NamesRanksOf};
-ghost use Rattle.pebbles.specs.Output.{line_of};
 ghost use Rattle.pebbles.specs.Texts.{BringsNoProof, IsMemory};
 
 use crate::boards::small_board;

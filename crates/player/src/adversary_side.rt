@@ -1,11 +1,11 @@
 //! Plays in which the person is the adversary.
 
-ghost use Rattle.std.specs.Prelude.{◌≡◌, ◌↔◌, ◌+◌, ◌<◌, ◌≤◌, ◌^◌, ◌++◌, true, false, None, Err, IfOk, IfErr, string_bytes};
+ghost use Rattle.std.specs.Prelude.{◌≡◌, ◌↔◌, ◌+◌, ◌<◌, ◌≤◌, ◌^◌, true, false, None, Err, IfOk, IfErr, string_bytes};
 ghost use Rattle.positions.specs.Ranks.{configurations};
 ghost use Rattle.player.specs.Laws.{KeepsToValue};
 ghost use Rattle.player.specs.Play.{HasEnded, BreaksOff};
 ghost use Rattle.player.specs.Inside.PlayState.{at};
-ghost use Rattle.player.specs.Transcript.{Going, IsPlayed, PersonAsks, Replies};
+ghost use Rattle.player.specs.Transcript.{IsPlayed, PersonAsks, Replies};
 ghost use Rattle.player.specs.Inside.Transcript.{standing};
 ghost use Rattle.player.specs.Inside.Steps.{AddsText};
 ghost use Rattle.player.specs.declared.end.PlayFault.TheVariants.{Read, Write};

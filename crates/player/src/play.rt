@@ -1,8 +1,7 @@
 //! A play, line by line.
 
-ghost use Rattle.std.specs.Prelude.{◌≡◌, ◌↔◌, ◌+◌, ◌≤◌, ◌<◌, ◌^◌, ℕ, List, [], true, false, Err, IfOk, IfErr, OnOk, OnErr, string_bytes};
+ghost use Rattle.std.specs.Prelude.{◌≡◌, ◌↔◌, ◌+◌, ◌≤◌, ◌<◌, ◌^◌, ℕ, List, [], true, false, Err, IfOk, IfErr, OnOk, string_bytes};
 ghost use Rattle.std.specs.Io.KnownBytes.{Appends};
-ghost use Rattle.board_text.specs.Streams.{AppendsFront};
 ghost use Rattle.player.specs.Transcript.{Game, Standing, Going, BringInTurn, stopped_line};
 ghost use Rattle.player.specs.Inside.Transcript.{standing};
 ghost use Rattle.player.specs.Play.{HasEnded, BreaksOff};

@@ -2,7 +2,7 @@
 
 ghost use Rattle.std.specs.Prelude.{◌≡◌, ◌<◌, ◌++◌, None, Some, IfOk, OnOk, string_bytes};
 ghost use Rattle.std.specs.Fmt.{decimal};
-ghost use Rattle.positions.specs.Ranks.{configurations, configuration_at, rank_of};
+ghost use Rattle.positions.specs.Ranks.{configurations, configuration_at};
 ghost use Rattle.player.specs.Transcript.{at_line, no_request_line, opening_lines, stopped_line, stuck_line, takes_line};
 ghost use Rattle.player.specs.declared.end.PlayEnd.TheVariants.{Stopped};
 

@@ -3,7 +3,7 @@
 ghost use Rattle.std.specs.Prelude.{◌≡◌, ℕ, ◌+◌, ◌*◌, ◌<◌, ◌≤◌, ◌↔◌, suc, length, slice_index_or, IfOk};
 ghost use Rattle.std.specs.Int.{bit_at};
 ghost use Rattle.board_text.specs.PlainBoard.{BeatsPlace, places};
-ghost use Rattle.positions.specs.Inside.Tuples.{IsColumn, AreTupleWords, AreAllWords};
+ghost use Rattle.positions.specs.Inside.Tuples.{IsColumn, AreAllWords};
 
 use crate::label_set::LabelSet;
 use crate::space::{MAX_CONFIGURATIONS, Space};

@@ -1,7 +1,7 @@
 //! The answers of all gaps, in one pass.
 
 ghost use Rattle.std.specs.Prelude.{◌≡◌, ◌+◌, ◌*◌, ◌<◌, IfOk};
-ghost use Rattle.positions.specs.Gaps.{gaps, pebble_of};
+ghost use Rattle.positions.specs.Gaps.{gaps};
 ghost use Rattle.retro_core.specs.Inside.Arena.{lasts};
 ghost use Rattle.retro_core.specs.Inside.BoardArena.{arena_of};
 ghost use Rattle.retro_core.specs.Inside.Opening.{AreAnswers, AreNoted};

@@ -1,6 +1,6 @@
 //! Numbers that are taken from the front and appended at the end.
 
-ghost use Rattle.std.specs.Prelude.{◌≡◌, ◌<◌, ◌≤◌, ◌++◌, ◌∷◌, [], length, take, drop, slice_index, is_ok, if◌then◌else◌};
+ghost use Rattle.std.specs.Prelude.{◌≡◌, ◌<◌, ◌≤◌, ◌++◌, ◌∷◌, [], length, take, drop, is_ok, if◌then◌else◌};
 
 use board_text::Memory;
 use std::marker::Model;

@@ -1,11 +1,11 @@
 //! A round as a pure machine, one step after the other.
 
-ghost use Rattle.std.specs.Prelude.{◌≡◌, ℕ, ◌+◌, ◌<◌, ◌≤◌, ◌↔◌, true, false, [], length, filter, slice_index, slice_index_or};
-ghost use Rattle.std.specs.Prelude.{None, Some, IfOk, IfErr, IfSome, IsTrue};
+ghost use Rattle.std.specs.Prelude.{◌≡◌, ◌+◌, ◌<◌, ◌↔◌, true, false, length, slice_index, slice_index_or};
+ghost use Rattle.std.specs.Prelude.{None, Some, IfOk, IfErr};
 ghost use Rattle.positions.specs.Ranks.{configurations};
 ghost use Rattle.positions.specs.Gaps.{gaps};
-ghost use Rattle.retro_core.specs.Solving.{IsSolving, bucket};
-ghost use Rattle.retro_core.specs.Round.{seat_at, spent, AreFirstCounts, AreFirstValues, AreToStrike, IsOpening, IsLawful, round_of};
+ghost use Rattle.retro_core.specs.Solving.{IsSolving};
+ghost use Rattle.retro_core.specs.Round.{seat_at, spent, AreFirstCounts, AreFirstValues, IsOpening, IsLawful, round_of};
 ghost use Rattle.retro_core.specs.Stepping.{Does, IsAllowed, LacksSeat, Refuses};
 
 use crate::seat::Seat;

@@ -1,6 +1,6 @@
 //! A seat of a round.
 
-ghost use Rattle.std.specs.Prelude.{◌≡◌, ◌+◌, ◌++◌, ◌^◌, ◌<◌, ◌≤◌, true, false, [], length, is_ok, if◌then◌else◌, IfOk};
+ghost use Rattle.std.specs.Prelude.{◌≡◌, ◌+◌, ◌++◌, ◌^◌, ◌<◌, true, false, [], length, is_ok, if◌then◌else◌, IfOk};
 ghost use Rattle.positions.specs.Gaps.{gaps};
 ghost use Rattle.retro_core.specs.Solving.{source};
 ghost use Rattle.retro_core.specs.Round.{spent, seat_struck, seat_tried, seat_kept, seat_new, seat_joined};

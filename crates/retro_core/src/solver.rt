@@ -1,6 +1,6 @@
 //! The solver.
 
-ghost use Rattle.std.specs.Prelude.{◌≡◌, ℕ, ◌+◌, ◌<◌, ◌≤◌, ◌↔◌, true, false, suc, length, slice_get, IfOk, IfErr, Err, Some, None, IsTrue};
+ghost use Rattle.std.specs.Prelude.{◌≡◌, ℕ, ◌+◌, ◌<◌, ◌≤◌, ◌↔◌, true, false, slice_get, IfOk, IfErr, Err, Some, None};
 ghost use Rattle.positions.specs.declared.value.Value.TheVariants.{Finite};
 ghost use Rattle.positions.specs.Value.{HasValue};
 ghost use Rattle.positions.specs.Ranks.{configurations, configuration_at};
@@ -8,7 +8,7 @@ ghost use Rattle.positions.specs.Gaps.{gaps, IsDominator};
 ghost use Rattle.positions.specs.Counts.{HasSize, IsSmallest};
 ghost use Rattle.retro_core.specs.Round.{AreToStrike};
 ghost use Rattle.retro_core.specs.Ending.{IsRoundEnd};
-ghost use Rattle.retro_core.specs.Solving.{IsSolving, HasFiled, HasFoundNone, bucket, source, NoneHas, AnswerLasts, AnswerForever};
+ghost use Rattle.retro_core.specs.Solving.{IsSolving, HasFiled, HasFoundNone, bucket, source, AnswerLasts, AnswerForever};
 
 use crate::end::RoundEnd;
 use crate::fault::SolveFault;

@@ -1,14 +1,11 @@
 //! A board's words and lists, and what a round does to them.
 
-ghost use Rattle.std.specs.Prelude.{◌≡◌, ℕ, ◌+◌, ◌-◌, ◌<◌, ◌≤◌, true, suc, List, [], ◌∷◌, length, filter, slice_index, slice_get};
+ghost use Rattle.std.specs.Prelude.{◌≡◌, ℕ, ◌+◌, ◌-◌, ◌<◌, true, suc, List, [], ◌∷◌, length};
 ghost use Rattle.index_lists.specs.Lists.{times};
 ghost use Rattle.board_text.specs.PlainBoard.{places};
-ghost use Rattle.positions.specs.Ranks.{configurations, configuration_at};
-ghost use Rattle.positions.specs.Gaps.{gaps, IsDominator};
-ghost use Rattle.positions.specs.Counts.{IsSmallest};
-ghost use Rattle.retro_core.specs.Inside.Arena.{dominated};
-ghost use Rattle.retro_core.specs.Inside.BoardArena.{arena_of};
-ghost use Rattle.retro_core.specs.Inside.Tables.{is_open, members_from};
+ghost use Rattle.positions.specs.Ranks.{configurations};
+ghost use Rattle.positions.specs.Gaps.{gaps};
+ghost use Rattle.retro_core.specs.Inside.Tables.{is_open};
 ghost use Rattle.retro_core.specs.Inside.Stage.{PlainStage, filed_at, listed, filed, turned, IsFiled, IsKept, Closes, IsStriking};
 
 use index_lists::ListStore;
@@ -47,7 +44,7 @@ pub(crate) struct Stage<S: ListStore> {
 }
 
 impl<S: ListStore> Model for Stage<S> {
-    ghost use Rattle.std.specs.Prelude.{◌≡◌, ◌≤◌, length, vec_capacity};
+    ghost use Rattle.std.specs.Prelude.{◌≡◌, length, vec_capacity};
     ghost use Rattle.retro_core.specs.Inside.Stage.{PlainStage, stage_of};
     ghost use Rattle.retro_core.specs.Inside.Stored.{IsSmall, AreWide, AreDominators, AreNext, AreStored, HasRoom};
 

@@ -1,7 +1,7 @@
 //! A round whose seats can be split, worked and joined, without the lifetime that the type of a shared round names: a
 //! closure that captures it by a bound keeps its clauses.
 
-ghost use Rattle.std.specs.Prelude.{◌≡◌, ◌≤◌, [], IfOk};
+ghost use Rattle.std.specs.Prelude.{◌≤◌, IfOk};
 ghost use Rattle.claim_round.specs.Shared.{IsOf, RoundId, IsSplit, IsJoined};
 ghost use Rattle.round_workers.specs.Work.{IsWorked};
 

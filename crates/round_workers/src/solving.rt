@@ -1,6 +1,6 @@
 //! The values of a board, by workers.
 
-ghost use Rattle.std.specs.Prelude.{◌≡◌, ℕ, ◌<◌, ◌≤◌, ◌↔◌, false, Err, IfOk};
+ghost use Rattle.std.specs.Prelude.{◌≡◌, ◌<◌, ◌≤◌, ◌↔◌, false, Err, IfOk};
 ghost use Rattle.positions.specs.Ranks.{configurations};
 ghost use Rattle.retro_core.specs.Ending.{IsRoundEnd};
 

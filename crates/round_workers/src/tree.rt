@@ -1,7 +1,7 @@
 //! The fork tree of a round: a seat is split down to width 1, left to right, and each worker has one part.
 
 ghost use Rattle.std.specs.Thread.{IsSync};
-ghost use Rattle.std.specs.Prelude.{◌≡◌, ◌≤◌, ◌<◌, ◌+◌, ◌^◌, Err, IfOk};
+ghost use Rattle.std.specs.Prelude.{◌≡◌, ◌<◌, ◌+◌, ◌^◌, Err, IfOk};
 ghost use Rattle.claim_round.specs.Shared.{IsOf};
 ghost use Rattle.round_workers.specs.Work.{IsWorked};
 

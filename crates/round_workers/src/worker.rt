@@ -1,6 +1,5 @@
 //! What one worker does with its seat.
 
-ghost use Rattle.std.specs.Prelude.{◌≡◌};
 ghost use Rattle.claim_round.specs.Shared.{IsOf};
 ghost use Rattle.round_workers.specs.Work.{IsWorked};
 
