@@ -5,7 +5,6 @@ use Rattle.std.specs.List.{filter}
 use Rattle.std.proofs.Math.ListN.{get_or-append}
 use Rattle.std.proofs.Math.Seq.{get_or-append_seam}
 use Rattle.std.proofs.lemmas.List.{get_or-map, length-map}
-use mathlib.Core.Option.{some-ne-none}
 use Rattle.index_lists.specs.Lists.{times}
 use Rattle.index_lists.proofs.Cited.{cond_same, cond_other, distinct-length}
 use Rattle.positions.specs.declared.value.Value.TheVariants.{Finite}
@@ -20,8 +19,8 @@ use Rattle.retro_core.specs.Inside.Arena.{dominated}
 use Rattle.retro_core.specs.Inside.BoardArena.{arena_of}
 use Rattle.retro_core.proofs.Cited.{same_or_not, dominated-tells, times-filter-true, times-filter-le, opening-lawful}
 use Rattle.claim_round.specs.Shared.{Key}
-use Rattle.claim_round.specs.Inside.Shared.{Kept, opening_view, most}
-use Rattle.claim_round.proofs.Totals.{knows_push}
+use Rattle.claim_round.specs.Inside.Shared.{KnowsRound, Kept, opening_view, most}
+use Rattle.std.proofs.lemmas.List.Elements.{All-push}
 use Rattle.claim_round.specs.Inside.Openings.{HasCounts, AreOpeningWords}
 use Rattle.claim_round.specs.declared.words.TheConstants.{OPEN}
 use Rattle.claim_round.specs.Inside.Words.{value_of_word}
@@ -129,7 +128,7 @@ opened s width words ranks sol some are to_strike =
       sol,
       law,
       record {
-        knows = knows_push k [] (opening_view k) (λ i v e. absurd (some-ne-none v (sym e))) (λ _. refl);
+        knows = All-push (KnowsRound k) [] (opening_view k) (λ i d below. absurd (omega arith)) (λ _. refl);
         lost = λ x h. absurd (omega arith);
         shut_once = λ gap i. omega arith;
         shut_none = λ gap i h. omega arith;

@@ -22,7 +22,7 @@ use Rattle.claim_round.specs.Inside.Shared.{Unit0, Kept, IsTraced, TableStrikes,
 use Rattle.claim_round.specs.Inside.Shared.{load, view_struck, claimed, spent_view}
 use Rattle.claim_round.specs.declared.words.TheConstants.{OPEN}
 use Rattle.claim_round.specs.Inside.Words.{value_of_word, round_of_words}
-use Rattle.claim_round.proofs.Totals.{get_elsewhere, seat_read, total_at, width_at, won_total}
+use Rattle.claim_round.proofs.Totals.{get_elsewhere, knows_at, seat_read, total_at, width_at, won_total}
 use Rattle.claim_round.proofs.Traces.{traced_strike, traced_try, lost_of_win, lost_of_loss, traced_split, traced_join}
 
 pub put_back : (l : List ℕ) (i : ℕ) → set l i (get_or l i 0) ≡ l
@@ -55,7 +55,7 @@ strike_allowed k slots id me gap pebble wide some_todo dominates gap_is s kept s
     let sol = kept.0 in
     let law = kept.1 in
     let read : get_or seats id spent_seat ≡ me.0.has = seat_read s.views id me.0 at in
-    let knows : me.0.key ≡ k = kept.2.knows id me.0 at wide in
+    let knows : me.0.key ≡ k = knows_at k s.views id me.0 kept.2.knows at wide in
     let first : gap_of b (configuration_at b (first_of (get_or seats id spent_seat).todo)) pebble ≡ gap = ap (λ (v : PlainSeat). gap_of b (configuration_at b (first_of v.todo)) pebble) read ∙ sym gap_is in
     let done : IsWordStruck k.solving k.width s.words seats sol law id gap = subst (IsWordStruck k.solving k.width s.words seats sol law id) first
     (word-strike k.solving k.width s.words seats sol law id pebble
@@ -107,7 +107,7 @@ claim_allowed k slots id me i next below wide some_owed here is_next s kept same
     let G : ℕ = gaps k.solving.board in
     let r : ℕ = suc k.solving.rounds in
     let read : get_or seats id spent_seat ≡ me.0.has = seat_read s.views id me.0 at in
-    let knows : me.0.key ≡ k = kept.2.knows id me.0 at wide in
+    let knows : me.0.key ≡ k = knows_at k s.views id me.0 kept.2.knows at wide in
     let few = sol.few in
     let not_open : r ≢ OPEN = λ e. absurd (omega arith) in
     let first : first_of (get_or seats id spent_seat).owed ≡ c = ap (λ (v : PlainSeat). first_of v.owed) read in
@@ -187,7 +187,7 @@ join_allowed k id v other u wide other_wide s kept at apart there =
 
 pub look_allowed : (k : Key) (slots id : ℕ) (me : Me Unit0 View) (i : ℕ) → 0 < me.0.has.width → Allows (Kept k) slots id me i (λ n. n) (Looks (step slots i 0 0 none) me)
 look_allowed k slots id me i wide s kept same at small =
-    let knows : me.0.key ≡ k = kept.2.knows id me.0 at wide in
+    let knows : me.0.key ≡ k = knows_at k s.views id me.0 kept.2.knows at wide in
     let few = won_few k s.words s.views id me.0 kept.1 at in
     let P : List ℕ × List View → Type 0 = λ p. IsLawful (round_of_words k.solving k.width p.0 (seats_of p.1)) × IsTraced k p.0 p.1 in
     let bounded : IsBounded me.0 = record {

@@ -1,7 +1,8 @@
 -- Sums over the views, and how they change where one view changes.
-use Rattle.std.proofs.Common.{◌≡◌, ◌≢◌, ℕ, zero, suc, ◌+◌, ◌<◌, ◌≤◌, List, [], ◌∷◌, ◌++◌, set, get_or, refl, sym, ap, subst, arith}
+use Rattle.std.proofs.Common.{◌≡◌, ◌≢◌, ℕ, zero, suc, ◌+◌, ◌≤◌, List, [], ◌∷◌, ◌++◌, set, get_or, refl, sym, ap, subst, arith}
 use Rattle.std.specs.Prelude.{Some, slice_get}
-use Rattle.std.specs.List.{flat_map, sum_by}
+use Rattle.std.specs.List.{All, flat_map, sum_by}
+use Rattle.std.proofs.lemmas.Option.{get_or_from_slice_get, slice_get_within}
 use Rattle.std.proofs.lemmas.List.Sums.{sum_by-cons}
 use mathlib.Core.Option.{some, some-ne-none, some-injective}
 use lib.ListN.{get_elem?}
@@ -10,7 +11,7 @@ use Rattle.index_lists.proofs.Cited.{times-append}
 use Rattle.retro_core.specs.Round.{PlainSeat, spent as spent_seat}
 use Rattle.retro_core.proofs.Cited.{total-at, total-cut, total-set}
 use Rattle.claim_round.specs.Shared.{Key, View}
-use Rattle.claim_round.specs.Inside.Shared.{seats_of}
+use Rattle.claim_round.specs.Inside.Shared.{KnowsRound, seats_of}
 
 -- a view that the table has is one of the list
 seen : (views : List View) (i : ℕ) (v : View) → get_elem? views i ≡ some v → slice_get views i ≡ Some v
@@ -70,18 +71,7 @@ two_widths (x ∷ xs) (suc i) (suc j) ne =
     omega (arith, two_widths xs i j (λ e. ne (ap suc e)), sum_by-cons (λ seat. seat.width) x xs)
 
 -- who has a width knows the round
-abbrev pub Knows : Key → List View → Type 0
-Knows k views = (id : ℕ) (v : View) → get_elem? views id ≡ some v → 0 < v.has.width → v.key ≡ k
-
-pub knows_set : (k : Key) (views : List View) (id : ℕ) (w : View) → Knows k views → (0 < w.has.width → w.key ≡ k) → Knows k (set views id w)
-knows_set k [] id w knows here j u e wide = absurd (some-ne-none u (sym e))
-knows_set k (x ∷ xs) zero w knows here zero u e wide = subst (λ (y : View). 0 < y.has.width → y.key ≡ k) (some-injective w u e) here wide
-knows_set k (x ∷ xs) zero w knows here (suc j) u e wide = knows (suc j) u e wide
-knows_set k (x ∷ xs) (suc id) w knows here zero u e wide = knows 0 u e wide
-knows_set k (x ∷ xs) (suc id) w knows here (suc j) u e wide = knows_set k xs id w (λ i v. knows (suc i) v) here j u e wide
-
-pub knows_push : (k : Key) (views : List View) (w : View) → Knows k views → (0 < w.has.width → w.key ≡ k) → Knows k (views ++ w ∷ [])
-knows_push k [] w knows here zero u e wide = subst (λ (y : View). 0 < y.has.width → y.key ≡ k) (some-injective w u e) here wide
-knows_push k [] w knows here (suc j) u e wide = absurd (some-ne-none u (sym e))
-knows_push k (x ∷ xs) w knows here zero u e wide = knows 0 u e wide
-knows_push k (x ∷ xs) w knows here (suc j) u e wide = knows_push k xs w (λ i v. knows (suc i) v) here j u e wide
+pub knows_at : (k : Key) (views : List View) (id : ℕ) (v : View) → All (KnowsRound k) views → get_elem? views id ≡ some v → KnowsRound k v
+knows_at k views id v each at =
+    let there = seen views id v at in
+    subst (KnowsRound k) (get_or_from_slice_get views id v v there) (each id v (slice_get_within views id v there))

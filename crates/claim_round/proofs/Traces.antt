@@ -4,6 +4,7 @@ use Rattle.std.specs.Prelude.{slice_index}
 use mathlib.Core.Option.{some}
 use lib.ListN.{get_elem?}
 use Rattle.std.specs.List.{sum_by}
+use Rattle.std.proofs.lemmas.List.Elements.{All-push, All-set}
 use Rattle.index_lists.specs.Lists.{times}
 use Rattle.index_lists.proofs.Cited.{cond_same, cond_other, times-append, times-later}
 use Rattle.positions.specs.Gaps.{gaps}
@@ -11,9 +12,9 @@ use Rattle.retro_core.specs.Solving.{IsSolving, source}
 use Rattle.retro_core.specs.Round.{first_of}
 use Rattle.retro_core.proofs.Cited.{same_or_not, times_here}
 use Rattle.claim_round.specs.Shared.{Key, View, kept_part, new_part, view_joined}
-use Rattle.claim_round.specs.Inside.Shared.{most, size, load, IsTraced, view_struck, claimed, spent_view}
+use Rattle.claim_round.specs.Inside.Shared.{KnowsRound, most, size, load, IsTraced, view_struck, claimed, spent_view}
 use Rattle.claim_round.specs.declared.words.TheConstants.{OPEN}
-use Rattle.claim_round.proofs.Totals.{total_set, total_at, total_cut, total_glue, won_total, knows_set, knows_push}
+use Rattle.claim_round.proofs.Totals.{total_set, total_at, total_cut, total_glue, won_total, knows_at}
 use Rattle.claim_round.proofs.Loads.{few_members, load_struck, load_claimed, load_cut, load_glue}
 
 one_of : (x : ℕ) → times x (x ∷ []) ≡ 1
@@ -80,7 +81,7 @@ module _ (k : Key) (words : List ℕ) (views : List View) (traced : IsTraced k w
 
     pub traced_strike : IsTraced k (set words gap (found - 1)) (set views id after)
     traced_strike = record {
-      knows = knows_set k views id after traced.knows (λ _. traced.knows id v at wide);
+      knows = All-set (KnowsRound k) views id after (λ _. knows_at k views id v traced.knows at wide) traced.knows;
       lost = λ x h.
           let s = total_set (λ u. times x u.lost) views id v after at in
           let w = total_set (λ u. times x u.has.won) views id v after at in
@@ -95,7 +96,7 @@ module _ (k : Key) (words : List ℕ) (views : List View) (traced : IsTraced k w
       ];
       few =
           let s = total_set (load (most k)) views id v after at in
-          let same : v.key ≡ k = traced.knows id v at wide in
+          let same : v.key ≡ k = knows_at k views id v traced.knows at wide in
           let members : length (source v.key.solving gap) ≤ most k = subst (λ (q : Key). length (source q.solving gap) ≤ most k) (sym same) (few_members k.solving sol gap in_gaps) in
           let less = load_struck (most k) v gap found some_todo members in
           let f = traced.few in
@@ -113,7 +114,7 @@ module _ (k : Key) (words : List ℕ) (views : List View) (traced : IsTraced k w
 
     pub traced_try : ((x : ℕ) → 0 < sum_by (λ u. times x u.lost) (set views id tried) → 0 < sum_by (λ u. times x u.has.won) (set views id tried)) → IsTraced k words' (set views id tried)
     traced_try lost = record {
-      knows = knows_set k views id tried traced.knows (λ _. traced.knows id v at wide);
+      knows = All-set (KnowsRound k) views id tried (λ _. knows_at k views id v traced.knows at wide) traced.knows;
       lost = λ x h. subst (λ m. 0 < m) (sym (won_total x (set views id tried))) (lost x h);
       shut_once = λ g i. let s = shut_same g in let o = traced.shut_once g i in omega arith;
       shut_none = λ g i h. shut_same g ∙ traced.shut_none g i (subst (λ m. 0 < m) (counts g i) h);
@@ -155,12 +156,12 @@ module _ (k : Key) (words : List ℕ) (views : List View) (traced : IsTraced k w
       let a : View = kept_part v in
       let b : View = new_part v in
       let all : List View = set views id a ++ b ∷ [] in
-      let key : v.key ≡ k = traced.knows id v at wide in
+      let key : v.key ≡ k = knows_at k views id v traced.knows at wide in
       let lost : (x : ℕ) → sum_by (λ u. times x u.lost) all ≡ sum_by (λ u. times x u.lost) views = λ x. total_cut (λ u. times x u.lost) views id v a b at (omega arith) in
       let won : (x : ℕ) → sum_by (λ u. times x u.has.won) all ≡ sum_by (λ u. times x u.has.won) views = λ x. total_cut (λ u. times x u.has.won) views id v a b at (omega arith) in
       let shut : (g : ℕ) → sum_by (λ u. times g u.shut) all ≡ sum_by (λ u. times g u.shut) views = λ g. total_cut (λ u. times g u.shut) views id v a b at (omega arith) in
       record {
-        knows = knows_push k (set views id a) b (knows_set k views id a traced.knows (λ _. key)) (λ _. key);
+        knows = All-push (KnowsRound k) (set views id a) b (All-set (KnowsRound k) views id a (λ _. key) traced.knows) (λ _. key);
         lost = λ x h. subst (λ n. 0 < n) (sym (won_total x all ∙ won x)) (lost_won x (subst (λ n. 0 < n) (lost x) h));
         shut_once = λ g i. subst (λ n. n ≤ 1) (sym (shut g)) (traced.shut_once g i);
         shut_none = λ g i h. shut g ∙ traced.shut_none g i h;
@@ -173,13 +174,13 @@ module _ (k : Key) (words : List ℕ) (views : List View) (traced : IsTraced k w
   traced_join id other v u at there wide =
       let a : View = view_joined v u in
       let all : List View = set (set views id a) other spent_view in
-      let key : v.key ≡ k = traced.knows id v at wide in
+      let key : v.key ≡ k = knows_at k views id v traced.knows at wide in
       let glue : (f : View → ℕ) → f a + f spent_view ≡ f v + f u → sum_by f all ≡ sum_by f views = λ f e. total_glue f views id other v u a spent_view at there e in
       let lost : (x : ℕ) → sum_by (λ w. times x w.lost) all ≡ sum_by (λ w. times x w.lost) views = λ x. glue (λ w. times x w.lost) (let s = times-append x v.lost u.lost in omega arith) in
       let won : (x : ℕ) → sum_by (λ w. times x w.has.won) all ≡ sum_by (λ w. times x w.has.won) views = λ x. glue (λ w. times x w.has.won) (let s = times-append x v.has.won u.has.won in omega arith) in
       let shut : (g : ℕ) → sum_by (λ w. times g w.shut) all ≡ sum_by (λ w. times g w.shut) views = λ g. glue (λ w. times g w.shut) (let s = times-append g v.shut u.shut in omega arith) in
       record {
-        knows = knows_set k (set views id a) other spent_view (knows_set k views id a traced.knows (λ _. key)) (λ h. absurd (omega arith));
+        knows = All-set (KnowsRound k) (set views id a) other spent_view (λ h. absurd (omega arith)) (All-set (KnowsRound k) views id a (λ _. key) traced.knows);
         lost = λ x h. subst (λ n. 0 < n) (sym (won_total x all ∙ won x)) (lost_won x (subst (λ n. 0 < n) (lost x) h));
         shut_once = λ g i. subst (λ n. n ≤ 1) (sym (shut g)) (traced.shut_once g i);
         shut_none = λ g i h. shut g ∙ traced.shut_none g i h;

@@ -2,7 +2,8 @@
 use Rattle.std.proofs.Common.{◌≡◌, ℕ, zero, suc, ◌+◌, ◌<◌, ◌≤◌, List, [], ◌∷◌, length, refl, sym, ap, ◌∙◌, inl, inr, subst, arith, Option, Some, None, get_or, slice_get, slice_index}
 use Rattle.std.proofs.lemmas.Bool.{cases_lt}
 use Rattle.std.proofs.lemmas.Option.{get_or_from_slice_get}
-use Rattle.std.specs.List.{sum_by}
+use Rattle.std.specs.List.{All, sum_by}
+use Rattle.std.proofs.lemmas.List.{get_or_default, get_or_past}
 use Rattle.index_lists.specs.Lists.{times}
 use Rattle.board_text.specs.PlainBoard.{PlainBoard, IsBoard, places}
 use Rattle.positions.specs.declared.value.Value.TheVariants.{Finite}
@@ -14,7 +15,7 @@ use Rattle.retro_core.specs.Inside.Arena.{live, lasts}
 use Rattle.retro_core.specs.Inside.BoardArena.{arena_of}
 use Rattle.retro_core.specs.Solving.{Solving, IsSolving, AnswerLasts, source}
 use Rattle.retro_core.specs.Round.{PlainSeat, Round, spent, all_todo, all_owed, all_won, IsWorth, IsDue, IsLawful}
-use Rattle.retro_core.proofs.Rules.{tally, home_among, value_before, rules_of, held_in, AreKept}
+use Rattle.retro_core.proofs.Rules.{Fits, tally, home_among, value_before, rules_of, held_in, AreKept}
 use Rattle.retro_core.proofs.LastingRanks.{same_or_not, some_same}
 use Rattle.retro_core.proofs.BoardArenas.{arena_is}
 use Rattle.retro_core.proofs.EnteredAnswers.{live-size, above-size}
@@ -34,11 +35,11 @@ seat-here : (seats : List PlainSeat) (id : ℕ) (v : PlainSeat) → slice_get se
 seat-here seats id v e = get_or_from_slice_get seats id v spent e
 
 -- a number that no seat has is spent
-seat-fits : (seats : List PlainSeat) → ((place : ℕ) (seat : PlainSeat) → slice_get seats place ≡ Some seat → seat.width ≡ 0 → seat ≡ spent)
-    → (id : ℕ) → (get_or seats id spent).width ≡ 0 → get_or seats id spent ≡ spent
-seat-fits [] fits id none = refl
-seat-fits (v ∷ seats) fits zero none = fits 0 v refl none
-seat-fits (v ∷ seats) fits (suc id) none = seat-fits seats (λ place seat e. fits (suc place) seat e) id none
+seat-fits : (seats : List PlainSeat) → All Fits seats → (id : ℕ) → Fits (get_or seats id spent)
+seat-fits seats fits id = elim (cases_lt id (length seats)) [
+  | inl below ↦ fits id spent below
+  | inr past ↦ λ none. get_or_past seats id spent past
+]
 
 -- ---- the rules, as a caller sees them
 
@@ -179,9 +180,9 @@ kept-of round sol law =
             | inr won ↦ (let h : 0 < times x (all_won round) = subst (λ y. 0 < times y (all_won round)) (sym m.2) won in omega arith)
           ];
       widths = law.widths;
-      fits = λ id v at none.
-          let here = seat-here round.seats id v at in
-          sym here ∙ law.spent_seats id (ap (λ (u : PlainSeat). u.width) here ∙ none);
+      fits = λ id d below none.
+          let here = get_or_default round.seats id d spent below in
+          here ∙ law.spent_seats id (sym (ap (λ (u : PlainSeat). u.width) here) ∙ none);
     }
   where
     same-base : (x : ℕ) → x < configurations round.solving.board → times x (all_won round) ≡ 0 → word_at round x ≡ value_before (arena_of round.solving.board) round.solving.rounds x

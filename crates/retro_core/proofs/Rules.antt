@@ -1,6 +1,6 @@
 -- A round by numbers alone: what it takes from the game, and what its steps keep.
-use Rattle.std.specs.Prelude.{◌≡◌, ℕ, zero, suc, ◌+◌, ◌<◌, ◌≤◌, ◌==◌, cond, List, [], ◌∷◌, Option, Some, None, slice_get}
-use Rattle.std.specs.List.{sum_by}
+use Rattle.std.specs.Prelude.{◌≡◌, ℕ, zero, suc, ◌+◌, ◌<◌, ◌≤◌, ◌==◌, cond, List, [], ◌∷◌, Option, Some, None}
+use Rattle.std.specs.List.{All, sum_by}
 use Rattle.index_lists.specs.Lists.{times}
 use Rattle.positions.specs.Ranks.{configurations}
 use Rattle.positions.specs.Gaps.{gaps}
@@ -61,6 +61,10 @@ pub record AreReadyLists (k : Rules) (count : ℕ → ℕ) (value : ℕ → Opti
   pub settled : (gap rank : ℕ) → gap < k.gaps → count gap ≡ 0 → times rank (k.opens gap) ≡ 0
   pub some_width : 0 < k.width
 
+-- a seat without a width is spent
+abbrev pub Fits : PlainSeat → Type 0
+Fits seat = seat.width ≡ 0 → seat ≡ spent
+
 -- the words and the seats keep the rules
 pub record AreKept (k : Rules) (count : ℕ → ℕ) (value : ℕ → Option ℕ) (seats : List PlainSeat) : Type 0 where
   pub values : (rank : ℕ) → rank < k.size → value rank ≡ value_word k rank (sum_by (λ seat. times rank seat.won) seats)
@@ -71,7 +75,7 @@ pub record AreKept (k : Rules) (count : ℕ → ℕ) (value : ℕ → Option ℕ
   pub won_once : (rank : ℕ) → sum_by (λ seat. times rank seat.won) seats ≤ 1
   pub closed : (gap rank : ℕ) → gap < k.gaps → count gap ≡ 0 → 0 < times rank (k.opens gap) → 0 < sum_by (held_in rank) seats
   pub widths : sum_by (λ seat. seat.width) seats ≡ k.width
-  pub fits : (place : ℕ) (seat : PlainSeat) → slice_get seats place ≡ Some seat → seat.width ≡ 0 → seat ≡ spent
+  pub fits : All Fits seats
 
 -- the gap of a dominating pebble among the first so many, or a number that no gap has
 abbrev pub home_among : Arena → ℕ → ℕ → ℕ

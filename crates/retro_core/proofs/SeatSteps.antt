@@ -1,12 +1,12 @@
 -- Each step of a round keeps its rules.
 use Rattle.std.proofs.Common.{drop, ◌≡◌, ◌≢◌, ◌⊎◌, ℕ, zero, suc, ◌+◌, ◌-◌, ◌/◌, ◌<◌, ◌≤◌, ◌==◌, true, false, cond, List, [], ◌∷◌, ◌++◌, length, set, refl, sym, ap, ◌∙◌, inl, inr, subst, arith, Option, Some, None, slice_get}
-use Rattle.std.specs.List.{sum_by}
+use Rattle.std.specs.List.{All, sum_by}
+use Rattle.std.proofs.lemmas.List.Elements.{All-cons, All-push, All-set}
 use Rattle.std.proofs.lemmas.List.Sums.{sum_by-le-sum_by}
-use Rattle.std.proofs.lemmas.Option.{same_Some, none-some}
 use Rattle.index_lists.specs.Lists.{times}
 use Rattle.index_lists.proofs.Cited.{cond_same, cond_other, times-append}
 use Rattle.retro_core.specs.Round.{PlainSeat, spent, first_of, seat_tried, seat_kept, seat_new, seat_joined}
-use Rattle.retro_core.proofs.Rules.{Rules, tally, IsStruckIn, IsToWin, value_word, held_in, AreSound, AreReadyLists, AreKept}
+use Rattle.retro_core.proofs.Rules.{Fits, Rules, tally, IsStruckIn, IsToWin, value_word, held_in, AreSound, AreReadyLists, AreKept}
 use Rattle.retro_core.proofs.LastingRanks.{same_or_not}
 use Rattle.retro_core.proofs.SeatSums.{total-set, total-at, total-cut, total-glue, times-cut, tally-append, tally-cut}
 
@@ -31,22 +31,6 @@ word_none k c (suc n) e = absurd (omega arith)
 pub word_some : (k : Rules) (c n : ℕ) → 0 < n → value_word k c n ≡ Some (suc k.round)
 word_some k c zero h = absurd (omega arith)
 word_some k c (suc n) h = refl
-
--- who has no width is spent
-fit-set : (seats : List PlainSeat) (id : ℕ) (w : PlainSeat) → ((j : ℕ) (u : PlainSeat) → slice_get seats j ≡ Some u → u.width ≡ 0 → u ≡ spent) → (w.width ≡ 0 → w ≡ spent)
-    → (j : ℕ) (u : PlainSeat) → slice_get (set seats id w) j ≡ Some u → u.width ≡ 0 → u ≡ spent
-fit-set [] id w fits mine j u at = absurd (none-some u at)
-fit-set (x ∷ xs) zero w fits mine zero u at = subst (λ (s : PlainSeat). s.width ≡ 0 → s ≡ spent) (same_Some w u at) mine
-fit-set (x ∷ xs) zero w fits mine (suc j) u at = fits (suc j) u at
-fit-set (x ∷ xs) (suc id) w fits mine zero u at = fits zero u at
-fit-set (x ∷ xs) (suc id) w fits mine (suc j) u at = fit-set xs id w (λ i v e. fits (suc i) v e) mine j u at
-
-fit-push : (seats : List PlainSeat) (w : PlainSeat) → ((j : ℕ) (u : PlainSeat) → slice_get seats j ≡ Some u → u.width ≡ 0 → u ≡ spent) → (w.width ≡ 0 → w ≡ spent)
-    → (j : ℕ) (u : PlainSeat) → slice_get (seats ++ w ∷ []) j ≡ Some u → u.width ≡ 0 → u ≡ spent
-fit-push [] w fits mine zero u at = subst (λ (s : PlainSeat). s.width ≡ 0 → s ≡ spent) (same_Some w u at) mine
-fit-push [] w fits mine (suc j) u at = absurd (none-some u at)
-fit-push (x ∷ xs) w fits mine zero u at = fits zero u at
-fit-push (x ∷ xs) w fits mine (suc j) u at = fit-push xs w (λ i v e. fits (suc i) v e) mine j u at
 
 one_more : (x c : ℕ) (xs : List ℕ) → times x (xs ++ c ∷ []) ≡ times x xs + cond (c == x) 1 0
 one_more x c xs = let r = times-append x xs (c ∷ []) in omega arith
@@ -141,7 +125,7 @@ strikes k count value seats id v count' law at wide some_todo here elsewhere =
                   ])
             ];
         widths = let s = total-set (λ u. u.width) seats id v w at in let o = law.widths in omega arith;
-        fits = fit-set seats id w law.fits (λ no_width. absurd (omega arith));
+        fits = All-set Fits seats id w (λ no_width. absurd (omega arith)) law.fits;
       };
     }
 
@@ -207,7 +191,7 @@ module _ (k : Rules) (count : ℕ → ℕ) (value : ℕ → Option ℕ) (seats :
             let o : 0 < sum_by (held_in x) seats = law.closed g x small none_left there in
             let s = held_same x in omega arith;
         widths = let s = total-set (λ u. u.width) seats id v w at in let o = law.widths in omega arith;
-        fits = fit-set seats id w law.fits (λ no_width. absurd (omega arith));
+        fits = All-set Fits seats id w (λ no_width. absurd (omega arith)) law.fits;
       }
 
   not-won-keeps : 0 < sum_by (λ u. times (first_of v.owed) u.won) seats → AreKept k count value (set seats id (seat_tried false v))
@@ -233,7 +217,7 @@ module _ (k : Rules) (count : ℕ → ℕ) (value : ℕ → Option ℕ) (seats :
         won_once = λ x. let s = won_same x in let o = law.won_once x in omega arith;
         closed = λ g x small none_left there. held_still x (law.closed g x small none_left there);
         widths = let s = total-set (λ u. u.width) seats id v w at in let o = law.widths in omega arith;
-        fits = fit-set seats id w law.fits (λ no_width. absurd (omega arith));
+        fits = All-set Fits seats id w (λ no_width. absurd (omega arith)) law.fits;
       }
 
   -- the first that the seat owes is won or not, as its word tells
@@ -252,7 +236,7 @@ module _ (k : Rules) (count : ℕ → ℕ) (value : ℕ → Option ℕ) (seats :
 same-kept : (k : Rules) (count : ℕ → ℕ) (value : ℕ → Option ℕ) (seats all : List PlainSeat) → AreKept k count value seats
     → ((x : ℕ) → sum_by (λ u. times x u.todo) all ≡ sum_by (λ u. times x u.todo) seats) → ((g : ℕ) → sum_by (λ u. tally k.home g u.todo) all ≡ sum_by (λ u. tally k.home g u.todo) seats)
     → ((x : ℕ) → sum_by (λ u. times x u.won) all ≡ sum_by (λ u. times x u.won) seats) → ((x : ℕ) → sum_by (held_in x) all ≡ sum_by (held_in x) seats)
-    → sum_by (λ u. u.width) all ≡ sum_by (λ u. u.width) seats → ((j : ℕ) (u : PlainSeat) → slice_get all j ≡ Some u → u.width ≡ 0 → u ≡ spent) → AreKept k count value all
+    → sum_by (λ u. u.width) all ≡ sum_by (λ u. u.width) seats → All Fits all → AreKept k count value all
 same-kept k count value seats all law todo tallies won held width fits = record {
   values = λ x small. law.values x small ∙ ap (value_word k x) (sym (won x));
   due = λ x there. law.due x (let s = todo x in omega arith);
@@ -277,7 +261,7 @@ splits k count value seats id v law at wide =
     same-kept k count value seats all law
     (λ x. total-cut (λ u. times x u.todo) seats id v a b at (times-cut x m v.todo)) (λ g. total-cut (λ u. tally k.home g u.todo) seats id v a b at (tally-cut k.home g m v.todo))
     (λ x. total-cut (λ u. times x u.won) seats id v a b at (omega arith)) (λ x. total-cut (held_in x) seats id v a b at (omega arith))
-    (total-cut (λ u. u.width) seats id v a b at (omega arith)) (fit-push (set seats id a) b (fit-set seats id a law.fits (λ none. absurd (omega arith))) (λ none. absurd (omega arith)))
+    (total-cut (λ u. u.width) seats id v a b at (omega arith)) (All-push Fits (set seats id a) b (All-set Fits seats id a (λ none. absurd (omega arith)) law.fits) (λ none. absurd (omega arith)))
 
 pub joins : (k : Rules) (count : ℕ → ℕ) (value : ℕ → Option ℕ) (seats : List PlainSeat) (id other : ℕ) (v u : PlainSeat) → AreKept k count value seats → slice_get seats id ≡ Some v → slice_get seats other ≡ Some u
     → id ≢ other → 0 < v.width → AreKept k count value (set (set seats id (seat_joined v u)) other spent)
@@ -290,7 +274,7 @@ joins k count value seats id other v u law at there differ wide =
     (λ x. total-glue (λ w. times x w.won) seats id other v u a spent at there differ (let s = times-append x v.won u.won in omega arith))
     (λ x. total-glue (held_in x) seats id other v u a spent at there differ (let s = times-append x v.won u.won in let t = times-append x v.owed u.owed in omega arith))
     (total-glue (λ w. w.width) seats id other v u a spent at there differ (omega arith))
-    (fit-set (set seats id a) other spent (fit-set seats id a law.fits (λ none. absurd (omega arith))) (λ none. refl))
+    (All-set Fits (set seats id a) other spent (λ none. refl) (All-set Fits seats id a (λ none. absurd (omega arith)) law.fits))
 
 pub opens : (k : Rules) (count : ℕ → ℕ) (value : ℕ → Option ℕ) (todo : List ℕ) → AreReadyLists k count value todo → AreKept k count value (record { width = k.width; todo = todo; owed = []; won = [] } ∷ [])
 opens k count value todo ready = record {
@@ -302,9 +286,5 @@ opens k count value todo ready = record {
   won_once = λ x. omega arith;
   closed = λ g x small none_left there. let o = ready.settled g x small none_left in absurd (omega arith);
   widths = omega arith;
-  fits = one;
+  fits = All-cons Fits _ [] (λ none. absurd (let s = ready.some_width in omega arith)) (λ k d below. absurd (omega arith));
 }
-  where
-    one : (i : ℕ) (v : PlainSeat) → slice_get (record { width = k.width; todo = todo; owed = []; won = [] } ∷ []) i ≡ Some v → v.width ≡ 0 → v ≡ spent
-    one zero v e = subst (λ (s : PlainSeat). s.width ≡ 0 → s ≡ spent) (same_Some _ v e) (λ none. absurd (let s = ready.some_width in omega arith))
-    one (suc i) v e = absurd (none-some v e)

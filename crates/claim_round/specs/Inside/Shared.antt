@@ -1,10 +1,8 @@
 -- What this crate's own functions say beside `Shared`.
 use Rattle.std.specs.Prelude.{◌≡◌, ℕ, ◌+◌, ◌*◌, ◌<◌, ◌≤◌, ◌==◌, Bool, cond, List, [], ◌∷◌, ◌++◌, length, map, filter}
 use Rattle.std.specs.Prelude.{slice_index}
-use Rattle.std.specs.List.{flat_map, sum_by}
+use Rattle.std.specs.List.{All, flat_map, sum_by}
 use Rattle.atomic_table.specs.Table.{State, Me, Step}
-use mathlib.Core.Option.{some}
-use lib.ListN.{get_elem?}
 use Rattle.board_text.specs.PlainBoard.{places}
 use Rattle.index_lists.specs.Lists.{times}
 use Rattle.positions.specs.Ranks.{configurations}
@@ -41,10 +39,13 @@ IsDueIn k rank = IsDue k.solving.board rank k.solving.rounds
 abbrev pub load : ℕ → View → ℕ
 load most v = length v.has.owed + most * length v.has.todo
 
+-- who has a width knows the round
+abbrev pub KnowsRound : Key → View → Type 0
+KnowsRound k v = 0 < v.has.width → v.key ≡ k
+
 -- what the table knows beside the words and the seats' lists
 pub record IsTraced (k : Key) (words : List ℕ) (views : List View) : Type 0 where
-  -- who has a width knows the round
-  pub knows : (id : ℕ) (v : View) → get_elem? views id ≡ some v → 0 < v.has.width → v.key ≡ k
+  pub knows : All (KnowsRound k) views
   -- what was claimed and not won stands in a won list
   pub lost : (rank : ℕ) → 0 < sum_by (λ v. times rank v.lost) views → 0 < times rank (flat_map (λ seat. seat.won) (seats_of views))
   -- a gap is closed at most once, never while it has a count, and always where it had one
