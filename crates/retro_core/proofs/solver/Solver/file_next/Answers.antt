@@ -1,6 +1,6 @@
 use Rattle.std.proofs.Common.{◌≡◌, ◌≢◌, ◌-◌, ◌∙◌, ℕ, suc, true, false, refl, sym, ap, subst, arith, vec_capacity}
 use Rattle.retro_core.specs.Inside.Sizes.{AreSizes}
-use Rattle.retro_core.specs.Solving.{Solving, IsSolving, NoneHas}
+use Rattle.retro_core.specs.Solving.{HasFoundNone, IsSolving, NoneHas, Solving}
 use Rattle.retro_core.specs.Inside.Stage.{PlainStage, turned, IsState}
 use Rattle.retro_core.proofs.States.{solving_of, unstruck-of, none-has, to-begin, last-state, next-below, size-below, none-later, further-state}
 use Rattle.retro_core.proofs.ValueSizes.{sizes-kept, sizes-more, sizes-room}
@@ -8,7 +8,7 @@ use Rattle.retro_core.proofs.solver.Solver.file_next.Goals as goal
 
 pub returns-then-self-clause-none : goal.returns-then-self-clause-none
 returns-then-self-clause-none g c = λ _.
-    subst (λ (v : Solving). NoneHas v.board (suc v.rounds) × (v.rounds ≡ v.rounds) × (v.is_done ≡ true)) c.self.view_is
+    subst (λ (v : Solving). HasFoundNone v v) c.self.view_is
     (none-has c.self.inside.stage _ c.self.inside.done c.self.invariant.0 c.if-self.true, refl, c.if-self.true)
 
 pub returns-then-self-clause-kept : goal.returns-then-self-clause-kept
@@ -84,7 +84,8 @@ invariant_of-self-2 g c =
     rw (c.turn-filed.ensures.turned, c.if-self.false) (
       subst (λ n. IsState (turned now) n false) next (further-state s (s.value - 1) c.self.inside.done st now e.struck e.kept c.if-self.false filed),
       subst (λ n. AreSizes (turned now) n (vec_capacity c.push_reserved.new.self) c.push_reserved.new.self.items) next
-          (sizes-more s now (s.value - 1) _ _ c.turn-filed.result _ _ st.value_is e.kept c.push_reserved.ensures.items c.turn-filed.ensures.filed (λ z. filed (sym c.turn-filed.ensures.filed ∙ z)) c.push_reserved.ensures.capacity c.self.invariant.1),
+          (sizes-more s now (s.value - 1) (vec_capacity c.self.inside.sizes) (vec_capacity c.push_reserved.new.self) c.turn-filed.result
+          c.self.inside.sizes.items c.push_reserved.new.self.items st.value_is e.kept c.push_reserved.ensures.items c.turn-filed.ensures.filed (λ z. filed (sym c.turn-filed.ensures.filed ∙ z)) c.push_reserved.ensures.capacity c.self.invariant.1),
     )
 
 pub returns-clause-kept : goal.returns-clause-kept
