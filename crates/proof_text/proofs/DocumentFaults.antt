@@ -26,15 +26,9 @@ pub has_part_fault : (board : PlainBoard) (text : List ℕ) (line : ℕ) (kind :
     → HasProofFault board text line kind
 has_part_fault board text line kinds.Version f = elim f [ inl l ↦ absurd l.fault.6 | inr a ↦ absurd a.fault.6 ]
 has_part_fault board text line kinds.Claim f = elim f [ inl l ↦ absurd l.fault.6 | inr a ↦ absurd a.fault.6 ]
-has_part_fault board text line kinds.Section f = f
-has_part_fault board text line kinds.Row f = f
-has_part_fault board text line kinds.Label f = f
-has_part_fault board text line kinds.Pebble f = f
-has_part_fault board text line kinds.Number f = f
-has_part_fault board text line kinds.Order f = f
 has_part_fault board text line kinds.End f = elim f [ inl l ↦ absurd l.fault.6 | inr a ↦ absurd a.fault.6 ]
 has_part_fault board text line kinds.Trailing f = elim f [ inl l ↦ absurd l.fault.6 | inr a ↦ absurd a.fault.6 ]
-has_part_fault board text line kinds.Memory f = f
+has_part_fault board text line kind f = f
 
 abbrev pub document : Claim → List AnswerRow → List RequestRow → PlainProof
 document claim labeller adversary = record { claim = claim; labeller = labeller; adversary = adversary }

@@ -115,14 +115,7 @@ module _ {R : Type 0} (board : PlainBoard) (form : RowForm R) where
   line_fault_in text number line count least rows rest kinds.Memory come short e from h = absurd (form.no_memory rest h)
   line_fault_in text number line count least rows rest kinds.Order come short e from (row, is, more, spelled, early) =
       (count, rows, rest, come, short, e, (row, is, more, spelled, λ follows. early ((from (at_of board form row)).0 follows)))
-  line_fault_in text number line count least rows rest kinds.Row come short e from h = (count, rows, rest, come, short, e, h)
-  line_fault_in text number line count least rows rest kinds.Label come short e from h = (count, rows, rest, come, short, e, h)
-  line_fault_in text number line count least rows rest kinds.Pebble come short e from h = (count, rows, rest, come, short, e, h)
-  line_fault_in text number line count least rows rest kinds.Number come short e from h = (count, rows, rest, come, short, e, h)
-  line_fault_in text number line count least rows rest kinds.Version come short e from h = (count, rows, rest, come, short, e, h)
-  line_fault_in text number line count least rows rest kinds.Claim come short e from h = (count, rows, rest, come, short, e, h)
-  line_fault_in text number line count least rows rest kinds.End come short e from h = (count, rows, rest, come, short, e, h)
-  line_fault_in text number line count least rows rest kinds.Trailing come short e from h = (count, rows, rest, come, short, e, h)
+  line_fault_in text number line count least rows rest kind come short e from h = (count, rows, rest, come, short, e, h)
 
 -- ---- what rows stand for
 
@@ -153,26 +146,25 @@ module _ {R X : Type 0} (board : PlainBoard) (f : R → X) (IsRow : R → Type 0
   follows_seen : (rows : List R) (configuration : List ℕ) → MayFollow board at (map f rows) configuration → MayFollow board (λ row. at (f row)) rows configuration
   follows_seen rows configuration follows before last e = follows (map f before) (f last) (ap (map f) e ∙ map-append f before (last ∷ []))
 
+  row_fault_seen : (Misread : List ℕ → ProofKind → Type 0) (rows : List R) (rest : List ℕ) (kind : ProofKind)
+      → RowFault IsRow (λ row. at (f row)) (λ row. row_line (f row)) Misread (MayFollow board (λ row. at (f row)) rows) rest kind
+      → RowFault IsSeen at row_line Misread (MayFollow board at (map f rows)) rest kind
+  row_fault_seen Misread rows rest kinds.Order (row, is, more, spelled, early) =
+      (f row, seen row is, more, spelled, λ follows. early (follows_seen rows (at (f row)) follows))
+  row_fault_seen Misread rows rest kind h = h
+
   -- the fault of a section of rows is that of what they stand for
   pub fault_seen : (section_line : ℕ → List ℕ) (Misread : List ℕ → ProofKind → Type 0) (text : List ℕ) (number line : ℕ) (kind : ProofKind)
       → InSection board IsRow (λ row. at (f row)) section_line (λ row. row_line (f row)) (RowFault IsRow (λ row. at (f row)) (λ row. row_line (f row)) Misread) text number line kind
       → InSection board IsSeen at section_line row_line (RowFault IsSeen at row_line Misread) text number line kind
   fault_seen section_line Misread text number line kinds.Section h = h
-  fault_seen section_line Misread text number line kinds.Memory (e, (count, rows, rest, come)) = (e, (count, map f rows, rest, come_seen section_line text count rows rest come))
-  fault_seen section_line Misread text number line kinds.Order (count, rows, rest, come, short, e, (row, is, more, spelled, early)) = (
-    count,
-    map f rows,
-    rest,
-    come_seen section_line text count rows rest come,
-    omega (arith, short, length-map rows f),
-    omega (arith, e, length-map rows f),
-    (f row, seen row is, more, spelled, λ follows. early (follows_seen rows (at (f row)) follows)),
+  fault_seen section_line Misread text number line kinds.Memory h = (h.0, (h.1.0, map f h.1.1, h.1.2, come_seen section_line text h.1.0 h.1.1 h.1.2 h.1.3))
+  fault_seen section_line Misread text number line kind h = (
+    h.0,
+    map f h.1,
+    h.2,
+    come_seen section_line text h.0 h.1 h.2 h.3,
+    omega (arith, h.4, length-map h.1 f),
+    omega (arith, h.5, length-map h.1 f),
+    row_fault_seen Misread h.1 h.2 kind h.6,
   )
-  fault_seen section_line Misread text number line kinds.Row h = (h.0, map f h.1, h.2, come_seen section_line text h.0 h.1 h.2 h.3, omega (arith, h.4, length-map h.1 f), omega (arith, h.5, length-map h.1 f), h.6)
-  fault_seen section_line Misread text number line kinds.Label h = (h.0, map f h.1, h.2, come_seen section_line text h.0 h.1 h.2 h.3, omega (arith, h.4, length-map h.1 f), omega (arith, h.5, length-map h.1 f), h.6)
-  fault_seen section_line Misread text number line kinds.Pebble h = (h.0, map f h.1, h.2, come_seen section_line text h.0 h.1 h.2 h.3, omega (arith, h.4, length-map h.1 f), omega (arith, h.5, length-map h.1 f), h.6)
-  fault_seen section_line Misread text number line kinds.Number h = (h.0, map f h.1, h.2, come_seen section_line text h.0 h.1 h.2 h.3, omega (arith, h.4, length-map h.1 f), omega (arith, h.5, length-map h.1 f), h.6)
-  fault_seen section_line Misread text number line kinds.Version h = (h.0, map f h.1, h.2, come_seen section_line text h.0 h.1 h.2 h.3, omega (arith, h.4, length-map h.1 f), omega (arith, h.5, length-map h.1 f), h.6)
-  fault_seen section_line Misread text number line kinds.Claim h = (h.0, map f h.1, h.2, come_seen section_line text h.0 h.1 h.2 h.3, omega (arith, h.4, length-map h.1 f), omega (arith, h.5, length-map h.1 f), h.6)
-  fault_seen section_line Misread text number line kinds.End h = (h.0, map f h.1, h.2, come_seen section_line text h.0 h.1 h.2 h.3, omega (arith, h.4, length-map h.1 f), omega (arith, h.5, length-map h.1 f), h.6)
-  fault_seen section_line Misread text number line kinds.Trailing h = (h.0, map f h.1, h.2, come_seen section_line text h.0 h.1 h.2 h.3, omega (arith, h.4, length-map h.1 f), omega (arith, h.5, length-map h.1 f), h.6)
