@@ -15,26 +15,34 @@ use Rattle.proof_text.specs.declared.proof.Proof.{Proof}
 use Rattle.proof_text.specs.Proof.{PlainProof, IsProof, IsDocument, plain_proof, IsClaim, IsAnswerRow, IsRequestRow, asks_labeller, asks_adversary}
 use Rattle.proof_text.specs.ProofText.{version_line, claim_line, head, answer_line, request_line, labeller_section, adversary_section, labeller_lines, front, proof_text}
 use Rattle.proof_text.specs.ProofFaults.{AdversaryFault, AnswerMisread, HasProofFault, LabellerFault, RequestMisread, end_number}
-use Rattle.proof_text.proofs.OneStep.{OneReading, Stands, Step, Wanting, line_step, one_step}
+use Rattle.proof_text.proofs.OneStep.{OneReading, Line, one_line}
 use Rattle.proof_text.proofs.OneRow.{answer_laws, request_laws}
-use Rattle.proof_text.proofs.OneSection.{Part, PartFault, part_step}
+use Rattle.proof_text.proofs.OneSection.{Part, one_part}
 
 -- ---- single lines
 
 -- a line that is always the same
-one_line : (line : List ℕ) → OneReading (λ (u : Unit {0}). Unit {0}) (λ u. line)
-one_line line u v x y p q e = (refl, append_cancel_left line x y e)
+abbrev Always : Unit {0} → Type 0
+Always u = Unit {0}
+
+one_constant : (line : List ℕ) → OneReading Always (λ u. line)
+one_constant line u v x y p q e = (refl, append_cancel_left line x y e)
 
 one_claim : OneReading IsClaim claim_line
-one_claim (Exactly m) (Exactly n) x y p q e = let s = number_line_unique (codes "value") m n x y (omega (arith, p)) (omega (arith, q)) e in (ap Exactly s.0, s.1)
-one_claim (AtLeast m) (AtLeast n) x y p q e = let s = number_line_unique (codes "least") m n x y (omega (arith, p)) (omega (arith, q)) e in (ap AtLeast s.0, s.1)
-one_claim (AtMost m) (AtMost n) x y p q e = let s = number_line_unique (codes "most") m n x y (omega (arith, p)) (omega (arith, q)) e in (ap AtMost s.0, s.1)
+one_claim (Exactly m) (Exactly n) x y p q e =
+    let s = number_line_unique (codes "value") m n x y (omega (arith, p)) (omega (arith, q)) e in (ap Exactly s.0, s.1)
+one_claim (AtLeast m) (AtLeast n) x y p q e =
+    let s = number_line_unique (codes "least") m n x y (omega (arith, p)) (omega (arith, q)) e in (ap AtLeast s.0, s.1)
+one_claim (AtMost m) (AtMost n) x y p q e =
+    let s = number_line_unique (codes "most") m n x y (omega (arith, p)) (omega (arith, q)) e in (ap AtMost s.0, s.1)
 one_claim Forever Forever x y p q e = (refl, append_cancel_left (claim_line Forever) x y e)
-one_claim c d x y p q e = let heads : get_or (claim_line c ++ x) 0 0 ≡ get_or (claim_line d ++ y) 0 0 = ap (λ (t : List ℕ). get_or t 0 0) e in absurd (omega (arith, heads))
+one_claim c d x y p q e =
+    let heads : get_or (claim_line c ++ x) 0 0 ≡ get_or (claim_line d ++ y) 0 0 = ap (λ (text : List ℕ). get_or text 0 0) e in
+    absurd (omega (arith, heads))
 
 -- ---- what is found in a text
 
--- a document, or a fault at a line
+-- a document, or a fault
 abbrev Finding : Type 0
 Finding = Result PlainProof ProofFault
 
@@ -44,75 +52,92 @@ fault_at line kind = record { line = line; kind = kind }
 abbrev fault : ℕ → ProofKind → Finding
 fault line kind = Err (fault_at line kind)
 
-abbrev Line : List ℕ → List ℕ → Finding → (List ℕ → Finding → Type 0) → Finding → Type 0
-Line line text fault After found = Step (Wanting (λ (u : Unit {0}). Unit {0}) (λ u. line) text fault) (Stands (λ (u : Unit {0}). Unit {0}) (λ u. line) text) (λ u more. After more) found
-
 abbrev Behind : PlainProof → List ℕ → Finding → Type 0
 Behind proof [] found = found ≡ Ok proof
 Behind proof (first ∷ more) found = found ≡ fault (1 + end_number proof) kinds.Trailing
 
-module _ (board : PlainBoard) where
-  abbrev AfterFront : PlainProof → List ℕ → Finding → Type 0
-  AfterFront proof text found = Line end_line text (fault (end_number proof) kinds.End) (Behind proof) found
+abbrev AfterFront : PlainProof → List ℕ → Finding → Type 0
+AfterFront proof text found = Line Always (λ u. end_line) text (fault (end_number proof) kinds.End) (λ u more. Behind proof more) found
 
+module _ (board : PlainBoard) where
   abbrev AfterLabeller : Claim → List AnswerRow → List ℕ → Finding → Type 0
   AfterLabeller claim labeller text found =
-      Step (PartFault board (IsRequestRow board) (λ row. row.at) (codes "adversary") (request_line board) (RequestMisread board) fault (asks_adversary claim) text (3 + labeller_lines claim labeller))
-      (Part board (IsRequestRow board) (λ row. row.at) (codes "adversary") (request_line board) (asks_adversary claim) text)
-      (λ adversary more. AfterFront (record { claim = claim; labeller = labeller; adversary = adversary }) more) found
+      Part board (IsRequestRow board) (λ row. row.at) (codes "adversary") (request_line board) (RequestMisread board)
+      fault (asks_adversary claim) text (3 + labeller_lines claim labeller)
+      (λ adversary more. AfterFront (record { claim = claim; labeller = labeller; adversary = adversary }) more)
+      found
 
   abbrev AfterClaim : Claim → List ℕ → Finding → Type 0
   AfterClaim claim text found =
-      Step (PartFault board (IsAnswerRow board claim) (λ row. row.at) (codes "labeller") (answer_line board) (AnswerMisread board claim) fault (asks_labeller claim) text 3)
-      (Part board (IsAnswerRow board claim) (λ row. row.at) (codes "labeller") (answer_line board) (asks_labeller claim) text) (AfterLabeller claim) found
+      Part board (IsAnswerRow board claim) (λ row. row.at) (codes "labeller") (answer_line board) (AnswerMisread board claim)
+      fault (asks_labeller claim) text 3 (AfterLabeller claim) found
 
   abbrev AfterVersion : List ℕ → Finding → Type 0
-  AfterVersion text found = Step (Wanting IsClaim claim_line text (fault 2 kinds.Claim)) (Stands IsClaim claim_line text) AfterClaim found
+  AfterVersion text found = Line IsClaim claim_line text (fault 2 kinds.Claim) AfterClaim found
 
   abbrev Reading : List ℕ → Finding → Type 0
-  Reading text found = Line version_line text (fault 1 kinds.Version) AfterVersion found
+  Reading text found = Line Always (λ u. version_line) text (fault 1 kinds.Version) (λ u more. AfterVersion more) found
 
 one_behind : (proof : PlainProof) (text : List ℕ) (v w : Finding) → Behind proof text v → Behind proof text w → v ≡ w
 one_behind proof [] v w e f = e ∙ sym f
 one_behind proof (first ∷ more) v w e f = e ∙ sym f
 
-one_reading : (board : PlainBoard) → IsBoard board → (text : List ℕ) (v w : Finding) → Reading board text v → Reading board text w → v ≡ w
-one_reading board is_board text =
-    one_step (line_step _ (λ u. version_line) text _ (one_line version_line)) _ (λ u after_version version.
-    one_step (line_step _ claim_line after_version _ one_claim) (AfterClaim board) (λ claim after_claim is_claim.
-    one_step (part_step board _ _ (codes "labeller") _ _ (answer_laws board claim is_board) fault _ after_claim 3) (AfterLabeller board claim) (λ labeller after_labeller part.
-    one_step (part_step board _ _ (codes "adversary") _ _ (request_laws board is_board) fault _ after_labeller _) _ (λ adversary after_front part_too.
-    one_step (line_step _ (λ u. end_line) after_front _ (one_line end_line)) _ (λ v text ends. one_behind _ text)))))
+one_after_front : (proof : PlainProof) (text : List ℕ) (v w : Finding) → AfterFront proof text v → AfterFront proof text w → v ≡ w
+one_after_front proof text =
+    one_line Always (λ u. end_line) text (fault (end_number proof) kinds.End) (λ u more. Behind proof more) (one_constant end_line)
+    (λ u more yes. one_behind proof more)
+
+module _ (board : PlainBoard) (is_board : IsBoard board) where
+  one_after_claim : (claim : Claim) (text : List ℕ) (v w : Finding) → AfterClaim board claim text v → AfterClaim board claim text w → v ≡ w
+  one_after_claim claim text =
+      one_part board _ _ (codes "labeller") _ _ (answer_laws board claim is_board) text 3 fault (asks_labeller claim)
+      (AfterLabeller board claim)
+      (λ labeller rest. one_part board _ _ (codes "adversary") _ _ (request_laws board is_board) rest (3 + labeller_lines claim labeller)
+      fault (asks_adversary claim) _ (λ adversary more. one_after_front _ more))
+
+  one_reading : (text : List ℕ) (v w : Finding) → Reading board text v → Reading board text w → v ≡ w
+  one_reading text =
+      one_line Always (λ u. version_line) text (fault 1 kinds.Version) (λ u more. AfterVersion board more) (one_constant version_line)
+      (λ u rest yes. one_line IsClaim claim_line rest (fault 2 kinds.Claim) (AfterClaim board) one_claim
+      (λ claim more is. one_after_claim claim more))
 
 -- ---- what a document or a fault says, as a reading
 
 regroup : (a b c d : List ℕ) → (a ++ (b ++ c)) ++ d ≡ a ++ (b ++ (c ++ d))
 regroup a b c d = simp append_assoc
 
-head_read : (board : PlainBoard) (text : List ℕ) (claim : Claim) (rest : List ℕ) (found : Finding) → IsClaim claim → text ≡ head claim ++ rest
-    → AfterClaim board claim rest found → Reading board text found
+head_read : (board : PlainBoard) (text : List ℕ) (claim : Claim) (rest : List ℕ) (found : Finding) → IsClaim claim
+    → text ≡ head claim ++ rest → AfterClaim board claim rest found → Reading board text found
 head_read board text claim rest found is e after =
     inr (tt, claim_line claim ++ rest, (tt, e ∙ append_assoc version_line (claim_line claim) rest), inr (claim, rest, (is, refl), after))
 
-front_read : (board : PlainBoard) (text : List ℕ) (proof : PlainProof) (rest : List ℕ) (found : Finding) → IsProof board proof → text ≡ front board proof ++ rest
-    → AfterFront board proof rest found → Reading board text found
+front_read : (board : PlainBoard) (text : List ℕ) (proof : PlainProof) (rest : List ℕ) (found : Finding) → IsProof board proof
+    → text ≡ front board proof ++ rest → AfterFront proof rest found → Reading board text found
 front_read board text proof rest found is e after =
     let labeller = labeller_section board proof.claim proof.labeller in
     let adversary = adversary_section board proof.claim proof.adversary in
-    head_read board text proof.claim (labeller ++ (adversary ++ rest)) found is.claim (e ∙ regroup (head proof.claim) labeller adversary rest)
-    (inr (proof.labeller, adversary ++ rest, (is.labeller, is.no_labeller, refl), inr (proof.adversary, rest, (is.adversary, is.no_adversary, refl), after)))
+    head_read board text proof.claim (labeller ++ (adversary ++ rest)) found is.claim
+    (e ∙ regroup (head proof.claim) labeller adversary rest)
+    (inr (
+      proof.labeller,
+      adversary ++ rest,
+      (is.labeller, is.no_labeller, refl),
+      inr (proof.adversary, rest, (is.adversary, is.no_adversary, refl), after),
+    ))
 
 section_fault_read : (board : PlainBoard) (text : List ℕ) (line : ℕ) (kind : ProofKind) → kind ≢ kinds.Memory
     → LabellerFault board text line kind ⊎ AdversaryFault board text line kind → Reading board text (fault line kind)
 section_fault_read board text line kind not (inl f) =
     head_read board text f.claim f.rest _ f.is_claim f.spelled (inl (f.asked, line, kind, not, f.fault, refl))
 section_fault_read board text line kind not (inr f) =
-    head_read board text f.claim _ _ f.is_claim f.spelled (inr (f.labeller, f.rest, (f.are_rows, f.none, refl), inl (f.asked, line, kind, not, f.fault, refl)))
+    head_read board text f.claim _ _ f.is_claim f.spelled
+    (inr (f.labeller, f.rest, (f.are_rows, f.none, refl), inl (f.asked, line, kind, not, f.fault, refl)))
 
 fault_read : (board : PlainBoard) (text : List ℕ) (line : ℕ) (kind : ProofKind) → kind ≢ kinds.Memory → HasProofFault board text line kind
     → Reading board text (fault line kind)
 fault_read board text line kinds.Version not (e, lacks) = inl (lacks, ap (λ (n : ℕ). fault n kinds.Version) e)
-fault_read board text line kinds.Claim not (e, rest, stands, lacks) = inr (tt, rest, (tt, stands), inl (lacks, ap (λ (n : ℕ). fault n kinds.Claim) e))
+fault_read board text line kinds.Claim not (e, rest, stands, lacks) =
+    inr (tt, rest, (tt, stands), inl (lacks, ap (λ (n : ℕ). fault n kinds.Claim) e))
 fault_read board text line kinds.End not (proof, rest, is, stands, e, lacks) =
     front_read board text proof rest _ is stands (inl (lacks, ap (λ (n : ℕ). fault n kinds.End) e))
 fault_read board text line kinds.Trailing not (proof, first, more, is, stands, e) =
@@ -121,35 +146,46 @@ fault_read board text line kinds.Trailing not (proof, first, more, is, stands, e
 fault_read board text line kinds.Memory not h = absurd (not refl)
 fault_read board text line kind not h = section_fault_read board text line kind not h
 
-document_read : (board : PlainBoard) (text : List ℕ) (proof : PlainProof) → IsProof board proof → text ≡ proof_text board proof → Reading board text (Ok proof)
-document_read board text proof is e = front_read board text proof end_line (Ok proof) is e (inr (tt, [], (tt, sym (append-nil end_line)), refl))
+document_read : (board : PlainBoard) (text : List ℕ) (proof : PlainProof) → IsProof board proof → text ≡ proof_text board proof
+    → Reading board text (Ok proof)
+document_read board text proof is e =
+    front_read board text proof end_line (Ok proof) is e (inr (tt, [], (tt, sym (append-nil end_line)), refl))
 
 -- ---- the laws
 
 -- A text is that of one document.
-pub one_document : (board : PlainBoard) (a b : PlainProof) → IsBoard board → IsProof board a → IsProof board b → proof_text board a ≡ proof_text board b → a ≡ b
+pub one_document : (board : PlainBoard) (a b : PlainProof) → IsBoard board → IsProof board a → IsProof board b
+    → proof_text board a ≡ proof_text board b → a ≡ b
 one_document board a b is is_a is_b e =
-    let same = one_reading board is (proof_text board a) (Ok a) (Ok b) (document_read board _ a is_a refl) (document_read board _ b is_b e) in cc
+    let text = proof_text board a in
+    let same = one_reading board is text (Ok a) (Ok b) (document_read board text a is_a refl) (document_read board text b is_b e) in cc
 
 -- A text has one fault.
-pub one_fault : (board : PlainBoard) (text : List ℕ) (line other_line : ℕ) (kind other : ProofKind) → IsBoard board → kind ≢ kinds.Memory → other ≢ kinds.Memory
-    → HasProofFault board text line kind → HasProofFault board text other_line other → (line ≡ other_line) × (kind ≡ other)
+pub one_fault : (board : PlainBoard) (text : List ℕ) (line other_line : ℕ) (kind other : ProofKind) → IsBoard board
+    → kind ≢ kinds.Memory → other ≢ kinds.Memory → HasProofFault board text line kind → HasProofFault board text other_line other
+    → (line ≡ other_line) × (kind ≡ other)
 one_fault board text line other_line kind other is not not_too h g =
-    let same = one_reading board is text (fault line kind) (fault other_line other) (fault_read board text line kind not h) (fault_read board text other_line other not_too g) in
+    let same = one_reading board is text (fault line kind) (fault other_line other)
+    (fault_read board text line kind not h) (fault_read board text other_line other not_too g) in
     let one : fault_at line kind ≡ fault_at other_line other = cc in
     (ap (λ (f : ProofFault). f.line) one, ap (λ (f : ProofFault). f.kind) one)
 
 -- In the text of a document no line has a fault.
-pub no_fault : (board : PlainBoard) (text : List ℕ) (line : ℕ) (kind : ProofKind) (b : PlainProof) → IsBoard board → IsProof board b → text ≡ proof_text board b
-    → HasProofFault board text line kind → kind ≡ kinds.Memory
+pub no_fault : (board : PlainBoard) (text : List ℕ) (line : ℕ) (kind : ProofKind) (b : PlainProof) → IsBoard board → IsProof board b
+    → text ≡ proof_text board b → HasProofFault board text line kind → kind ≡ kinds.Memory
 no_fault board text line kinds.Memory b is_board is e h = refl
 no_fault board text line kind b is_board is e h = absurd (not_both kind (λ e. absurd cc) h)
   where
     not_both : (kind : ProofKind) → kind ≢ kinds.Memory → HasProofFault board text line kind → ⊥
-    not_both kind not h = let same = one_reading board is_board text (Ok b) (fault line kind) (document_read board text b is e) (fault_read board text line kind not h) in absurd cc
+    not_both kind not h =
+        let same = one_reading board is_board text (Ok b) (fault line kind) (document_read board text b is e)
+        (fault_read board text line kind not h) in
+        absurd cc
 
 pub only : (board : PlainBoard) (text : List ℕ) (b : PlainProof) (r : Result Proof ProofFault) → IsBoard board
-    → IfOk r (λ a. IsDocument board a × (text ≡ proof_text board (plain_proof board a))) → IfErr r (λ f. HasProofFault board text f.line f.kind)
+    → IfOk r (λ a. IsDocument board a × (text ≡ proof_text board (plain_proof board a)))
+    → IfErr r (λ f. HasProofFault board text f.line f.kind)
     → IsProof board b → text ≡ proof_text board b → MatchResult r (λ a. plain_proof board a ≡ b) (λ f. f.kind ≡ kinds.Memory)
-only board text b (Ok a) is_board found fault is e = one_document board (plain_proof board a) b is_board found.0.is_proof is (sym found.1 ∙ e)
+only board text b (Ok a) is_board found fault is e =
+    one_document board (plain_proof board a) b is_board found.0.is_proof is (sym found.1 ∙ e)
 only board text b (Err f) is_board found fault is e = no_fault board text f.line f.kind b is_board is e fault

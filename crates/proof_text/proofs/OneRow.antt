@@ -20,7 +20,7 @@ use Rattle.proof_text.specs.Proof.{AreTurns, IsAnswerRow, IsRequestRow}
 use Rattle.proof_text.specs.ProofText.{turns_text, answer_line, request_line}
 use Rattle.proof_text.specs.RowWords.{AnswerWords, RequestWords, IsTurnsText, AreAnswerWords, AreRequestWords, answer_words_line, request_words_line}
 use Rattle.proof_text.specs.ProofFaults.{RowFault, AnswerMisread, RequestMisread, SpellConfiguration, SpellLabels, SpellsTurns}
-use Rattle.proof_text.proofs.OneStep.{OneReading, Step, Stands, Unless, Wanting, line_step, one_step, one_unless}
+use Rattle.proof_text.proofs.OneStep.{OneReading, Line, Unless, one_line, one_unless}
 use Rattle.proof_text.proofs.RowWords.{no_digit_space, no_digit_lf, turns_unique, position_unique, numerals_unique, answer_parts, request_parts}
 use Rattle.proof_text.proofs.SpelledRows.{count_small, star_is_no_number}
 
@@ -35,40 +35,48 @@ pub record RowLaws {X : Type 0} (IsRow : X → Type 0) (at line : X → List ℕ
       → IsRow row → MayStand (at row) → rest ≡ line row ++ more → RowFault IsRow at line Misread MayStand rest kind → ⊥
 
 -- That follows where the words are read in one way: they are misread, or a row stands there.
-module _ {X : Type 0} (IsRow : X → Type 0) (at line : X → List ℕ) (Misread : List ℕ → ProofKind → Type 0) (Read : List ℕ → Option ProofKind → Type 0)
+module _ {X : Type 0} (IsRow : X → Type 0) (at line : X → List ℕ) (Misread : List ℕ → ProofKind → Type 0)
+    (Read : List ℕ → Option ProofKind → Type 0)
     (one : OneReading IsRow line)
     (one_read : (rest : List ℕ) (v w : Option ProofKind) → Read rest v → Read rest w → v ≡ w)
     (misread : (rest : List ℕ) (kind : ProofKind) → Misread rest kind → Read rest (Some kind))
     (right : (row : X) (rest more : List ℕ) → IsRow row → rest ≡ line row ++ more → Read rest None) where
   not_misread : (row : X) (rest more : List ℕ) (kind : ProofKind) → IsRow row → rest ≡ line row ++ more → Misread rest kind → ⊥
-  not_misread row rest more kind is e h = let same = one_read rest None (Some kind) (right row rest more is e) (misread rest kind h) in absurd cc
+  not_misread row rest more kind is e h =
+      let same = one_read rest None (Some kind) (right row rest more is e) (misread rest kind h) in absurd cc
 
   module _ (MayStand : List ℕ → Type 0) (rest : List ℕ) where
-    abbrev Early : Type 0
-    Early = (row : X) × IsRow row × (more : List ℕ) × (rest ≡ line row ++ more) × ¬ MayStand (at row)
+    abbrev Fault : ProofKind → Type 0
+    Fault kind = RowFault IsRow at line Misread MayStand rest kind
 
-    early_or_misread : (kind : ProofKind) → RowFault IsRow at line Misread MayStand rest kind → ((kind ≡ kinds.Order) × Early) ⊎ Misread rest kind
+    abbrev Early : ProofKind → Type 0
+    Early kind = (kind ≡ kinds.Order) × ((row : X) × IsRow row × (more : List ℕ) × (rest ≡ line row ++ more) × ¬ MayStand (at row))
+
+    early_or_misread : (kind : ProofKind) → Fault kind → Early kind ⊎ Misread rest kind
     early_or_misread kinds.Order h = inl (refl, h)
     early_or_misread kind h = inr h
 
-    same_kind : (kind other : ProofKind) → ((kind ≡ kinds.Order) × Early) ⊎ Misread rest kind → ((other ≡ kinds.Order) × Early) ⊎ Misread rest other → kind ≡ other
+    same_kind : (kind other : ProofKind) → Early kind ⊎ Misread rest kind → Early other ⊎ Misread rest other → kind ≡ other
     same_kind kind other (inl f) (inl g) = f.0 ∙ sym g.0
     same_kind kind other (inl (e, (row, is, more, stands, early))) (inr g) = absurd (not_misread row rest more other is stands g)
     same_kind kind other (inr f) (inl (e, (row, is, more, stands, early))) = absurd (not_misread row rest more kind is stands f)
     same_kind kind other (inr f) (inr g) =
         let same = one_read rest (Some kind) (Some other) (misread rest kind f) (misread rest other g) in cc
 
-    no_fault : (row : X) (more : List ℕ) (kind : ProofKind) → IsRow row → MayStand (at row) → rest ≡ line row ++ more
-        → ((kind ≡ kinds.Order) × Early) ⊎ Misread rest kind → ⊥
-    no_fault row more kind is may e (inl (same, (other, is_other, after, f, early))) =
+    one_kind : (kind other : ProofKind) → Fault kind → Fault other → kind ≡ other
+    one_kind kind other f g = same_kind kind other (early_or_misread kind f) (early_or_misread other g)
+
+    sound : (row : X) (more : List ℕ) (kind : ProofKind) → IsRow row → MayStand (at row) → rest ≡ line row ++ more
+        → Early kind ⊎ Misread rest kind → ⊥
+    sound row more kind is may e (inl (same, (other, is_other, after, f, early))) =
         early (subst (λ (r : X). MayStand (at r)) (one row other more after is is_other (sym e ∙ f)).0 may)
-    no_fault row more kind is may e (inr h) = not_misread row rest more kind is e h
+    sound row more kind is may e (inr h) = not_misread row rest more kind is e h
 
   row_laws : RowLaws IsRow at line Misread
   row_laws = record {
     one = one;
-    one_kind = λ MayStand rest kind other f g. same_kind MayStand rest kind other (early_or_misread MayStand rest kind f) (early_or_misread MayStand rest other g);
-    sound = λ MayStand row rest more kind is may e h. no_fault MayStand rest row more kind is may e (early_or_misread MayStand rest kind h);
+    one_kind = one_kind;
+    sound = λ MayStand row rest more kind is may e h. sound MayStand rest row more kind is may e (early_or_misread MayStand rest kind h);
   }
 
 -- ---- the words of a row that was written
@@ -85,7 +93,8 @@ module _ (board : PlainBoard) (is_board : IsBoard board) where
   few_all : places board ≤ 2 ^ 16
   few_all = omega (arith, few_places board is_board)
 
-  position_texts : (at : List ℕ) → IsConfiguration board at → ArePlaceTexts board.pebbles board.labels (places board) (map (place_word board.labels) at)
+  position_texts : (at : List ℕ) → IsConfiguration board at
+      → ArePlaceTexts board.pebbles board.labels (places board) (map (place_word board.labels) at)
   position_texts at is = words_are_texts board.pebbles board.labels (places board) at few_all (is.each_pebble, is.each_place)
 
   position_spelled : (at : List ℕ) → IsConfiguration board at → SpellConfiguration board (map (place_word board.labels) at)
@@ -94,7 +103,8 @@ module _ (board : PlainBoard) (is_board : IsBoard board) where
   same_position : (at other : List ℕ) → IsConfiguration board at → IsConfiguration board other
       → map (place_word board.labels) at ≡ map (place_word board.labels) other → at ≡ other
   same_position at other is is_too e =
-      same_places board.pebbles (places board) board.labels at other (omega (arith, few_all)) (is.each_pebble, is.each_place) (is_too.each_pebble, is_too.each_place) e
+      same_places board.pebbles (places board) board.labels at other (omega (arith, few_all))
+      (is.each_pebble, is.each_place) (is_too.each_pebble, is_too.each_place) e
 
 -- ---- a labeller's row
 
@@ -103,7 +113,8 @@ turns_are_text claim (Count n) are = inl (decimal_is_IsNumeral n (omega (arith, 
 turns_are_text claim Always are = inr refl
 
 same_turns : (claim : Claim) (t u : Turns) → AreTurns claim t → AreTurns claim u → turns_text t ≡ turns_text u → t ≡ u
-same_turns claim (Count m) (Count n) p q e = ap Count (decimal_injective m n (omega (arith, count_small claim m p)) (omega (arith, count_small claim n q)) e)
+same_turns claim (Count m) (Count n) p q e =
+    ap Count (decimal_injective m n (omega (arith, count_small claim m p)) (omega (arith, count_small claim n q)) e)
 same_turns claim (Count m) Always p q e = absurd (star_is_no_number m (omega (arith, count_small claim m p)) (sym e))
 same_turns claim Always (Count n) p q e = absurd (star_is_no_number n (omega (arith, count_small claim n q)) e)
 same_turns claim Always Always p q e = refl
@@ -115,7 +126,8 @@ one_answer_words pebbles labels bound first second x y p q e =
     let a = position_unique pebbles labels bound first.at second.at (first.turns ++ one) (second.turns ++ other) p.at q.at
     (sym (answer_parts first x) ∙ e ∙ answer_parts second y) in
     let t = turns_unique first.turns second.turns one other p.turns q.turns
-    (inl (no_digit_space (codes "take" ++ (spaced_texts first.take ++ 10 ∷ x)))) (no_digit_space (codes "take" ++ (spaced_texts second.take ++ 10 ∷ y))) a.1 in
+    (inl (no_digit_space (codes "take" ++ (spaced_texts first.take ++ 10 ∷ x))))
+    (no_digit_space (codes "take" ++ (spaced_texts second.take ++ 10 ∷ y))) a.1 in
     let s = texts_unique pebbles labels labels first.take second.take (10 ∷ x) (10 ∷ y) p.take q.take (no_digit_lf x) (no_digit_lf y)
     (append_cancel_left (codes " take") _ _ t.1) in
     let same : ◌≡◌ {A = AnswerWords} (record { at = first.at; turns = first.turns; take = first.take }) second = rw (a.0, t.0, s.0) refl in
@@ -128,22 +140,25 @@ answer_words board row = record {
   take = map (place_word board.labels) row.answers;
 }
 
--- how a labeller's row is read: its words, what they spell, and then it is none of the kinds of misreadings
+-- How a labeller's row is read: its words, whether they spell labels, and whether they spell turns.
 abbrev AnswerRead : PlainBoard → Claim → List ℕ → Option ProofKind → Type 0
 AnswerRead board claim rest found =
-    let IsWords = AreAnswerWords board.pebbles board.labels (places board) in
-    Step (Wanting IsWords answer_words_line rest (Some kinds.Row)) (Stands IsWords answer_words_line rest)
-    (λ words more. Unless (Some kinds.Label) (SpellConfiguration board words.at × SpellLabels board words.take) (Unless (Some kinds.Number) (SpellsTurns claim words.turns) (λ v. v ≡ None)))
+    Line (AreAnswerWords board.pebbles board.labels (places board)) answer_words_line rest (Some kinds.Row)
+    (λ words more. Unless (Some kinds.Label) (SpellConfiguration board words.at × SpellLabels board words.take)
+    (Unless (Some kinds.Number) (SpellsTurns claim words.turns) (λ v. v ≡ None)))
     found
 
-answer_misread : (board : PlainBoard) (claim : Claim) (rest : List ℕ) (kind : ProofKind) → AnswerMisread board claim rest kind → AnswerRead board claim rest (Some kind)
+answer_misread : (board : PlainBoard) (claim : Claim) (rest : List ℕ) (kind : ProofKind) → AnswerMisread board claim rest kind
+    → AnswerRead board claim rest (Some kind)
 answer_misread board claim rest kinds.Row h = inl (h, refl)
 answer_misread board claim rest kinds.Label (words, (are, more, e), wrong) = inr (words, more, (are, e), inl (wrong, refl))
-answer_misread board claim rest kinds.Number (words, (are, more, e), at, take, wrong) = inr (words, more, (are, e), inr ((at, take), inl (wrong, refl)))
+answer_misread board claim rest kinds.Number (words, (are, more, e), at, take, wrong) =
+    inr (words, more, (are, e), inr ((at, take), inl (wrong, refl)))
 answer_misread board claim rest kind h = absurd h
 
 module _ (board : PlainBoard) (claim : Claim) (is_board : IsBoard board) where
-  are_answer_words : (row : AnswerRow) → IsAnswerRow board claim row → AreAnswerWords board.pebbles board.labels (places board) (answer_words board row)
+  are_answer_words : (row : AnswerRow) → IsAnswerRow board claim row
+      → AreAnswerWords board.pebbles board.labels (places board) (answer_words board row)
   are_answer_words row is = record {
     at = position_texts board is_board row.at is.at;
     turns = turns_are_text claim row.turns is.turns;
@@ -156,7 +171,8 @@ module _ (board : PlainBoard) (claim : Claim) (is_board : IsBoard board) where
       (are_answer_words p is_p) (are_answer_words q is_q) e in
       let at = same_position board is_board p.at q.at is_p.at is_q.at (ap (λ (words : AnswerWords). words.at) s.0) in
       let turns = same_turns claim p.turns q.turns is_p.turns is_q.turns (ap (λ (words : AnswerWords). words.turns) s.0) in
-      let answers = same_places board.pebbles board.labels board.labels p.answers q.answers (omega (arith, few_labels board is_board)) is_p.answers is_q.answers
+      let answers = same_places board.pebbles board.labels board.labels p.answers q.answers (omega (arith, few_labels board is_board))
+      is_p.answers is_q.answers
       (ap (λ (words : AnswerWords). words.take) s.0) in
       let same : ◌≡◌ {A = AnswerRow} (record { at = p.at; turns = p.turns; answers = p.answers }) q = rw (at, turns, answers) refl in
       (same, s.1)
@@ -164,13 +180,17 @@ module _ (board : PlainBoard) (claim : Claim) (is_board : IsBoard board) where
   pub answer_laws : RowLaws (IsAnswerRow board claim) (λ row. row.at) (answer_line board) (AnswerMisread board claim)
   answer_laws =
       row_laws (IsAnswerRow board claim) (λ row. row.at) (answer_line board) (AnswerMisread board claim) (AnswerRead board claim) one_answer
-      (λ rest. one_step (line_step _ answer_words_line rest _ (one_answer_words board.pebbles board.labels (places board))) _ (λ words more stands. one_unless _ _ _ (one_unless _ _ _ (λ v w e f. e ∙ sym f))))
+      (λ rest. one_line _ answer_words_line rest _ _ (one_answer_words board.pebbles board.labels (places board))
+      (λ words more are. one_unless _ _ _ (one_unless _ _ _ (λ v w e f. e ∙ sym f))))
       (answer_misread board claim)
       (λ row rest more is e. inr (
         answer_words board row,
         more,
         (are_answer_words row is, e),
-        inr ((position_spelled board is_board row.at is.at, words_spell board.pebbles board.labels board.labels row.answers is.answers), inr ((row.turns, is.turns, refl), refl)),
+        inr (
+          (position_spelled board is_board row.at is.at, words_spell board.pebbles board.labels board.labels row.answers is.answers),
+          inr ((row.turns, is.turns, refl), refl),
+        ),
       ))
 
 -- ---- an adversary's row
@@ -183,27 +203,30 @@ one_request_words pebbles labels bound first second x y p q e =
     (sym (request_parts first x) ∙ e ∙ request_parts second y) in
     let t = numerals_unique first.left second.left one other p.left q.left
     (no_digit_space (codes "ask " ++ (first.ask ++ 10 ∷ x))) (no_digit_space (codes "ask " ++ (second.ask ++ 10 ∷ y))) a.1 in
-    let s = numerals_unique first.ask second.ask (10 ∷ x) (10 ∷ y) p.ask q.ask (no_digit_lf x) (no_digit_lf y) (append_cancel_left (codes " ask ") _ _ t.1) in
+    let s = numerals_unique first.ask second.ask (10 ∷ x) (10 ∷ y) p.ask q.ask (no_digit_lf x) (no_digit_lf y)
+    (append_cancel_left (codes " ask ") _ _ t.1) in
     let same : ◌≡◌ {A = RequestWords} (record { at = first.at; left = first.left; ask = first.ask }) second = rw (a.0, t.0, s.0) refl in
     (same, append_cancel_left (10 ∷ []) x y s.1)
 
 abbrev request_words : PlainBoard → RequestRow → RequestWords
 request_words board row = record { at = map (place_word board.labels) row.at; left = decimal row.left; ask = decimal row.request }
 
--- how an adversary's row is read
+-- How an adversary's row is read.
 abbrev RequestRead : PlainBoard → List ℕ → Option ProofKind → Type 0
 RequestRead board rest found =
-    let IsWords = AreRequestWords board.pebbles board.labels (places board) in
-    Step (Wanting IsWords request_words_line rest (Some kinds.Row)) (Stands IsWords request_words_line rest)
+    Line (AreRequestWords board.pebbles board.labels (places board)) request_words_line rest (Some kinds.Row)
     (λ words more. Unless (Some kinds.Label) (SpellConfiguration board words.at)
-    (Unless (Some kinds.Pebble) (SpellsBelow board.pebbles words.ask) (Unless (Some kinds.Number) (SpellsBelow (MOST_TURNS + 1) words.left) (λ v. v ≡ None))))
+    (Unless (Some kinds.Pebble) (SpellsBelow board.pebbles words.ask)
+    (Unless (Some kinds.Number) (SpellsBelow (MOST_TURNS + 1) words.left) (λ v. v ≡ None))))
     found
 
-request_misread : (board : PlainBoard) (rest : List ℕ) (kind : ProofKind) → RequestMisread board rest kind → RequestRead board rest (Some kind)
+request_misread : (board : PlainBoard) (rest : List ℕ) (kind : ProofKind) → RequestMisread board rest kind
+    → RequestRead board rest (Some kind)
 request_misread board rest kinds.Row h = inl (h, refl)
 request_misread board rest kinds.Label (words, (are, more, e), wrong) = inr (words, more, (are, e), inl (wrong, refl))
 request_misread board rest kinds.Pebble (words, (are, more, e), at, wrong) = inr (words, more, (are, e), inr (at, inl (wrong, refl)))
-request_misread board rest kinds.Number (words, (are, more, e), at, ask, wrong) = inr (words, more, (are, e), inr (at, inr (ask, inl (wrong, refl))))
+request_misread board rest kinds.Number (words, (are, more, e), at, ask, wrong) =
+    inr (words, more, (are, e), inr (at, inr (ask, inl (wrong, refl))))
 request_misread board rest kind h = absurd h
 
 module _ (board : PlainBoard) (is_board : IsBoard board) where
@@ -213,7 +236,8 @@ module _ (board : PlainBoard) (is_board : IsBoard board) where
   small_request : (row : RequestRow) → IsRequestRow board row → row.request < 2 ^ 64
   small_request row is = omega (arith, is.request, is_board.pebbles.1)
 
-  are_request_words : (row : RequestRow) → IsRequestRow board row → AreRequestWords board.pebbles board.labels (places board) (request_words board row)
+  are_request_words : (row : RequestRow) → IsRequestRow board row
+      → AreRequestWords board.pebbles board.labels (places board) (request_words board row)
   are_request_words row is = record {
     at = position_texts board is_board row.at is.at;
     left = (decimal_is_IsNumeral row.left (small_left row is)).0;
@@ -226,19 +250,23 @@ module _ (board : PlainBoard) (is_board : IsBoard board) where
       (are_request_words p is_p) (are_request_words q is_q) e in
       let at = same_position board is_board p.at q.at is_p.at is_q.at (ap (λ (words : RequestWords). words.at) s.0) in
       let left = decimal_injective p.left q.left (small_left p is_p) (small_left q is_q) (ap (λ (words : RequestWords). words.left) s.0) in
-      let ask = decimal_injective p.request q.request (small_request p is_p) (small_request q is_q) (ap (λ (words : RequestWords). words.ask) s.0) in
+      let ask = decimal_injective p.request q.request (small_request p is_p) (small_request q is_q)
+      (ap (λ (words : RequestWords). words.ask) s.0) in
       let same : ◌≡◌ {A = RequestRow} (record { at = p.at; left = p.left; request = p.request }) q = rw (at, left, ask) refl in
       (same, s.1)
 
   pub request_laws : RowLaws (IsRequestRow board) (λ row. row.at) (request_line board) (RequestMisread board)
   request_laws =
       row_laws (IsRequestRow board) (λ row. row.at) (request_line board) (RequestMisread board) (RequestRead board) one_request
-      (λ rest. one_step (line_step _ request_words_line rest _ (one_request_words board.pebbles board.labels (places board))) _
-      (λ words more stands. one_unless _ _ _ (one_unless _ _ _ (one_unless _ _ _ (λ v w e f. e ∙ sym f)))))
+      (λ rest. one_line _ request_words_line rest _ _ (one_request_words board.pebbles board.labels (places board))
+      (λ words more are. one_unless _ _ _ (one_unless _ _ _ (one_unless _ _ _ (λ v w e f. e ∙ sym f)))))
       (request_misread board)
       (λ row rest more is e. inr (
         request_words board row,
         more,
         (are_request_words row is, e),
-        inr (position_spelled board is_board row.at is.at, inr ((row.request, is.request, refl), inr ((row.left, omega (arith, is.left), refl), refl))),
+        inr (
+          position_spelled board is_board row.at is.at,
+          inr ((row.request, is.request, refl), inr ((row.left, omega (arith, is.left), refl), refl)),
+        ),
       ))

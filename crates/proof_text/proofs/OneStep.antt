@@ -16,7 +16,8 @@ pub record IsOneStep {X F : Type 0} (Faulty : F → Type 0) (Taken : X → List 
   pub apart : (v : F) (x : X) (more : List ℕ) → Faulty v → Taken x more → ⊥
   pub same : (x y : X) (a b : List ℕ) → Taken x a → Taken y b → (x ≡ y) × (a ≡ b)
 
-module _ {X F : Type 0} {Faulty : F → Type 0} {Taken : X → List ℕ → Type 0} (step : IsOneStep Faulty Taken) (After : X → List ℕ → F → Type 0)
+module _ {X F : Type 0} {Faulty : F → Type 0} {Taken : X → List ℕ → Type 0} (step : IsOneStep Faulty Taken)
+    (After : X → List ℕ → F → Type 0)
     (one_after : (x : X) (more : List ℕ) → Taken x more → (v w : F) → After x more v → After x more w → v ≡ w) where
   pub one_step : (v w : F) → Step Faulty Taken After v → Step Faulty Taken After w → v ≡ w
   one_step v w (inl f) (inl g) = step.one v w f g
@@ -26,20 +27,28 @@ module _ {X F : Type 0} {Faulty : F → Type 0} {Taken : X → List ℕ → Type
       let s = step.same x y a b taken taken_too in
       one_after y b taken_too v w (subst (λ (more : List ℕ). After y more v) s.1 (subst (λ (z : X). After z a v) s.0 after)) later
 
--- a line that is wanting, and one that stands here
-abbrev pub Wanting : {X F : Type 0} → (X → Type 0) → (X → List ℕ) → List ℕ → F → F → Type 0
+-- What is found where a line of the form should stand: its fault, or what it says, and what is found behind it.
+abbrev Wanting : {X F : Type 0} → (X → Type 0) → (X → List ℕ) → List ℕ → F → F → Type 0
 Wanting P form text fault found = Lacks P form text × (found ≡ fault)
 
-abbrev pub Stands : {X : Type 0} → (X → Type 0) → (X → List ℕ) → List ℕ → X → List ℕ → Type 0
+abbrev Stands : {X : Type 0} → (X → Type 0) → (X → List ℕ) → List ℕ → X → List ℕ → Type 0
 Stands P form text x more = P x × (text ≡ form x ++ more)
 
-pub line_step : {X F : Type 0} (P : X → Type 0) (form : X → List ℕ) (text : List ℕ) (fault : F) → OneReading P form
-    → IsOneStep (Wanting P form text fault) (Stands P form text)
-line_step P form text fault one = record {
-  one = λ v w f g. f.1 ∙ sym g.1;
-  apart = λ v x more f stands. f.0 x more stands.0 stands.1;
-  same = λ x y a b s t. one x y a b s.0 t.0 (sym s.1 ∙ t.1);
-}
+abbrev pub Line : {X F : Type 0} → (X → Type 0) → (X → List ℕ) → List ℕ → F → (X → List ℕ → F → Type 0) → F → Type 0
+Line P form text fault After found = Step (Wanting P form text fault) (Stands P form text) After found
+
+module _ {X F : Type 0} (P : X → Type 0) (form : X → List ℕ) (text : List ℕ) (fault : F)
+    (After : X → List ℕ → F → Type 0) (one : OneReading P form)
+    (one_after : (x : X) (more : List ℕ) → P x → (v w : F) → After x more v → After x more w → v ≡ w) where
+  line_step : IsOneStep (Wanting P form text fault) (Stands P form text)
+  line_step = record {
+    one = λ v w f g. f.1 ∙ sym g.1;
+    apart = λ v x more f stands. f.0 x more stands.0 stands.1;
+    same = λ x y a b s t. one x y a b s.0 t.0 (sym s.1 ∙ t.1);
+  }
+
+  pub one_line : (v w : F) → Line P form text fault After v → Line P form text fault After w → v ≡ w
+  one_line = one_step line_step After (λ x more stands. one_after x more stands.0)
 
 -- A fault where something isn't right, and else what is found later.
 abbrev pub Unless : {F : Type 0} → F → Type 0 → (F → Type 0) → F → Type 0
