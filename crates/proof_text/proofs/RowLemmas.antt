@@ -22,9 +22,9 @@ use Rattle.proof_text.specs.declared.row_words.AnswerValues.{AnswerValues}
 use Rattle.proof_text.specs.declared.row_words.RequestValues.{RequestValues}
 use Rattle.proof_text.specs.Proof.{IsAnswerRow, IsRequestRow, answer_row, request_row}
 use Rattle.proof_text.specs.ProofText.{turns_text, answer_line, request_line}
-use Rattle.proof_text.specs.RowWords.{AnswerWords, RequestWords, answer_words_line, request_words_line}
+use Rattle.proof_text.specs.RowWords.{AnswerWords, RequestWords, AreAnswerWords, AreRequestWords, answer_words_line, request_words_line}
 use Rattle.proof_text.specs.ProofFaults.{AnswerRowFault, RequestRowFault}
-use Rattle.proof_text.specs.Inside.Reading.{TurnsOf, NumberOf, TakesAnswerWords, TakesRequestWords}
+use Rattle.proof_text.specs.Inside.Reading.{AnswerSpelled, RequestSpelled, TurnsOf, NumberOf, TakesAnswerWords, TakesRequestWords}
 use Rattle.proof_text.specs.Inside.RowForm.{IsFrom, LineFault, RowForm, NextRow, labeller_form, adversary_form}
 use Rattle.proof_text.specs.declared.proof.TheConstants.{MOST_TURNS}
 
@@ -43,31 +43,23 @@ zero_at place =
 zero_behind : (n place : ℕ) → get_or (drop n six_zeros) place 0 ≡ 0
 zero_behind n place = get_or-drop n six_zeros place 0 ∙ zero_at (n + place)
 
-pub not_false : (b : Bool) → not b ≡ false → b ≡ true
-not_false true e = refl
-not_false false e = absurd cc
-
-pub not_true : (b : Bool) → not b ≡ true → b ≡ false
-not_true true e = absurd cc
-not_true false e = refl
-
 -- ---- places and rows that were read
 
-module _ (labels bound : ℕ) (texts : List (List ℕ)) (are : Bool) (places : List ℕ) (spell : SpellPlaces labels bound texts are places) where
-  places_misread : are ≡ false → SpellPlaces labels bound texts false places
-  places_misread wrong = subst (λ (b : Bool). SpellPlaces labels bound texts b places) wrong spell
+-- what a test that was negated tells
+misread : (Told : Bool → Type 0) (test : Bool) → Told test → not test ≡ true → Told false
+misread Told false told e = told
+misread Told true told e = absurd cc
 
-  places_read : are ≡ true → SpellPlaces labels bound texts true places
-  places_read right = subst (λ (b : Bool). SpellPlaces labels bound texts b places) right spell
+well_read : (Told : Bool → Type 0) (test : Bool) → Told test → not test ≡ false → Told true
+well_read Told true told e = told
+well_read Told false told e = absurd cc
 
-  all_spelled : are ≡ true → All (SpellsPlace labels bound) texts
-  all_spelled right =
-      let s = places_read right in
-      subst (λ (ts : List (List ℕ)). All (SpellsPlace labels bound) ts) (sym s.1) (words_spell (length places) labels bound places (refl, s.0))
+module _ (labels bound : ℕ) (texts : List (List ℕ)) (places : List ℕ) (spell : SpellPlaces labels bound texts true places) where
+  all_spelled : All (SpellsPlace labels bound) texts
+  all_spelled = rw spell.1 (words_spell (length places) labels bound places (refl, spell.0))
 
-  places_count : (count : ℕ) → length texts ≡ count → are ≡ true → AreNumbers count bound places
-  places_count count e right =
-      let s = places_read right in (sym (length-map places (place_word labels)) ∙ ap length (sym s.1) ∙ e, s.0)
+  places_count : {count : ℕ} → length texts ≡ count → AreNumbers count bound places
+  places_count e = (sym (length-map places (place_word labels)) ∙ ap length (sym spell.1) ∙ e, spell.0)
 
 -- a row that stands here
 pub record RowRead {X : Type 0} (IsRow : X → Type 0) (line : X → List ℕ) (row : X) (old new : List ℕ) : Type 0 where
@@ -78,9 +70,9 @@ pub record RowRead {X : Type 0} (IsRow : X → Type 0) (line : X → List ℕ) (
 rank_read : (board : PlainBoard) (at behind : List ℕ) (pebbles rank : ℕ) → IsConfiguration board at → pebbles ≡ board.pebbles
     → rank ≡ rank_of board (take pebbles (at ++ behind)) → configuration_at board rank ≡ at
 rank_read board at behind pebbles rank is e ranked =
-    ap (configuration_at board) (ranked ∙ ap (rank_of board) (take_at at behind pebbles (is.each_pebble ∙ sym e))) ∙ configuration_at-rank_of board at is
+    rw (ranked, take_at at behind pebbles (is.each_pebble ∙ sym e)) (configuration_at-rank_of board at is)
 
-module _ {R : Type 0} (board : PlainBoard) (form : RowForm R) (row : R) (old new : List ℕ) (least : ℕ)
+module _ {R : Type 0} (board : PlainBoard) (form : RowForm R) (least : ℕ) {row : R} {old new : List ℕ}
     (read : RowRead form.IsRow form.line row old new) (below : form.rank row < configurations board) where
   pub row_order : form.rank row < least → LineFault board form (IsFrom board least) old kinds.Order
   row_order early =
@@ -91,56 +83,70 @@ module _ {R : Type 0} (board : PlainBoard) (form : RowForm R) (row : R) (old new
 
 -- ---- a labeller's row
 
-abbrev AnswerTaken : PlainBoard → Claim → AnswerValues → List ℕ → List ℕ → List ℕ → List ℕ → Type 0
-AnswerTaken board claim values at answers old new =
-    TakesAnswerWords board.pebbles board.labels (places board) claim (Some values) at answers old new
+-- its words were taken, and they spell these values
+pub record AnswerTaken (board : PlainBoard) (claim : Claim) (values : AnswerValues) (at answers old new : List ℕ) : Type 0 where
+  words : AnswerWords
+  are : AreAnswerWords board.pebbles board.labels (places board) words
+  stands : old ≡ answer_words_line words ++ new
+  spell : AnswerSpelled board.labels (places board) claim words values at answers
 
--- the words that were taken, with the board's numbers
 pub answer_taken : (board : PlainBoard) (pebbles labels bound : ℕ) (claim : Claim) (values : AnswerValues) (at answers old new : List ℕ)
     → IsBoard board → pebbles ≡ board.pebbles → labels ≡ board.labels → bound ≡ places board
     → TakesAnswerWords (length (take pebbles six_zeros)) labels bound claim (Some values) at answers old new
     → AnswerTaken board claim values at answers old new
-answer_taken board pebbles labels bound claim values at answers old new is_board e f g taken =
+answer_taken board pebbles labels bound claim values at answers old new is_board e f g (words, are, stands, spell) =
     let count : length (take pebbles six_zeros) ≡ board.pebbles = omega (arith, length-take pebbles six_zeros, e, is_board.pebbles.1) in
-    rw (← g, ← f, ← count) taken
+    record { words = words; are = rw (← g, ← f, ← count) are; stands = stands; spell = rw (← g, ← f) spell }
 
-module _ (board : PlainBoard) (claim : Claim) (values : AnswerValues) (at answers old new : List ℕ)
+module _ {board : PlainBoard} {claim : Claim} {values : AnswerValues} {at answers old new : List ℕ}
     (taken : AnswerTaken board claim values at answers old new) where
-  pub answer_label : (MayStand : List ℕ → Type 0) → (values.are_places ≡ false) ⊎ (values.are_answers ≡ false)
+  -- what its places and its answers spell
+  abbrev PlacesAre : Bool → Type 0
+  PlacesAre right = SpellPlaces board.labels (places board) taken.words.at right at
+
+  abbrev AnswersAre : Bool → Type 0
+  AnswersAre right = SpellPlaces board.labels board.labels taken.words.take right answers
+
+  pub answer_label : (MayStand : List ℕ → Type 0) → (not values.are_places ≡ true) ⊎ (not values.are_answers ≡ true)
       → AnswerRowFault board claim MayStand old kinds.Label
   answer_label MayStand wrong = (
-    taken.0,
-    (taken.1, new, taken.2),
+    taken.words,
+    (taken.are, new, taken.stands),
     λ all. elim wrong [
-      | inl no_place ↦ places_misread board.labels (places board) taken.0.at values.are_places at taken.3.places no_place all.0
-      | inr no_label ↦ places_misread board.labels board.labels taken.0.take values.are_answers answers taken.3.taken no_label all.1
+      | inl places ↦ misread PlacesAre values.are_places taken.spell.places places all.0
+      | inr labels ↦ misread AnswersAre values.are_answers taken.spell.taken labels all.1
     ],
   )
 
-  module _ (placed : values.are_places ≡ true) (labelled : values.are_answers ≡ true) where
+  module _ (placed : not values.are_places ≡ false) (labelled : not values.are_answers ≡ false) where
+    at_read : PlacesAre true
+    at_read = well_read PlacesAre values.are_places taken.spell.places placed
+
+    take_read : AnswersAre true
+    take_read = well_read AnswersAre values.are_answers taken.spell.taken labelled
+
     pub answer_number : (MayStand : List ℕ → Type 0) → values.turns ≡ None → AnswerRowFault board claim MayStand old kinds.Number
     answer_number MayStand none = (
-      taken.0,
-      (taken.1, new, taken.2),
-      all_spelled board.labels (places board) taken.0.at values.are_places at taken.3.places placed,
-      all_spelled board.labels board.labels taken.0.take values.are_answers answers taken.3.taken labelled,
-      subst (λ (t : Option Turns). TurnsOf claim taken.0.turns t) none taken.3.turns,
+      taken.words,
+      (taken.are, new, taken.stands),
+      all_spelled board.labels (places board) taken.words.at at at_read,
+      all_spelled board.labels board.labels taken.words.take answers take_read,
+      subst (λ (t : Option Turns). TurnsOf claim taken.words.turns t) none taken.spell.turns,
     )
 
     answer_read : (turns : Turns) → values.turns ≡ Some turns
         → RowRead (IsAnswerRow board claim) (answer_line board) (record { at = at; turns = turns; answers = answers }) old new
     answer_read turns some =
-        let count = places_count board.labels (places board) taken.0.at values.are_places at taken.3.places board.pebbles taken.1.at.0 placed in
-        let p = places_read board.labels (places board) taken.0.at values.are_places at taken.3.places placed in
-        let t = places_read board.labels board.labels taken.0.take values.are_answers answers taken.3.taken labelled in
-        let n : TurnsOf claim taken.0.turns (Some turns) = subst (λ (m : Option Turns). TurnsOf claim taken.0.turns m) some taken.3.turns in
+        let is_at = places_count board.labels (places board) taken.words.at at at_read taken.are.at.0 in
+        let n : TurnsOf claim taken.words.turns (Some turns) =
+        subst (λ (t : Option Turns). TurnsOf claim taken.words.turns t) some taken.spell.turns in
         record {
           is = record {
-            at = record { each_pebble = count.0; each_place = count.1 };
+            at = record { each_pebble = is_at.0; each_place = is_at.1 };
             turns = n.0;
-            answers = places_count board.labels board.labels taken.0.take values.are_answers answers taken.3.taken board.pebbles taken.1.take.0 labelled;
+            answers = places_count board.labels board.labels taken.words.take answers take_read taken.are.take.0;
           };
-          spelled = rw (← p.1, ← n.1, ← t.1) taken.2;
+          spelled = rw (← at_read.1, ← n.1, ← take_read.1) taken.stands;
         }
 
     -- the row, with its configuration's rank and the zeros behind its answers
@@ -165,60 +171,67 @@ module _ (board : PlainBoard) (claim : Claim) (values : AnswerValues) (at answer
 
 -- ---- an adversary's row
 
-abbrev RequestTaken : PlainBoard → RequestValues → List ℕ → List ℕ → List ℕ → Type 0
-RequestTaken board values at old new = TakesRequestWords board.pebbles board.labels (places board) (Some values) at old new
+pub record RequestTaken (board : PlainBoard) (values : RequestValues) (at old new : List ℕ) : Type 0 where
+  words : RequestWords
+  are : AreRequestWords board.pebbles board.labels (places board) words
+  stands : old ≡ request_words_line words ++ new
+  spell : RequestSpelled board.labels (places board) board.pebbles words values at
 
-pub request_taken : (board : PlainBoard) (pebbles labels bound : ℕ) (values : RequestValues) (at old new : List ℕ)
-    → pebbles ≡ board.pebbles → labels ≡ board.labels → bound ≡ places board → TakesRequestWords pebbles labels bound (Some values) at old new
+pub request_taken : (board : PlainBoard) (pebbles labels bound : ℕ) (values : RequestValues) (at old new : List ℕ) → pebbles ≡ board.pebbles
+    → labels ≡ board.labels → bound ≡ places board → TakesRequestWords pebbles labels bound (Some values) at old new
     → RequestTaken board values at old new
-request_taken board pebbles labels bound values at old new e f g taken = rw (← g, ← f, ← e) taken
+request_taken board pebbles labels bound values at old new e f g (words, are, stands, spell) =
+    record { words = words; are = rw (← g, ← f, ← e) are; stands = stands; spell = rw (← g, ← f, ← e) spell }
 
-module _ (board : PlainBoard) (values : RequestValues) (at old new : List ℕ) (taken : RequestTaken board values at old new) where
-  pub request_label : (MayStand : List ℕ → Type 0) → values.are_places ≡ false → RequestRowFault board MayStand old kinds.Label
+module _ {board : PlainBoard} {values : RequestValues} {at old new : List ℕ} (taken : RequestTaken board values at old new) where
+  abbrev StandsAt : Bool → Type 0
+  StandsAt right = SpellPlaces board.labels (places board) taken.words.at right at
+
+  pub request_label : (MayStand : List ℕ → Type 0) → not values.are_places ≡ true → RequestRowFault board MayStand old kinds.Label
   request_label MayStand wrong =
-      (taken.0, (taken.1, new, taken.2), places_misread board.labels (places board) taken.0.at values.are_places at taken.3.places wrong)
+      (taken.words, (taken.are, new, taken.stands), misread StandsAt values.are_places taken.spell.places wrong)
 
-  module _ (placed : values.are_places ≡ true) where
+  module _ (placed : not values.are_places ≡ false) where
+    place_read : StandsAt true
+    place_read = well_read StandsAt values.are_places taken.spell.places placed
+
     pub request_pebble : (MayStand : List ℕ → Type 0) → values.ask ≡ None → RequestRowFault board MayStand old kinds.Pebble
     request_pebble MayStand none = (
-      taken.0,
-      (taken.1, new, taken.2),
-      all_spelled board.labels (places board) taken.0.at values.are_places at taken.3.places placed,
-      subst (λ (n : Option ℕ). NumberOf board.pebbles taken.0.ask n) none taken.3.pebble,
+      taken.words,
+      (taken.are, new, taken.stands),
+      all_spelled board.labels (places board) taken.words.at at place_read,
+      subst (λ (n : Option ℕ). NumberOf board.pebbles taken.words.ask n) none taken.spell.pebble,
     )
 
     module _ (ask : ℕ) (some_ask : values.ask ≡ Some ask) where
-      pebble_read : NumberOf board.pebbles taken.0.ask (Some ask)
-      pebble_read = subst (λ (n : Option ℕ). NumberOf board.pebbles taken.0.ask n) some_ask taken.3.pebble
+      pebble_read : NumberOf board.pebbles taken.words.ask (Some ask)
+      pebble_read = subst (λ (n : Option ℕ). NumberOf board.pebbles taken.words.ask n) some_ask taken.spell.pebble
 
       pub request_number : (MayStand : List ℕ → Type 0) → values.left ≡ None → RequestRowFault board MayStand old kinds.Number
       request_number MayStand none = (
-        taken.0,
-        (taken.1, new, taken.2),
-        all_spelled board.labels (places board) taken.0.at values.are_places at taken.3.places placed,
+        taken.words,
+        (taken.are, new, taken.stands),
+        all_spelled board.labels (places board) taken.words.at at place_read,
         (ask, pebble_read.0, pebble_read.1),
-        subst (λ (n : Option ℕ). NumberOf (MOST_TURNS + 1) taken.0.left n) none taken.3.number,
+        subst (λ (n : Option ℕ). NumberOf (MOST_TURNS + 1) taken.words.left n) none taken.spell.number,
       )
 
       request_read : (left : ℕ) → values.left ≡ Some left
           → RowRead (IsRequestRow board) (request_line board) (record { at = at; left = left; request = ask }) old new
       request_read left some =
-          let count = places_count board.labels (places board) taken.0.at values.are_places at taken.3.places board.pebbles taken.1.at.0 placed in
-          let p = places_read board.labels (places board) taken.0.at values.are_places at taken.3.places placed in
-          let n : NumberOf (MOST_TURNS + 1) taken.0.left (Some left) =
-          subst (λ (m : Option ℕ). NumberOf (MOST_TURNS + 1) taken.0.left m) some taken.3.number in
+          let is_at = places_count board.labels (places board) taken.words.at at place_read taken.are.at.0 in
+          let n : NumberOf (MOST_TURNS + 1) taken.words.left (Some left) =
+          subst (λ (m : Option ℕ). NumberOf (MOST_TURNS + 1) taken.words.left m) some taken.spell.number in
           record {
-            is = record { at = record { each_pebble = count.0; each_place = count.1 }; left = omega (arith, n.0); request = pebble_read.0 };
-            spelled = rw (← p.1, ← n.1, ← pebble_read.1) taken.2;
+            is = record { at = record { each_pebble = is_at.0; each_place = is_at.1 }; left = omega (arith, n.0); request = pebble_read.0 };
+            spelled = rw (← place_read.1, ← n.1, ← pebble_read.1) taken.stands;
           }
 
       pub ranked_request : (claim : Claim) (left pebbles rank : ℕ) → values.left ≡ Some left → pebbles ≡ board.pebbles
           → rank ≡ rank_of board (take pebbles (at ++ drop pebbles six_zeros))
-          → RowRead (adversary_form board claim).IsRow (adversary_form board claim).line (record { at = rank; left = left; ask = ask }) old new
+          → RowRead (adversary_form board claim).IsRow (adversary_form board claim).line (record { at = rank; left = left; ask = ask })
+          old new
       ranked_request claim left pebbles rank some e ranked =
           let read = request_read left some in
-          let same = sym (rank_read board at (drop pebbles six_zeros) pebbles rank read.is.at e ranked) in
-          record {
-            is = subst (λ (c : List ℕ). IsRequestRow board (record { at = c; left = left; request = ask })) same read.is;
-            spelled = subst (λ (c : List ℕ). old ≡ request_line board (record { at = c; left = left; request = ask }) ++ new) same read.spelled;
-          }
+          let same = rank_read board at (drop pebbles six_zeros) pebbles rank read.is.at e ranked in
+          record { is = rw same read.is; spelled = rw same read.spelled }

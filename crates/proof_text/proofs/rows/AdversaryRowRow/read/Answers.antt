@@ -3,7 +3,7 @@ use Rattle.board_text.specs.PlainBoard.{places}
 use Rattle.board_text.proofs.Cited.{labels_and_places}
 use Rattle.positions.specs.Ranks.{rank_of}
 use Rattle.proof_text.specs.Inside.RowForm.{IsFrom, adversary_form}
-use Rattle.proof_text.proofs.RowLemmas.{not_false, not_true, ranked_request, request_label, request_number, request_pebble, request_taken, row_next, row_order}
+use Rattle.proof_text.proofs.RowLemmas.{ranked_request, request_label, request_number, request_pebble, request_taken, row_next, row_order}
 use Rattle.proof_text.proofs.rows.AdversaryRowRow.read.Goals as goal
 
 pub returns-then-not-values : goal.returns-then-not-values
@@ -11,44 +11,40 @@ returns-then-not-values c =
     let board = c.args.space.now in
     let taken = request_taken board _ _ _ c.in-Some.values c.request_words.new.at c.args.text.now c.request_words.new.text
     c.pebbles-pebbles.ensures.value c.labels.ensures.value c.places.ensures.value c.in-Some.ensures in
-    request_label board c.in-Some.values c.request_words.new.at c.args.text.now c.request_words.new.text taken (IsFrom board c.args.least)
-    (not_true c.in-Some.values.are_places c.if-not-values.true)
+    request_label taken (IsFrom board c.args.least) c.if-not-values.true
 
 pub returns-in_default-ask : goal.returns-in_default-ask
 returns-in_default-ask c =
     let board = c.args.space.now in
     let taken = request_taken board _ _ _ c.in-Some.values c.request_words.new.at c.args.text.now c.request_words.new.text
     c.pebbles-pebbles.ensures.value c.labels.ensures.value c.places.ensures.value c.in-Some.ensures in
-    request_pebble board c.in-Some.values c.request_words.new.at c.args.text.now c.request_words.new.text taken
-    (not_false c.in-Some.values.are_places c.if-not-values.false) (IsFrom board c.args.least) c.in_default-ask.is
+    request_pebble taken c.if-not-values.false (IsFrom board c.args.least) c.in_default-ask.is
 
 pub returns-in_default-left : goal.returns-in_default-left
 returns-in_default-left c =
     let board = c.args.space.now in
     let taken = request_taken board _ _ _ c.in-Some.values c.request_words.new.at c.args.text.now c.request_words.new.text
     c.pebbles-pebbles.ensures.value c.labels.ensures.value c.places.ensures.value c.in-Some.ensures in
-    request_number board c.in-Some.values c.request_words.new.at c.args.text.now c.request_words.new.text taken
-    (not_false c.in-Some.values.are_places c.if-not-values.false) c.in-Some-ask.ask c.in-Some-ask.is (IsFrom board c.args.least) c.in_default-left.is
+    request_number taken c.if-not-values.false c.in-Some-ask.ask c.in-Some-ask.is (IsFrom board c.args.least) c.in_default-left.is
 
 pub returns-then-rank-least : goal.returns-then-rank-least
 returns-then-rank-least c =
     let board = c.args.space.now in
     let taken = request_taken board _ _ _ c.in-Some.values c.request_words.new.at c.args.text.now c.request_words.new.text
     c.pebbles-pebbles.ensures.value c.labels.ensures.value c.places.ensures.value c.in-Some.ensures in
-    let read = ranked_request board c.in-Some.values c.request_words.new.at c.args.text.now c.request_words.new.text taken
-    (not_false c.in-Some.values.are_places c.if-not-values.false) c.in-Some-ask.ask c.in-Some-ask.is c.args._claim
-    c.in-Some-left.left c.pebbles-pebbles.result c.rank-rank.result c.in-Some-left.is c.pebbles-pebbles.ensures.value c.rank-rank.ensures.rank in
-    row_order board (adversary_form board c.args._claim) _ _ _ c.args.least read c.rank-rank.ensures.below c.if-rank-least.true
+    let read = ranked_request taken c.if-not-values.false c.in-Some-ask.ask c.in-Some-ask.is c.args._claim
+    c.in-Some-left.left _ c.rank-rank.result c.in-Some-left.is c.pebbles-pebbles.ensures.value c.rank-rank.ensures.rank in
+    row_order board (adversary_form board c.args._claim) c.args.least read c.rank-rank.ensures.below c.if-rank-least.true
 
 pub returns : goal.returns
 returns c =
     let board = c.args.space.now in
     let taken = request_taken board _ _ _ c.in-Some.values c.request_words.new.at c.args.text.now c.request_words.new.text
     c.pebbles-pebbles.ensures.value c.labels.ensures.value c.places.ensures.value c.in-Some.ensures in
-    let read = ranked_request board c.in-Some.values c.request_words.new.at c.args.text.now c.request_words.new.text taken
-    (not_false c.in-Some.values.are_places c.if-not-values.false) c.in-Some-ask.ask c.in-Some-ask.is c.args._claim
-    c.in-Some-left.left c.pebbles-pebbles.result c.rank-rank.result c.in-Some-left.is c.pebbles-pebbles.ensures.value c.rank-rank.ensures.rank in
-    row_next board (adversary_form board c.args._claim) _ _ _ c.args.least read c.rank-rank.ensures.below c.pebbles-pebbles.ensures.few c.if-rank-least.false
+    let read = ranked_request taken c.if-not-values.false c.in-Some-ask.ask c.in-Some-ask.is c.args._claim
+    c.in-Some-left.left _ c.rank-rank.result c.in-Some-left.is c.pebbles-pebbles.ensures.value c.rank-rank.ensures.rank in
+    row_next board (adversary_form board c.args._claim) c.args.least read c.rank-rank.ensures.below
+    c.pebbles-pebbles.ensures.few c.if-rank-least.false
 
 pub request_words-requires-clause-places : goal.request_words-requires-clause-places
 request_words-requires-clause-places c =

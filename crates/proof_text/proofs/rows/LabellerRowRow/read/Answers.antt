@@ -4,48 +4,50 @@ use Rattle.board_text.specs.declared.board.TheConstants.{MAX_PEBBLES}
 use Rattle.board_text.proofs.Cited.{labels_and_places}
 use Rattle.positions.specs.Ranks.{rank_of}
 use Rattle.proof_text.specs.Inside.RowForm.{IsFrom, labeller_form}
-use Rattle.proof_text.proofs.RowLemmas.{answer_label, answer_number, answer_taken, not_false, not_true, ranked_answer, row_next, row_order}
+use Rattle.proof_text.proofs.RowLemmas.{answer_label, answer_number, answer_taken, ranked_answer, row_next, row_order}
 use Rattle.proof_text.proofs.rows.LabellerRowRow.read.Goals as goal
 use Rattle.proof_text.proofs.rows.LabellerRowRow.read.Goals.{then-not-values-via-then-not-values, then-not-values-via-else-not-values+then-not-values-2}
 
 pub returns-then-not-values : goal.returns-then-not-values
 returns-then-not-values c =
     let board = c.args.space.now in
-    let taken = answer_taken board _ _ _ c.args.claim c.in-Some.values c.answer_words.new.at c.answer_words.new.take c.args.text.now c.answer_words.new.text
+    let taken = answer_taken board _ _ _ c.args.claim c.in-Some.values c.answer_words.new.at c.answer_words.new.take
+    c.args.text.now c.answer_words.new.text
     c.pebbles-pebbles.ensures.is_board c.pebbles-pebbles.ensures.value c.labels.ensures.value c.places.ensures.value c.in-Some.ensures in
-    answer_label board c.args.claim c.in-Some.values c.answer_words.new.at c.answer_words.new.take c.args.text.now c.answer_words.new.text taken (IsFrom board c.args.least)
+    answer_label taken (IsFrom board c.args.least)
     (elim c.then-not-values.branch [
-      | then-not-values-via-then-not-values w ↦ inl (not_true c.in-Some.values.are_places w.if-not-values.true)
-      | then-not-values-via-else-not-values+then-not-values-2 w ↦ inr (not_true c.in-Some.values.are_answers w.if-not-values-2.true)
+      | then-not-values-via-then-not-values w ↦ inl w.if-not-values.true
+      | then-not-values-via-else-not-values+then-not-values-2 w ↦ inr w.if-not-values-2.true
     ])
 
 pub returns-in_default-turns : goal.returns-in_default-turns
 returns-in_default-turns c =
     let board = c.args.space.now in
-    let taken = answer_taken board _ _ _ c.args.claim c.in-Some.values c.answer_words.new.at c.answer_words.new.take c.args.text.now c.answer_words.new.text
+    let taken = answer_taken board _ _ _ c.args.claim c.in-Some.values c.answer_words.new.at c.answer_words.new.take
+    c.args.text.now c.answer_words.new.text
     c.pebbles-pebbles.ensures.is_board c.pebbles-pebbles.ensures.value c.labels.ensures.value c.places.ensures.value c.in-Some.ensures in
-    answer_number board c.args.claim c.in-Some.values c.answer_words.new.at c.answer_words.new.take c.args.text.now c.answer_words.new.text taken
-    (not_false c.in-Some.values.are_places c.if-not-values.false) (not_false c.in-Some.values.are_answers c.if-not-values-2.false) (IsFrom board c.args.least) c.in_default-turns.is
+    answer_number taken c.if-not-values.false c.if-not-values-2.false (IsFrom board c.args.least) c.in_default-turns.is
 
 pub returns-then-rank-least : goal.returns-then-rank-least
 returns-then-rank-least c =
     let board = c.args.space.now in
-    let taken = answer_taken board _ _ _ c.args.claim c.in-Some.values c.answer_words.new.at c.answer_words.new.take c.args.text.now c.answer_words.new.text
+    let taken = answer_taken board _ _ _ c.args.claim c.in-Some.values c.answer_words.new.at c.answer_words.new.take
+    c.args.text.now c.answer_words.new.text
     c.pebbles-pebbles.ensures.is_board c.pebbles-pebbles.ensures.value c.labels.ensures.value c.places.ensures.value c.in-Some.ensures in
-    let read = ranked_answer board c.args.claim c.in-Some.values c.answer_words.new.at c.answer_words.new.take c.args.text.now c.answer_words.new.text taken
-    (not_false c.in-Some.values.are_places c.if-not-values.false) (not_false c.in-Some.values.are_answers c.if-not-values-2.false)
-    c.in-Some-turns.turns c.pebbles-pebbles.result c.rank-rank.result c.in-Some-turns.is c.pebbles-pebbles.ensures.value c.rank-rank.ensures.rank in
-    row_order board (labeller_form board c.args.claim) _ _ _ c.args.least read c.rank-rank.ensures.below c.if-rank-least.true
+    let read = ranked_answer taken c.if-not-values.false c.if-not-values-2.false c.in-Some-turns.turns _ c.rank-rank.result
+    c.in-Some-turns.is c.pebbles-pebbles.ensures.value c.rank-rank.ensures.rank in
+    row_order board (labeller_form board c.args.claim) c.args.least read c.rank-rank.ensures.below c.if-rank-least.true
 
 pub returns : goal.returns
 returns c =
     let board = c.args.space.now in
-    let taken = answer_taken board _ _ _ c.args.claim c.in-Some.values c.answer_words.new.at c.answer_words.new.take c.args.text.now c.answer_words.new.text
+    let taken = answer_taken board _ _ _ c.args.claim c.in-Some.values c.answer_words.new.at c.answer_words.new.take
+    c.args.text.now c.answer_words.new.text
     c.pebbles-pebbles.ensures.is_board c.pebbles-pebbles.ensures.value c.labels.ensures.value c.places.ensures.value c.in-Some.ensures in
-    let read = ranked_answer board c.args.claim c.in-Some.values c.answer_words.new.at c.answer_words.new.take c.args.text.now c.answer_words.new.text taken
-    (not_false c.in-Some.values.are_places c.if-not-values.false) (not_false c.in-Some.values.are_answers c.if-not-values-2.false)
-    c.in-Some-turns.turns c.pebbles-pebbles.result c.rank-rank.result c.in-Some-turns.is c.pebbles-pebbles.ensures.value c.rank-rank.ensures.rank in
-    row_next board (labeller_form board c.args.claim) _ _ _ c.args.least read c.rank-rank.ensures.below c.pebbles-pebbles.ensures.few c.if-rank-least.false
+    let read = ranked_answer taken c.if-not-values.false c.if-not-values-2.false c.in-Some-turns.turns _ c.rank-rank.result
+    c.in-Some-turns.is c.pebbles-pebbles.ensures.value c.rank-rank.ensures.rank in
+    row_next board (labeller_form board c.args.claim) c.args.least read c.rank-rank.ensures.below
+    c.pebbles-pebbles.ensures.few c.if-rank-least.false
 
 pub answer_words-requires-clause-places : goal.answer_words-requires-clause-places
 answer_words-requires-clause-places c =
