@@ -1,27 +1,24 @@
 -- From the words of a row to the row, or to its fault.
-use Rattle.std.proofs.Common.{◌≡◌, ℕ, ◌+◌, ◌-◌, ◌<◌, ◌≤◌, ◌⊎◌, Bool, true, false, List, [], ◌∷◌, ◌++◌, Option, Some, None, length, map, take, drop, get_or, All, refl, sym, ap, subst, ◌∙◌, arith, inl, inr}
-use Rattle.std.specs.Fmt.{decimal}
+use Rattle.std.proofs.Common.{◌≡◌, ℕ, ◌+◌, ◌-◌, ◌<◌, ◌≤◌, ◌⊎◌, Bool, true, false, List, [], ◌∷◌, ◌++◌, Option, Some, None, length, take, drop, get_or, All, refl, sym, ap, subst, ◌∙◌, arith, inl, inr}
 use Rattle.std.proofs.lemmas.List.{length-map, length-take, take_at, get_or-append_right, get_or-drop, get_or-replicate, get_or_past}
 use Rattle.std.proofs.lemmas.Bool.{cases_lt}
 use Rattle.std.specs.Prelude.{not, Ok}
 use Rattle.board_text.specs.Ranges.{AreNumbers}
 use Rattle.board_text.specs.PlaceForms.{place_word, SpellsPlace, SpellPlaces}
 use Rattle.board_text.specs.PlainBoard.{PlainBoard, IsBoard, IsConfiguration, places}
-use Rattle.board_text.specs.declared.board.TheConstants.{MAX_PEBBLES}
 use Rattle.board_text.proofs.Cited.{words_spell}
 use Rattle.positions.specs.declared.claim.Claim.{Claim}
 use Rattle.positions.specs.declared.turns.Turns.{Turns}
-use Rattle.positions.specs.Table.{AnswerRow, RequestRow}
+use Rattle.positions.specs.Table.{AnswerRow}
 use Rattle.positions.specs.Ranks.{rank_of, configuration_at, configurations}
 use Rattle.positions.specs.declared.space.TheConstants.{MAX_CONFIGURATIONS}
 use Rattle.positions.proofs.Cited.{configuration_at-rank_of, rank_of-configuration_at}
 use Rattle.proof_text.specs.declared.fault.ProofKind.TheVariants as kinds
 use Rattle.proof_text.specs.declared.proof.LabellerRow.{LabellerRow}
-use Rattle.proof_text.specs.declared.proof.AdversaryRow.{AdversaryRow}
 use Rattle.proof_text.specs.declared.row_words.AnswerValues.{AnswerValues}
 use Rattle.proof_text.specs.declared.row_words.RequestValues.{RequestValues}
-use Rattle.proof_text.specs.Proof.{IsAnswerRow, IsRequestRow, answer_row, request_row}
-use Rattle.proof_text.specs.ProofText.{turns_text, answer_line, request_line}
+use Rattle.proof_text.specs.Proof.{IsAnswerRow, IsRequestRow, answer_row}
+use Rattle.proof_text.specs.ProofText.{answer_line, request_line}
 use Rattle.proof_text.specs.RowWords.{AnswerWords, RequestWords, AreAnswerWords, AreRequestWords, answer_words_line, request_words_line}
 use Rattle.proof_text.specs.ProofFaults.{AnswerRowFault, RequestRowFault}
 use Rattle.proof_text.specs.Inside.Reading.{AnswerSpelled, RequestSpelled, TurnsOf, NumberOf, TakesAnswerWords, TakesRequestWords}

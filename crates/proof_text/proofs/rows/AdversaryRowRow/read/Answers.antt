@@ -1,7 +1,5 @@
-use Rattle.std.proofs.Common.{arith, drop, ap, sym, ◌∙◌}
-use Rattle.board_text.specs.PlainBoard.{places}
+use Rattle.std.proofs.Common.{arith}
 use Rattle.board_text.proofs.Cited.{labels_and_places}
-use Rattle.positions.specs.Ranks.{rank_of}
 use Rattle.proof_text.specs.Inside.RowForm.{IsFrom, adversary_form}
 use Rattle.proof_text.proofs.RowLemmas.{ranked_request, request_label, request_number, request_pebble, request_taken, row_next, row_order}
 use Rattle.proof_text.proofs.rows.AdversaryRowRow.read.Goals as goal

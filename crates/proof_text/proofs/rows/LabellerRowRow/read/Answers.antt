@@ -1,8 +1,5 @@
-use Rattle.std.proofs.Common.{◌≤◌, drop, ap, sym, ◌∙◌, inl, inr, arith}
-use Rattle.board_text.specs.PlainBoard.{places}
-use Rattle.board_text.specs.declared.board.TheConstants.{MAX_PEBBLES}
+use Rattle.std.proofs.Common.{inl, inr, arith}
 use Rattle.board_text.proofs.Cited.{labels_and_places}
-use Rattle.positions.specs.Ranks.{rank_of}
 use Rattle.proof_text.specs.Inside.RowForm.{IsFrom, labeller_form}
 use Rattle.proof_text.proofs.RowLemmas.{answer_label, answer_number, answer_taken, ranked_answer, row_next, row_order}
 use Rattle.proof_text.proofs.rows.LabellerRowRow.read.Goals as goal
