@@ -1,8 +1,10 @@
 -- From the words of a row to the row, or to its fault.
-use Rattle.std.proofs.Common.{◌≡◌, ℕ, ◌+◌, ◌-◌, ◌<◌, ◌≤◌, ◌⊎◌, Bool, true, false, List, [], ◌∷◌, ◌++◌, Option, Some, None, length, take, drop, get_or, All, refl, sym, ap, subst, ◌∙◌, arith, inl, inr}
+use Rattle.std.proofs.Common.{◌≡◌, ℕ, ◌+◌, ◌-◌, ◌<◌, ◌≤◌, ◌⊎◌, Bool, true, false, List, [], ◌∷◌, ◌++◌, Option, Some, None, length, take, drop, get_or, All, refl, sym, ap, subst, ◌∙◌, append_assoc, cond, arith, inl, inr}
 use Rattle.std.proofs.lemmas.List.{length-map, length-take, take_at, get_or-append_right, get_or-drop, get_or-replicate, get_or_past}
 use Rattle.std.proofs.lemmas.Bool.{cases_lt}
-use Rattle.std.specs.Prelude.{not, Ok}
+use Rattle.std.specs.Prelude.{not, Result, Ok, Err, OnOk}
+use Rattle.std.specs.Result.{is_ok}
+use Rattle.board_text.specs.LineForms.{closed}
 use Rattle.board_text.specs.Ranges.{AreNumbers}
 use Rattle.board_text.specs.PlaceForms.{place_word, SpellsPlace, SpellPlaces}
 use Rattle.board_text.specs.PlainBoard.{PlainBoard, IsBoard, IsConfiguration, places}
@@ -232,3 +234,12 @@ module _ {board : PlainBoard} {values : RequestValues} {at old new : List ℕ} (
           let read = request_read left some in
           let same = rank_read board at (drop pebbles six_zeros) pebbles rank read.is.at e ranked in
           record { is = rw same read.is; spelled = rw same read.spelled }
+
+-- ---- a line that is written
+
+-- part by part, and closed where memory lasts
+pub line_written : {T E : Type 0} (r : Result T E) (a b c d e f t0 t1 t2 t3 t4 t5 t6 t7 : List ℕ) → t1 ≡ t0 ++ a → t2 ≡ t1 ++ b
+    → t3 ≡ t2 ++ c → t4 ≡ t3 ++ d → t5 ≡ t4 ++ e → t6 ≡ t5 ++ f → t7 ≡ cond (is_ok r) (t6 ++ 10 ∷ []) t6
+    → OnOk r (t7 ≡ t0 ++ closed (a ++ (b ++ (c ++ (d ++ (e ++ f))))))
+line_written (Ok x) a b c d e f t0 t1 t2 t3 t4 t5 t6 t7 p q r s t u v = rw (v, u, t, s, r, q, p) (simp append_assoc)
+line_written (Err x) a b c d e f t0 t1 t2 t3 t4 t5 t6 t7 p q r s t u v = tt
