@@ -23,7 +23,7 @@ use Rattle.proof_text.specs.Proof.{IsAnswerRow, IsRequestRow, answer_row}
 use Rattle.proof_text.specs.ProofText.{answer_line, request_line}
 use Rattle.proof_text.specs.RowWords.{AnswerWords, RequestWords, AreAnswerWords, AreRequestWords, answer_words_line, request_words_line}
 use Rattle.proof_text.specs.ProofFaults.{AnswerRowFault, RequestRowFault}
-use Rattle.proof_text.specs.Inside.Reading.{AnswerSpelled, RequestSpelled, TurnsOf, NumberOf, TakesAnswerWords, TakesRequestWords}
+use Rattle.proof_text.specs.Inside.Reading.{AnswerSpelled, RequestSpelled, TurnsOf, NumberOf}
 use Rattle.proof_text.specs.Inside.RowForm.{IsFrom, LineFault, RowForm, NextRow, labeller_form, adversary_form}
 use Rattle.proof_text.specs.declared.proof.TheConstants.{MOST_TURNS}
 
@@ -89,11 +89,12 @@ pub record AnswerTaken (board : PlainBoard) (claim : Claim) (values : AnswerValu
   stands : old ≡ answer_words_line words ++ new
   spell : AnswerSpelled board.labels (places board) claim words values at answers
 
-pub answer_taken : (board : PlainBoard) (pebbles labels bound : ℕ) (claim : Claim) (values : AnswerValues) (at answers old new : List ℕ)
+pub answer_taken : (board : PlainBoard) {pebbles labels bound : ℕ} {claim : Claim} {values : AnswerValues} {at answers old new : List ℕ}
     → IsBoard board → pebbles ≡ board.pebbles → labels ≡ board.labels → bound ≡ places board
-    → TakesAnswerWords (length (take pebbles six_zeros)) labels bound claim (Some values) at answers old new
+    → (words : AnswerWords) × AreAnswerWords (length (take pebbles six_zeros)) labels bound words × (old ≡ answer_words_line words ++ new)
+    × AnswerSpelled labels bound claim words values at answers
     → AnswerTaken board claim values at answers old new
-answer_taken board pebbles labels bound claim values at answers old new is_board e f g (words, are, stands, spell) =
+answer_taken board {pebbles} is_board e f g (words, are, stands, spell) =
     let count : length (take pebbles six_zeros) ≡ board.pebbles = omega (arith, length-take pebbles six_zeros, e, is_board.pebbles.1) in
     record { words = words; are = rw (← g, ← f, ← count) are; stands = stands; spell = rw (← g, ← f) spell }
 
@@ -176,10 +177,12 @@ pub record RequestTaken (board : PlainBoard) (values : RequestValues) (at old ne
   stands : old ≡ request_words_line words ++ new
   spell : RequestSpelled board.labels (places board) board.pebbles words values at
 
-pub request_taken : (board : PlainBoard) (pebbles labels bound : ℕ) (values : RequestValues) (at old new : List ℕ) → pebbles ≡ board.pebbles
-    → labels ≡ board.labels → bound ≡ places board → TakesRequestWords pebbles labels bound (Some values) at old new
+pub request_taken : (board : PlainBoard) {pebbles labels bound : ℕ} {values : RequestValues} {at old new : List ℕ} → pebbles ≡ board.pebbles
+    → labels ≡ board.labels → bound ≡ places board
+    → (words : RequestWords) × AreRequestWords pebbles labels bound words × (old ≡ request_words_line words ++ new)
+    × RequestSpelled labels bound pebbles words values at
     → RequestTaken board values at old new
-request_taken board pebbles labels bound values at old new e f g (words, are, stands, spell) =
+request_taken board e f g (words, are, stands, spell) =
     record { words = words; are = rw (← g, ← f, ← e) are; stands = stands; spell = rw (← g, ← f, ← e) spell }
 
 module _ {board : PlainBoard} {values : RequestValues} {at old new : List ℕ} (taken : RequestTaken board values at old new) where

@@ -31,9 +31,6 @@ follows_all {X} board at rows configuration ascending follows k d lt =
       | inr last_one ↦ let same : n ≡ k = omega arith in subst (λ (i : ℕ). IsBefore board (at (get_or rows i d)) configuration) same last
     ]
 
-pub rows_none : {X : Type 0} (board : PlainBoard) (IsRow : X → Type 0) (at : X → List ℕ) → AreRows board IsRow at []
-rows_none board IsRow at = record { few = omega arith; each = All-nil IsRow; ascending = λ i j d less below. absurd (omega arith) }
-
 pub rows_push : {X : Type 0} (board : PlainBoard) (IsRow : X → Type 0) (at : X → List ℕ) (rows : List X) (row : X)
     → AreRows board IsRow at rows → IsRow row → MayFollow board at rows (at row) → length rows < MAX_CONFIGURATIONS → AreRows board IsRow at (rows ++ row ∷ [])
 rows_push board IsRow at rows row are is follows few = record {
@@ -47,22 +44,14 @@ last_is {X} rows before row last e =
     let same : length before ≡ length rows = omega (arith, ap length e, length_push rows row, length_push before last) in
     sym (get_or_at rows row [] row (length rows) refl) ∙ ap (λ (l : List X). get_or l (length rows) row) e ∙ get_or_at before last [] row (length rows) same
 
--- what may follow where a row is the last
-pub follows_last : {X : Type 0} (board : PlainBoard) (at : X → List ℕ) (rows : List X) (row : X) (configuration : List ℕ) → IsBefore board (at row) configuration → MayFollow board at (rows ++ row ∷ []) configuration
-follows_last {X} board at rows row configuration lt before last e =
-    subst (λ (x : X). IsBefore board (at x) configuration) (last_is rows before row last e) lt
-
-pub last_before : {X : Type 0} (board : PlainBoard) (at : X → List ℕ) (rows : List X) (row : X) (configuration : List ℕ) → MayFollow board at (rows ++ row ∷ []) configuration → IsBefore board (at row) configuration
-last_before board at rows row configuration follows = follows rows row refl
-
 -- the rows so far, where ranks may follow from the least on
 abbrev pub FollowsFrom : {X : Type 0} → PlainBoard → (X → List ℕ) → List X → ℕ → Type 0
 FollowsFrom board at rows least = (configuration : List ℕ) → (MayFollow board at rows configuration → least ≤ rank_of board configuration) × (least ≤ rank_of board configuration → MayFollow board at rows configuration)
 
 pub from_push : {X : Type 0} (board : PlainBoard) (at : X → List ℕ) (rows : List X) (row : X) (rank : ℕ) → rank_of board (at row) ≡ rank → FollowsFrom board at (rows ++ row ∷ []) (rank + 1)
-from_push board at rows row rank e configuration = (
-  λ h. let lt : rank_of board (at row) < rank_of board configuration = last_before board at rows row configuration h in omega (arith, e, lt),
-  λ h. follows_last board at rows row configuration (omega (arith, e, h)),
+from_push {X} board at rows row rank e configuration = (
+  λ follows. let after : rank_of board (at row) < rank_of board configuration = follows rows row refl in omega (arith, e, after),
+  λ least before last same. subst (λ (x : X). IsBefore board (at x) configuration) (last_is rows before row last same) (omega (arith, e, least)),
 )
 
 -- one more row
@@ -78,7 +67,12 @@ come_push board IsRow at section_line row_line text count least rows row rest ne
 
 pub come_none : {X : Type 0} (board : PlainBoard) (IsRow : X → Type 0) (at : X → List ℕ) (section_line : ℕ → List ℕ) (row_line : X → List ℕ) (text : List ℕ) (count : ℕ) (rest : List ℕ)
     → count ≤ MAX_CONFIGURATIONS → text ≡ section_line count ++ rest → RowsCome board IsRow at section_line row_line text count [] rest
-come_none board IsRow at section_line row_line text count rest few e = record { few = few; come = omega arith; are_rows = rows_none board IsRow at; spelled = e }
+come_none board IsRow at section_line row_line text count rest few e = record {
+  few = few;
+  come = omega arith;
+  are_rows = record { few = omega arith; each = All-nil IsRow; ascending = λ i j d less below. absurd (omega arith) };
+  spelled = e;
+}
 
 -- ---- rows that name their configurations by ranks
 

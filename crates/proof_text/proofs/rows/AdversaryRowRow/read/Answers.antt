@@ -7,29 +7,25 @@ use Rattle.proof_text.proofs.rows.AdversaryRowRow.read.Goals as goal
 pub returns-then-not-values : goal.returns-then-not-values
 returns-then-not-values c =
     let board = c.args.space.now in
-    let taken = request_taken board _ _ _ c.in-Some.values c.request_words.new.at c.args.text.now c.request_words.new.text
-    c.pebbles-pebbles.ensures.value c.labels.ensures.value c.places.ensures.value c.in-Some.ensures in
+    let taken = request_taken board c.pebbles-pebbles.ensures.value c.labels.ensures.value c.places.ensures.value c.in-Some.ensures in
     request_label taken (IsFrom board c.args.least) c.if-not-values.true
 
 pub returns-in_default-ask : goal.returns-in_default-ask
 returns-in_default-ask c =
     let board = c.args.space.now in
-    let taken = request_taken board _ _ _ c.in-Some.values c.request_words.new.at c.args.text.now c.request_words.new.text
-    c.pebbles-pebbles.ensures.value c.labels.ensures.value c.places.ensures.value c.in-Some.ensures in
+    let taken = request_taken board c.pebbles-pebbles.ensures.value c.labels.ensures.value c.places.ensures.value c.in-Some.ensures in
     request_pebble taken c.if-not-values.false (IsFrom board c.args.least) c.in_default-ask.is
 
 pub returns-in_default-left : goal.returns-in_default-left
 returns-in_default-left c =
     let board = c.args.space.now in
-    let taken = request_taken board _ _ _ c.in-Some.values c.request_words.new.at c.args.text.now c.request_words.new.text
-    c.pebbles-pebbles.ensures.value c.labels.ensures.value c.places.ensures.value c.in-Some.ensures in
+    let taken = request_taken board c.pebbles-pebbles.ensures.value c.labels.ensures.value c.places.ensures.value c.in-Some.ensures in
     request_number taken c.if-not-values.false c.in-Some-ask.ask c.in-Some-ask.is (IsFrom board c.args.least) c.in_default-left.is
 
 pub returns-then-rank-least : goal.returns-then-rank-least
 returns-then-rank-least c =
     let board = c.args.space.now in
-    let taken = request_taken board _ _ _ c.in-Some.values c.request_words.new.at c.args.text.now c.request_words.new.text
-    c.pebbles-pebbles.ensures.value c.labels.ensures.value c.places.ensures.value c.in-Some.ensures in
+    let taken = request_taken board c.pebbles-pebbles.ensures.value c.labels.ensures.value c.places.ensures.value c.in-Some.ensures in
     let read = ranked_request taken c.if-not-values.false c.in-Some-ask.ask c.in-Some-ask.is c.args._claim
     c.in-Some-left.left _ c.rank-rank.result c.in-Some-left.is c.pebbles-pebbles.ensures.value c.rank-rank.ensures.rank in
     row_order board (adversary_form board c.args._claim) c.args.least read c.rank-rank.ensures.below c.if-rank-least.true
@@ -37,8 +33,7 @@ returns-then-rank-least c =
 pub returns : goal.returns
 returns c =
     let board = c.args.space.now in
-    let taken = request_taken board _ _ _ c.in-Some.values c.request_words.new.at c.args.text.now c.request_words.new.text
-    c.pebbles-pebbles.ensures.value c.labels.ensures.value c.places.ensures.value c.in-Some.ensures in
+    let taken = request_taken board c.pebbles-pebbles.ensures.value c.labels.ensures.value c.places.ensures.value c.in-Some.ensures in
     let read = ranked_request taken c.if-not-values.false c.in-Some-ask.ask c.in-Some-ask.is c.args._claim
     c.in-Some-left.left _ c.rank-rank.result c.in-Some-left.is c.pebbles-pebbles.ensures.value c.rank-rank.ensures.rank in
     row_next board (adversary_form board c.args._claim) c.args.least read c.rank-rank.ensures.below

@@ -8,9 +8,8 @@ use Rattle.proof_text.proofs.rows.LabellerRowRow.read.Goals.{then-not-values-via
 pub returns-then-not-values : goal.returns-then-not-values
 returns-then-not-values c =
     let board = c.args.space.now in
-    let taken = answer_taken board _ _ _ c.args.claim c.in-Some.values c.answer_words.new.at c.answer_words.new.take
-    c.args.text.now c.answer_words.new.text
-    c.pebbles-pebbles.ensures.is_board c.pebbles-pebbles.ensures.value c.labels.ensures.value c.places.ensures.value c.in-Some.ensures in
+    let taken = answer_taken board c.pebbles-pebbles.ensures.is_board c.pebbles-pebbles.ensures.value
+    c.labels.ensures.value c.places.ensures.value c.in-Some.ensures in
     answer_label taken (IsFrom board c.args.least)
     (elim c.then-not-values.branch [
       | then-not-values-via-then-not-values w ↦ inl w.if-not-values.true
@@ -20,17 +19,15 @@ returns-then-not-values c =
 pub returns-in_default-turns : goal.returns-in_default-turns
 returns-in_default-turns c =
     let board = c.args.space.now in
-    let taken = answer_taken board _ _ _ c.args.claim c.in-Some.values c.answer_words.new.at c.answer_words.new.take
-    c.args.text.now c.answer_words.new.text
-    c.pebbles-pebbles.ensures.is_board c.pebbles-pebbles.ensures.value c.labels.ensures.value c.places.ensures.value c.in-Some.ensures in
+    let taken = answer_taken board c.pebbles-pebbles.ensures.is_board c.pebbles-pebbles.ensures.value
+    c.labels.ensures.value c.places.ensures.value c.in-Some.ensures in
     answer_number taken c.if-not-values.false c.if-not-values-2.false (IsFrom board c.args.least) c.in_default-turns.is
 
 pub returns-then-rank-least : goal.returns-then-rank-least
 returns-then-rank-least c =
     let board = c.args.space.now in
-    let taken = answer_taken board _ _ _ c.args.claim c.in-Some.values c.answer_words.new.at c.answer_words.new.take
-    c.args.text.now c.answer_words.new.text
-    c.pebbles-pebbles.ensures.is_board c.pebbles-pebbles.ensures.value c.labels.ensures.value c.places.ensures.value c.in-Some.ensures in
+    let taken = answer_taken board c.pebbles-pebbles.ensures.is_board c.pebbles-pebbles.ensures.value
+    c.labels.ensures.value c.places.ensures.value c.in-Some.ensures in
     let read = ranked_answer taken c.if-not-values.false c.if-not-values-2.false c.in-Some-turns.turns _ c.rank-rank.result
     c.in-Some-turns.is c.pebbles-pebbles.ensures.value c.rank-rank.ensures.rank in
     row_order board (labeller_form board c.args.claim) c.args.least read c.rank-rank.ensures.below c.if-rank-least.true
@@ -38,9 +35,8 @@ returns-then-rank-least c =
 pub returns : goal.returns
 returns c =
     let board = c.args.space.now in
-    let taken = answer_taken board _ _ _ c.args.claim c.in-Some.values c.answer_words.new.at c.answer_words.new.take
-    c.args.text.now c.answer_words.new.text
-    c.pebbles-pebbles.ensures.is_board c.pebbles-pebbles.ensures.value c.labels.ensures.value c.places.ensures.value c.in-Some.ensures in
+    let taken = answer_taken board c.pebbles-pebbles.ensures.is_board c.pebbles-pebbles.ensures.value
+    c.labels.ensures.value c.places.ensures.value c.in-Some.ensures in
     let read = ranked_answer taken c.if-not-values.false c.if-not-values-2.false c.in-Some-turns.turns _ c.rank-rank.result
     c.in-Some-turns.is c.pebbles-pebbles.ensures.value c.rank-rank.ensures.rank in
     row_next board (labeller_form board c.args.claim) c.args.least read c.rank-rank.ensures.below
