@@ -124,7 +124,8 @@ module _ (board : PlainBoard) {claim : Claim} {text a : List ℕ} (start : HeadR
           let stand : b ≡ adversary_section board claim (request_rows board adversary) ++ d =
           rw (← adversary_section_seen board claim adversary) other.spelled in
           rw (start.spelled, answers_stand, stand)
-          (regroup (head claim) (labeller_section board claim (answer_rows board labeller)) (adversary_section board claim (request_rows board adversary)) d);
+          (regroup (head claim) (labeller_section board claim (answer_rows board labeller))
+          (adversary_section board claim (request_rows board adversary)) d);
     }
 
 module _ {board : PlainBoard} {proof : PlainProof} {text a : List ℕ} (read : FrontRead board proof text a) where

@@ -21,11 +21,11 @@ use Rattle.proof_text.proofs.OneSection.{Part, one_part}
 
 -- ---- single lines
 
--- a line that is always the same
-abbrev Always : Unit {0} → Type 0
-Always u = Unit {0}
+-- what is asked of a line that is always the same
+abbrev NoCondition : Unit {0} → Type 0
+NoCondition u = Unit {0}
 
-one_constant : (line : List ℕ) → OneReading Always (λ u. line)
+one_constant : (line : List ℕ) → OneReading NoCondition (λ u. line)
 one_constant line u v x y p q e = (refl, append_cancel_left line x y e)
 
 one_claim : OneReading IsClaim claim_line
@@ -57,7 +57,7 @@ Behind proof [] found = found ≡ Ok proof
 Behind proof (first ∷ more) found = found ≡ fault (1 + end_number proof) kinds.Trailing
 
 abbrev AfterFront : PlainProof → List ℕ → Finding → Type 0
-AfterFront proof text found = Line Always (λ u. end_line) text (fault (end_number proof) kinds.End) (λ u more. Behind proof more) found
+AfterFront proof text found = Line NoCondition (λ u. end_line) text (fault (end_number proof) kinds.End) (λ u more. Behind proof more) found
 
 module _ (board : PlainBoard) where
   abbrev AfterLabeller : Claim → List AnswerRow → List ℕ → Finding → Type 0
@@ -76,7 +76,7 @@ module _ (board : PlainBoard) where
   AfterVersion text found = Line IsClaim claim_line text (fault 2 kinds.Claim) AfterClaim found
 
   abbrev Reading : List ℕ → Finding → Type 0
-  Reading text found = Line Always (λ u. version_line) text (fault 1 kinds.Version) (λ u more. AfterVersion more) found
+  Reading text found = Line NoCondition (λ u. version_line) text (fault 1 kinds.Version) (λ u more. AfterVersion more) found
 
 one_behind : (proof : PlainProof) (text : List ℕ) (v w : Finding) → Behind proof text v → Behind proof text w → v ≡ w
 one_behind proof [] v w e f = e ∙ sym f
@@ -84,7 +84,7 @@ one_behind proof (first ∷ more) v w e f = e ∙ sym f
 
 one_after_front : (proof : PlainProof) (text : List ℕ) (v w : Finding) → AfterFront proof text v → AfterFront proof text w → v ≡ w
 one_after_front proof text =
-    one_line Always (λ u. end_line) text (fault (end_number proof) kinds.End) (λ u more. Behind proof more) (one_constant end_line)
+    one_line NoCondition (λ u. end_line) text (fault (end_number proof) kinds.End) (λ u more. Behind proof more) (one_constant end_line)
     (λ u more yes. one_behind proof more)
 
 module _ (board : PlainBoard) (is_board : IsBoard board) where
@@ -97,7 +97,7 @@ module _ (board : PlainBoard) (is_board : IsBoard board) where
 
   one_reading : (text : List ℕ) (v w : Finding) → Reading board text v → Reading board text w → v ≡ w
   one_reading text =
-      one_line Always (λ u. version_line) text (fault 1 kinds.Version) (λ u more. AfterVersion board more) (one_constant version_line)
+      one_line NoCondition (λ u. version_line) text (fault 1 kinds.Version) (λ u more. AfterVersion board more) (one_constant version_line)
       (λ u rest yes. one_line IsClaim claim_line rest (fault 2 kinds.Claim) (AfterClaim board) one_claim
       (λ claim more is. one_after_claim claim more))
 
