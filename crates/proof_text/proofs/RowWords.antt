@@ -9,7 +9,7 @@ use Rattle.board_text.specs.LineForms.{NoDigit}
 use Rattle.board_text.specs.Numerals.{spaced_texts}
 use Rattle.board_text.specs.PlaceForms.{ArePlaceTexts}
 use Rattle.board_text.proofs.Cited.{digits_split, texts_unique}
-use Rattle.proof_text.specs.RowWords.{AnswerWords, RequestWords, IsTurnsText, answer_words_line, request_words_line}
+use Rattle.proof_text.specs.RowWords.{AnswerWords, RequestWords, IsTurnsText, AreAnswerWords, AreRequestWords, answer_words_line, request_words_line}
 use Rattle.proof_text.specs.Inside.Reading.{position_text}
 
 -- a space and a line feed are no digits
@@ -54,6 +54,12 @@ regroup a b c d e f more = simp append_assoc
 pub answer_parts : (words : AnswerWords) (more : List ℕ) → answer_words_line words ++ more ≡ position_text words.at (words.turns ++ (codes " take" ++ (spaced_texts words.take ++ 10 ∷ more)))
 answer_parts words more = regroup (codes "at") (spaced_texts words.at) (codes " for ") words.turns (codes " take") (spaced_texts words.take) more
 
+-- the position of a row that stands here, and what follows it
+pub answer_position : (pebbles labels bound : ℕ) (words : AnswerWords) (texts : List (List ℕ)) (old rest more : List ℕ) → AreAnswerWords pebbles labels bound words → ArePlaceTexts pebbles labels bound texts
+    → old ≡ position_text texts rest → old ≡ answer_words_line words ++ more → (texts ≡ words.at) × (rest ≡ words.turns ++ (codes " take" ++ (spaced_texts words.take ++ 10 ∷ more)))
+answer_position pebbles labels bound words texts old rest more are are_texts p e =
+    position_unique pebbles labels bound texts words.at rest (words.turns ++ (codes " take" ++ (spaced_texts words.take ++ 10 ∷ more))) are_texts are.at (sym p ∙ e ∙ answer_parts words more)
+
 -- its turns
 pub answer_turns : (words : AnswerWords) (text rest new more : List ℕ) → IsTurnsText words.turns → IsTurnsText text → (NoDigit new ⊎ (text ≡ codes "*"))
     → rest ≡ text ++ new → rest ≡ words.turns ++ (codes " take" ++ (spaced_texts words.take ++ 10 ∷ more)) → (text ≡ words.turns) × (new ≡ codes " take" ++ (spaced_texts words.take ++ 10 ∷ more))
@@ -68,6 +74,11 @@ answer_taken at take turns old a b c d new p q r s t = rw (p, q, r, s, t) (sym (
 
 pub request_parts : (words : RequestWords) (more : List ℕ) → request_words_line words ++ more ≡ position_text words.at (words.left ++ (codes " ask " ++ (words.ask ++ 10 ∷ more)))
 request_parts words more = regroup (codes "at") (spaced_texts words.at) (codes " for ") words.left (codes " ask ") words.ask more
+
+pub request_position : (pebbles labels bound : ℕ) (words : RequestWords) (texts : List (List ℕ)) (old rest more : List ℕ) → AreRequestWords pebbles labels bound words → ArePlaceTexts pebbles labels bound texts
+    → old ≡ position_text texts rest → old ≡ request_words_line words ++ more → (texts ≡ words.at) × (rest ≡ words.left ++ (codes " ask " ++ (words.ask ++ 10 ∷ more)))
+request_position pebbles labels bound words texts old rest more are are_texts p e =
+    position_unique pebbles labels bound texts words.at rest (words.left ++ (codes " ask " ++ (words.ask ++ 10 ∷ more))) are_texts are.at (sym p ∙ e ∙ request_parts words more)
 
 pub request_left : (words : RequestWords) (text rest new more : List ℕ) → IsNumeral 10 words.left → IsNumeral 10 text → NoDigit new
     → rest ≡ text ++ new → rest ≡ words.left ++ (codes " ask " ++ (words.ask ++ 10 ∷ more)) → (text ≡ words.left) × (new ≡ codes " ask " ++ (words.ask ++ 10 ∷ more))
