@@ -122,9 +122,6 @@ fn count(claim: Claim, numeral: Numeral) -> Option<Turns>
 {
     match claim {
         Claim::Forever => None,
-        _ => match numeral.within(1, MOST_TURNS) {
-            Some(turns) => Some(Turns::Count(turns)),
-            None => None,
-        },
+        _ => Some(Turns::Count(numeral.within(1, MOST_TURNS)?)),
     }
 }
