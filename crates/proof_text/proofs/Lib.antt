@@ -3,8 +3,9 @@ pub mod SpelledRows
 pub mod SectionLemmas
 pub mod RowLemmas
 pub mod DocumentFaults
+pub mod OneStep
 pub mod OneRow
+pub mod OneSection
 pub mod OneDocument
 pub mod RankedRows
-pub mod OneFault
 pub mod Cited

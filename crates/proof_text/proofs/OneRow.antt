@@ -1,13 +1,13 @@
--- A row has one reading.
-use Rattle.std.proofs.Common.{◌≡◌, ℕ, ◌^◌, ◌<◌, ◌≤◌, List, [], ◌∷◌, ◌++◌, map, All, refl, sym, ap, subst, ◌∙◌, arith, inl, inr}
+-- A row has one reading, or one fault.
+use Rattle.std.proofs.Common.{◌≡◌, ◌⊎◌, ℕ, ◌^◌, ◌+◌, ◌<◌, ◌≤◌, List, [], ◌∷◌, ◌++◌, Option, Some, None, map, refl, sym, ap, subst, ◌∙◌, arith, inl, inr}
 use Rattle.std.specs.Prelude.{codes}
 use Rattle.std.specs.Fmt.{decimal}
 use Rattle.std.proofs.lemmas.Fmt.{decimal_is_IsNumeral, decimal_injective}
 use Rattle.std.proofs.lemmas.List.{append_cancel_left}
 use Rattle.board_text.specs.Ranges.{AreNumbers}
-use Rattle.board_text.specs.Numerals.{spaced_texts}
-use Rattle.board_text.specs.PlaceForms.{place_word, SpellsPlace}
-use Rattle.board_text.specs.PlainBoard.{PlainBoard, IsBoard, places}
+use Rattle.board_text.specs.Numerals.{spaced_texts, SpellsBelow}
+use Rattle.board_text.specs.PlaceForms.{place_word, ArePlaceTexts}
+use Rattle.board_text.specs.PlainBoard.{PlainBoard, IsBoard, IsConfiguration, places}
 use Rattle.board_text.proofs.Cited.{small_numbers, few_places, texts_unique, words_are_texts, words_spell, same_words}
 use Rattle.positions.specs.declared.claim.Claim.{Claim}
 use Rattle.positions.specs.declared.turns.Turns.{Turns}
@@ -15,176 +15,258 @@ use Rattle.positions.specs.declared.turns.Turns.TheVariants.{Count, Always}
 use Rattle.positions.specs.Table.{AnswerRow, RequestRow}
 use Rattle.proof_text.specs.declared.fault.ProofKind.{ProofKind}
 use Rattle.proof_text.specs.declared.fault.ProofKind.TheVariants as kinds
+use Rattle.proof_text.specs.declared.proof.TheConstants.{MOST_TURNS}
 use Rattle.proof_text.specs.Proof.{AreTurns, IsAnswerRow, IsRequestRow}
 use Rattle.proof_text.specs.ProofText.{turns_text, answer_line, request_line}
 use Rattle.proof_text.specs.RowWords.{AnswerWords, RequestWords, IsTurnsText, AreAnswerWords, AreRequestWords, answer_words_line, request_words_line}
-use Rattle.proof_text.specs.ProofFaults.{AnswerRowFault, RequestRowFault}
+use Rattle.proof_text.specs.ProofFaults.{RowFault, AnswerMisread, RequestMisread, SpellConfiguration, SpellLabels, SpellsTurns}
+use Rattle.proof_text.proofs.OneStep.{OneReading, Line, Unless, one_line, one_unless}
 use Rattle.proof_text.proofs.RowWords.{no_digit_space, no_digit_lf, turns_unique, position_unique, numerals_unique, answer_parts, request_parts}
 use Rattle.proof_text.proofs.SpelledRows.{count_small, star_is_no_number}
 
+-- ---- rows of either side
+
+-- One row stands at the front of a text, or its fault.
+pub record RowLaws {X : Type 0} (IsRow : X → Type 0) (at line : X → List ℕ) (Misread : List ℕ → ProofKind → Type 0) : Type 1 where
+  pub one : OneReading IsRow line
+  pub one_kind : (MayStand : List ℕ → Type 0) (rest : List ℕ) (kind other : ProofKind)
+      → RowFault IsRow at line Misread MayStand rest kind → RowFault IsRow at line Misread MayStand rest other → kind ≡ other
+  pub sound : (MayStand : List ℕ → Type 0) (row : X) (rest more : List ℕ) (kind : ProofKind)
+      → IsRow row → MayStand (at row) → rest ≡ line row ++ more → RowFault IsRow at line Misread MayStand rest kind → ⊥
+
+-- That follows where the words are read in one way: they are misread, or a row stands there.
+module _ {X : Type 0} (IsRow : X → Type 0) (at line : X → List ℕ) (Misread : List ℕ → ProofKind → Type 0)
+    (Read : List ℕ → Option ProofKind → Type 0)
+    (one : OneReading IsRow line)
+    (one_read : (rest : List ℕ) (v w : Option ProofKind) → Read rest v → Read rest w → v ≡ w)
+    (misread : (rest : List ℕ) (kind : ProofKind) → Misread rest kind → Read rest (Some kind))
+    (right : (row : X) (rest more : List ℕ) → IsRow row → rest ≡ line row ++ more → Read rest None) where
+  not_misread : (row : X) (rest more : List ℕ) (kind : ProofKind) → IsRow row → rest ≡ line row ++ more → Misread rest kind → ⊥
+  not_misread row rest more kind is e h =
+      let same = one_read rest None (Some kind) (right row rest more is e) (misread rest kind h) in absurd cc
+
+  module _ (MayStand : List ℕ → Type 0) (rest : List ℕ) where
+    abbrev Fault : ProofKind → Type 0
+    Fault kind = RowFault IsRow at line Misread MayStand rest kind
+
+    abbrev Early : ProofKind → Type 0
+    Early kind = (kind ≡ kinds.Order) × ((row : X) × IsRow row × (more : List ℕ) × (rest ≡ line row ++ more) × ¬ MayStand (at row))
+
+    early_or_misread : (kind : ProofKind) → Fault kind → Early kind ⊎ Misread rest kind
+    early_or_misread kinds.Order h = inl (refl, h)
+    early_or_misread kind h = inr h
+
+    same_kind : (kind other : ProofKind) → Early kind ⊎ Misread rest kind → Early other ⊎ Misread rest other → kind ≡ other
+    same_kind kind other (inl f) (inl g) = f.0 ∙ sym g.0
+    same_kind kind other (inl (e, (row, is, more, stands, early))) (inr g) = absurd (not_misread row rest more other is stands g)
+    same_kind kind other (inr f) (inl (e, (row, is, more, stands, early))) = absurd (not_misread row rest more kind is stands f)
+    same_kind kind other (inr f) (inr g) =
+        let same = one_read rest (Some kind) (Some other) (misread rest kind f) (misread rest other g) in cc
+
+    one_kind : (kind other : ProofKind) → Fault kind → Fault other → kind ≡ other
+    one_kind kind other f g = same_kind kind other (early_or_misread kind f) (early_or_misread other g)
+
+    sound : (row : X) (more : List ℕ) (kind : ProofKind) → IsRow row → MayStand (at row) → rest ≡ line row ++ more
+        → Early kind ⊎ Misread rest kind → ⊥
+    sound row more kind is may e (inl (same, (other, is_other, after, f, early))) =
+        early (subst (λ (r : X). MayStand (at r)) (one row other more after is is_other (sym e ∙ f)).0 may)
+    sound row more kind is may e (inr h) = not_misread row rest more kind is e h
+
+  row_laws : RowLaws IsRow at line Misread
+  row_laws = record {
+    one = one;
+    one_kind = one_kind;
+    sound = λ MayStand row rest more kind is may e h. sound MayStand rest row more kind is may e (early_or_misread MayStand rest kind h);
+  }
+
 -- ---- the words of a row that was written
 
-same_places : (count bound labels : ℕ) (ms ns : List ℕ) → bound ≤ 2 ^ 32 → AreNumbers count bound ms → AreNumbers count bound ns → map (place_word labels) ms ≡ map (place_word labels) ns → ms ≡ ns
-same_places count bound labels ms ns small are_ms are_ns e = same_words labels ms ns (small_numbers bound ms small are_ms.1) (small_numbers bound ns small are_ns.1) e
+same_places : (count bound labels : ℕ) (ms ns : List ℕ) → bound ≤ 2 ^ 32 → AreNumbers count bound ms → AreNumbers count bound ns
+    → map (place_word labels) ms ≡ map (place_word labels) ns → ms ≡ ns
+same_places count bound labels ms ns small are_ms are_ns e =
+    same_words labels ms ns (small_numbers bound ms small are_ms.1) (small_numbers bound ns small are_ns.1) e
+
+module _ (board : PlainBoard) (is_board : IsBoard board) where
+  few_labels : board.labels ≤ 2 ^ 16
+  few_labels = omega (arith, is_board.labels.1)
+
+  few_all : places board ≤ 2 ^ 16
+  few_all = omega (arith, few_places board is_board)
+
+  position_texts : (at : List ℕ) → IsConfiguration board at
+      → ArePlaceTexts board.pebbles board.labels (places board) (map (place_word board.labels) at)
+  position_texts at is = words_are_texts board.pebbles board.labels (places board) at few_all (is.each_pebble, is.each_place)
+
+  position_spelled : (at : List ℕ) → IsConfiguration board at → SpellConfiguration board (map (place_word board.labels) at)
+  position_spelled at is = words_spell board.pebbles board.labels (places board) at (is.each_pebble, is.each_place)
+
+  same_position : (at other : List ℕ) → IsConfiguration board at → IsConfiguration board other
+      → map (place_word board.labels) at ≡ map (place_word board.labels) other → at ≡ other
+  same_position at other is is_too e =
+      same_places board.pebbles (places board) board.labels at other (omega (arith, few_all))
+      (is.each_pebble, is.each_place) (is_too.each_pebble, is_too.each_place) e
+
+-- ---- a labeller's row
 
 turns_are_text : (claim : Claim) (turns : Turns) → AreTurns claim turns → IsTurnsText (turns_text turns)
 turns_are_text claim (Count n) are = inl (decimal_is_IsNumeral n (omega (arith, count_small claim n are))).0
 turns_are_text claim Always are = inr refl
 
 same_turns : (claim : Claim) (t u : Turns) → AreTurns claim t → AreTurns claim u → turns_text t ≡ turns_text u → t ≡ u
-same_turns claim (Count m) (Count n) p q e = ap Count (decimal_injective m n (omega (arith, count_small claim m p)) (omega (arith, count_small claim n q)) e)
+same_turns claim (Count m) (Count n) p q e =
+    ap Count (decimal_injective m n (omega (arith, count_small claim m p)) (omega (arith, count_small claim n q)) e)
 same_turns claim (Count m) Always p q e = absurd (star_is_no_number m (omega (arith, count_small claim m p)) (sym e))
 same_turns claim Always (Count n) p q e = absurd (star_is_no_number n (omega (arith, count_small claim n q)) e)
 same_turns claim Always Always p q e = refl
 
-abbrev pub answer_words : PlainBoard → AnswerRow → AnswerWords
-answer_words board row = record { at = map (place_word board.labels) row.at; turns = turns_text row.turns; take = map (place_word board.labels) row.answers }
-
-pub answer_written : (board : PlainBoard) (row : AnswerRow) → answer_words_line (answer_words board row) ≡ answer_line board row
-answer_written board row = refl
-
--- the labels and places of a board are few
-pub few_labels : (board : PlainBoard) → IsBoard board → board.labels ≤ 2 ^ 16
-few_labels board is = omega (arith, is.labels.1)
-
-few_all : (board : PlainBoard) → IsBoard board → places board ≤ 2 ^ 16
-few_all board is = omega (arith, few_places board is)
-
-pub are_answer_words : (board : PlainBoard) (claim : Claim) (row : AnswerRow) → IsBoard board → IsAnswerRow board claim row → AreAnswerWords board.pebbles board.labels (places board) (answer_words board row)
-are_answer_words board claim row is_board is = record {
-  at = words_are_texts board.pebbles board.labels (places board) row.at (few_all board is_board) (is.at.each_pebble, is.at.each_place);
-  turns = turns_are_text claim row.turns is.turns;
-  take = words_are_texts board.pebbles board.labels board.labels row.answers (few_labels board is_board) is.answers;
-}
-
--- the words of one row only stand here
-pub record SameAnswerWords (first second : AnswerWords) (x y : List ℕ) : Type 0 where
-  pub at : first.at ≡ second.at
-  pub turns : first.turns ≡ second.turns
-  pub take : first.take ≡ second.take
-  pub rest : x ≡ y
-
-pub answer_words_unique : (pebbles labels bound : ℕ) (first second : AnswerWords) (x y : List ℕ) → AreAnswerWords pebbles labels bound first → AreAnswerWords pebbles labels bound second
-    → answer_words_line first ++ x ≡ answer_words_line second ++ y → SameAnswerWords first second x y
-answer_words_unique pebbles labels bound first second x y p q e =
+one_answer_words : (pebbles labels bound : ℕ) → OneReading (AreAnswerWords pebbles labels bound) answer_words_line
+one_answer_words pebbles labels bound first second x y p q e =
     let one = codes " take" ++ (spaced_texts first.take ++ 10 ∷ x) in
     let other = codes " take" ++ (spaced_texts second.take ++ 10 ∷ y) in
-    let a = position_unique pebbles labels bound first.at second.at (first.turns ++ one) (second.turns ++ other) p.at q.at (sym (answer_parts first x) ∙ e ∙ answer_parts second y) in
-    let t = turns_unique first.turns second.turns one other p.turns q.turns (inl (no_digit_space (codes "take" ++ (spaced_texts first.take ++ 10 ∷ x)))) (no_digit_space (codes "take" ++ (spaced_texts second.take ++ 10 ∷ y))) a.1 in
-    let s = texts_unique pebbles labels labels first.take second.take (10 ∷ x) (10 ∷ y) p.take q.take (no_digit_lf x) (no_digit_lf y) (append_cancel_left (codes " take") (spaced_texts first.take ++ 10 ∷ x) (spaced_texts second.take ++ 10 ∷ y) t.1) in
-    record { at = a.0; turns = t.0; take = s.0; rest = append_cancel_left (10 ∷ []) x y s.1 }
+    let a = position_unique pebbles labels bound first.at second.at (first.turns ++ one) (second.turns ++ other) p.at q.at
+    (sym (answer_parts first x) ∙ e ∙ answer_parts second y) in
+    let t = turns_unique first.turns second.turns one other p.turns q.turns
+    (inl (no_digit_space (codes "take" ++ (spaced_texts first.take ++ 10 ∷ x))))
+    (no_digit_space (codes "take" ++ (spaced_texts second.take ++ 10 ∷ y))) a.1 in
+    let s = texts_unique pebbles labels labels first.take second.take (10 ∷ x) (10 ∷ y) p.take q.take (no_digit_lf x) (no_digit_lf y)
+    (append_cancel_left (codes " take") _ _ t.1) in
+    let same : ◌≡◌ {A = AnswerWords} (record { at = first.at; turns = first.turns; take = first.take }) second = rw (a.0, t.0, s.0) refl in
+    (same, append_cancel_left (10 ∷ []) x y s.1)
 
-same_answer : (p q : AnswerRow) → p.at ≡ q.at → p.turns ≡ q.turns → p.answers ≡ q.answers → p ≡ q
-same_answer p q a t s =
-    let e : ◌≡◌ {A = AnswerRow} (record { at = p.at; turns = p.turns; answers = p.answers }) q = rw (a, t, s) refl in e
+abbrev answer_words : PlainBoard → AnswerRow → AnswerWords
+answer_words board row = record {
+  at = map (place_word board.labels) row.at;
+  turns = turns_text row.turns;
+  take = map (place_word board.labels) row.answers;
+}
 
-pub answer_unique : (board : PlainBoard) (claim : Claim) (p q : AnswerRow) (x y : List ℕ) → IsBoard board → IsAnswerRow board claim p → IsAnswerRow board claim q → answer_line board p ++ x ≡ answer_line board q ++ y → (p ≡ q) × (x ≡ y)
-answer_unique board claim p q x y is_board is_p is_q e =
-    let s = answer_words_unique board.pebbles board.labels (places board) (answer_words board p) (answer_words board q) x y (are_answer_words board claim p is_board is_p) (are_answer_words board claim q is_board is_q)
-    (ap (λ (l : List ℕ). l ++ x) (answer_written board p) ∙ e ∙ ap (λ (l : List ℕ). l ++ y) (sym (answer_written board q))) in
-    let small : board.labels ≤ 2 ^ 32 = omega (arith, few_labels board is_board) in
-    let all : places board ≤ 2 ^ 32 = omega (arith, few_all board is_board) in (
-      same_answer p q (same_places board.pebbles (places board) board.labels p.at q.at all (is_p.at.each_pebble, is_p.at.each_place) (is_q.at.each_pebble, is_q.at.each_place) s.at)
-          (same_turns claim p.turns q.turns is_p.turns is_q.turns s.turns)
-          (same_places board.pebbles board.labels board.labels p.answers q.answers small is_p.answers is_q.answers s.take),
-      s.rest,
-    )
+-- How a labeller's row is read: its words, whether they spell labels, and whether they spell turns.
+abbrev AnswerRead : PlainBoard → Claim → List ℕ → Option ProofKind → Type 0
+AnswerRead board claim rest found =
+    Line (AreAnswerWords board.pebbles board.labels (places board)) answer_words_line rest (Some kinds.Row)
+    (λ words more. Unless (Some kinds.Label) (SpellConfiguration board words.at × SpellLabels board words.take)
+    (Unless (Some kinds.Number) (SpellsTurns claim words.turns) (λ v. v ≡ None)))
+    found
 
--- where a row stands that may, there is no fault
-pub no_answer_fault : (board : PlainBoard) (claim : Claim) (MayStand : List ℕ → Type 0) (row : AnswerRow) (rest more : List ℕ) (kind : ProofKind) → IsBoard board → IsAnswerRow board claim row → MayStand row.at
-    → rest ≡ answer_line board row ++ more → AnswerRowFault board claim MayStand rest kind → ⊥
-no_answer_fault board claim MayStand row rest more kinds.Row is_board is may e lacks =
-    lacks (answer_words board row) more (are_answer_words board claim row is_board is) (e ∙ ap (λ (l : List ℕ). l ++ more) (sym (answer_written board row)))
-no_answer_fault board claim MayStand row rest more kinds.Label is_board is may e (words, has, wrong) =
-    let s = answer_words_unique board.pebbles board.labels (places board) words (answer_words board row) has.1 more has.0 (are_answer_words board claim row is_board is) (sym has.2 ∙ e ∙ ap (λ (l : List ℕ). l ++ more) (sym (answer_written board row))) in
-    wrong (
-      subst (λ (ts : List (List ℕ)). All (SpellsPlace board.labels (places board)) ts) (sym s.at) (words_spell board.pebbles board.labels (places board) row.at (is.at.each_pebble, is.at.each_place)),
-      subst (λ (ts : List (List ℕ)). All (SpellsPlace board.labels board.labels) ts) (sym s.take) (words_spell board.pebbles board.labels board.labels row.answers is.answers),
-    )
-no_answer_fault board claim MayStand row rest more kinds.Number is_board is may e (words, has, at, take, wrong) =
-    let s = answer_words_unique board.pebbles board.labels (places board) words (answer_words board row) has.1 more has.0 (are_answer_words board claim row is_board is) (sym has.2 ∙ e ∙ ap (λ (l : List ℕ). l ++ more) (sym (answer_written board row))) in
-    wrong (row.turns, is.turns, s.turns)
-no_answer_fault board claim MayStand row rest more kinds.Order is_board is may e (other, is_other, after, f, wrong) =
-    let s = answer_unique board claim other row after more is_board is_other is (sym f ∙ e) in
-    wrong (subst (λ (r : AnswerRow). MayStand r.at) (sym s.0) may)
-no_answer_fault board claim MayStand row rest more kinds.Version is_board is may e h = absurd h
-no_answer_fault board claim MayStand row rest more kinds.Claim is_board is may e h = absurd h
-no_answer_fault board claim MayStand row rest more kinds.Section is_board is may e h = absurd h
-no_answer_fault board claim MayStand row rest more kinds.Pebble is_board is may e h = absurd h
-no_answer_fault board claim MayStand row rest more kinds.End is_board is may e h = absurd h
-no_answer_fault board claim MayStand row rest more kinds.Trailing is_board is may e h = absurd h
-no_answer_fault board claim MayStand row rest more kinds.Memory is_board is may e h = absurd h
+answer_misread : (board : PlainBoard) (claim : Claim) (rest : List ℕ) (kind : ProofKind) → AnswerMisread board claim rest kind
+    → AnswerRead board claim rest (Some kind)
+answer_misread board claim rest kinds.Row h = inl (h, refl)
+answer_misread board claim rest kinds.Label (words, (are, more, e), wrong) = inr (words, more, (are, e), inl (wrong, refl))
+answer_misread board claim rest kinds.Number (words, (are, more, e), at, take, wrong) =
+    inr (words, more, (are, e), inr ((at, take), inl (wrong, refl)))
+answer_misread board claim rest kind h = absurd h
+
+module _ (board : PlainBoard) (claim : Claim) (is_board : IsBoard board) where
+  are_answer_words : (row : AnswerRow) → IsAnswerRow board claim row
+      → AreAnswerWords board.pebbles board.labels (places board) (answer_words board row)
+  are_answer_words row is = record {
+    at = position_texts board is_board row.at is.at;
+    turns = turns_are_text claim row.turns is.turns;
+    take = words_are_texts board.pebbles board.labels board.labels row.answers (few_labels board is_board) is.answers;
+  }
+
+  one_answer : OneReading (IsAnswerRow board claim) (answer_line board)
+  one_answer p q x y is_p is_q e =
+      let s = one_answer_words board.pebbles board.labels (places board) (answer_words board p) (answer_words board q) x y
+      (are_answer_words p is_p) (are_answer_words q is_q) e in
+      let at = same_position board is_board p.at q.at is_p.at is_q.at (ap (λ (words : AnswerWords). words.at) s.0) in
+      let turns = same_turns claim p.turns q.turns is_p.turns is_q.turns (ap (λ (words : AnswerWords). words.turns) s.0) in
+      let answers = same_places board.pebbles board.labels board.labels p.answers q.answers (omega (arith, few_labels board is_board))
+      is_p.answers is_q.answers
+      (ap (λ (words : AnswerWords). words.take) s.0) in
+      let same : ◌≡◌ {A = AnswerRow} (record { at = p.at; turns = p.turns; answers = p.answers }) q = rw (at, turns, answers) refl in
+      (same, s.1)
+
+  pub answer_laws : RowLaws (IsAnswerRow board claim) (λ row. row.at) (answer_line board) (AnswerMisread board claim)
+  answer_laws =
+      row_laws (IsAnswerRow board claim) (λ row. row.at) (answer_line board) (AnswerMisread board claim) (AnswerRead board claim) one_answer
+      (λ rest. one_line _ answer_words_line rest _ _ (one_answer_words board.pebbles board.labels (places board))
+      (λ words more are. one_unless _ _ _ (one_unless _ _ _ (λ v w e f. e ∙ sym f))))
+      (answer_misread board claim)
+      (λ row rest more is e. inr (
+        answer_words board row,
+        more,
+        (are_answer_words row is, e),
+        inr (
+          (position_spelled board is_board row.at is.at, words_spell board.pebbles board.labels board.labels row.answers is.answers),
+          inr ((row.turns, is.turns, refl), refl),
+        ),
+      ))
 
 -- ---- an adversary's row
 
-abbrev pub request_words : PlainBoard → RequestRow → RequestWords
-request_words board row = record { at = map (place_word board.labels) row.at; left = decimal row.left; ask = decimal row.request }
-
-pub request_written : (board : PlainBoard) (row : RequestRow) → request_words_line (request_words board row) ≡ request_line board row
-request_written board row = refl
-
-small_left : (board : PlainBoard) (row : RequestRow) → IsRequestRow board row → row.left < 2 ^ 64
-small_left board row is = omega (arith, is.left)
-
-small_request : (board : PlainBoard) (row : RequestRow) → IsBoard board → IsRequestRow board row → row.request < 2 ^ 64
-small_request board row is_board is = omega (arith, is.request, is_board.pebbles.1)
-
-pub are_request_words : (board : PlainBoard) (row : RequestRow) → IsBoard board → IsRequestRow board row → AreRequestWords board.pebbles board.labels (places board) (request_words board row)
-are_request_words board row is_board is = record {
-  at = words_are_texts board.pebbles board.labels (places board) row.at (few_all board is_board) (is.at.each_pebble, is.at.each_place);
-  left = (decimal_is_IsNumeral row.left (small_left board row is)).0;
-  ask = (decimal_is_IsNumeral row.request (small_request board row is_board is)).0;
-}
-
-pub record SameRequestWords (first second : RequestWords) (x y : List ℕ) : Type 0 where
-  pub at : first.at ≡ second.at
-  pub left : first.left ≡ second.left
-  pub ask : first.ask ≡ second.ask
-  pub rest : x ≡ y
-
-pub request_words_unique : (pebbles labels bound : ℕ) (first second : RequestWords) (x y : List ℕ) → AreRequestWords pebbles labels bound first → AreRequestWords pebbles labels bound second
-    → request_words_line first ++ x ≡ request_words_line second ++ y → SameRequestWords first second x y
-request_words_unique pebbles labels bound first second x y p q e =
+one_request_words : (pebbles labels bound : ℕ) → OneReading (AreRequestWords pebbles labels bound) request_words_line
+one_request_words pebbles labels bound first second x y p q e =
     let one = codes " ask " ++ (first.ask ++ 10 ∷ x) in
     let other = codes " ask " ++ (second.ask ++ 10 ∷ y) in
-    let a = position_unique pebbles labels bound first.at second.at (first.left ++ one) (second.left ++ other) p.at q.at (sym (request_parts first x) ∙ e ∙ request_parts second y) in
-    let t = numerals_unique first.left second.left one other p.left q.left (no_digit_space (codes "ask " ++ (first.ask ++ 10 ∷ x))) (no_digit_space (codes "ask " ++ (second.ask ++ 10 ∷ y))) a.1 in
-    let s = numerals_unique first.ask second.ask (10 ∷ x) (10 ∷ y) p.ask q.ask (no_digit_lf x) (no_digit_lf y) (append_cancel_left (codes " ask ") (first.ask ++ 10 ∷ x) (second.ask ++ 10 ∷ y) t.1) in
-    record { at = a.0; left = t.0; ask = s.0; rest = append_cancel_left (10 ∷ []) x y s.1 }
+    let a = position_unique pebbles labels bound first.at second.at (first.left ++ one) (second.left ++ other) p.at q.at
+    (sym (request_parts first x) ∙ e ∙ request_parts second y) in
+    let t = numerals_unique first.left second.left one other p.left q.left
+    (no_digit_space (codes "ask " ++ (first.ask ++ 10 ∷ x))) (no_digit_space (codes "ask " ++ (second.ask ++ 10 ∷ y))) a.1 in
+    let s = numerals_unique first.ask second.ask (10 ∷ x) (10 ∷ y) p.ask q.ask (no_digit_lf x) (no_digit_lf y)
+    (append_cancel_left (codes " ask ") _ _ t.1) in
+    let same : ◌≡◌ {A = RequestWords} (record { at = first.at; left = first.left; ask = first.ask }) second = rw (a.0, t.0, s.0) refl in
+    (same, append_cancel_left (10 ∷ []) x y s.1)
 
-same_request : (p q : RequestRow) → p.at ≡ q.at → p.left ≡ q.left → p.request ≡ q.request → p ≡ q
-same_request p q a t s =
-    let e : ◌≡◌ {A = RequestRow} (record { at = p.at; left = p.left; request = p.request }) q = rw (a, t, s) refl in e
+abbrev request_words : PlainBoard → RequestRow → RequestWords
+request_words board row = record { at = map (place_word board.labels) row.at; left = decimal row.left; ask = decimal row.request }
 
-pub request_unique : (board : PlainBoard) (p q : RequestRow) (x y : List ℕ) → IsBoard board → IsRequestRow board p → IsRequestRow board q → request_line board p ++ x ≡ request_line board q ++ y → (p ≡ q) × (x ≡ y)
-request_unique board p q x y is_board is_p is_q e =
-    let s = request_words_unique board.pebbles board.labels (places board) (request_words board p) (request_words board q) x y (are_request_words board p is_board is_p) (are_request_words board q is_board is_q)
-    (ap (λ (l : List ℕ). l ++ x) (request_written board p) ∙ e ∙ ap (λ (l : List ℕ). l ++ y) (sym (request_written board q))) in (
-      same_request p q (same_places board.pebbles (places board) board.labels p.at q.at (omega (arith, few_all board is_board)) (is_p.at.each_pebble, is_p.at.each_place) (is_q.at.each_pebble, is_q.at.each_place) s.at)
-          (decimal_injective p.left q.left (small_left board p is_p) (small_left board q is_q) s.left)
-          (decimal_injective p.request q.request (small_request board p is_board is_p) (small_request board q is_board is_q) s.ask),
-      s.rest,
-    )
+-- How an adversary's row is read.
+abbrev RequestRead : PlainBoard → List ℕ → Option ProofKind → Type 0
+RequestRead board rest found =
+    Line (AreRequestWords board.pebbles board.labels (places board)) request_words_line rest (Some kinds.Row)
+    (λ words more. Unless (Some kinds.Label) (SpellConfiguration board words.at)
+    (Unless (Some kinds.Pebble) (SpellsBelow board.pebbles words.ask)
+    (Unless (Some kinds.Number) (SpellsBelow (MOST_TURNS + 1) words.left) (λ v. v ≡ None))))
+    found
 
-pub no_request_fault : (board : PlainBoard) (MayStand : List ℕ → Type 0) (row : RequestRow) (rest more : List ℕ) (kind : ProofKind) → IsBoard board → IsRequestRow board row → MayStand row.at
-    → rest ≡ request_line board row ++ more → RequestRowFault board MayStand rest kind → ⊥
-no_request_fault board MayStand row rest more kinds.Row is_board is may e lacks =
-    lacks (request_words board row) more (are_request_words board row is_board is) (e ∙ ap (λ (l : List ℕ). l ++ more) (sym (request_written board row)))
-no_request_fault board MayStand row rest more kinds.Label is_board is may e (words, has, wrong) =
-    let s = request_words_unique board.pebbles board.labels (places board) words (request_words board row) has.1 more has.0 (are_request_words board row is_board is) (sym has.2 ∙ e ∙ ap (λ (l : List ℕ). l ++ more) (sym (request_written board row))) in
-    wrong (subst (λ (ts : List (List ℕ)). All (SpellsPlace board.labels (places board)) ts) (sym s.at) (words_spell board.pebbles board.labels (places board) row.at (is.at.each_pebble, is.at.each_place)))
-no_request_fault board MayStand row rest more kinds.Pebble is_board is may e (words, has, at, wrong) =
-    let s = request_words_unique board.pebbles board.labels (places board) words (request_words board row) has.1 more has.0 (are_request_words board row is_board is) (sym has.2 ∙ e ∙ ap (λ (l : List ℕ). l ++ more) (sym (request_written board row))) in
-    wrong (row.request, is.request, s.ask)
-no_request_fault board MayStand row rest more kinds.Number is_board is may e (words, has, at, ask, wrong) =
-    let s = request_words_unique board.pebbles board.labels (places board) words (request_words board row) has.1 more has.0 (are_request_words board row is_board is) (sym has.2 ∙ e ∙ ap (λ (l : List ℕ). l ++ more) (sym (request_written board row))) in
-    wrong (row.left, omega (arith, is.left), s.left)
-no_request_fault board MayStand row rest more kinds.Order is_board is may e (other, is_other, after, f, wrong) =
-    let s = request_unique board other row after more is_board is_other is (sym f ∙ e) in
-    wrong (subst (λ (r : RequestRow). MayStand r.at) (sym s.0) may)
-no_request_fault board MayStand row rest more kinds.Version is_board is may e h = absurd h
-no_request_fault board MayStand row rest more kinds.Claim is_board is may e h = absurd h
-no_request_fault board MayStand row rest more kinds.Section is_board is may e h = absurd h
-no_request_fault board MayStand row rest more kinds.End is_board is may e h = absurd h
-no_request_fault board MayStand row rest more kinds.Trailing is_board is may e h = absurd h
-no_request_fault board MayStand row rest more kinds.Memory is_board is may e h = absurd h
+request_misread : (board : PlainBoard) (rest : List ℕ) (kind : ProofKind) → RequestMisread board rest kind
+    → RequestRead board rest (Some kind)
+request_misread board rest kinds.Row h = inl (h, refl)
+request_misread board rest kinds.Label (words, (are, more, e), wrong) = inr (words, more, (are, e), inl (wrong, refl))
+request_misread board rest kinds.Pebble (words, (are, more, e), at, wrong) = inr (words, more, (are, e), inr (at, inl (wrong, refl)))
+request_misread board rest kinds.Number (words, (are, more, e), at, ask, wrong) =
+    inr (words, more, (are, e), inr (at, inr (ask, inl (wrong, refl))))
+request_misread board rest kind h = absurd h
+
+module _ (board : PlainBoard) (is_board : IsBoard board) where
+  small_left : (row : RequestRow) → IsRequestRow board row → row.left < 2 ^ 64
+  small_left row is = omega (arith, is.left)
+
+  small_request : (row : RequestRow) → IsRequestRow board row → row.request < 2 ^ 64
+  small_request row is = omega (arith, is.request, is_board.pebbles.1)
+
+  are_request_words : (row : RequestRow) → IsRequestRow board row
+      → AreRequestWords board.pebbles board.labels (places board) (request_words board row)
+  are_request_words row is = record {
+    at = position_texts board is_board row.at is.at;
+    left = (decimal_is_IsNumeral row.left (small_left row is)).0;
+    ask = (decimal_is_IsNumeral row.request (small_request row is)).0;
+  }
+
+  one_request : OneReading (IsRequestRow board) (request_line board)
+  one_request p q x y is_p is_q e =
+      let s = one_request_words board.pebbles board.labels (places board) (request_words board p) (request_words board q) x y
+      (are_request_words p is_p) (are_request_words q is_q) e in
+      let at = same_position board is_board p.at q.at is_p.at is_q.at (ap (λ (words : RequestWords). words.at) s.0) in
+      let left = decimal_injective p.left q.left (small_left p is_p) (small_left q is_q) (ap (λ (words : RequestWords). words.left) s.0) in
+      let ask = decimal_injective p.request q.request (small_request p is_p) (small_request q is_q)
+      (ap (λ (words : RequestWords). words.ask) s.0) in
+      let same : ◌≡◌ {A = RequestRow} (record { at = p.at; left = p.left; request = p.request }) q = rw (at, left, ask) refl in
+      (same, s.1)
+
+  pub request_laws : RowLaws (IsRequestRow board) (λ row. row.at) (request_line board) (RequestMisread board)
+  request_laws =
+      row_laws (IsRequestRow board) (λ row. row.at) (request_line board) (RequestMisread board) (RequestRead board) one_request
+      (λ rest. one_line _ request_words_line rest _ _ (one_request_words board.pebbles board.labels (places board))
+      (λ words more are. one_unless _ _ _ (one_unless _ _ _ (one_unless _ _ _ (λ v w e f. e ∙ sym f)))))
+      (request_misread board)
+      (λ row rest more is e. inr (
+        request_words board row,
+        more,
+        (are_request_words row is, e),
+        inr (
+          position_spelled board is_board row.at is.at,
+          inr ((row.request, is.request, refl), inr ((row.left, omega (arith, is.left), refl), refl)),
+        ),
+      ))

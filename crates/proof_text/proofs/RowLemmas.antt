@@ -1,229 +1,248 @@
 -- From the words of a row to the row, or to its fault.
-use Rattle.std.proofs.Common.{◌≡◌, ℕ, ◌+◌, ◌-◌, ◌<◌, ◌≤◌, ◌⊎◌, Bool, true, false, List, [], ◌∷◌, ◌++◌, Option, Some, None, length, map, take, drop, get_or, All, refl, sym, ap, subst, ◌∙◌, arith, inl, inr}
-use Rattle.std.specs.Fmt.{decimal}
+use Rattle.std.proofs.Common.{◌≡◌, ℕ, ◌+◌, ◌-◌, ◌<◌, ◌≤◌, ◌⊎◌, Bool, true, false, List, [], ◌∷◌, ◌++◌, Option, Some, None, length, take, drop, get_or, All, refl, sym, ap, subst, ◌∙◌, append_assoc, cond, arith, inl, inr}
 use Rattle.std.proofs.lemmas.List.{length-map, length-take, take_at, get_or-append_right, get_or-drop, get_or-replicate, get_or_past}
 use Rattle.std.proofs.lemmas.Bool.{cases_lt}
-use Rattle.std.specs.Prelude.{not, Ok}
+use Rattle.std.specs.Prelude.{not, Result, Ok, Err, OnOk}
+use Rattle.std.specs.Result.{is_ok}
+use Rattle.board_text.specs.LineForms.{closed}
 use Rattle.board_text.specs.Ranges.{AreNumbers}
 use Rattle.board_text.specs.PlaceForms.{place_word, SpellsPlace, SpellPlaces}
-use Rattle.board_text.specs.PlainBoard.{PlainBoard, places}
-use Rattle.board_text.specs.declared.board.TheConstants.{MAX_PEBBLES}
+use Rattle.board_text.specs.PlainBoard.{PlainBoard, IsBoard, IsConfiguration, places}
 use Rattle.board_text.proofs.Cited.{words_spell}
 use Rattle.positions.specs.declared.claim.Claim.{Claim}
 use Rattle.positions.specs.declared.turns.Turns.{Turns}
-use Rattle.positions.specs.Table.{AnswerRow, RequestRow}
+use Rattle.positions.specs.Table.{AnswerRow}
 use Rattle.positions.specs.Ranks.{rank_of, configuration_at, configurations}
 use Rattle.positions.specs.declared.space.TheConstants.{MAX_CONFIGURATIONS}
 use Rattle.positions.proofs.Cited.{configuration_at-rank_of, rank_of-configuration_at}
 use Rattle.proof_text.specs.declared.fault.ProofKind.TheVariants as kinds
 use Rattle.proof_text.specs.declared.proof.LabellerRow.{LabellerRow}
-use Rattle.proof_text.specs.declared.proof.AdversaryRow.{AdversaryRow}
 use Rattle.proof_text.specs.declared.row_words.AnswerValues.{AnswerValues}
 use Rattle.proof_text.specs.declared.row_words.RequestValues.{RequestValues}
-use Rattle.proof_text.specs.Proof.{IsAnswerRow, IsRequestRow, answer_row, request_row}
-use Rattle.proof_text.specs.ProofText.{turns_text, answer_line, request_line}
-use Rattle.proof_text.specs.RowWords.{AnswerWords, RequestWords, answer_words_line, request_words_line}
+use Rattle.proof_text.specs.Proof.{IsAnswerRow, IsRequestRow, answer_row}
+use Rattle.proof_text.specs.ProofText.{answer_line, request_line}
+use Rattle.proof_text.specs.RowWords.{AnswerWords, RequestWords, AreAnswerWords, AreRequestWords, answer_words_line, request_words_line}
 use Rattle.proof_text.specs.ProofFaults.{AnswerRowFault, RequestRowFault}
-use Rattle.proof_text.specs.Inside.Reading.{TurnsOf, NumberOf, TakesAnswerWords, TakesRequestWords}
-use Rattle.proof_text.specs.Inside.RowForm.{IsFrom, LineFault, NextRow, labeller_form, adversary_form}
+use Rattle.proof_text.specs.Inside.Reading.{AnswerSpelled, RequestSpelled, TurnsOf, NumberOf}
+use Rattle.proof_text.specs.Inside.RowForm.{IsFrom, LineFault, RowForm, NextRow, labeller_form, adversary_form}
 use Rattle.proof_text.specs.declared.proof.TheConstants.{MOST_TURNS}
-
--- places below the bound are spelled so
-pub spelled_below : (labels bound : ℕ) (texts : List (List ℕ)) (places : List ℕ) → SpellPlaces labels bound texts true places → All (SpellsPlace labels bound) texts
-spelled_below labels bound texts places s = subst (λ (ts : List (List ℕ)). All (SpellsPlace labels bound) ts) (sym s.1) (words_spell (length places) labels bound places (refl, s.0))
-
-pub places_count : (count labels bound : ℕ) (texts : List (List ℕ)) (places : List ℕ) → length texts ≡ count → SpellPlaces labels bound texts true places → AreNumbers count bound places
-places_count count labels bound texts places e s = (sym (length-map places (place_word labels)) ∙ ap length (sym s.1) ∙ e, s.0)
-
-cases_spelled : (labels bound : ℕ) (texts : List (List ℕ)) (are : Bool) (places : List ℕ) → are ≡ true → SpellPlaces labels bound texts are places → SpellPlaces labels bound texts true places
-cases_spelled labels bound texts are places e s = subst (λ (b : Bool). SpellPlaces labels bound texts b places) e s
-
-cases_unspelled : (labels bound : ℕ) (texts : List (List ℕ)) (are : Bool) (places : List ℕ) → are ≡ false → SpellPlaces labels bound texts are places → SpellPlaces labels bound texts false places
-cases_unspelled labels bound texts are places e s = subst (λ (b : Bool). SpellPlaces labels bound texts b places) e s
-
--- ---- a labeller's row
-
-pub answer_sizes : (p q l m h k : ℕ) (claim : Claim) (values : AnswerValues) (at answers old new : List ℕ) → p ≡ q → l ≡ m → h ≡ k
-    → TakesAnswerWords p l h claim (Some values) at answers old new → TakesAnswerWords q m k claim (Some values) at answers old new
-answer_sizes p q l m h k claim values at answers old new e f g t = rw (← e, ← f, ← g) t
-
-pub answer_label : (board : PlainBoard) (claim : Claim) (values : AnswerValues) (at answers old new : List ℕ) (MayStand : List ℕ → Type 0)
-    → TakesAnswerWords board.pebbles board.labels (places board) claim (Some values) at answers old new → (values.are_places ≡ false) ⊎ (values.are_answers ≡ false) → AnswerRowFault board claim MayStand old kinds.Label
-answer_label board claim values at answers old new MayStand (words, are, e, s) wrong = (
-  words,
-  (are, new, e),
-  λ all. elim wrong [
-    | inl unplaced ↦ cases_unspelled board.labels (places board) words.at values.are_places at unplaced s.places all.0
-    | inr taken ↦ cases_unspelled board.labels board.labels words.take values.are_answers answers taken s.taken all.1
-  ],
-)
-
-pub answer_number : (board : PlainBoard) (claim : Claim) (values : AnswerValues) (at answers old new : List ℕ) (MayStand : List ℕ → Type 0)
-    → TakesAnswerWords board.pebbles board.labels (places board) claim (Some values) at answers old new → values.are_places ≡ true → values.are_answers ≡ true → values.turns ≡ None → AnswerRowFault board claim MayStand old kinds.Number
-answer_number board claim values at answers old new MayStand (words, are, e, s) placed taken none = (
-  words,
-  (are, new, e),
-  spelled_below board.labels (places board) words.at at (cases_spelled board.labels (places board) words.at values.are_places at placed s.places),
-  spelled_below board.labels board.labels words.take answers (cases_spelled board.labels board.labels words.take values.are_answers answers taken s.taken),
-  subst (λ (t : Option Turns). TurnsOf claim words.turns t) none s.turns,
-)
-
--- a row was read
-pub record AnswerRead (board : PlainBoard) (claim : Claim) (row : AnswerRow) (old new : List ℕ) : Type 0 where
-  pub is : IsAnswerRow board claim row
-  pub spelled : old ≡ answer_line board row ++ new
-
-abbrev pub answer : List ℕ → Turns → List ℕ → AnswerRow
-answer at turns answers = record { at = at; turns = turns; answers = answers }
-
-answer_words_of : (board : PlainBoard) (at answers : List ℕ) (turns : Turns) (words : AnswerWords) → words.at ≡ map (place_word board.labels) at → words.turns ≡ turns_text turns → words.take ≡ map (place_word board.labels) answers
-    → answer_words_line words ≡ answer_line board (answer at turns answers)
-answer_words_of board at answers turns words e f g = rw (e, f, g) refl
-
-pub answer_read : (board : PlainBoard) (claim : Claim) (values : AnswerValues) (at answers old new : List ℕ) (turns : Turns)
-    → TakesAnswerWords board.pebbles board.labels (places board) claim (Some values) at answers old new → values.are_places ≡ true → values.are_answers ≡ true → values.turns ≡ Some turns
-    → AnswerRead board claim (answer at turns answers) old new
-answer_read board claim values at answers old new turns (words, are, e, s) placed taken some =
-    let p = cases_spelled board.labels (places board) words.at values.are_places at placed s.places in
-    let t = cases_spelled board.labels board.labels words.take values.are_answers answers taken s.taken in
-    let n : TurnsOf claim words.turns (Some turns) = subst (λ (t : Option Turns). TurnsOf claim words.turns t) some s.turns in
-    let count = places_count board.pebbles board.labels (places board) words.at at are.at.0 p in
-    record {
-      is = record { at = record { each_pebble = count.0; each_place = count.1 }; turns = n.0; answers = places_count board.pebbles board.labels board.labels words.take answers are.take.0 t };
-      spelled = e ∙ ap (λ (line : List ℕ). line ++ new) (answer_words_of board at answers turns words p.1 n.1 t.1);
-    }
-
--- the row that was read, with its configuration's rank
-module _ (board : PlainBoard) (claim : Claim) (at answers zeros old new : List ℕ) (turns : Turns) (rank least : ℕ) (read : AnswerRead board claim (answer at turns answers) old new)
-    (e : rank ≡ rank_of board at) (below : rank < configurations board) (zero : (pebble : ℕ) → get_or zeros pebble 0 ≡ 0) where
-  abbrev read_answers : LabellerRow
-  read_answers = record { at = rank; turns = turns; take = answers ++ zeros }
-
-  same_answers : answer_row board read_answers ≡ answer at turns answers
-  same_answers =
-      let place : configuration_at board rank ≡ at = ap (configuration_at board) e ∙ configuration_at-rank_of board at read.is.at in
-      let taken : take board.pebbles (answers ++ zeros) ≡ answers = take_at answers zeros board.pebbles read.is.answers.0 in
-      rw (place, taken) refl
-
-  answers_are : (labeller_form board claim).IsRow read_answers
-  answers_are = (
-    subst (λ (row : AnswerRow). IsAnswerRow board claim row) (sym same_answers) read.is,
-    λ pebble le. get_or-append_right answers zeros board.pebbles pebble 0 read.is.answers.0 le ∙ zero (pebble - board.pebbles),
-  )
-
-  answers_spelled : old ≡ answer_line board (answer_row board read_answers) ++ new
-  answers_spelled = subst (λ (row : AnswerRow). old ≡ answer_line board row ++ new) (sym same_answers) read.spelled
-
-  pub answer_order : rank < least → LineFault board (labeller_form board claim) (IsFrom board least) old kinds.Order
-  answer_order lt = (read_answers, answers_are, new, answers_spelled, λ from. omega (arith, rank_of-configuration_at board rank below, lt, from))
-
-  pub answer_next : configurations board ≤ MAX_CONFIGURATIONS → least ≤ rank → NextRow board (labeller_form board claim) least (Ok read_answers) old new
-  answer_next few above = (answers_are, above, below, few, answers_spelled)
-
--- ---- an adversary's row
-
-pub request_sizes : (p q l m h k : ℕ) (values : RequestValues) (at old new : List ℕ) → p ≡ q → l ≡ m → h ≡ k
-    → TakesRequestWords p l h (Some values) at old new → TakesRequestWords q m k (Some values) at old new
-request_sizes p q l m h k values at old new e f g t = rw (← e, ← f, ← g) t
-
-pub request_label : (board : PlainBoard) (values : RequestValues) (at old new : List ℕ) (MayStand : List ℕ → Type 0)
-    → TakesRequestWords board.pebbles board.labels (places board) (Some values) at old new → values.are_places ≡ false → RequestRowFault board MayStand old kinds.Label
-request_label board values at old new MayStand (words, are, e, s) wrong =
-    (words, (are, new, e), cases_unspelled board.labels (places board) words.at values.are_places at wrong s.places)
-
-pub request_pebble : (board : PlainBoard) (values : RequestValues) (at old new : List ℕ) (MayStand : List ℕ → Type 0)
-    → TakesRequestWords board.pebbles board.labels (places board) (Some values) at old new → values.are_places ≡ true → values.ask ≡ None → RequestRowFault board MayStand old kinds.Pebble
-request_pebble board values at old new MayStand (words, are, e, s) placed none = (
-  words,
-  (are, new, e),
-  spelled_below board.labels (places board) words.at at (cases_spelled board.labels (places board) words.at values.are_places at placed s.places),
-  subst (λ (n : Option ℕ). NumberOf board.pebbles words.ask n) none s.pebble,
-)
-
-pub request_number : (board : PlainBoard) (values : RequestValues) (at old new : List ℕ) (ask : ℕ) (MayStand : List ℕ → Type 0)
-    → TakesRequestWords board.pebbles board.labels (places board) (Some values) at old new → values.are_places ≡ true → values.ask ≡ Some ask → values.left ≡ None → RequestRowFault board MayStand old kinds.Number
-request_number board values at old new ask MayStand (words, are, e, s) placed some none = (
-  words,
-  (are, new, e),
-  spelled_below board.labels (places board) words.at at (cases_spelled board.labels (places board) words.at values.are_places at placed s.places),
-  (let k : NumberOf board.pebbles words.ask (Some ask) = subst (λ (n : Option ℕ). NumberOf board.pebbles words.ask n) some s.pebble in (ask, k.0, k.1)),
-  subst (λ (n : Option ℕ). NumberOf (MOST_TURNS + 1) words.left n) none s.number,
-)
-
--- a row was read
-pub record RequestRead (board : PlainBoard) (row : RequestRow) (old new : List ℕ) : Type 0 where
-  pub is : IsRequestRow board row
-  pub spelled : old ≡ request_line board row ++ new
-
-abbrev pub request : List ℕ → ℕ → ℕ → RequestRow
-request at left ask = record { at = at; left = left; request = ask }
-
-request_words_of : (board : PlainBoard) (at : List ℕ) (left ask : ℕ) (words : RequestWords) → words.at ≡ map (place_word board.labels) at → words.left ≡ decimal left → words.ask ≡ decimal ask
-    → request_words_line words ≡ request_line board (request at left ask)
-request_words_of board at left ask words e f g = rw (e, f, g) refl
-
-pub request_read : (board : PlainBoard) (values : RequestValues) (at old new : List ℕ) (left ask : ℕ)
-    → TakesRequestWords board.pebbles board.labels (places board) (Some values) at old new → values.are_places ≡ true → values.left ≡ Some left → values.ask ≡ Some ask
-    → RequestRead board (request at left ask) old new
-request_read board values at old new left ask (words, are, e, s) placed some_left some_ask =
-    let p = cases_spelled board.labels (places board) words.at values.are_places at placed s.places in
-    let n : NumberOf (MOST_TURNS + 1) words.left (Some left) = subst (λ (m : Option ℕ). NumberOf (MOST_TURNS + 1) words.left m) some_left s.number in
-    let k : NumberOf board.pebbles words.ask (Some ask) = subst (λ (m : Option ℕ). NumberOf board.pebbles words.ask m) some_ask s.pebble in
-    let count = places_count board.pebbles board.labels (places board) words.at at are.at.0 p in
-    record {
-      is = record { at = record { each_pebble = count.0; each_place = count.1 }; left = omega (arith, n.0); request = k.0 };
-      spelled = e ∙ ap (λ (line : List ℕ). line ++ new) (request_words_of board at left ask words p.1 n.1 k.1);
-    }
-
--- the row that was read, with its configuration's rank
-module _ (board : PlainBoard) (claim : Claim) (at old new : List ℕ) (left ask rank least : ℕ) (read : RequestRead board (request at left ask) old new)
-    (e : rank ≡ rank_of board at) (below : rank < configurations board) where
-  abbrev read_request : AdversaryRow
-  read_request = record { at = rank; left = left; ask = ask }
-
-  same_request : request_row board read_request ≡ request at left ask
-  same_request =
-      let place : configuration_at board rank ≡ at = ap (configuration_at board) e ∙ configuration_at-rank_of board at read.is.at in
-      rw place refl
-
-  request_is : IsRequestRow board (request_row board read_request)
-  request_is = subst (λ (row : RequestRow). IsRequestRow board row) (sym same_request) read.is
-
-  request_spelled : old ≡ request_line board (request_row board read_request) ++ new
-  request_spelled = subst (λ (row : RequestRow). old ≡ request_line board row ++ new) (sym same_request) read.spelled
-
-  pub request_order : rank < least → LineFault board (adversary_form board claim) (IsFrom board least) old kinds.Order
-  request_order lt = (read_request, request_is, new, request_spelled, λ from. omega (arith, rank_of-configuration_at board rank below, lt, from))
-
-  pub request_next : configurations board ≤ MAX_CONFIGURATIONS → least ≤ rank → NextRow board (adversary_form board claim) least (Ok read_request) old new
-  request_next few above = (request_is, above, below, few, request_spelled)
 
 -- ---- places on the stack
 
-abbrev pub six_zeros : List ℕ
+abbrev six_zeros : List ℕ
 six_zeros = 0 ∷ 0 ∷ 0 ∷ 0 ∷ 0 ∷ 0 ∷ []
 
-pub zero_at : (place : ℕ) → get_or six_zeros place 0 ≡ 0
+zero_at : (place : ℕ) → get_or six_zeros place 0 ≡ 0
 zero_at place =
     elim (cases_lt place 6) [
       | inl lt ↦ get_or-replicate 6 place 0 0 lt
       | inr past ↦ get_or_past six_zeros place 0 past
     ]
 
-pub zero_behind : (n place : ℕ) → get_or (drop n six_zeros) place 0 ≡ 0
+zero_behind : (n place : ℕ) → get_or (drop n six_zeros) place 0 ≡ 0
 zero_behind n place = get_or-drop n six_zeros place 0 ∙ zero_at (n + place)
 
-pub places_taken : (n : ℕ) → n ≤ MAX_PEBBLES → length (take n six_zeros) ≡ n
-places_taken n few = omega (arith, length-take n six_zeros)
+-- ---- places and rows that were read
 
-pub not_false : (b : Bool) → not b ≡ false → b ≡ true
-not_false true e = refl
-not_false false e = absurd cc
+-- what a test that was negated tells
+misread : (Told : Bool → Type 0) (test : Bool) → Told test → not test ≡ true → Told false
+misread Told false told e = told
+misread Told true told e = absurd cc
 
-pub not_true : (b : Bool) → not b ≡ true → b ≡ false
-not_true true e = absurd cc
-not_true false e = refl
+well_read : (Told : Bool → Type 0) (test : Bool) → Told test → not test ≡ false → Told true
+well_read Told true told e = told
+well_read Told false told e = absurd cc
 
--- a slice that was lent from the front of these and written
-pub front_written : (n : ℕ) (new rest : List ℕ) → length new ≡ n → take n (new ++ rest) ≡ new
-front_written n new rest len = take_at new rest n len
+module _ (labels bound : ℕ) (texts : List (List ℕ)) (places : List ℕ) (spell : SpellPlaces labels bound texts true places) where
+  all_spelled : All (SpellsPlace labels bound) texts
+  all_spelled = rw spell.1 (words_spell (length places) labels bound places (refl, spell.0))
+
+  places_count : {count : ℕ} → length texts ≡ count → AreNumbers count bound places
+  places_count e = (sym (length-map places (place_word labels)) ∙ ap length (sym spell.1) ∙ e, spell.0)
+
+-- a row that stands here
+pub record RowRead {X : Type 0} (IsRow : X → Type 0) (line : X → List ℕ) (row : X) (old new : List ℕ) : Type 0 where
+  pub is : IsRow row
+  pub spelled : old ≡ line row ++ new
+
+-- the rank of the configuration that was read to the front of these places
+rank_read : (board : PlainBoard) (at behind : List ℕ) (pebbles rank : ℕ) → IsConfiguration board at → pebbles ≡ board.pebbles
+    → rank ≡ rank_of board (take pebbles (at ++ behind)) → configuration_at board rank ≡ at
+rank_read board at behind pebbles rank is e ranked =
+    rw (ranked, take_at at behind pebbles (is.each_pebble ∙ sym e)) (configuration_at-rank_of board at is)
+
+module _ {R : Type 0} (board : PlainBoard) (form : RowForm R) (least : ℕ) {row : R} {old new : List ℕ}
+    (read : RowRead form.IsRow form.line row old new) (below : form.rank row < configurations board) where
+  pub row_order : form.rank row < least → LineFault board form (IsFrom board least) old kinds.Order
+  row_order early =
+      (row, read.is, new, read.spelled, λ from. omega (arith, rank_of-configuration_at board (form.rank row) below, early, from))
+
+  pub row_next : configurations board ≤ MAX_CONFIGURATIONS → least ≤ form.rank row → NextRow board form least (Ok row) old new
+  row_next few above = (read.is, above, below, few, read.spelled)
+
+-- ---- a labeller's row
+
+-- its words were taken, and they spell these values
+pub record AnswerTaken (board : PlainBoard) (claim : Claim) (values : AnswerValues) (at answers old new : List ℕ) : Type 0 where
+  words : AnswerWords
+  are : AreAnswerWords board.pebbles board.labels (places board) words
+  stands : old ≡ answer_words_line words ++ new
+  spell : AnswerSpelled board.labels (places board) claim words values at answers
+
+pub answer_taken : (board : PlainBoard) {pebbles labels bound : ℕ} {claim : Claim} {values : AnswerValues} {at answers old new : List ℕ}
+    → IsBoard board → pebbles ≡ board.pebbles → labels ≡ board.labels → bound ≡ places board
+    → (words : AnswerWords) × AreAnswerWords (length (take pebbles six_zeros)) labels bound words × (old ≡ answer_words_line words ++ new)
+    × AnswerSpelled labels bound claim words values at answers
+    → AnswerTaken board claim values at answers old new
+answer_taken board {pebbles} is_board e f g (words, are, stands, spell) =
+    let count : length (take pebbles six_zeros) ≡ board.pebbles = omega (arith, length-take pebbles six_zeros, e, is_board.pebbles.1) in
+    record { words = words; are = rw (← g, ← f, ← count) are; stands = stands; spell = rw (← g, ← f) spell }
+
+module _ {board : PlainBoard} {claim : Claim} {values : AnswerValues} {at answers old new : List ℕ}
+    (taken : AnswerTaken board claim values at answers old new) where
+  -- what its places and its answers spell
+  abbrev PlacesAre : Bool → Type 0
+  PlacesAre right = SpellPlaces board.labels (places board) taken.words.at right at
+
+  abbrev AnswersAre : Bool → Type 0
+  AnswersAre right = SpellPlaces board.labels board.labels taken.words.take right answers
+
+  pub answer_label : (MayStand : List ℕ → Type 0) → (not values.are_places ≡ true) ⊎ (not values.are_answers ≡ true)
+      → AnswerRowFault board claim MayStand old kinds.Label
+  answer_label MayStand wrong = (
+    taken.words,
+    (taken.are, new, taken.stands),
+    λ all. elim wrong [
+      | inl places ↦ misread PlacesAre values.are_places taken.spell.places places all.0
+      | inr labels ↦ misread AnswersAre values.are_answers taken.spell.taken labels all.1
+    ],
+  )
+
+  module _ (placed : not values.are_places ≡ false) (labelled : not values.are_answers ≡ false) where
+    at_read : PlacesAre true
+    at_read = well_read PlacesAre values.are_places taken.spell.places placed
+
+    take_read : AnswersAre true
+    take_read = well_read AnswersAre values.are_answers taken.spell.taken labelled
+
+    pub answer_number : (MayStand : List ℕ → Type 0) → values.turns ≡ None → AnswerRowFault board claim MayStand old kinds.Number
+    answer_number MayStand none = (
+      taken.words,
+      (taken.are, new, taken.stands),
+      all_spelled board.labels (places board) taken.words.at at at_read,
+      all_spelled board.labels board.labels taken.words.take answers take_read,
+      subst (λ (t : Option Turns). TurnsOf claim taken.words.turns t) none taken.spell.turns,
+    )
+
+    answer_read : (turns : Turns) → values.turns ≡ Some turns
+        → RowRead (IsAnswerRow board claim) (answer_line board) (record { at = at; turns = turns; answers = answers }) old new
+    answer_read turns some =
+        let is_at = places_count board.labels (places board) taken.words.at at at_read taken.are.at.0 in
+        let n : TurnsOf claim taken.words.turns (Some turns) =
+        subst (λ (t : Option Turns). TurnsOf claim taken.words.turns t) some taken.spell.turns in
+        record {
+          is = record {
+            at = record { each_pebble = is_at.0; each_place = is_at.1 };
+            turns = n.0;
+            answers = places_count board.labels board.labels taken.words.take answers take_read taken.are.take.0;
+          };
+          spelled = rw (← at_read.1, ← n.1, ← take_read.1) taken.stands;
+        }
+
+    -- the row, with its configuration's rank and the zeros behind its answers
+    pub ranked_answer : (turns : Turns) (pebbles rank : ℕ) → values.turns ≡ Some turns → pebbles ≡ board.pebbles
+        → rank ≡ rank_of board (take pebbles (at ++ drop pebbles six_zeros))
+        → RowRead (labeller_form board claim).IsRow (labeller_form board claim).line
+        (record { at = rank; turns = turns; take = answers ++ drop pebbles six_zeros }) old new
+    ranked_answer turns pebbles rank some e ranked =
+        let read = answer_read turns some in
+        let zeros = drop pebbles six_zeros in
+        let row : LabellerRow = record { at = rank; turns = turns; take = answers ++ zeros } in
+        let same : answer_row board row ≡ record { at = at; turns = turns; answers = answers } =
+        rw (rank_read board at zeros pebbles rank read.is.at e ranked, take_at answers zeros board.pebbles read.is.answers.0) refl in
+        record {
+          is = (
+            subst (λ (r : AnswerRow). IsAnswerRow board claim r) (sym same) read.is,
+            λ pebble beyond. get_or-append_right answers zeros board.pebbles pebble 0 read.is.answers.0 beyond
+                ∙ zero_behind pebbles (pebble - board.pebbles),
+          );
+          spelled = subst (λ (r : AnswerRow). old ≡ answer_line board r ++ new) (sym same) read.spelled;
+        }
+
+-- ---- an adversary's row
+
+pub record RequestTaken (board : PlainBoard) (values : RequestValues) (at old new : List ℕ) : Type 0 where
+  words : RequestWords
+  are : AreRequestWords board.pebbles board.labels (places board) words
+  stands : old ≡ request_words_line words ++ new
+  spell : RequestSpelled board.labels (places board) board.pebbles words values at
+
+pub request_taken : (board : PlainBoard) {pebbles labels bound : ℕ} {values : RequestValues} {at old new : List ℕ} → pebbles ≡ board.pebbles
+    → labels ≡ board.labels → bound ≡ places board
+    → (words : RequestWords) × AreRequestWords pebbles labels bound words × (old ≡ request_words_line words ++ new)
+    × RequestSpelled labels bound pebbles words values at
+    → RequestTaken board values at old new
+request_taken board e f g (words, are, stands, spell) =
+    record { words = words; are = rw (← g, ← f, ← e) are; stands = stands; spell = rw (← g, ← f, ← e) spell }
+
+module _ {board : PlainBoard} {values : RequestValues} {at old new : List ℕ} (taken : RequestTaken board values at old new) where
+  abbrev StandsAt : Bool → Type 0
+  StandsAt right = SpellPlaces board.labels (places board) taken.words.at right at
+
+  pub request_label : (MayStand : List ℕ → Type 0) → not values.are_places ≡ true → RequestRowFault board MayStand old kinds.Label
+  request_label MayStand wrong =
+      (taken.words, (taken.are, new, taken.stands), misread StandsAt values.are_places taken.spell.places wrong)
+
+  module _ (placed : not values.are_places ≡ false) where
+    place_read : StandsAt true
+    place_read = well_read StandsAt values.are_places taken.spell.places placed
+
+    pub request_pebble : (MayStand : List ℕ → Type 0) → values.ask ≡ None → RequestRowFault board MayStand old kinds.Pebble
+    request_pebble MayStand none = (
+      taken.words,
+      (taken.are, new, taken.stands),
+      all_spelled board.labels (places board) taken.words.at at place_read,
+      subst (λ (n : Option ℕ). NumberOf board.pebbles taken.words.ask n) none taken.spell.pebble,
+    )
+
+    module _ (ask : ℕ) (some_ask : values.ask ≡ Some ask) where
+      pebble_read : NumberOf board.pebbles taken.words.ask (Some ask)
+      pebble_read = subst (λ (n : Option ℕ). NumberOf board.pebbles taken.words.ask n) some_ask taken.spell.pebble
+
+      pub request_number : (MayStand : List ℕ → Type 0) → values.left ≡ None → RequestRowFault board MayStand old kinds.Number
+      request_number MayStand none = (
+        taken.words,
+        (taken.are, new, taken.stands),
+        all_spelled board.labels (places board) taken.words.at at place_read,
+        (ask, pebble_read.0, pebble_read.1),
+        subst (λ (n : Option ℕ). NumberOf (MOST_TURNS + 1) taken.words.left n) none taken.spell.number,
+      )
+
+      request_read : (left : ℕ) → values.left ≡ Some left
+          → RowRead (IsRequestRow board) (request_line board) (record { at = at; left = left; request = ask }) old new
+      request_read left some =
+          let is_at = places_count board.labels (places board) taken.words.at at place_read taken.are.at.0 in
+          let n : NumberOf (MOST_TURNS + 1) taken.words.left (Some left) =
+          subst (λ (m : Option ℕ). NumberOf (MOST_TURNS + 1) taken.words.left m) some taken.spell.number in
+          record {
+            is = record { at = record { each_pebble = is_at.0; each_place = is_at.1 }; left = omega (arith, n.0); request = pebble_read.0 };
+            spelled = rw (← place_read.1, ← n.1, ← pebble_read.1) taken.stands;
+          }
+
+      pub ranked_request : (claim : Claim) (left pebbles rank : ℕ) → values.left ≡ Some left → pebbles ≡ board.pebbles
+          → rank ≡ rank_of board (take pebbles (at ++ drop pebbles six_zeros))
+          → RowRead (adversary_form board claim).IsRow (adversary_form board claim).line (record { at = rank; left = left; ask = ask })
+          old new
+      ranked_request claim left pebbles rank some e ranked =
+          let read = request_read left some in
+          let same = rank_read board at (drop pebbles six_zeros) pebbles rank read.is.at e ranked in
+          record { is = rw same read.is; spelled = rw same read.spelled }
+
+-- ---- a line that is written
+
+-- part by part, and closed where memory lasts
+pub line_written : {T E : Type 0} (r : Result T E) (a b c d e f t0 t1 t2 t3 t4 t5 t6 t7 : List ℕ) → t1 ≡ t0 ++ a → t2 ≡ t1 ++ b
+    → t3 ≡ t2 ++ c → t4 ≡ t3 ++ d → t5 ≡ t4 ++ e → t6 ≡ t5 ++ f → t7 ≡ cond (is_ok r) (t6 ++ 10 ∷ []) t6
+    → OnOk r (t7 ≡ t0 ++ closed (a ++ (b ++ (c ++ (d ++ (e ++ f))))))
+line_written (Ok x) a b c d e f t0 t1 t2 t3 t4 t5 t6 t7 p q r s t u v = rw (v, u, t, s, r, q, p) (simp append_assoc)
+line_written (Err x) a b c d e f t0 t1 t2 t3 t4 t5 t6 t7 p q r s t u v = tt

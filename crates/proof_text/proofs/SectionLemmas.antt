@@ -31,9 +31,6 @@ follows_all {X} board at rows configuration ascending follows k d lt =
       | inr last_one ↦ let same : n ≡ k = omega arith in subst (λ (i : ℕ). IsBefore board (at (get_or rows i d)) configuration) same last
     ]
 
-pub rows_none : {X : Type 0} (board : PlainBoard) (IsRow : X → Type 0) (at : X → List ℕ) → AreRows board IsRow at []
-rows_none board IsRow at = record { few = omega arith; each = All-nil IsRow; ascending = λ i j d less below. absurd (omega arith) }
-
 pub rows_push : {X : Type 0} (board : PlainBoard) (IsRow : X → Type 0) (at : X → List ℕ) (rows : List X) (row : X)
     → AreRows board IsRow at rows → IsRow row → MayFollow board at rows (at row) → length rows < MAX_CONFIGURATIONS → AreRows board IsRow at (rows ++ row ∷ [])
 rows_push board IsRow at rows row are is follows few = record {
@@ -47,22 +44,14 @@ last_is {X} rows before row last e =
     let same : length before ≡ length rows = omega (arith, ap length e, length_push rows row, length_push before last) in
     sym (get_or_at rows row [] row (length rows) refl) ∙ ap (λ (l : List X). get_or l (length rows) row) e ∙ get_or_at before last [] row (length rows) same
 
--- what may follow where a row is the last
-pub follows_last : {X : Type 0} (board : PlainBoard) (at : X → List ℕ) (rows : List X) (row : X) (configuration : List ℕ) → IsBefore board (at row) configuration → MayFollow board at (rows ++ row ∷ []) configuration
-follows_last {X} board at rows row configuration lt before last e =
-    subst (λ (x : X). IsBefore board (at x) configuration) (last_is rows before row last e) lt
-
-pub last_before : {X : Type 0} (board : PlainBoard) (at : X → List ℕ) (rows : List X) (row : X) (configuration : List ℕ) → MayFollow board at (rows ++ row ∷ []) configuration → IsBefore board (at row) configuration
-last_before board at rows row configuration follows = follows rows row refl
-
 -- the rows so far, where ranks may follow from the least on
 abbrev pub FollowsFrom : {X : Type 0} → PlainBoard → (X → List ℕ) → List X → ℕ → Type 0
 FollowsFrom board at rows least = (configuration : List ℕ) → (MayFollow board at rows configuration → least ≤ rank_of board configuration) × (least ≤ rank_of board configuration → MayFollow board at rows configuration)
 
 pub from_push : {X : Type 0} (board : PlainBoard) (at : X → List ℕ) (rows : List X) (row : X) (rank : ℕ) → rank_of board (at row) ≡ rank → FollowsFrom board at (rows ++ row ∷ []) (rank + 1)
-from_push board at rows row rank e configuration = (
-  λ h. let lt : rank_of board (at row) < rank_of board configuration = last_before board at rows row configuration h in omega (arith, e, lt),
-  λ h. follows_last board at rows row configuration (omega (arith, e, h)),
+from_push {X} board at rows row rank e configuration = (
+  λ follows. let after : rank_of board (at row) < rank_of board configuration = follows rows row refl in omega (arith, e, after),
+  λ least before last same. subst (λ (x : X). IsBefore board (at x) configuration) (last_is rows before row last same) (omega (arith, e, least)),
 )
 
 -- one more row
@@ -78,7 +67,12 @@ come_push board IsRow at section_line row_line text count least rows row rest ne
 
 pub come_none : {X : Type 0} (board : PlainBoard) (IsRow : X → Type 0) (at : X → List ℕ) (section_line : ℕ → List ℕ) (row_line : X → List ℕ) (text : List ℕ) (count : ℕ) (rest : List ℕ)
     → count ≤ MAX_CONFIGURATIONS → text ≡ section_line count ++ rest → RowsCome board IsRow at section_line row_line text count [] rest
-come_none board IsRow at section_line row_line text count rest few e = record { few = few; come = omega arith; are_rows = rows_none board IsRow at; spelled = e }
+come_none board IsRow at section_line row_line text count rest few e = record {
+  few = few;
+  come = omega arith;
+  are_rows = record { few = omega arith; each = All-nil IsRow; ascending = λ i j d less below. absurd (omega arith) };
+  spelled = e;
+}
 
 -- ---- rows that name their configurations by ranks
 
@@ -115,14 +109,7 @@ module _ {R : Type 0} (board : PlainBoard) (form : RowForm R) where
   line_fault_in text number line count least rows rest kinds.Memory come short e from h = absurd (form.no_memory rest h)
   line_fault_in text number line count least rows rest kinds.Order come short e from (row, is, more, spelled, early) =
       (count, rows, rest, come, short, e, (row, is, more, spelled, λ follows. early ((from (at_of board form row)).0 follows)))
-  line_fault_in text number line count least rows rest kinds.Row come short e from h = (count, rows, rest, come, short, e, h)
-  line_fault_in text number line count least rows rest kinds.Label come short e from h = (count, rows, rest, come, short, e, h)
-  line_fault_in text number line count least rows rest kinds.Pebble come short e from h = (count, rows, rest, come, short, e, h)
-  line_fault_in text number line count least rows rest kinds.Number come short e from h = (count, rows, rest, come, short, e, h)
-  line_fault_in text number line count least rows rest kinds.Version come short e from h = (count, rows, rest, come, short, e, h)
-  line_fault_in text number line count least rows rest kinds.Claim come short e from h = (count, rows, rest, come, short, e, h)
-  line_fault_in text number line count least rows rest kinds.End come short e from h = (count, rows, rest, come, short, e, h)
-  line_fault_in text number line count least rows rest kinds.Trailing come short e from h = (count, rows, rest, come, short, e, h)
+  line_fault_in text number line count least rows rest kind come short e from h = (count, rows, rest, come, short, e, h)
 
 -- ---- what rows stand for
 
@@ -153,26 +140,25 @@ module _ {R X : Type 0} (board : PlainBoard) (f : R → X) (IsRow : R → Type 0
   follows_seen : (rows : List R) (configuration : List ℕ) → MayFollow board at (map f rows) configuration → MayFollow board (λ row. at (f row)) rows configuration
   follows_seen rows configuration follows before last e = follows (map f before) (f last) (ap (map f) e ∙ map-append f before (last ∷ []))
 
+  row_fault_seen : (Misread : List ℕ → ProofKind → Type 0) (rows : List R) (rest : List ℕ) (kind : ProofKind)
+      → RowFault IsRow (λ row. at (f row)) (λ row. row_line (f row)) Misread (MayFollow board (λ row. at (f row)) rows) rest kind
+      → RowFault IsSeen at row_line Misread (MayFollow board at (map f rows)) rest kind
+  row_fault_seen Misread rows rest kinds.Order (row, is, more, spelled, early) =
+      (f row, seen row is, more, spelled, λ follows. early (follows_seen rows (at (f row)) follows))
+  row_fault_seen Misread rows rest kind h = h
+
   -- the fault of a section of rows is that of what they stand for
   pub fault_seen : (section_line : ℕ → List ℕ) (Misread : List ℕ → ProofKind → Type 0) (text : List ℕ) (number line : ℕ) (kind : ProofKind)
       → InSection board IsRow (λ row. at (f row)) section_line (λ row. row_line (f row)) (RowFault IsRow (λ row. at (f row)) (λ row. row_line (f row)) Misread) text number line kind
       → InSection board IsSeen at section_line row_line (RowFault IsSeen at row_line Misread) text number line kind
   fault_seen section_line Misread text number line kinds.Section h = h
-  fault_seen section_line Misread text number line kinds.Memory (e, (count, rows, rest, come)) = (e, (count, map f rows, rest, come_seen section_line text count rows rest come))
-  fault_seen section_line Misread text number line kinds.Order (count, rows, rest, come, short, e, (row, is, more, spelled, early)) = (
-    count,
-    map f rows,
-    rest,
-    come_seen section_line text count rows rest come,
-    omega (arith, short, length-map rows f),
-    omega (arith, e, length-map rows f),
-    (f row, seen row is, more, spelled, λ follows. early (follows_seen rows (at (f row)) follows)),
+  fault_seen section_line Misread text number line kinds.Memory h = (h.0, (h.1.0, map f h.1.1, h.1.2, come_seen section_line text h.1.0 h.1.1 h.1.2 h.1.3))
+  fault_seen section_line Misread text number line kind h = (
+    h.0,
+    map f h.1,
+    h.2,
+    come_seen section_line text h.0 h.1 h.2 h.3,
+    omega (arith, h.4, length-map h.1 f),
+    omega (arith, h.5, length-map h.1 f),
+    row_fault_seen Misread h.1 h.2 kind h.6,
   )
-  fault_seen section_line Misread text number line kinds.Row h = (h.0, map f h.1, h.2, come_seen section_line text h.0 h.1 h.2 h.3, omega (arith, h.4, length-map h.1 f), omega (arith, h.5, length-map h.1 f), h.6)
-  fault_seen section_line Misread text number line kinds.Label h = (h.0, map f h.1, h.2, come_seen section_line text h.0 h.1 h.2 h.3, omega (arith, h.4, length-map h.1 f), omega (arith, h.5, length-map h.1 f), h.6)
-  fault_seen section_line Misread text number line kinds.Pebble h = (h.0, map f h.1, h.2, come_seen section_line text h.0 h.1 h.2 h.3, omega (arith, h.4, length-map h.1 f), omega (arith, h.5, length-map h.1 f), h.6)
-  fault_seen section_line Misread text number line kinds.Number h = (h.0, map f h.1, h.2, come_seen section_line text h.0 h.1 h.2 h.3, omega (arith, h.4, length-map h.1 f), omega (arith, h.5, length-map h.1 f), h.6)
-  fault_seen section_line Misread text number line kinds.Version h = (h.0, map f h.1, h.2, come_seen section_line text h.0 h.1 h.2 h.3, omega (arith, h.4, length-map h.1 f), omega (arith, h.5, length-map h.1 f), h.6)
-  fault_seen section_line Misread text number line kinds.Claim h = (h.0, map f h.1, h.2, come_seen section_line text h.0 h.1 h.2 h.3, omega (arith, h.4, length-map h.1 f), omega (arith, h.5, length-map h.1 f), h.6)
-  fault_seen section_line Misread text number line kinds.End h = (h.0, map f h.1, h.2, come_seen section_line text h.0 h.1 h.2 h.3, omega (arith, h.4, length-map h.1 f), omega (arith, h.5, length-map h.1 f), h.6)
-  fault_seen section_line Misread text number line kinds.Trailing h = (h.0, map f h.1, h.2, come_seen section_line text h.0 h.1 h.2 h.3, omega (arith, h.4, length-map h.1 f), omega (arith, h.5, length-map h.1 f), h.6)

@@ -1,5 +1,5 @@
 -- What the digits of a row spell.
-use Rattle.std.proofs.Common.{◌≡◌, ◌≢◌, ℕ, ◌+◌, ◌^◌, ◌<◌, ◌≤◌, true, false, List, [], ◌++◌, Option, Some, None, sym, ap, ◌∙◌, arith}
+use Rattle.std.proofs.Common.{◌≡◌, ◌≢◌, ℕ, ◌+◌, ◌^◌, ◌<◌, ◌≤◌, true, false, List, [], ◌++◌, Option, Some, None, refl, sym, ap, ◌∙◌, arith}
 use Rattle.std.specs.Prelude.{codes, MatchOption}
 use Rattle.std.specs.Option.{is_some}
 use Rattle.std.specs.Fmt.{decimal}
@@ -9,9 +9,10 @@ use Rattle.std.proofs.lemmas.List.{append-nil}
 use Rattle.board_text.specs.declared.line_reader.Numeral.{Numeral}
 use Rattle.board_text.specs.declared.line_reader.Numeral.TheVariants.{Number, NoNumber}
 use Rattle.board_text.specs.Numerals.{Says, IsNumberIn}
+use Rattle.board_text.specs.Ranges.{InRange}
 use Rattle.board_text.proofs.Cited.{spells_none, spells_number}
 use Rattle.positions.specs.declared.claim.Claim.{Claim}
-use Rattle.positions.specs.declared.claim.Claim.TheVariants.{Exactly, AtLeast, AtMost, Forever}
+use Rattle.positions.specs.declared.claim.Claim.TheVariants.{Forever}
 use Rattle.positions.specs.declared.turns.Turns.{Turns}
 use Rattle.positions.specs.declared.turns.Turns.TheVariants.{Count, Always}
 use Rattle.proof_text.specs.Proof.{AreTurns}
@@ -21,10 +22,17 @@ use Rattle.proof_text.specs.declared.proof.TheConstants.{MOST_TURNS}
 use Rattle.proof_text.proofs.RowWords.{no_star}
 
 pub count_small : (claim : Claim) (n : ℕ) → AreTurns claim (Count n) → n < MOST_TURNS + 1
-count_small (Exactly k) n are = omega (arith, are.1)
-count_small (AtLeast k) n are = omega (arith, are.1)
-count_small (AtMost k) n are = omega (arith, are.1)
 count_small Forever n are = absurd are
+count_small claim n are = omega (arith, are.1)
+
+-- only turns without end are for ever
+pub no_star_turns : (claim : Claim) → claim ≢ Forever → AreTurns claim Always → ⊥
+no_star_turns Forever not are = not refl
+no_star_turns claim not are = are
+
+pub are_turns : (claim : Claim) (n : ℕ) → claim ≢ Forever → InRange 1 MOST_TURNS n → AreTurns claim (Count n)
+are_turns Forever n not is = absurd (not refl)
+are_turns claim n not is = is
 
 pub star_is_no_number : (n : ℕ) → n < 2 ^ 64 → codes "*" ≡ decimal n → ⊥
 star_is_no_number n small e = no_star (decimal n) [] [] (decimal_is_IsNumeral n small).0 (append-nil (decimal n) ∙ sym e)

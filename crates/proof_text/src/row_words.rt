@@ -11,7 +11,7 @@ use board_text::line_reader::{LineReader, Numeral};
 use positions::{Claim, Turns};
 
 /// What the words of a labeller's row spell, beside its places and its answers.
-#[derive(Clone, Copy, Debug, PartialEq, Eq)]
+#[derive(Clone, Copy)]
 pub(crate) struct AnswerValues {
     /// Each place of the position is one of the board.
     pub are_places: bool,
@@ -22,7 +22,7 @@ pub(crate) struct AnswerValues {
 }
 
 /// What the words of an adversary's row spell, beside its places.
-#[derive(Clone, Copy, Debug, PartialEq, Eq)]
+#[derive(Clone, Copy)]
 pub(crate) struct RequestValues {
     /// Each place of the position is one of the board.
     pub are_places: bool,
@@ -122,9 +122,6 @@ fn count(claim: Claim, numeral: Numeral) -> Option<Turns>
 {
     match claim {
         Claim::Forever => None,
-        _ => match numeral.within(1, MOST_TURNS) {
-            Some(turns) => Some(Turns::Count(turns)),
-            None => None,
-        },
+        _ => Some(Turns::Count(numeral.within(1, MOST_TURNS)?)),
     }
 }

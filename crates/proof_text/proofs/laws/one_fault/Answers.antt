@@ -1,4 +1,4 @@
-use Rattle.proof_text.proofs.OneFault as lemmas
+use Rattle.proof_text.proofs.OneDocument as lemmas
 use Rattle.proof_text.proofs.laws.one_fault.Goals as goal
 
 pub returns : goal.returns
