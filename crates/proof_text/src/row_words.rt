@@ -1,6 +1,6 @@
 //! The words of a row, taken from the front of a text, with what they spell.
 
-ghost use Rattle.std.specs.Prelude.{◌≡◌, ◌≢◌, ℕ, ◌+◌, ◌<◌, ◌≤◌, ◌++◌, ◌∷◌, [], List, length, option_map, MatchOption, codes, Some, None};
+ghost use Rattle.std.specs.Prelude.{◌≡◌, ◌≢◌, ℕ, ◌+◌, ◌<◌, ◌≤◌, length, option_map, MatchOption, Some, None};
 ghost use Rattle.positions.specs.declared.turns.Turns.TheVariants.{Count, Always};
 ghost use Rattle.board_text.specs.declared.line_reader.Numeral.TheVariants.{Number};
 ghost use Rattle.proof_text.specs.Proof.{AreTurns};
