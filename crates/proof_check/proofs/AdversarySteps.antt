@@ -11,16 +11,6 @@ use Rattle.positions.specs.Table.{RequestRow}
 use Rattle.proof_text.specs.Rules.{IsListedBelow, MeetsAnswer, MeetsAnswers}
 use Rattle.proof_check.specs.Inside.Checker.{IsRowFor}
 
-module _ (rows : List RequestRow) (configuration : List ℕ) (row : RequestRow) (is : IsRowFor (λ r. r.at) rows configuration row) where
-  pub listed_below : (bound : ℕ) → row.left < bound → IsListedBelow rows configuration bound
-  listed_below bound below = record { row = row; among = is.among; at = is.at_is; below = below }
-
-  pub not_listed_below : (bound : ℕ) → bound ≤ row.left → IsListedBelow rows configuration bound → ⊥
-  not_listed_below bound large listed =
-      let low : listed.row.left < bound = listed.below in
-      let left : listed.row.left ≡ row.left = ap (λ (r : RequestRow). r.left) (is.only listed.row listed.among listed.at) in
-      omega (arith, low, left, large)
-
 pub legal_few : (board : PlainBoard) (position : Position) (rank pebble : ℕ) → position ≡ position_at board rank → position.board.labels ≤ MAX_LABELS → (label : ℕ) → Legal board (configuration_at board rank) pebble label → label < MAX_LABELS
 legal_few board position rank pebble is few label legal = let most : board.labels ≤ MAX_LABELS = subst (λ (p : Position). p.board.labels ≤ MAX_LABELS) is few in omega (arith, legal.is_label, most)
 

@@ -1,7 +1,7 @@
 pub mod IndexedRows
 pub mod RankSearch
 pub mod FoundRows
-pub mod LabellerSteps
+pub mod RowTests
 pub mod AdversarySteps
 pub mod FirstRows
 pub mod LabellerTables
