@@ -1,5 +1,5 @@
 -- What a look at an adversary's row finds.
-use Rattle.std.proofs.Common.{◌≡◌, ℕ, ◌<◌, ◌≤◌, List, Some, None, inl, inr, ap, subst, arith}
+use Rattle.std.proofs.Common.{◌≡◌, ℕ, ◌<◌, ◌≤◌, List, Some, None, inl, inr, subst, arith}
 use Rattle.std.proofs.lemmas.Bool.{cases_lt}
 use Rattle.board_text.specs.PlainBoard.{PlainBoard}
 use Rattle.board_text.specs.declared.board.TheConstants.{MAX_LABELS}
@@ -8,8 +8,7 @@ use Rattle.positions.specs.Game.{Legal}
 use Rattle.positions.specs.Position.{Position, position_at}
 use Rattle.positions.specs.Ranks.{configuration_at}
 use Rattle.positions.specs.Table.{RequestRow}
-use Rattle.proof_text.specs.Rules.{IsListedBelow, MeetsAnswer, MeetsAnswers}
-use Rattle.proof_check.specs.Inside.Checker.{IsRowFor}
+use Rattle.proof_text.specs.Rules.{MeetsAnswer, MeetsAnswers}
 
 pub legal_few : (board : PlainBoard) (position : Position) (rank pebble : ℕ) → position ≡ position_at board rank → position.board.labels ≤ MAX_LABELS → (label : ℕ) → Legal board (configuration_at board rank) pebble label → label < MAX_LABELS
 legal_few board position rank pebble is few label legal = let most : board.labels ≤ MAX_LABELS = subst (λ (p : Position). p.board.labels ≤ MAX_LABELS) is few in omega (arith, legal.is_label, most)

@@ -7,8 +7,7 @@ pub mod FirstRows
 pub mod LabellerTables
 pub mod AdversaryTables
 pub mod ShownClaims
-pub mod Turns
-pub mod StepFaults
+pub mod Steps
+pub mod DocumentFaults
 pub mod FirstRow
-pub mod OneFault
 pub mod Cited

@@ -1,5 +1,5 @@
 -- What a test of the row that is found for a configuration shows.
-use Rattle.std.proofs.Common.{◌≡◌, ◌↔◌, Bool, true, false, not, true≢false, IsTrue, ℕ, ◌<◌, ◌≤◌, List, length, take, slice_get, slice_index, Option, Some, None, MatchOption, refl, sym, ap, ◌∙◌, subst, arith, inl, inr}
+use Rattle.std.proofs.Common.{◌≡◌, ◌↔◌, Bool, true, false, not, true≢false, IsTrue, ℕ, ◌<◌, ◌≤◌, List, length, take, slice_get, slice_index, Option, Some, None, MatchOption, refl, sym, ap, ◌∙◌, subst, arith, inr}
 use Rattle.std.specs.Bool.{then_some}
 use Rattle.std.proofs.lemmas.List.{length-take, get_or-take}
 use Rattle.std.proofs.lemmas.Option.{slice_get-get_or}

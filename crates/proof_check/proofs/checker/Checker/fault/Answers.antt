@@ -3,7 +3,7 @@ use Rattle.proof_text.specs.Proof.{answer_row, request_row}
 use Rattle.proof_text.specs.Rules.{MeetsRequests, MeetsAnswers}
 use Rattle.proof_check.specs.CheckFaults.{IsWrongAnswer, IsWrongRequest}
 use Rattle.proof_check.proofs.FirstRow.{fault_of_seen}
-use Rattle.proof_check.proofs.StepFaults.{by_adversary}
+use Rattle.proof_check.proofs.DocumentFaults.{by_adversary}
 use Rattle.proof_check.proofs.checker.Checker.fault.Goals as goal
 
 pub returns-in-Some-first_fault : goal.returns-in-Some-first_fault
