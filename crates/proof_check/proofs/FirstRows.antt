@@ -3,6 +3,10 @@ use Rattle.std.proofs.Common.{◌≡◌, ◌≢◌, ℕ, zero, suc, ◌<◌, Boo
 use Rattle.std.specs.List.{AllPairs, Contains, find}
 use lib.Pointwise.{pointwise, bytes_decides}
 
+-- no two rows are for one configuration
+abbrev pub AreApart : {X : Type 0} → (X → List ℕ) → List X → Type 0
+AreApart at rows = AllPairs (λ first second. at first ≢ at second) rows
+
 -- a test that two lists fail
 pub differs : (xs ys : List ℕ) → xs ≢ ys → pointwise nat_eq xs ys ≡ false
 differs xs ys other = by (pointwise nat_eq xs ys) (bytes_decides xs ys).0
@@ -28,7 +32,7 @@ found p (y ∷ ys) x is = by (p y) refl is (λ rest. found p ys x rest)
 
 module _ {X : Type 0} (at : X → List ℕ) where
   -- the element at a place is found by its list where no earlier one has that list
-  find-first : (xs : List X) (k : ℕ) (d : X) → AllPairs (λ a b. at a ≢ at b) xs → k < length xs
+  find-first : (xs : List X) (k : ℕ) (d : X) → AreApart at xs → k < length xs
       → find (λ x. pointwise nat_eq (at x) (at (get_or xs k d))) xs ≡ Some (get_or xs k d)
   find-first [] k d apart inside = absurd (omega arith)
   find-first (x ∷ xs) zero d apart inside = ap (λ b. cond b (Some x) (find (λ y. pointwise nat_eq (at y) (at x)) xs)) ((bytes_decides (at x) (at x)).1 refl)
@@ -37,6 +41,6 @@ module _ {X : Type 0} (at : X → List ℕ) where
       (differs (at x) (at (get_or xs k d)) (apart zero (suc k) d (omega arith) inside))
       ∙ find-first xs k d (λ i j e less below. apart (suc i) (suc j) e (omega arith) (omega arith)) (omega arith)
 
-  pub find-the : (xs : List X) (x : X) → AllPairs (λ a b. at a ≢ at b) xs → Contains xs x
+  pub find-the : (xs : List X) (x : X) → AreApart at xs → Contains xs x
       → find (λ y. pointwise nat_eq (at y) (at x)) xs ≡ Some x
   find-the xs x apart is = subst (λ z. find (λ y. pointwise nat_eq (at y) (at z)) xs ≡ Some z) is.2 (find-first xs is.0 x apart is.1)

@@ -9,20 +9,16 @@ use Rattle.positions.specs.Table.{AnswerRow, AnswersLegally, AnswersAll, Answers
 use Rattle.positions.specs.declared.turns.Turns.{Turns}
 use Rattle.positions.specs.declared.turns.Turns.TheVariants.{Count, Always}
 use Rattle.proof_text.specs.Rules.{IsEnough, Serves, MeetsRequest, MeetsRequests, LabellerObeys, one_less}
-use Rattle.proof_check.proofs.FirstRows.{find-the, found}
+use Rattle.proof_check.proofs.FirstRows.{AreApart, find-the, found}
 use lib.Pointwise.{pointwise, bytes_decides}
 
--- no two rows are for one configuration
-abbrev pub AreApart : List AnswerRow → Type 0
-AreApart rows = AllPairs (λ first second. first.at ≢ second.at) rows
-
 -- the first row of a listed configuration is its row
-pub the_row : (rows : List AnswerRow) (row : AnswerRow) → AreApart rows → Contains rows row
+pub the_row : (rows : List AnswerRow) (row : AnswerRow) → AreApart (λ r. r.at) rows → Contains rows row
     → find (λ r. pointwise nat_eq r.at row.at) rows ≡ Some row
 the_row rows row apart is = find-the (λ r. r.at) rows row apart is
 
 -- the table gives the answer of the configuration's row
-answers_by_row : (board : PlainBoard) (rows : List AnswerRow) (row : AnswerRow) (pebble : ℕ) → AreApart rows → Contains rows row
+answers_by_row : (board : PlainBoard) (rows : List AnswerRow) (row : AnswerRow) (pebble : ℕ) → AreApart (λ r. r.at) rows → Contains rows row
     → (meets : MeetsRequest board rows row pebble)
     → AnswersLegally board rows row.at pebble meets.label
 answers_by_row board rows row pebble apart is meets = record {
@@ -49,7 +45,7 @@ serves_less rows configuration Always number enough serves = λ some.
     let listed = serves tt in
     record { row = listed.row; among = listed.among; at = listed.at; enough = enough_less Always listed.row.turns number enough listed.enough }
 
-module _ (board : PlainBoard) (rows : List AnswerRow) (apart : AreApart rows) (obeys : LabellerObeys board rows) where
+module _ (board : PlainBoard) (rows : List AnswerRow) (apart : AreApart (λ r. r.at) rows) (obeys : LabellerObeys board rows) where
   -- each request of a list that is no longer than the number is answered
   answers_each : (requests : List ℕ) (configuration : List ℕ) (number : ℕ) → length requests ≤ number
       → Serves rows configuration (Count number) → All (λ pebble. pebble < board.pebbles) requests
