@@ -24,6 +24,6 @@ pub find-the : {X : Type 0} (at : X → List ℕ) (xs : List X) (x : X) → AreA
 find-the {X} at xs x apart (place, inside, is) =
     let passes : X → Bool = λ y. pointwise nat_eq (at y) (at x) in
     let before = λ (k : ℕ) (low : k < place). false_from_ne_true (passes (get_or xs k x)) (λ same.
-        apart k place x low inside ((bytes_decides (at (get_or xs k x)) (at x)).0 same ∙ ap at (sym is))) in
+    apart k place x low inside ((bytes_decides (at (get_or xs k x)) (at x)).0 same ∙ ap at (sym is))) in
     let here = λ (_ : place < length xs). (bytes_decides (at (get_or xs place x)) (at x)).1 (ap at is) in
     find_at passes xs ∙ ap (slice_get xs) (position_or_len_is passes xs place x (omega (arith, inside)) before here) ∙ slice_get-get_or xs place x inside ∙ ap Some is

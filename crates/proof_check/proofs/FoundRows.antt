@@ -23,23 +23,18 @@ Contains-map_cases f (row ∷ rows) x (suc k, inside, is) =
     (rest.0, (suc rest.1.0, omega (arith, low), rest.1.2), rest.2)
 
 -- rows of one rank are one
-same_row : {R : Type 0} (rank : R → ℕ) (size : ℕ) (rows : List R) (one other : R) → AreRanked rank size rows → Contains rows one → Contains rows other → rank one ≡ rank other → one ≡ other
-same_row {R} rank size rows one other are is_one is_other same =
-    elim (cases_order is_one.0 is_other.0) [
-      | inl equal ↦ sym is_one.2 ∙ ap (λ (k : ℕ). get_or rows k one) equal ∙ get_or_default rows is_other.0 one other is_other.1 ∙ is_other.2
-      | inr differ ↦ elim differ [
-        | inl less ↦
-            let lt : rank (get_or rows is_one.0 one) < rank (get_or rows is_other.0 one) = are.ascending is_one.0 is_other.0 one less is_other.1 in
-            let a : rank (get_or rows is_one.0 one) ≡ rank one = ap rank is_one.2 in
-            let b : rank (get_or rows is_other.0 one) ≡ rank other = ap rank (get_or_default rows is_other.0 one other is_other.1 ∙ is_other.2) in
-            absurd (omega (arith, lt, a, b, same))
-        | inr more ↦
-            let lt : rank (get_or rows is_other.0 one) < rank (get_or rows is_one.0 one) = are.ascending is_other.0 is_one.0 one more is_one.1 in
-            let a : rank (get_or rows is_one.0 one) ≡ rank one = ap rank is_one.2 in
-            let b : rank (get_or rows is_other.0 one) ≡ rank other = ap rank (get_or_default rows is_other.0 one other is_other.1 ∙ is_other.2) in
-            absurd (omega (arith, lt, a, b, same))
-      ]
-    ]
+same_row : {R : Type 0} (rank : R → ℕ) (size : ℕ) (rows : List R) (one other : R) → AreRanked rank size rows
+    → Contains rows one → Contains rows other → rank one ≡ rank other → one ≡ other
+same_row {R} rank size rows one other are is_one is_other same = elim (cases_order is_one.0 is_other.0) [
+  | inl equal ↦ sym is_one.2 ∙ ap (λ (k : ℕ). get_or rows k one) equal ∙ get_or_default rows is_other.0 one other is_other.1 ∙ is_other.2
+  | inr (inl less) ↦ absurd (omega (arith, rising one other is_one is_other less, same))
+  | inr (inr more) ↦ absurd (omega (arith, rising other one is_other is_one more, same))
+]
+  where
+    rising : (a b : R) (at : Contains rows a) (then : Contains rows b) → at.0 < then.0 → rank a < rank b
+    rising a b at then less =
+        let lt : rank (get_or rows at.0 a) < rank (get_or rows then.0 a) = are.ascending at.0 then.0 a less then.1 in
+        omega (arith, lt, ap rank at.2, ap rank (get_or_default rows then.0 a b then.1 ∙ then.2))
 
 -- f shows a row with its configuration in place of the rank
 pub found_for : {R X : Type 0} (board : PlainBoard) (f : R → X) (rank : R → ℕ) (at : X → List ℕ) (shows : (row : R) → at (f row) ≡ configuration_at board (rank row))

@@ -15,7 +15,7 @@ pub record IsStep (board : PlainBoard) (AreRanked Right : Type 0) (Wrong : Check
   pub named : (fault : CheckFault) → AreRanked → Wrong fault → NamesRanks board fault
 
 -- the first row that isn't right is one of them
-among : {X : Type 0} {IsRight : X → Type 0} {rows : List X} {row : X} → FirstWrong IsRight rows row → Contains rows row
+pub among : {X : Type 0} {IsRight : X → Type 0} {rows : List X} {row : X} → FirstWrong IsRight rows row → Contains rows row
 among {X} {IsRight} {rows} {row} first =
     subst (λ (l : List X). Contains l row) (sym first.parts) (Contains-append_right first.before (row ∷ first.after) row (0, omega arith, refl))
 

@@ -1,7 +1,9 @@
-use Rattle.std.proofs.Common.{rules, ◌<◌, length, slice_index, inl, inr, refl, sym, ◌∙◌, true≢false}
+use Rattle.std.proofs.Common.{rules, ◌<◌, length, slice_index, inl, inr, sym, ap}
+use Rattle.std.proofs.lemmas.Bool.{iff_false}
 use Rattle.positions.proofs.Cited.{rank_of-configuration_at}
 use Rattle.positions.specs.Game.{moved}
 use Rattle.positions.specs.Ranks.{configuration_at}
+use Rattle.proof_check.specs.declared.fault.CheckFault.TheVariants as faults
 use Rattle.proof_check.proofs.RowTests.{answer_is, result_is, match_then}
 use Rattle.proof_check.proofs.checker.Checker.answer_fault.Goals as goal
 
@@ -11,8 +13,11 @@ returns-then-not-is_legal c =
     let row = c.args.row.now in
     let fits : c.args.pebble < length row.take = search rules in
     let legal = rw c.requires.moves at c.is_legal.ensures in
-    let rank_is = rank_of-configuration_at board row.at c.requires.row.is_rank in
-    rw rank_is (slice_index row.take c.args.pebble, answer_is board row c.args.pebble c.requires.pebble fits, inl (λ is. true≢false (sym (legal.1 is) ∙ c.if-not-is_legal.true), refl))
+    let rank_is = sym (rank_of-configuration_at board row.at c.requires.row.is_rank) in (
+      slice_index row.take c.args.pebble,
+      answer_is board row c.args.pebble c.requires.pebble fits,
+      inl (iff_false legal c.if-not-is_legal.true, ap (λ at. faults.IllegalAnswer at c.args.pebble) rank_is),
+    )
 
 pub returns : goal.returns
 returns c =

@@ -1,13 +1,16 @@
-use Rattle.std.proofs.Common.{◌≡◌, suc, inl, inr, refl, subst, arith, ◌-◌, ◌<◌}
+use Rattle.std.proofs.Common.{◌≡◌, suc, inl, inr, sym, ap, subst, arith, ◌-◌, ◌<◌}
 use Rattle.positions.specs.Game.{moved}
 use Rattle.positions.specs.Ranks.{configuration_at}
 use Rattle.positions.proofs.Cited.{rank_of-configuration_at}
 use Rattle.proof_text.specs.Rules.{IsListedBelow}
+use Rattle.proof_check.specs.declared.fault.CheckFault.TheVariants as faults
 use Rattle.proof_check.proofs.RowTests.{result_is, match_then}
 use Rattle.proof_check.proofs.checker.Checker.label_fault.Goals as goal
 
 pub returns-then-row-eq0 : goal.returns-then-row-eq0
-returns-then-row-eq0 c = rw (rank_of-configuration_at c.args.self.now.board c.args.row.now.at c.requires.row.is_rank) (inl (c.if-row-eq0.true, refl))
+returns-then-row-eq0 c =
+    let rank_is = sym (rank_of-configuration_at c.args.self.now.board c.args.row.now.at c.requires.row.is_rank) in
+    inl (c.if-row-eq0.true, ap (λ at. faults.NotStuck at c.args.label) rank_is)
 
 pub returns : goal.returns
 returns c =
