@@ -50,7 +50,8 @@ module _ {R : Type 0} (IsRight : R → Type 0) where
       × (found ≡ slice_get (filter_by_mask xs answers) 0))
       → Found rows found
   first_of_slice rows slice found same (xs, answers, shown, each, is) =
-      subst (λ o. Found rows o) (sym is) (subst (λ l. Found l (slice_get (filter_by_mask xs answers) 0)) (shown ∙ same) (first_shown xs answers each))
+      let first = first_shown xs answers each in
+      subst (λ o. Found rows o) (sym is) (subst (λ l. Found l (slice_get (filter_by_mask xs answers) 0)) (shown ∙ same) first)
 
 -- what is found wrong with the first faulty row is the fault of the rows
 pub fault_of_first : {R : Type 0} (IsRight : R → Type 0) (IsWrong : R → CheckFault → Type 0) (rows : List R) (row : R) (found : Option CheckFault)

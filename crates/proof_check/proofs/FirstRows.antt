@@ -1,5 +1,6 @@
 -- Where no two rows are for one configuration, the first row of a configuration is the row.
-use Rattle.std.proofs.Common.{◌≡◌, ◌≢◌, ℕ, ◌<◌, Bool, true, true≢false, nat_eq, List, length, get_or, Some, IsSome, is_some, slice_get, sym, ap, ◌∙◌, arith, inl, inr}
+use Rattle.std.proofs.Common.{◌≡◌, ◌≢◌, ℕ, ◌<◌, Bool, true, true≢false, nat_eq, List, length, get_or, Some, IsSome, is_some, slice_get, sym}
+use Rattle.std.proofs.Common.{ap, ◌∙◌, arith, inl, inr}
 use Rattle.std.specs.List.{AllPairs, Contains, find, position_or_len}
 use Rattle.std.proofs.lemmas.Bool.{false_from_ne_true}
 use Rattle.std.proofs.lemmas.List.Folds.{find_at}
@@ -26,4 +27,5 @@ find-the {X} at xs x apart (place, inside, is) =
     let before = λ (k : ℕ) (low : k < place). false_from_ne_true (passes (get_or xs k x)) (λ same.
     apart k place x low inside ((bytes_decides (at (get_or xs k x)) (at x)).0 same ∙ ap at (sym is))) in
     let here = λ (_ : place < length xs). (bytes_decides (at (get_or xs place x)) (at x)).1 (ap at is) in
-    find_at passes xs ∙ ap (slice_get xs) (position_or_len_is passes xs place x (omega (arith, inside)) before here) ∙ slice_get-get_or xs place x inside ∙ ap Some is
+    let first = position_or_len_is passes xs place x (omega (arith, inside)) before here in
+    find_at passes xs ∙ ap (slice_get xs) first ∙ slice_get-get_or xs place x inside ∙ ap Some is

@@ -4,7 +4,7 @@ use Rattle.std.specs.List.{All}
 use Rattle.std.proofs.lemmas.List.{length-map, get_or-map, get_or-take}
 use Rattle.board_text.specs.PlainBoard.{PlainBoard, IsBoard}
 use Rattle.positions.specs.Ranks.{rank_of, configuration_at, configurations}
-use Rattle.positions.specs.Table.{Answers, StopsAfter, IsListed}
+use Rattle.positions.specs.Table.{AnswerRow, Answers, StopsAfter, IsListed}
 use Rattle.positions.specs.Claim.{Shows}
 use Rattle.positions.specs.declared.claim.Claim.{Claim}
 use Rattle.positions.specs.declared.claim.Claim.TheVariants.{Exactly, AtLeast, AtMost, Forever}
@@ -22,7 +22,8 @@ use Rattle.proof_check.proofs.LabellerTables as answering
 use Rattle.proof_check.proofs.AdversaryTables as stopping
 
 -- rows in ascending order are apart
-apart : {X : Type 0} {board : PlainBoard} {IsRow : X → Type 0} {at : X → List ℕ} {rows : List X} → AreRows board IsRow at rows → AreApart at rows
+apart : {X : Type 0} {board : PlainBoard} {IsRow : X → Type 0} {at : X → List ℕ} {rows : List X}
+    → AreRows board IsRow at rows → AreApart at rows
 apart {X} {board} {IsRow} {at} {rows} are i j d less below same =
     let lower : rank_of board (at (get_or rows i d)) < rank_of board (at (get_or rows j d)) = are.ascending i j d less below in
     omega (arith, lower, ap (rank_of board) same)
@@ -39,7 +40,8 @@ shows board proof is rules = by proof.claim is.labeller.each rules.start_serves 
     answers = answering.answers_as_served board proof.labeller (apart is.labeller) rules.labeller board.start
 
     stops : (number : ℕ) → IsListedBelow proof.adversary board.start (suc number) → StopsAfter board proof.adversary number board.start
-    stops = stopping.stops_below board proof.adversary (apart is.adversary) (λ k d lt. (is.adversary.each k d lt).request) rules.adversary board.start
+    stops =
+        stopping.stops_below board proof.adversary (apart is.adversary) (λ k d lt. (is.adversary.each k d lt).request) rules.adversary board.start
 
     by : (claim : Claim) → All (IsAnswerRow board claim) proof.labeller → Serves proof.labeller board.start (wanted_of claim)
         → StartIsBelow proof.adversary board.start claim → Shows board proof.labeller proof.adversary claim
@@ -47,16 +49,17 @@ shows board proof is rules = by proof.claim is.labeller.each rules.start_serves 
     by (AtLeast number) each serves below = answers number serves
     by (AtMost number) each serves below = stops number below
     by Forever each serves below =
-        let start = serves tt in (
-          answering.closed_by_rows board proof.labeller (apart is.labeller) rules.labeller (λ k d lt. turns_always (get_or proof.labeller k d).turns (each k d lt).turns),
+        let start = serves tt in
+        let always = λ (k : ℕ) (d : AnswerRow) (lt : k < length proof.labeller). turns_always (get_or proof.labeller k d).turns (each k d lt).turns in (
+          answering.closed_by_rows board proof.labeller (apart is.labeller) rules.labeller always,
           subst (IsListed proof.labeller) start.at (answering.listed_by_row board proof.labeller (apart is.labeller) rules.labeller start.row start.among),
         )
 
 -- ---- rows as they are looked at
 
 -- rows that stand for rows in ascending order are in order of their ranks
-are_ready : {R X : Type 0} (board : PlainBoard) (f : R → X) (at : X → List ℕ) (rank : R → ℕ) (IsRow : X → Type 0) (IsReady : R → Type 0) (rows : List R)
-    → ((row : R) → at (f row) ≡ configuration_at board (rank row)) → ((row : R) → IsRow (f row) → IsReady row)
+are_ready : {R X : Type 0} (board : PlainBoard) (f : R → X) (at : X → List ℕ) (rank : R → ℕ) (IsRow : X → Type 0) (IsReady : R → Type 0)
+    (rows : List R) → ((row : R) → at (f row) ≡ configuration_at board (rank row)) → ((row : R) → IsRow (f row) → IsReady row)
     → ((row : R) → IsReady row → rank row < configurations board) → AreRows board IsRow at (map f rows) → AreReady board IsReady rank rows
 are_ready {R} {X} board f at rank IsRow IsReady rows shown ready low are = record {
   ranked = record {
@@ -70,13 +73,16 @@ are_ready {R} {X} board f at rank IsRow IsReady rows shown ready low are = recor
 }
   where
     each : All IsReady rows
-    each = λ k d lt. ready (get_or rows k d) (subst IsRow (get_or-map f rows k d (f d) lt) (are.each k (f d) (omega (arith, lt, length-map rows f))))
+    each = λ k d lt.
+        let is = are.each k (f d) (omega (arith, lt, length-map rows f)) in
+        ready (get_or rows k d) (subst IsRow (get_or-map f rows k d (f d) lt) is)
 
     rank_at : ℕ → R → ℕ
     rank_at k d = rank_of board (at (get_or (map f rows) k (f d)))
 
     rank_is : (k : ℕ) (d : R) → k < length rows → rank_at k d ≡ rank (get_or rows k d)
-    rank_is k d lt = ap (λ (x : X). rank_of board (at x)) (get_or-map f rows k d (f d) lt) ∙ ap (rank_of board) (shown (get_or rows k d))
+    rank_is k d lt =
+        ap (λ (x : X). rank_of board (at x)) (get_or-map f rows k d (f d) lt) ∙ ap (rank_of board) (shown (get_or rows k d))
         ∙ rank_of-configuration_at board (rank (get_or rows k d)) (low (get_or rows k d) (each k d lt))
 
 module _ (board : PlainBoard) (is_board : IsBoard board) where
@@ -91,9 +97,11 @@ module _ (board : PlainBoard) (is_board : IsBoard board) where
 
   pub are_answering : (claim : Claim) (rows : List LabellerRow) → AreAnswerRows board claim (answer_rows board rows) → AreAnswering board rows
   are_answering claim rows =
-      are_ready board (answer_row board) (λ r. r.at) (λ r. r.at) (IsAnswerRow board claim) (IsAnswering board) rows (λ r. refl) (answering_row claim) (λ r is. is.is_rank)
+      are_ready board (answer_row board) (λ r. r.at) (λ r. r.at) (IsAnswerRow board claim) (IsAnswering board) rows (λ r. refl)
+      (answering_row claim) (λ r is. is.is_rank)
 
   pub are_requesting : (rows : List AdversaryRow) → AreRequestRows board (request_rows board rows) → AreRequesting board rows
   are_requesting rows =
       are_ready board (request_row board) (λ r. r.at) (λ r. r.at) (IsRequestRow board) (IsRequesting board) rows (λ r. refl)
-      (λ r is. record { is_board = is_board; is_rank = rank_small board r.at is_board is.at; is_pebble = is.request }) (λ r is. is.is_rank)
+      (λ r is. record { is_board = is_board; is_rank = rank_small board r.at is_board is.at; is_pebble = is.request })
+      (λ r is. is.is_rank)

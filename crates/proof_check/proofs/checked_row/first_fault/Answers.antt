@@ -13,8 +13,10 @@ fault-requires g c =
 pub returns-in-Some : goal.returns-in-Some
 returns-in-Some g c =
     let checker = c.args.checker.now in
-    let found = first_of_slice (g.R.CheckedRow.meets checker) c.args.rows.now _ (Some c.in-Some.row) c.par_iter.ensures c.in-Some.ensures in
-    fault_of_first (g.R.CheckedRow.meets checker) (g.R.CheckedRow.is_wrong checker) c.args.rows.now c.in-Some.row.now c.fault.result found c.fault.ensures.fault
+    let rows = c.args.rows.now in
+    let row = c.in-Some.row in
+    let found = first_of_slice (g.R.CheckedRow.meets checker) rows _ (Some row) c.par_iter.ensures c.in-Some.ensures in
+    fault_of_first (g.R.CheckedRow.meets checker) (g.R.CheckedRow.is_wrong checker) rows row.now c.fault.result found c.fault.ensures.fault
 
 pub returns-in-None : goal.returns-in-None
 returns-in-None g c = first_of_slice (g.R.CheckedRow.meets c.args.checker.now) c.args.rows.now _ None c.par_iter.ensures c.in-None.ensures

@@ -16,7 +16,8 @@ returns-in-Some-label_fault-clause-fault c =
     record {
       turn = c.in-Some.label;
       is_turn = next.0.1;
-      before = λ earlier low. met v.board v.proof.adversary row c.loop-label.answers.from earlier i.before (λ is. omega (arith, next.1 earlier is, low));
+      before = λ earlier low.
+          met v.board v.proof.adversary row c.loop-label.answers.from earlier i.before (λ is. omega (arith, next.1 earlier is, low));
       wrong = c.in-Some-label_fault.ensures;
     }
 
@@ -29,7 +30,8 @@ loop-label-preserved c =
     let step = c.in-Some.ensures in
     let few = legal_few v.board c.moves-moves.result c.args.self.now.at row.request c.moves-moves.ensures c.answers.ensures.few in
     let next = next_of (Legal v.board row.at row.request) few c.loop-label.answers i.left c.take_next.new.self label step in
-    let before = λ (earlier : ℕ) (low : earlier < label). met v.board v.proof.adversary row c.loop-label.answers.from earlier i.before (λ is. omega (arith, next.1 earlier is, low)) in
+    let before = λ (earlier : ℕ) (low : earlier < label).
+        met v.board v.proof.adversary row c.loop-label.answers.from earlier i.before (λ is. omega (arith, next.1 earlier is, low)) in
     record {
       most = omega (arith, few label next.0.1, step.from);
       left = after_step (Legal v.board row.at row.request) few c.loop-label.answers i.left c.take_next.new.self label step;

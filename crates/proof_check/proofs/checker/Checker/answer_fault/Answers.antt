@@ -28,9 +28,10 @@ returns c =
     let fits : pebble < length row.take = search rules in
     let answer = answer_is v.board row pebble c.requires.pebble fits in
     let legal = (rw c.requires.moves at c.is_legal.ensures).0 c.if-not-is_legal.false in
+    let result = moved (configuration_at v.board row.at) pebble label in
     let is = result_is v.board row.at pebble label c.requires.row.is_rank legal.is_label in
     let rank_is = rank_of-configuration_at v.board row.at c.requires.row.is_rank in
     match_then c.turns_fault.result
     (λ serves. record { label = label; answer = answer; legal = legal; serves = serves })
     (λ fault wrong. rw rank_is (label, answer, inr (legal, wrong.0, wrong.1)))
-    (rw c.after_one-left.ensures at c.turns_fault.ensures (moved (configuration_at v.board row.at) pebble label) is (rw c.requires.moves at c.after.ensures.rank))
+    (rw c.after_one-left.ensures at c.turns_fault.ensures result is (rw c.requires.moves at c.after.ensures.rank))

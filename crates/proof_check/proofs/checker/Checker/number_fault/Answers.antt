@@ -8,5 +8,6 @@ pub returns : goal.returns
 returns c = λ configuration is number.
     let v = c.args.self.now in
     let row = request_row v.board c.in-Some.row.now in
-    rw c.then_some.ensures (number_tested v.proof.adversary configuration row (suc c.args.most) c.args.missing c.args.large _ (c.in-Some.ensures configuration is number)
+    let found = c.in-Some.ensures configuration is number in
+    rw c.then_some.ensures (number_tested v.proof.adversary configuration row (suc c.args.most) c.args.missing c.args.large _ found
     (λ low. omega (arith, ltb-false c.args.most row.left low)) (λ high. omega (arith, ltb-true c.args.most row.left high)))
