@@ -14,7 +14,8 @@ use Rattle.proof_text.specs.Rules.{MeetsAnswer, MeetsAnswers}
 pub legal_few : (board : PlainBoard) (position : Position) (rank pebble : ℕ) → position ≡ position_at board rank
     → position.board.labels ≤ MAX_LABELS → (label : ℕ) → Legal board (configuration_at board rank) pebble label → label < MAX_LABELS
 legal_few board position rank pebble is few label legal =
-    let most : board.labels ≤ MAX_LABELS = subst (λ (p : Position). p.board.labels ≤ MAX_LABELS) is few in omega (arith, legal.is_label, most)
+    let most : board.labels ≤ MAX_LABELS = subst (λ (p : Position). p.board.labels ≤ MAX_LABELS) is few in
+    omega (arith, legal.is_label, most)
 
 -- a label is met if those below a bound are, and it is no legal one from there on
 pub met : (board : PlainBoard) (rows : List RequestRow) (row : RequestRow) (from label : ℕ)

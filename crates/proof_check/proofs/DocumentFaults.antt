@@ -28,8 +28,8 @@ module _ (board : PlainBoard) {Ranked : Type 0} (rows : List AnswerRow) (row : A
   request_step pebble = of_some _ (slice_get row.answers pebble) (λ label is.
       let same = λ (meets : MeetsRequest board rows row pebble). same_Some meets.label label (sym meets.answer ∙ is) in
       let result : ℕ → List ℕ = λ l. moved row.at pebble l in
-      either
-      (kind (faults.IllegalAnswer (rank_of board row.at) pebble) (λ no meets. no (subst (Legal board row.at pebble) (same meets) meets.legal)) low)
+      let legal = λ (meets : MeetsRequest board rows row pebble). subst (Legal board row.at pebble) (same meets) meets.legal in
+      either (kind (faults.IllegalAnswer (rank_of board row.at) pebble) (λ no meets. no (legal meets)) low)
       (narrowed (λ meets. subst (λ l. Serves rows (result l) (one_less row.turns)) (same meets) meets.serves) (λ fault w. (w.1, w.2))
       (where_so (unserved _ _ (λ listed. (listed.row, listed.among, listed.at)) low low)))
       (λ fault other a b. a.0 b.0))

@@ -43,7 +43,8 @@ serves_less : (rows : List AnswerRow) (configuration : List ℕ) (turns : Turns)
     → IsEnough (Count (suc number)) turns → Serves rows configuration (one_less turns) → Serves rows configuration (Count number)
 serves_less rows configuration turns number enough serves = λ some.
     let listed = serves (wanted_less turns number enough some) in
-    record { row = listed.row; among = listed.among; at = listed.at; enough = enough_less turns listed.row.turns number enough listed.enough }
+    let more = enough_less turns listed.row.turns number enough listed.enough in
+    record { row = listed.row; among = listed.among; at = listed.at; enough = more }
 
 module _ (board : PlainBoard) (rows : List AnswerRow) (apart : AreApart (λ r. r.at) rows) (obeys : LabellerObeys board rows) where
   -- each request of a list that is no longer than the number is answered

@@ -4,7 +4,7 @@ use Rattle.std.specs.List.{All}
 use Rattle.std.proofs.lemmas.List.{length-map, get_or-map, get_or-take}
 use Rattle.board_text.specs.PlainBoard.{PlainBoard, IsBoard}
 use Rattle.positions.specs.Ranks.{rank_of, configuration_at, configurations}
-use Rattle.positions.specs.Table.{AnswerRow, Answers, StopsAfter, IsListed}
+use Rattle.positions.specs.Table.{RequestRow, Answers, StopsAfter, IsListed}
 use Rattle.positions.specs.Claim.{Shows}
 use Rattle.positions.specs.declared.claim.Claim.{Claim}
 use Rattle.positions.specs.declared.claim.Claim.TheVariants.{Exactly, AtLeast, AtMost, Forever}
@@ -41,7 +41,8 @@ shows board proof is rules = by proof.claim is.labeller.each rules.start_serves 
 
     stops : (number : ℕ) → IsListedBelow proof.adversary board.start (suc number) → StopsAfter board proof.adversary number board.start
     stops =
-        stopping.stops_below board proof.adversary (apart is.adversary) (λ k d lt. (is.adversary.each k d lt).request) rules.adversary board.start
+        let pebbles : All (λ (r : RequestRow). r.request < board.pebbles) proof.adversary = λ k d lt. (is.adversary.each k d lt).request in
+        stopping.stops_below board proof.adversary (apart is.adversary) pebbles rules.adversary board.start
 
     by : (claim : Claim) → All (IsAnswerRow board claim) proof.labeller → Serves proof.labeller board.start (wanted_of claim)
         → StartIsBelow proof.adversary board.start claim → Shows board proof.labeller proof.adversary claim
@@ -50,9 +51,10 @@ shows board proof is rules = by proof.claim is.labeller.each rules.start_serves 
     by (AtMost number) each serves below = stops number below
     by Forever each serves below =
         let start = serves tt in
-        let always = λ (k : ℕ) (d : AnswerRow) (lt : k < length proof.labeller). turns_always (get_or proof.labeller k d).turns (each k d lt).turns in (
-          answering.closed_by_rows board proof.labeller (apart is.labeller) rules.labeller always,
-          subst (IsListed proof.labeller) start.at (answering.listed_by_row board proof.labeller (apart is.labeller) rules.labeller start.row start.among),
+        let listed = answering.listed_by_row board proof.labeller (apart is.labeller) rules.labeller start.row start.among in (
+          answering.closed_by_rows board proof.labeller (apart is.labeller) rules.labeller
+              (λ k d lt. turns_always (get_or proof.labeller k d).turns (each k d lt).turns),
+          subst (IsListed proof.labeller) start.at listed,
         )
 
 -- ---- rows as they are looked at
@@ -95,7 +97,8 @@ module _ (board : PlainBoard) (is_board : IsBoard board) where
         subst (λ n. n < board.labels) (get_or-take board.pebbles row.take pebble 0 below) label;
   }
 
-  pub are_answering : (claim : Claim) (rows : List LabellerRow) → AreAnswerRows board claim (answer_rows board rows) → AreAnswering board rows
+  pub are_answering : (claim : Claim) (rows : List LabellerRow) → AreAnswerRows board claim (answer_rows board rows)
+      → AreAnswering board rows
   are_answering claim rows =
       are_ready board (answer_row board) (λ r. r.at) (λ r. r.at) (IsAnswerRow board claim) (IsAnswering board) rows (λ r. refl)
       (answering_row claim) (λ r is. is.is_rank)

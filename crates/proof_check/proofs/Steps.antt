@@ -36,7 +36,8 @@ one_place IsRight a b not_a not_b (x ∷ before) (y ∷ other) more rest e right
 one_row : {X : Type 0} {IsRight : X → Type 0} {rows : List X} (a b : X) → ¬ IsRight a → ¬ IsRight b
     → FirstWrong IsRight rows a → FirstWrong IsRight rows b → a ≡ b
 one_row {X} {IsRight} a b not_a not_b first other =
-    one_place IsRight a b not_a not_b first.before other.before first.after other.after (sym first.parts ∙ other.parts) first.right other.right
+    let same = sym first.parts ∙ other.parts in
+    one_place IsRight a b not_a not_b first.before other.before first.after other.after same first.right other.right
 
 module _ {board : PlainBoard} {Ranked : Type 0} where
   -- one kind of fault
@@ -58,7 +59,8 @@ module _ {board : PlainBoard} {Ranked : Type 0} where
   }
 
   -- what is asked only where something holds
-  pub where_so : {So Right : Type 0} {Wrong : CheckFault → Type 0} → IsStep board Ranked Right Wrong → IsStep board Ranked (So → Right) (λ fault. So × Wrong fault)
+  pub where_so : {So Right : Type 0} {Wrong : CheckFault → Type 0} → IsStep board Ranked Right Wrong
+      → IsStep board Ranked (So → Right) (λ fault. So × Wrong fault)
   where_so step = record {
     apart = λ fault w is. step.apart fault w.1 (is w.0);
     one = λ fault other a b. step.one fault other a.1 b.1;
@@ -86,7 +88,8 @@ module _ {board : PlainBoard} {Ranked : Type 0} where
 
   -- where a row should serve
   pub unserved : {Listed Served : Type 0} (missing short : CheckFault) → (Served → Listed)
-      → (Ranked → NamesRanks board missing) → (Ranked → NamesRanks board short) → IsStep board Ranked Served (IsUnserved Listed Served missing short)
+      → (Ranked → NamesRanks board missing) → (Ranked → NamesRanks board short)
+      → IsStep board Ranked Served (IsUnserved Listed Served missing short)
   unserved missing short lists here there =
       either (kind missing (λ no serves. no (lists serves)) here)
       (narrowed (λ is. is) (λ fault w. (w.1, w.2)) (kind short (λ fails. fails) there))

@@ -7,5 +7,6 @@ returns c = λ configuration is number.
     let v = c.args.self.now in
     let row = answer_row v.board c.in-Some.row.now in
     let found = c.in-Some.ensures configuration is number in
-    rw c.then_some.ensures (turns_tested v.proof.labeller configuration row c.args.wanted c.args.missing c.args.short c.is_enough.result found
-    (c.is_wanted.ensures.0 c.if-not-is_wanted.false) c.is_enough.ensures)
+    let wanted = c.is_wanted.ensures.0 c.if-not-is_wanted.false in
+    rw c.then_some.ensures
+    (turns_tested v.proof.labeller configuration row c.args.wanted c.args.missing c.args.short c.is_enough.result found wanted c.is_enough.ensures)
