@@ -1,14 +1,13 @@
 -- What a look at an adversary's row finds.
-use Rattle.std.proofs.Common.{◌≡◌, ℕ, ◌<◌, ◌≤◌, List, Some, None, inl, inr, subst, arith}
+use Rattle.std.proofs.Common.{◌≡◌, ℕ, ◌<◌, ◌≤◌, List, inl, inr, subst, arith}
 use Rattle.std.proofs.lemmas.Bool.{cases_lt}
 use Rattle.board_text.specs.PlainBoard.{PlainBoard}
 use Rattle.board_text.specs.declared.board.TheConstants.{MAX_LABELS}
-use Rattle.positions.specs.Counts.{IsSmallest}
 use Rattle.positions.specs.Game.{Legal}
 use Rattle.positions.specs.Position.{Position, position_at}
 use Rattle.positions.specs.Ranks.{configuration_at}
 use Rattle.positions.specs.Table.{RequestRow}
-use Rattle.proof_text.specs.Rules.{MeetsAnswer, MeetsAnswers}
+use Rattle.proof_text.specs.Rules.{MeetsAnswer}
 
 -- a legal label is one of those that a walk comes to
 pub legal_few : (board : PlainBoard) (position : Position) (rank pebble : ℕ) → position ≡ position_at board rank

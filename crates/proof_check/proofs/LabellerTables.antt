@@ -1,7 +1,7 @@
 -- What a labeller's rows that obey the rules answer.
-use Rattle.std.proofs.Common.{◌≡◌, ◌≢◌, ℕ, zero, suc, ◌-◌, ◌<◌, ◌≤◌, nat_eq, List, [], ◌∷◌, length, Option, Some, None, slice_get, refl, sym, ap, ◌∙◌, subst, arith, IsSome, is_some}
+use Rattle.std.proofs.Common.{◌≡◌, ℕ, zero, suc, ◌-◌, ◌<◌, ◌≤◌, nat_eq, List, [], ◌∷◌, length, Some, slice_get, ap, ◌∙◌, subst, arith, is_some}
 use Rattle.std.specs.Option.{option_and_then}
-use Rattle.std.specs.List.{All, AllPairs, Contains, find}
+use Rattle.std.specs.List.{All, Contains, find}
 use Rattle.std.proofs.lemmas.List.Elements.{All-contains, All-head, All-tail}
 use Rattle.board_text.specs.PlainBoard.{PlainBoard}
 use Rattle.positions.specs.Game.{moved}

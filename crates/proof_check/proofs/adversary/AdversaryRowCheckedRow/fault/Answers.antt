@@ -1,4 +1,4 @@
-use Rattle.std.proofs.Common.{below_more, arith, ℕ, ◌≤◌, ◌<◌}
+use Rattle.std.proofs.Common.{below_more, arith, ℕ, ◌<◌}
 use Rattle.positions.specs.Game.{Legal}
 use Rattle.positions.proofs.Cited.{next_of, after_step, none_left}
 use Rattle.proof_text.specs.Proof.{request_row}
@@ -31,7 +31,7 @@ loop-label-preserved c =
     let few = legal_few v.board c.moves-moves.result c.args.self.now.at row.request c.moves-moves.ensures c.answers.ensures.few in
     let next = next_of (Legal v.board row.at row.request) few c.loop-label.answers i.left c.take_next.new.self label step in
     let before = λ (earlier : ℕ) (low : earlier < label).
-        met v.board v.proof.adversary row c.loop-label.answers.from earlier i.before (λ is. omega (arith, next.1 earlier is, low)) in
+    met v.board v.proof.adversary row c.loop-label.answers.from earlier i.before (λ is. omega (arith, next.1 earlier is, low)) in
     record {
       most = omega (arith, few label next.0.1, step.from);
       left = after_step (Legal v.board row.at row.request) few c.loop-label.answers i.left c.take_next.new.self label step;
