@@ -8,7 +8,7 @@ use Rattle.board_text.specs.PlainBoard.{PlainBoard}
 use Rattle.proof_check.specs.declared.fault.CheckFault.{CheckFault}
 use Rattle.proof_check.specs.CheckFaults.{IsUnserved, FirstWrong, FirstFault, FirstTurn, NamesRanks}
 
--- what a step's faults are, where its rows may be known to have ranks of the board
+-- no fault is wrong where the step is right, one at most is, and it names ranks of the board where the step's rows have such
 pub record IsStep (board : PlainBoard) (Ranked Right : Type 0) (Wrong : CheckFault → Type 0) : Type 0 where
   pub apart : (fault : CheckFault) → Wrong fault → ¬ Right
   pub one : (fault other : CheckFault) → Wrong fault → Wrong other → fault ≡ other
@@ -49,7 +49,7 @@ module _ {board : PlainBoard} {Ranked : Type 0} where
     named = λ found ranked w. subst (NamesRanks board) (sym w.1) (names ranked);
   }
 
-  -- more is right, and less is wrong
+  -- the same where less is right and less is wrong
   pub narrowed : {Right Narrow : Type 0} {Wrong Less : CheckFault → Type 0} → (Narrow → Right)
       → ((fault : CheckFault) → Less fault → Wrong fault) → IsStep board Ranked Right Wrong → IsStep board Ranked Narrow Less
   narrowed right wrong step = record {
