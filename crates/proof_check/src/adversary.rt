@@ -83,7 +83,7 @@ impl Checker<'_> {
             (IsListedBelow self.now.proof.adversary configuration (suc most))
             (IsUnservedBelow self.now.proof.adversary configuration (suc most) missing large)) }
     {
-        let Some(row) = self.adversary_row(rank) else {
+        let Some(row) = self.adversary().find(rank) else {
             return Some(missing);
         };
         (row.left > most).then_some(large)

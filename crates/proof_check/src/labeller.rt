@@ -123,7 +123,7 @@ impl Checker<'_> {
         if !is_wanted(wanted) {
             return None;
         }
-        let Some(row) = self.labeller_row(rank) else {
+        let Some(row) = self.labeller().find(rank) else {
             return Some(missing);
         };
         (!is_enough(wanted, row.turns)).then_some(short)

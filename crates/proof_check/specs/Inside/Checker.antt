@@ -1,6 +1,5 @@
 -- What a document is checked with.
-use Rattle.std.specs.Prelude.{◌≡◌, ℕ, ◌<◌, List, Option, MatchOption, slice_index}
-use Rattle.std.specs.Borrow.{Bor}
+use Rattle.std.specs.Prelude.{◌≡◌, ℕ, ◌<◌, List, slice_index}
 use Rattle.std.specs.List.{All, Contains}
 use Rattle.board_text.specs.PlainBoard.{PlainBoard, IsBoard, IsConfiguration}
 use Rattle.positions.specs.Ranks.{rank_of, configurations}
@@ -70,11 +69,6 @@ pub record IsRowFor {X : Type 0} (at : X → List ℕ) (rows : List X) (configur
 -- P holds of the configuration of the rank
 abbrev pub AtRank : PlainBoard → ℕ → (List ℕ → Type 0) → Type 0
 AtRank board rank P = (configuration : List ℕ) → IsConfiguration board configuration → rank ≡ rank_of board configuration → P configuration
-
--- what is found for a rank: the only row for its configuration, or that there is none
-abbrev pub FindsRow : {R X : Type 0} → PlainBoard → (R → X) → (X → List ℕ) → List X → ℕ → Option (Bor R) → Type 0
-FindsRow {R} {X} board shown at rows rank found = AtRank board rank (λ configuration.
-    MatchOption found (¬ HasRow at rows configuration) (λ row. IsRowFor at rows configuration (shown row.now)))
 
 -- some turns are wanted, and the labeller's rows don't serve them
 abbrev pub IsUnservedFor : List AnswerRow → List ℕ → Turns → CheckFault → CheckFault → CheckFault → Type 0
