@@ -1,41 +1,26 @@
 -- What a look at an adversary's row finds.
-use Rattle.std.proofs.Common.{◌≡◌, ℕ, ◌<◌, ◌≤◌, List, Some, None, inl, inr, ap, subst, arith}
+use Rattle.std.proofs.Common.{◌≡◌, ℕ, ◌<◌, ◌≤◌, List, inl, inr, subst, arith}
 use Rattle.std.proofs.lemmas.Bool.{cases_lt}
 use Rattle.board_text.specs.PlainBoard.{PlainBoard}
 use Rattle.board_text.specs.declared.board.TheConstants.{MAX_LABELS}
-use Rattle.positions.specs.Counts.{IsSmallest}
 use Rattle.positions.specs.Game.{Legal}
 use Rattle.positions.specs.Position.{Position, position_at}
 use Rattle.positions.specs.Ranks.{configuration_at}
 use Rattle.positions.specs.Table.{RequestRow}
-use Rattle.proof_text.specs.Rules.{IsListedBelow, MeetsAnswer, MeetsAnswers}
-use Rattle.proof_check.specs.Inside.Checker.{IsRowFor}
+use Rattle.proof_text.specs.Rules.{MeetsAnswer}
 
-module _ (rows : List RequestRow) (configuration : List ℕ) (row : RequestRow) (is : IsRowFor (λ r. r.at) rows configuration row) where
-  pub listed_below : (bound : ℕ) → row.left < bound → IsListedBelow rows configuration bound
-  listed_below bound below = record { row = row; among = is.among; at = is.at_is; below = below }
+-- a legal label is one of those that a walk comes to
+pub legal_few : (board : PlainBoard) (position : Position) (rank pebble : ℕ) → position ≡ position_at board rank
+    → position.board.labels ≤ MAX_LABELS → (label : ℕ) → Legal board (configuration_at board rank) pebble label → label < MAX_LABELS
+legal_few board position rank pebble is few label legal =
+    let most : board.labels ≤ MAX_LABELS = subst (λ (p : Position). p.board.labels ≤ MAX_LABELS) is few in
+    omega (arith, legal.is_label, most)
 
-  pub not_listed_below : (bound : ℕ) → bound ≤ row.left → IsListedBelow rows configuration bound → ⊥
-  not_listed_below bound large listed =
-      let low : listed.row.left < bound = listed.below in
-      let left : listed.row.left ≡ row.left = ap (λ (r : RequestRow). r.left) (is.only listed.row listed.among listed.at) in
-      omega (arith, low, left, large)
-
-pub legal_few : (board : PlainBoard) (position : Position) (rank pebble : ℕ) → position ≡ position_at board rank → position.board.labels ≤ MAX_LABELS → (label : ℕ) → Legal board (configuration_at board rank) pebble label → label < MAX_LABELS
-legal_few board position rank pebble is few label legal = let most : board.labels ≤ MAX_LABELS = subst (λ (p : Position). p.board.labels ≤ MAX_LABELS) is few in omega (arith, legal.is_label, most)
-
--- each label below a bound is met
-module _ (board : PlainBoard) (rows : List RequestRow) (row : RequestRow) (from : ℕ) (before : (earlier : ℕ) → earlier < from → MeetsAnswer board rows row earlier) where
-  -- before the next legal label all are met
-  pub met_before : (label : ℕ) → IsSmallest (λ l. (from ≤ l) × Legal board row.at row.request l) (Some label) → (earlier : ℕ) → earlier < label → MeetsAnswer board rows row earlier
-  met_before label next earlier low legal = elim (cases_lt earlier from) [
-    | inl met ↦ before earlier met legal
-    | inr late ↦ let least : label ≤ earlier = next.1 earlier (late, legal) in absurd (omega arith)
-  ]
-
-  -- no label is left
-  pub all_labels : IsSmallest (λ l. (from ≤ l) × Legal board row.at row.request l) None → MeetsAnswers board rows row
-  all_labels none label legal = elim (cases_lt label from) [
-    | inl met ↦ before label met legal
-    | inr late ↦ absurd (none label (late, legal))
-  ]
+-- a label is met if those below a bound are, and it is no legal one from there on
+pub met : (board : PlainBoard) (rows : List RequestRow) (row : RequestRow) (from label : ℕ)
+    → ((earlier : ℕ) → earlier < from → MeetsAnswer board rows row earlier) → ¬ ((from ≤ label) × Legal board row.at row.request label)
+    → MeetsAnswer board rows row label
+met board rows row from label before none legal = elim (cases_lt label from) [
+  | inl low ↦ before label low legal
+  | inr late ↦ absurd (none (late, legal))
+]

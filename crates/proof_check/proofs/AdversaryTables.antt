@@ -1,23 +1,16 @@
 -- What an adversary's rows that obey the rules come to.
-use Rattle.std.proofs.Common.{◌≡◌, ◌≢◌, ℕ, suc, ◌<◌, List, [], ◌∷◌, length, Some, sym, ap, ◌∙◌, subst, arith}
+use Rattle.std.proofs.Common.{◌≡◌, ℕ, suc, ◌<◌, List, [], ◌∷◌, length, Some, sym, ap, ◌∙◌, subst, arith}
 use Rattle.std.specs.Option.{option_map}
-use Rattle.std.specs.List.{All, AllPairs, Contains}
+use Rattle.std.specs.List.{All, Contains}
 use Rattle.std.proofs.lemmas.List.Elements.{All-contains}
+use Rattle.std.proofs.lemmas.Option.{same_Some}
 use Rattle.board_text.specs.PlainBoard.{PlainBoard}
 use Rattle.positions.specs.Game.{Legal, moved}
 use Rattle.positions.specs.Table.{RequestRow, Requests, Leads, StopsAfter, request_at}
 use Rattle.proof_text.specs.Rules.{MeetsAnswers, AdversaryObeys, IsListedBelow}
-use Rattle.proof_check.proofs.FirstRows.{find-the}
+use Rattle.proof_check.proofs.FirstRows.{AreApart, find-the}
 
--- no two rows are for one configuration
-abbrev pub AreApart : List RequestRow → Type 0
-AreApart rows = AllPairs (λ first second. first.at ≢ second.at) rows
-
--- equal options hold equal things
-some_is : (a b : ℕ) → Some a ≡ Some b → a ≡ b
-some_is a b same = cc
-
-module _ (board : PlainBoard) (rows : List RequestRow) (apart : AreApart rows) (pebbles : All (λ (r : RequestRow). r.request < board.pebbles) rows) (obeys : AdversaryObeys board rows) where
+module _ (board : PlainBoard) (rows : List RequestRow) (apart : AreApart (λ r. r.at) rows) (pebbles : All (λ (r : RequestRow). r.request < board.pebbles) rows) (obeys : AdversaryObeys board rows) where
   -- the table requests what the configuration's row does
   request_by_row : (row : RequestRow) → Contains rows row → request_at rows row.at ≡ Some row.request
   request_by_row row is = ap (option_map (λ r. r.request)) (find-the (λ r. r.at) rows row apart is)
@@ -36,7 +29,7 @@ module _ (board : PlainBoard) (rows : List RequestRow) (apart : AreApart rows) (
       let obeyed = All-contains (MeetsAnswers board rows) rows listed.row obeys listed.among in
       let request : request_at rows from ≡ Some listed.row.request =
       subst (λ c. request_at rows c ≡ Some listed.row.request) listed.at (request_by_row listed.row listed.among) in
-      let same : leads.0 ≡ listed.row.request = some_is leads.0 listed.row.request (sym leads.1.request ∙ request) in
+      let same : leads.0 ≡ listed.row.request = same_Some leads.0 listed.row.request (sym leads.1.request ∙ request) in
       let legal : Legal board listed.row.at listed.row.request label =
       subst (λ p. Legal board listed.row.at p label) same (subst (λ c. Legal board c leads.0 label) (sym listed.at) leads.2) in
       let next = obeyed label legal in

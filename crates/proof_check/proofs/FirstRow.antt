@@ -1,6 +1,6 @@
 -- The first faulty row of a slice whose rows are looked at in parallel.
-use Rattle.std.proofs.Common.{◌≡◌, zero, suc, Bool, true, false, List, [], ◌∷◌, map, Option, Some, None, slice_get, MatchBool, MatchOption, Bor, refl, sym, ap, ◌∙◌, subst, arith}
-use Rattle.std.specs.List.{All, AllZip, Contains}
+use Rattle.std.proofs.Common.{◌≡◌, Bool, true, false, List, [], ◌∷◌, map, Option, Some, None, slice_get, MatchBool, MatchOption, Bor, refl, sym, ap, ◌∙◌, subst}
+use Rattle.std.specs.List.{All, AllZip}
 use Rattle.std.proofs.lemmas.List.{map-append}
 use Rattle.std.proofs.lemmas.List.Elements.{All-nil, All-cons, All-map}
 use Rattle.rayon.specs.Lists.{filter_by_mask}
@@ -10,7 +10,6 @@ use Rattle.proof_check.specs.CheckFaults.{FirstWrong, FirstFault}
 -- the row is the first that isn't right
 pub record IsFirst {R : Type 0} (IsRight : R → Type 0) (rows : List R) (row : R) : Type 0 where
   pub first : FirstWrong IsRight rows row
-  pub among : Contains rows row
   pub faulty : ¬ IsRight row
 
 module _ {R : Type 0} (IsRight : R → Type 0) where
@@ -30,7 +29,6 @@ module _ {R : Type 0} (IsRight : R → Type 0) where
       parts = ap (λ (l : List R). row ∷ l) rest.first.parts;
       right = All-cons IsRight row rest.first.before right rest.first.right;
     };
-    among = let (k, low, is) = rest.among in (suc k, omega (arith, low), is);
     faulty = rest.faulty;
   }
 
@@ -40,7 +38,6 @@ module _ {R : Type 0} (IsRight : R → Type 0) where
   first_shown (x ∷ xs) [] each = absurd each
   first_shown (x ∷ xs) (true ∷ answers) each = record {
     first = record { before = []; after = map (λ (y : Bor R). y.now) xs; parts = refl; right = All-nil IsRight };
-    among = (zero, omega arith, refl);
     faulty = subst (λ (y : Bor R). ¬ IsRight y.now) each.0.1 each.0.2;
   }
   first_shown (x ∷ xs) (false ∷ answers) each =
@@ -48,10 +45,13 @@ module _ {R : Type 0} (IsRight : R → Type 0) where
       (subst (λ (y : Bor R). IsRight y.now) each.0.1 each.0.2) (first_shown xs answers each.1)
 
   -- all rows are right, or the one that is found is the first faulty one
-  pub first_of_slice : (rows : List R) (xs : List (Bor R)) (answers : List Bool) (found : Option (Bor R))
-      → map (λ (x : Bor R). x.now) xs ≡ rows → AllZip Answered xs answers → found ≡ slice_get (filter_by_mask xs answers) 0 → Found rows found
-  first_of_slice rows xs answers found shown each is =
-      subst (λ o. Found rows o) (sym is) (subst (λ l. Found l (slice_get (filter_by_mask xs answers) 0)) shown (first_shown xs answers each))
+  pub first_of_slice : (rows slice : List R) (found : Option (Bor R)) → slice ≡ rows
+      → ((xs : List (Bor R)) × (answers : List Bool) × (map (λ (x : Bor R). x.now) xs ≡ slice) × AllZip Answered xs answers
+      × (found ≡ slice_get (filter_by_mask xs answers) 0))
+      → Found rows found
+  first_of_slice rows slice found same (xs, answers, shown, each, is) =
+      let first = first_shown xs answers each in
+      subst (λ o. Found rows o) (sym is) (subst (λ l. Found l (slice_get (filter_by_mask xs answers) 0)) (shown ∙ same) first)
 
 -- what is found wrong with the first faulty row is the fault of the rows
 pub fault_of_first : {R : Type 0} (IsRight : R → Type 0) (IsWrong : R → CheckFault → Type 0) (rows : List R) (row : R) (found : Option CheckFault)

@@ -1,42 +1,31 @@
 -- Where no two rows are for one configuration, the first row of a configuration is the row.
-use Rattle.std.proofs.Common.{◌≡◌, ◌≢◌, ℕ, zero, suc, ◌<◌, Bool, true, false, cond, nat_eq, List, [], ◌∷◌, length, get_or, Some, refl, sym, ap, ◌∙◌, subst, arith}
-use Rattle.std.specs.List.{AllPairs, Contains, find}
+use Rattle.std.proofs.Common.{◌≡◌, ◌≢◌, ℕ, ◌<◌, Bool, true, true≢false, nat_eq, List, length, get_or, Some, IsSome, is_some, slice_get, sym}
+use Rattle.std.proofs.Common.{ap, ◌∙◌, arith, inl, inr}
+use Rattle.std.specs.List.{AllPairs, Contains, find, position_or_len}
+use Rattle.std.proofs.lemmas.Bool.{false_from_ne_true}
+use Rattle.std.proofs.lemmas.List.Folds.{find_at}
+use Rattle.std.proofs.lemmas.List.Sums.{position_or_len_is, passes_at_first}
+use Rattle.std.proofs.lemmas.Option.{slice_get-get_or, slice_get_cases}
 use lib.Pointwise.{pointwise, bytes_decides}
 
--- a test that two lists fail
-pub differs : (xs ys : List ℕ) → xs ≢ ys → pointwise nat_eq xs ys ≡ false
-differs xs ys other = by (pointwise nat_eq xs ys) (bytes_decides xs ys).0
-  where
-    by : (b : Bool) → (b ≡ true → xs ≡ ys) → b ≡ false
-    by true same = absurd (other (same refl))
-    by false same = refl
+-- no two rows are for one configuration
+abbrev pub AreApart : {X : Type 0} → (X → List ℕ) → List X → Type 0
+AreApart at rows = AllPairs (λ first second. at first ≢ at second) rows
 
--- what is found is an element that passes
-pub found : {X : Type 0} (p : X → Bool) (xs : List X) (x : X) → find p xs ≡ Some x → Contains xs x × (p x ≡ true)
-found p [] x is = absurd cc
-found p (y ∷ ys) x is = by (p y) refl is (λ rest. found p ys x rest)
-  where
-    by : (b : Bool) → b ≡ p y → cond b (Some y) (find p ys) ≡ Some x → (find p ys ≡ Some x → Contains ys x × (p x ≡ true))
-        → Contains (y ∷ ys) x × (p x ≡ true)
-    by true passes here rest =
-        let same : y ≡ x = cc in
-        ((zero, omega arith, same), subst (λ z. p z ≡ true) same (sym passes))
-    by false fails there rest =
-        let inside = rest there in
-        let low : inside.0.0 < length ys = inside.0.1 in
-        ((suc inside.0.0, omega arith, inside.0.2), inside.1)
+-- where something passes, an element does
+pub some_passes : {X : Type 0} (p : X → Bool) (xs : List X) → IsSome (find p xs) → (x : X) × Contains xs x × (p x ≡ true)
+some_passes p xs some = elim (slice_get_cases xs (position_or_len p xs)).1 [
+  | inl (x, inside, is, same) ↦ (x, (position_or_len p xs, inside, same), ap p (sym same) ∙ passes_at_first p xs x inside)
+  | inr (past, none) ↦ absurd (true≢false (sym some ∙ ap is_some (find_at p xs ∙ none)))
+]
 
-module _ {X : Type 0} (at : X → List ℕ) where
-  -- the element at a place is found by its list where no earlier one has that list
-  find-first : (xs : List X) (k : ℕ) (d : X) → AllPairs (λ a b. at a ≢ at b) xs → k < length xs
-      → find (λ x. pointwise nat_eq (at x) (at (get_or xs k d))) xs ≡ Some (get_or xs k d)
-  find-first [] k d apart inside = absurd (omega arith)
-  find-first (x ∷ xs) zero d apart inside = ap (λ b. cond b (Some x) (find (λ y. pointwise nat_eq (at y) (at x)) xs)) ((bytes_decides (at x) (at x)).1 refl)
-  find-first (x ∷ xs) (suc k) d apart inside =
-      ap (λ b. cond b (Some x) (find (λ y. pointwise nat_eq (at y) (at (get_or xs k d))) xs))
-      (differs (at x) (at (get_or xs k d)) (apart zero (suc k) d (omega arith) inside))
-      ∙ find-first xs k d (λ i j e less below. apart (suc i) (suc j) e (omega arith) (omega arith)) (omega arith)
-
-  pub find-the : (xs : List X) (x : X) → AllPairs (λ a b. at a ≢ at b) xs → Contains xs x
-      → find (λ y. pointwise nat_eq (at y) (at x)) xs ≡ Some x
-  find-the xs x apart is = subst (λ z. find (λ y. pointwise nat_eq (at y) (at z)) xs ≡ Some z) is.2 (find-first xs is.0 x apart is.1)
+-- a row is found by its configuration
+pub find-the : {X : Type 0} (at : X → List ℕ) (xs : List X) (x : X) → AreApart at xs → Contains xs x
+    → find (λ y. pointwise nat_eq (at y) (at x)) xs ≡ Some x
+find-the {X} at xs x apart (place, inside, is) =
+    let passes : X → Bool = λ y. pointwise nat_eq (at y) (at x) in
+    let before = λ (k : ℕ) (low : k < place). false_from_ne_true (passes (get_or xs k x)) (λ same.
+    apart k place x low inside ((bytes_decides (at (get_or xs k x)) (at x)).0 same ∙ ap at (sym is))) in
+    let here = λ (_ : place < length xs). (bytes_decides (at (get_or xs place x)) (at x)).1 (ap at is) in
+    let first = position_or_len_is passes xs place x (omega (arith, inside)) before here in
+    find_at passes xs ∙ ap (slice_get xs) first ∙ slice_get-get_or xs place x inside ∙ ap Some is

@@ -1,7 +1,7 @@
 -- The places of rows by rank, one row after the other.
-use Rattle.std.proofs.Common.{◌≡◌, ◌≢◌, ℕ, ◌+◌, ◌<◌, ◌⊎◌, List, length, get_or, set, sym, ap, ◌∙◌, subst, arith, inl, inr}
+use Rattle.std.proofs.Common.{◌≡◌, ◌≢◌, ℕ, ◌+◌, ◌<◌, ◌⊎◌, List, length, get_or, replicate, set, sym, ap, ◌∙◌, subst, arith, inl, inr}
 use Rattle.std.proofs.lemmas.Bool.{cases_eq}
-use Rattle.std.proofs.lemmas.List.{length-set, get_or-set_same, get_or-set_other, get_or_default}
+use Rattle.std.proofs.lemmas.List.{length-set, length-replicate, get_or-replicate, get_or-set_same, get_or-set_other, get_or_default}
 use Rattle.proof_check.specs.Inside.RowIndex.{AreRanked}
 use Rattle.proof_check.specs.declared.row_index.TheConstants.{NO_PLACE}
 
@@ -11,6 +11,15 @@ pub record IsIndexBelow {X : Type 0} (rank : X → ℕ) (rows : List X) (size : 
   pub each : (place : ℕ) (d : X) → place < count → get_or places (rank (get_or rows place d)) 0 ≡ place
   pub only : (number : ℕ) (d : X) → number < size → get_or places number 0 < count → rank (get_or rows (get_or places number 0) d) ≡ number
   pub none : (number : ℕ) → number < size → (get_or places number 0 < count) ⊎ (get_or places number 0 ≡ NO_PLACE)
+
+-- before the first row nothing is a place
+pub index_start : {X : Type 0} (rank : X → ℕ) (rows : List X) (size : ℕ) → IsIndexBelow rank rows size (replicate size NO_PLACE) 0
+index_start rank rows size = record {
+  sized = length-replicate size NO_PLACE;
+  each = λ place d low. absurd (omega (arith, low));
+  only = λ number d inside low. absurd (omega (arith, low));
+  none = λ number inside. inr (get_or-replicate size number NO_PLACE 0 inside);
+}
 
 pub index_more : {X : Type 0} (rank : X → ℕ) (rows : List X) (size : ℕ) (places : List ℕ) (count : ℕ) (row : X) → AreRanked rank size rows → count < length rows → row ≡ get_or rows count row
     → IsIndexBelow rank rows size places count → IsIndexBelow rank rows size (set places (rank row) count) (count + 1)

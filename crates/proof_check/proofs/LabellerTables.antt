@@ -1,28 +1,24 @@
 -- What a labeller's rows that obey the rules answer.
-use Rattle.std.proofs.Common.{◌≡◌, ◌≢◌, ℕ, zero, suc, ◌-◌, ◌<◌, ◌≤◌, nat_eq, List, [], ◌∷◌, length, Option, Some, None, slice_get, refl, sym, ap, ◌∙◌, subst, arith, IsSome, is_some}
+use Rattle.std.proofs.Common.{◌≡◌, ℕ, zero, suc, ◌-◌, ◌<◌, ◌≤◌, nat_eq, List, [], ◌∷◌, length, Some, slice_get, ap, ◌∙◌, subst, arith, is_some}
 use Rattle.std.specs.Option.{option_and_then}
-use Rattle.std.specs.List.{All, AllPairs, Contains, find}
+use Rattle.std.specs.List.{All, Contains, find}
 use Rattle.std.proofs.lemmas.List.Elements.{All-contains, All-head, All-tail}
 use Rattle.board_text.specs.PlainBoard.{PlainBoard}
 use Rattle.positions.specs.Game.{moved}
 use Rattle.positions.specs.Table.{AnswerRow, AnswersLegally, AnswersAll, Answers, IsListed, IsClosed}
 use Rattle.positions.specs.declared.turns.Turns.{Turns}
 use Rattle.positions.specs.declared.turns.Turns.TheVariants.{Count, Always}
-use Rattle.proof_text.specs.Rules.{IsEnough, Serves, MeetsRequest, MeetsRequests, LabellerObeys, one_less}
-use Rattle.proof_check.proofs.FirstRows.{find-the, found}
+use Rattle.proof_text.specs.Rules.{IsEnough, IsWanted, Serves, MeetsRequest, MeetsRequests, LabellerObeys, one_less}
+use Rattle.proof_check.proofs.FirstRows.{AreApart, find-the, some_passes}
 use lib.Pointwise.{pointwise, bytes_decides}
 
--- no two rows are for one configuration
-abbrev pub AreApart : List AnswerRow → Type 0
-AreApart rows = AllPairs (λ first second. first.at ≢ second.at) rows
-
 -- the first row of a listed configuration is its row
-pub the_row : (rows : List AnswerRow) (row : AnswerRow) → AreApart rows → Contains rows row
+pub the_row : (rows : List AnswerRow) (row : AnswerRow) → AreApart (λ r. r.at) rows → Contains rows row
     → find (λ r. pointwise nat_eq r.at row.at) rows ≡ Some row
 the_row rows row apart is = find-the (λ r. r.at) rows row apart is
 
 -- the table gives the answer of the configuration's row
-answers_by_row : (board : PlainBoard) (rows : List AnswerRow) (row : AnswerRow) (pebble : ℕ) → AreApart rows → Contains rows row
+answers_by_row : (board : PlainBoard) (rows : List AnswerRow) (row : AnswerRow) (pebble : ℕ) → AreApart (λ r. r.at) rows → Contains rows row
     → (meets : MeetsRequest board rows row pebble)
     → AnswersLegally board rows row.at pebble meets.label
 answers_by_row board rows row pebble apart is meets = record {
@@ -37,19 +33,20 @@ enough_less (Count turns) Always number enough most = tt
 enough_less Always (Count there) number enough most = absurd most
 enough_less Always Always number enough most = tt
 
+-- where some are still asked for, some are wanted after one
+wanted_less : (turns : Turns) (number : ℕ) → IsEnough (Count (suc number)) turns → 1 ≤ number → IsWanted (one_less turns)
+wanted_less (Count turns) number enough some = let bound : suc number ≤ turns = enough in omega arith
+wanted_less Always number enough some = tt
+
 -- what serves some turns after one serves as many as are asked for
 serves_less : (rows : List AnswerRow) (configuration : List ℕ) (turns : Turns) (number : ℕ)
     → IsEnough (Count (suc number)) turns → Serves rows configuration (one_less turns) → Serves rows configuration (Count number)
-serves_less rows configuration (Count turns) number enough serves = λ some.
-    let bound : suc number ≤ turns = enough in
-    let least : 1 ≤ number = some in
-    let listed = serves (omega arith) in
-    record { row = listed.row; among = listed.among; at = listed.at; enough = enough_less (Count turns) listed.row.turns number enough listed.enough }
-serves_less rows configuration Always number enough serves = λ some.
-    let listed = serves tt in
-    record { row = listed.row; among = listed.among; at = listed.at; enough = enough_less Always listed.row.turns number enough listed.enough }
+serves_less rows configuration turns number enough serves = λ some.
+    let listed = serves (wanted_less turns number enough some) in
+    let more = enough_less turns listed.row.turns number enough listed.enough in
+    record { row = listed.row; among = listed.among; at = listed.at; enough = more }
 
-module _ (board : PlainBoard) (rows : List AnswerRow) (apart : AreApart rows) (obeys : LabellerObeys board rows) where
+module _ (board : PlainBoard) (rows : List AnswerRow) (apart : AreApart (λ r. r.at) rows) (obeys : LabellerObeys board rows) where
   -- each request of a list that is no longer than the number is answered
   answers_each : (requests : List ℕ) (configuration : List ℕ) (number : ℕ) → length requests ≤ number
       → Serves rows configuration (Count number) → All (λ pebble. pebble < board.pebbles) requests
@@ -71,14 +68,9 @@ module _ (board : PlainBoard) (rows : List AnswerRow) (apart : AreApart rows) (o
   -- a listed configuration has a row
   row_of_listed : (configuration : List ℕ) → IsListed rows configuration
       → (row : AnswerRow) × Contains rows row × (row.at ≡ configuration)
-  row_of_listed configuration listed = by (find (λ r. pointwise nat_eq r.at configuration) rows) refl listed
-    where
-      by : (o : Option AnswerRow) → o ≡ find (λ r. pointwise nat_eq r.at configuration) rows → IsSome o
-          → (row : AnswerRow) × Contains rows row × (row.at ≡ configuration)
-      by None is some = absurd cc
-      by (Some row) is some =
-          let there = found (λ r. pointwise nat_eq r.at configuration) rows row (sym is) in
-          (row, there.0, (bytes_decides row.at configuration).0 there.1)
+  row_of_listed configuration listed =
+      let there = some_passes (λ r. pointwise nat_eq r.at configuration) rows listed in
+      (there.0, there.1, (bytes_decides there.0.at configuration).0 there.2)
 
   pub listed_by_row : (row : AnswerRow) → Contains rows row → IsListed rows row.at
   listed_by_row row is = ap is_some (the_row rows row apart is)

@@ -1,14 +1,13 @@
 pub mod IndexedRows
 pub mod RankSearch
 pub mod FoundRows
-pub mod LabellerSteps
+pub mod RowTests
 pub mod AdversarySteps
 pub mod FirstRows
 pub mod LabellerTables
 pub mod AdversaryTables
 pub mod ShownClaims
-pub mod Turns
-pub mod StepFaults
+pub mod Steps
+pub mod DocumentFaults
 pub mod FirstRow
-pub mod OneFault
 pub mod Cited

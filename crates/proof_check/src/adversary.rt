@@ -1,12 +1,12 @@
 //! The adversary's rows of a document, checked.
 
-ghost use Rattle.std.specs.Prelude.{◌≡◌, MatchOption};
+ghost use Rattle.std.specs.Prelude.{◌≡◌, suc, MatchOption};
 ghost use Rattle.positions.specs.Game.{Legal, moved};
 ghost use Rattle.positions.specs.Ranks.{configuration_at, rank_of};
 ghost use Rattle.proof_text.specs.Proof.{request_row};
-ghost use Rattle.proof_text.specs.Rules.{MeetsAnswer, MeetsAnswers, StartIsBelow};
+ghost use Rattle.proof_text.specs.Rules.{IsListedBelow, MeetsAnswer, MeetsAnswers, StartIsBelow};
 ghost use Rattle.proof_check.specs.CheckFaults.{IsWrongAfter, IsWrongRequest, IsWrongBound};
-ghost use Rattle.proof_check.specs.Inside.Checker.{IsRequesting};
+ghost use Rattle.proof_check.specs.Inside.Checker.{IsRequesting, AtRank, IsUnservedBelow};
 
 use crate::checked_row::CheckedRow;
 use crate::checker::Checker;
@@ -47,14 +47,13 @@ impl Checker<'_> {
         if row.left == 0 {
             return Some(CheckFault::NotStuck { at: row.at, label });
         }
-        let Some(next) = self.adversary_row(rank) else {
-            return Some(CheckFault::Unlisted {
-                side: Side::Adversary,
-                at: row.at,
-                turn: label,
-            });
+        let missing = CheckFault::Unlisted {
+            side: Side::Adversary,
+            at: row.at,
+            turn: label,
         };
-        (row.left <= next.left).then_some(CheckFault::TooLarge { at: row.at, label })
+        let large = CheckFault::TooLarge { at: row.at, label };
+        self.number_fault(rank, row.left - 1, missing, large)
     }
 
     /// What is wrong with the start's number in the adversary's rows, if the claim says that the value is at most some number.
@@ -66,13 +65,27 @@ impl Checker<'_> {
         let (Claim::Exactly(most) | Claim::AtMost(most)) = self.claim() else {
             return None;
         };
-        let Some(row) = self.adversary_row(self.start()) else {
-            return Some(CheckFault::StartMissing {
-                side: Side::Adversary,
-            });
+        let side = Side::Adversary;
+        let missing = CheckFault::StartMissing { side };
+        let large = CheckFault::StartNumber { side };
+        self.number_fault(self.start(), most, missing, large)
+    }
+
+    /// The fault, if the adversary's rows have no number for a rank that is at most this one: no row has it, or one with a larger number.
+    fn number_fault(
+        &self,
+        rank: u32,
+        most: u32,
+        missing: CheckFault,
+        large: CheckFault,
+    ) -> Option<CheckFault>
+        ensures { AtRank self.now.board rank (λ configuration. MatchOption result
+            (IsListedBelow self.now.proof.adversary configuration (suc most))
+            (IsUnservedBelow self.now.proof.adversary configuration (suc most) missing large)) }
+    {
+        let Some(row) = self.adversary().find(rank) else {
+            return Some(missing);
         };
-        (row.left > most).then_some(CheckFault::StartNumber {
-            side: Side::Adversary,
-        })
+        (row.left > most).then_some(large)
     }
 }

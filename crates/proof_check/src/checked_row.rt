@@ -43,8 +43,5 @@ pub(crate) fn first_fault<R: CheckedRow + Sync>(
             ensures { MatchBool result (¬ R.meets checker.entry.now row.now.now) (R.meets checker.entry.now row.now.now) }
         { row.fault(checker).is_some() },
     );
-    match faulty {
-        Some(row) => row.fault(checker),
-        None => None,
-    }
+    faulty?.fault(checker)
 }

@@ -1,12 +1,11 @@
 //! A document's rows, ready to be checked.
 
 ghost use Rattle.std.specs.Prelude.{◌≡◌, ◌<◌, ◌≤◌, IfOk};
-ghost use Rattle.std.specs.List.{All};
 ghost use Rattle.board_text.specs.PlainBoard.{IsConfiguration};
 ghost use Rattle.positions.specs.Position.{position_at};
 ghost use Rattle.positions.specs.Ranks.{configurations, rank_of};
-ghost use Rattle.proof_text.specs.Proof.{IsDocument, plain_proof, answer_row, answer_rows, request_row, request_rows};
-ghost use Rattle.proof_check.specs.Inside.Checker.{IsAnswering, IsRequesting, FindsRow};
+ghost use Rattle.proof_text.specs.Proof.{IsDocument, plain_proof, answer_rows, request_rows};
+ghost use Rattle.proof_check.specs.Inside.Checker.{AreAnswering, AreRequesting};
 
 use crate::row_index::RowIndex;
 use board_text::Board;
@@ -93,32 +92,18 @@ impl<'a> Checker<'a> {
     }
 
     /// The labeller's rows.
-    pub(crate) fn labeller_rows(&self) -> &'a [LabellerRow]
+    pub(crate) fn labeller(&self) -> &RowIndex<'a, LabellerRow>
         ensures rows { answer_rows self.now.board result.now ≡ self.now.proof.labeller }
-        ensures each { All (IsAnswering self.now.board) result.now }
+        ensures ready { AreAnswering self.now.board result.now }
     {
-        self.labeller.rows()
+        &self.labeller
     }
 
     /// The adversary's rows.
-    pub(crate) fn adversary_rows(&self) -> &'a [AdversaryRow]
+    pub(crate) fn adversary(&self) -> &RowIndex<'a, AdversaryRow>
         ensures rows { request_rows self.now.board result.now ≡ self.now.proof.adversary }
-        ensures each { All (IsRequesting self.now.board) result.now }
+        ensures ready { AreRequesting self.now.board result.now }
     {
-        self.adversary.rows()
-    }
-
-    /// The labeller's row for the configuration of a rank.
-    pub(crate) fn labeller_row(&self, rank: u32) -> Option<&'a LabellerRow>
-        ensures { FindsRow self.now.board (answer_row self.now.board) (λ row. row.at) self.now.proof.labeller rank result }
-    {
-        self.labeller.find(rank)
-    }
-
-    /// The adversary's row for the configuration of a rank.
-    pub(crate) fn adversary_row(&self, rank: u32) -> Option<&'a AdversaryRow>
-        ensures { FindsRow self.now.board (request_row self.now.board) (λ row. row.at) self.now.proof.adversary rank result }
-    {
-        self.adversary.find(rank)
+        &self.adversary
     }
 }

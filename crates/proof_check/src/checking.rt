@@ -68,9 +68,9 @@ impl Checker<'_> {
         if let Some(fault) = self.bound_fault() {
             return Some(fault);
         }
-        if let Some(fault) = first_fault(rt, self, self.labeller_rows()) {
+        if let Some(fault) = first_fault(rt, self, self.labeller().rows()) {
             return Some(fault);
         }
-        first_fault(rt, self, self.adversary_rows())
+        first_fault(rt, self, self.adversary().rows())
     }
 }

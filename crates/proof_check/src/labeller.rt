@@ -6,7 +6,7 @@ ghost use Rattle.proof_text.specs.Proof.{answer_row};
 ghost use Rattle.proof_text.specs.Rules as rules;
 ghost use Rattle.proof_text.specs.Rules.{IsEnough, IsWanted, one_less, Serves, MeetsRequest, MeetsRequests};
 ghost use Rattle.proof_check.specs.CheckFaults.{IsWrongAnswer, IsWrongAt, IsWrongStart};
-ghost use Rattle.proof_check.specs.Inside.Checker.{IsAnswering};
+ghost use Rattle.proof_check.specs.Inside.Checker.{IsAnswering, AtRank, IsUnservedFor};
 
 use crate::checked_row::CheckedRow;
 use crate::checker::Checker;
@@ -86,18 +86,14 @@ impl Checker<'_> {
         if !moves.is_legal(pebble, label) {
             return Some(CheckFault::IllegalAnswer { at: row.at, pebble });
         }
-        let left = after_one(row.turns);
-        if !is_wanted(left) {
-            return None;
-        }
-        let Some(next) = self.labeller_row(moves.after(pebble, label)) else {
-            return Some(CheckFault::Unlisted {
-                side: Side::Labeller,
-                at: row.at,
-                turn: pebble as u16,
-            });
+        let missing = CheckFault::Unlisted {
+            side: Side::Labeller,
+            at: row.at,
+            turn: pebble as u16,
         };
-        (!is_enough(left, next.turns)).then_some(CheckFault::TooSmall { at: row.at, pebble })
+        let short = CheckFault::TooSmall { at: row.at, pebble };
+        let left = after_one(row.turns);
+        self.turns_fault(moves.after(pebble, label), left, missing, short)
     }
 
     /// What is wrong with the start's number in the labeller's rows, if anything is.
@@ -106,17 +102,30 @@ impl Checker<'_> {
             (Serves self.now.proof.labeller self.now.board.start (rules.wanted_of self.now.proof.claim))
             (IsWrongStart self.now.board self.now.proof) }
     {
-        let wanted = wanted_of(self.claim());
+        let side = Side::Labeller;
+        let missing = CheckFault::StartMissing { side };
+        let short = CheckFault::StartNumber { side };
+        self.turns_fault(self.start(), wanted_of(self.claim()), missing, short)
+    }
+
+    /// The fault, if the labeller's rows don't serve the wanted turns at a rank: no row has it, or one that is too short.
+    fn turns_fault(
+        &self,
+        rank: u32,
+        wanted: Turns,
+        missing: CheckFault,
+        short: CheckFault,
+    ) -> Option<CheckFault>
+        ensures { AtRank self.now.board rank (λ configuration. MatchOption result
+            (Serves self.now.proof.labeller configuration wanted)
+            (IsUnservedFor self.now.proof.labeller configuration wanted missing short)) }
+    {
         if !is_wanted(wanted) {
             return None;
         }
-        let Some(row) = self.labeller_row(self.start()) else {
-            return Some(CheckFault::StartMissing {
-                side: Side::Labeller,
-            });
+        let Some(row) = self.labeller().find(rank) else {
+            return Some(missing);
         };
-        (!is_enough(wanted, row.turns)).then_some(CheckFault::StartNumber {
-            side: Side::Labeller,
-        })
+        (!is_enough(wanted, row.turns)).then_some(short)
     }
 }

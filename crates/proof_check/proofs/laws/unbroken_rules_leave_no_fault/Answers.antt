@@ -1,4 +1,4 @@
-use Rattle.proof_check.proofs.StepFaults.{only_memory}
+use Rattle.proof_check.proofs.DocumentFaults.{only_memory}
 use Rattle.proof_check.proofs.laws.unbroken_rules_leave_no_fault.Goals as goal
 
 pub returns : goal.returns

@@ -1,9 +1,9 @@
-use Rattle.std.proofs.Common.{below_more, arith}
+use Rattle.std.proofs.Common.{below_more, arith, ℕ, ◌<◌}
 use Rattle.positions.specs.Game.{Legal}
 use Rattle.positions.proofs.Cited.{next_of, after_step, none_left}
 use Rattle.proof_text.specs.Proof.{request_row}
 use Rattle.proof_text.specs.Rules.{MeetsAnswer}
-use Rattle.proof_check.proofs.AdversarySteps.{legal_few, met_before, all_labels}
+use Rattle.proof_check.proofs.AdversarySteps.{legal_few, met}
 use Rattle.proof_check.proofs.adversary.AdversaryRowCheckedRow.fault.Goals as goal
 
 pub returns-in-Some-label_fault-clause-fault : goal.returns-in-Some-label_fault-clause-fault
@@ -16,7 +16,8 @@ returns-in-Some-label_fault-clause-fault c =
     record {
       turn = c.in-Some.label;
       is_turn = next.0.1;
-      before = met_before v.board v.proof.adversary row c.loop-label.answers.from i.before c.in-Some.label next;
+      before = λ earlier low.
+          met v.board v.proof.adversary row c.loop-label.answers.from earlier i.before (λ is. omega (arith, next.1 earlier is, low));
       wrong = c.in-Some-label_fault.ensures;
     }
 
@@ -29,7 +30,8 @@ loop-label-preserved c =
     let step = c.in-Some.ensures in
     let few = legal_few v.board c.moves-moves.result c.args.self.now.at row.request c.moves-moves.ensures c.answers.ensures.few in
     let next = next_of (Legal v.board row.at row.request) few c.loop-label.answers i.left c.take_next.new.self label step in
-    let before = met_before v.board v.proof.adversary row c.loop-label.answers.from i.before label next in
+    let before = λ (earlier : ℕ) (low : earlier < label).
+    met v.board v.proof.adversary row c.loop-label.answers.from earlier i.before (λ is. omega (arith, next.1 earlier is, low)) in
     record {
       most = omega (arith, few label next.0.1, step.from);
       left = after_step (Legal v.board row.at row.request) few c.loop-label.answers i.left c.take_next.new.self label step;
@@ -37,9 +39,10 @@ loop-label-preserved c =
     }
 
 pub returns-clause-fault : goal.returns-clause-fault
-returns-clause-fault c =
+returns-clause-fault c = λ label.
     let v = c.args.checker.now in
     let row = request_row v.board c.args.self.now in
     let i = c.loop-label.invariant in
     let few = legal_few v.board c.moves-moves.result c.args.self.now.at row.request c.moves-moves.ensures c.answers.ensures.few in
-    all_labels v.board v.proof.adversary row c.loop-label.answers.from i.before (none_left (Legal v.board row.at row.request) few c.loop-label.answers i.left c.in_default.ensures)
+    let none = none_left (Legal v.board row.at row.request) few c.loop-label.answers i.left c.in_default.ensures in
+    met v.board v.proof.adversary row c.loop-label.answers.from label i.before (none label)

@@ -1,0 +1,136 @@
+-- Steps of checking: of a step's faults there is one, and none where all is right.
+use Rattle.std.proofs.Common.{◌≡◌, ℕ, List, [], ◌∷◌, ◌++◌, Option, Some, refl, sym, ◌∙◌, subst, arith, ◌⊎◌, inl, inr}
+use Rattle.std.specs.List.{All, Contains}
+use Rattle.std.proofs.lemmas.Bool.{cases_order}
+use Rattle.std.proofs.lemmas.List.Elements.{All-contains, All-head, All-tail, Contains-append_right}
+use Rattle.std.proofs.lemmas.Option.{same_Some}
+use Rattle.board_text.specs.PlainBoard.{PlainBoard}
+use Rattle.proof_check.specs.declared.fault.CheckFault.{CheckFault}
+use Rattle.proof_check.specs.CheckFaults.{IsUnserved, FirstWrong, FirstFault, FirstTurn, NamesRanks}
+
+-- no fault is wrong where the step is right, one at most is, and it names ranks of the board where the step's rows have such
+pub record IsStep (board : PlainBoard) (Ranked Right : Type 0) (Wrong : CheckFault → Type 0) : Type 0 where
+  pub apart : (fault : CheckFault) → Wrong fault → ¬ Right
+  pub one : (fault other : CheckFault) → Wrong fault → Wrong other → fault ≡ other
+  pub named : (fault : CheckFault) → Ranked → Wrong fault → NamesRanks board fault
+
+-- the first row that isn't right is one of them
+pub among : {X : Type 0} {IsRight : X → Type 0} {rows : List X} {row : X} → FirstWrong IsRight rows row → Contains rows row
+among {X} {IsRight} {rows} {row} first =
+    let there = Contains-append_right first.before (row ∷ first.after) row (0, omega arith, refl) in
+    subst (λ (l : List X). Contains l row) (sym first.parts) there
+
+-- one place in a list is the first that isn't right
+one_place : {X : Type 0} (IsRight : X → Type 0) (a b : X) → ¬ IsRight a → ¬ IsRight b → (before other more rest : List X)
+    → before ++ a ∷ more ≡ other ++ b ∷ rest → All IsRight before → All IsRight other → a ≡ b
+one_place IsRight a b not_a not_b [] [] more rest e right too = cc
+one_place IsRight a b not_a not_b [] (y ∷ other) more rest e right too =
+    let is : y ≡ a = cc in absurd (not_a (subst IsRight is (All-head IsRight y other too)))
+one_place IsRight a b not_a not_b (x ∷ before) [] more rest e right too =
+    let is : x ≡ b = cc in absurd (not_b (subst IsRight is (All-head IsRight x before right)))
+one_place IsRight a b not_a not_b (x ∷ before) (y ∷ other) more rest e right too =
+    let tails : before ++ a ∷ more ≡ other ++ b ∷ rest = cc in
+    one_place IsRight a b not_a not_b before other more rest tails (All-tail IsRight x before right) (All-tail IsRight y other too)
+
+-- one row is the first that isn't right
+one_row : {X : Type 0} {IsRight : X → Type 0} {rows : List X} (a b : X) → ¬ IsRight a → ¬ IsRight b
+    → FirstWrong IsRight rows a → FirstWrong IsRight rows b → a ≡ b
+one_row {X} {IsRight} a b not_a not_b first other =
+    let same = sym first.parts ∙ other.parts in
+    one_place IsRight a b not_a not_b first.before other.before first.after other.after same first.right other.right
+
+module _ {board : PlainBoard} {Ranked : Type 0} where
+  -- one kind of fault
+  pub kind : {Right Bad : Type 0} (fault : CheckFault) → (Bad → ¬ Right) → (Ranked → NamesRanks board fault)
+      → IsStep board Ranked Right (λ found. Bad × (found ≡ fault))
+  kind fault bad names = record {
+    apart = λ found w. bad w.0;
+    one = λ found other a b. a.1 ∙ sym b.1;
+    named = λ found ranked w. subst (NamesRanks board) (sym w.1) (names ranked);
+  }
+
+  -- the same where less is right and less is wrong
+  pub narrowed : {Right Narrow : Type 0} {Wrong Less : CheckFault → Type 0} → (Narrow → Right)
+      → ((fault : CheckFault) → Less fault → Wrong fault) → IsStep board Ranked Right Wrong → IsStep board Ranked Narrow Less
+  narrowed right wrong step = record {
+    apart = λ fault w is. step.apart fault (wrong fault w) (right is);
+    one = λ fault other a b. step.one fault other (wrong fault a) (wrong other b);
+    named = λ fault ranked w. step.named fault ranked (wrong fault w);
+  }
+
+  -- what is asked only where something holds
+  pub where_so : {So Right : Type 0} {Wrong : CheckFault → Type 0} → IsStep board Ranked Right Wrong
+      → IsStep board Ranked (So → Right) (λ fault. So × Wrong fault)
+  where_so step = record {
+    apart = λ fault w is. step.apart fault w.1 (is w.0);
+    one = λ fault other a b. step.one fault other a.1 b.1;
+    named = λ fault ranked w. step.named fault ranked w.1;
+  }
+
+  -- two kinds of faults, of which no more than one is there
+  pub either : {Right : Type 0} {First Second : CheckFault → Type 0} → IsStep board Ranked Right First → IsStep board Ranked Right Second
+      → ((fault other : CheckFault) → First fault → ¬ Second other) → IsStep board Ranked Right (λ fault. First fault ⊎ Second fault)
+  either {Right} {First} {Second} first second not_both = record { apart = apart; one = one; named = named }
+    where
+      apart : (fault : CheckFault) → First fault ⊎ Second fault → ¬ Right
+      apart fault (inl w) = first.apart fault w
+      apart fault (inr w) = second.apart fault w
+
+      one : (fault other : CheckFault) → First fault ⊎ Second fault → First other ⊎ Second other → fault ≡ other
+      one fault other (inl a) (inl b) = first.one fault other a b
+      one fault other (inl a) (inr b) = absurd (not_both fault other a b)
+      one fault other (inr a) (inl b) = absurd (not_both other fault b a)
+      one fault other (inr a) (inr b) = second.one fault other a b
+
+      named : (fault : CheckFault) → Ranked → First fault ⊎ Second fault → NamesRanks board fault
+      named fault ranked (inl w) = first.named fault ranked w
+      named fault ranked (inr w) = second.named fault ranked w
+
+  -- where a row should serve
+  pub unserved : {Listed Served : Type 0} (missing short : CheckFault) → (Served → Listed)
+      → (Ranked → NamesRanks board missing) → (Ranked → NamesRanks board short)
+      → IsStep board Ranked Served (IsUnserved Listed Served missing short)
+  unserved missing short lists here there =
+      either (kind missing (λ no serves. no (lists serves)) here)
+      (narrowed (λ is. is) (λ fault w. (w.1, w.2)) (kind short (λ fails. fails) there))
+      (λ fault other a b. a.0 b.0)
+
+  -- what is asked of a number that is there
+  pub of_some : {Right : Type 0} (Wrong : ℕ → CheckFault → Type 0) (o : Option ℕ)
+      → ((number : ℕ) → o ≡ Some number → IsStep board Ranked Right (Wrong number))
+      → IsStep board Ranked Right (λ fault. (number : ℕ) × (o ≡ Some number) × Wrong number fault)
+  of_some Wrong o each = record {
+    apart = λ fault (number, is, w). (each number is).apart fault w;
+    one = λ fault other (number, is, a) (next, too, b).
+        (each number is).one fault other a (subst (λ n. Wrong n other) (same_Some next number (sym too ∙ is)) b);
+    named = λ fault ranked (number, is, w). (each number is).named fault ranked w;
+  }
+
+  -- the first turn of a row
+  pub first_turn : {IsTurn Meets : ℕ → Type 0} {IsWrong : ℕ → CheckFault → Type 0}
+      → ((turn : ℕ) → IsTurn turn → IsStep board Ranked (Meets turn) (IsWrong turn))
+      → IsStep board Ranked ((turn : ℕ) → IsTurn turn → Meets turn) (FirstTurn IsTurn Meets IsWrong)
+  first_turn {IsTurn} {Meets} {IsWrong} each = record {
+    apart = λ fault w meets. (each w.turn w.is_turn).apart fault w.wrong (meets w.turn w.is_turn);
+    one = λ fault other a b. elim (cases_order a.turn b.turn) [
+      | inl same ↦ (each a.turn a.is_turn).one fault other a.wrong (subst (λ turn. IsWrong turn other) (sym same) b.wrong)
+      | inr (inl less) ↦ absurd ((each a.turn a.is_turn).apart fault a.wrong (b.before a.turn less))
+      | inr (inr more) ↦ absurd ((each b.turn b.is_turn).apart other b.wrong (a.before b.turn more))
+    ];
+    named = λ fault ranked w. (each w.turn w.is_turn).named fault ranked w.wrong;
+  }
+
+  -- the first faulty row
+  pub first_row : {X : Type 0} {IsRight : X → Type 0} {IsWrong : X → CheckFault → Type 0} (rows : List X)
+      → ((row : X) → Contains rows row → IsStep board Ranked (IsRight row) (IsWrong row))
+      → IsStep board Ranked (All IsRight rows) (FirstFault IsRight IsWrong rows)
+  first_row {X} {IsRight} {IsWrong} rows each = record {
+    apart = λ fault w right. wrong_row fault w (All-contains IsRight rows w.row right (among w.first));
+    one = λ fault other a b.
+        let same = one_row a.row b.row (wrong_row fault a) (wrong_row other b) a.first b.first in
+        (each a.row (among a.first)).one fault other a.wrong (subst (λ (row : X). IsWrong row other) (sym same) b.wrong);
+    named = λ fault ranked w. (each w.row (among w.first)).named fault ranked w.wrong;
+  }
+    where
+      wrong_row : (fault : CheckFault) (w : FirstFault IsRight IsWrong rows fault) → ¬ IsRight w.row
+      wrong_row fault w = (each w.row (among w.first)).apart fault w.wrong
