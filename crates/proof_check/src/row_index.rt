@@ -1,6 +1,6 @@
 //! The rows of a document by the ranks of their configurations.
 
-ghost use Rattle.std.specs.Prelude.{◌≡◌, ℕ, List, length, IfOk, MatchOption};
+ghost use Rattle.std.specs.Prelude.{◌≡◌, ℕ, List, IfOk, MatchOption};
 ghost use Rattle.proof_check.specs.Inside.RowIndex.{AreAscending, AreRanked, IsIndex, HasNone, IsRowOf};
 
 use proof_text::{AdversaryRow, LabellerRow};

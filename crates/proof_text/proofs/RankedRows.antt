@@ -1,5 +1,5 @@
 -- Rows that name their configuration by its rank.
-use Rattle.std.proofs.Common.{◌≡◌, ℕ, zero, suc, ◌/◌, ◌%◌, ◌^◌, ◌<◌, ◌≤◌, List, length, get_or, slice_index, take, refl, inl, inr, sym, ap, ◌∙◌, subst, arith, div-lt_iff_lt-mul}
+use Rattle.std.proofs.Common.{◌≡◌, ℕ, zero, suc, ◌/◌, ◌%◌, ◌^◌, ◌<◌, ◌≤◌, List, get_or, map, slice_index, take, refl, inl, inr, sym, ap, ◌∙◌, subst, arith, div-lt_iff_lt-mul}
 use Rattle.std.specs.List.{All}
 use Rattle.std.proofs.lemmas.Bool.{cases_lt}
 use Rattle.std.proofs.Math.Nat.{one-le-pow, pow-succ'}
@@ -25,19 +25,24 @@ number_small base (suc count) number some one each =
 pub rank_small : (board : PlainBoard) (rank : ℕ) → IsBoard board → IsConfiguration board (configuration_at board rank) → rank < configurations board
 rank_small board rank is_board is = number_small (places board) board.pebbles rank (some_places board is_board) is_board.pebbles.0 is.each_place
 
-pub answer_each : (board : PlainBoard) (claim : Claim) (rows : List LabellerRow) → AreAnswerRows board claim (answer_rows board rows) → (k : ℕ) (d : LabellerRow) → k < length rows → IsAnswerRow board claim (answer_row board (get_or rows k d))
-answer_each board claim rows are k d lt =
-    subst (IsAnswerRow board claim) (get_or-map (answer_row board) rows k d (answer_row board d) lt) (are.each k (answer_row board d) (omega (arith, length-map rows (answer_row board), lt)))
+-- each row that is shown as one with a configuration of the board has a rank of the board
+ranks_below : {R X : Type 0} (board : PlainBoard) (IsRow : X → Type 0) (shown : R → X) (rank : R → ℕ)
+    → ((row : R) → IsRow (shown row) → IsConfiguration board (configuration_at board (rank row)))
+    → (rows : List R) → IsBoard board → All IsRow (map shown rows) → All (λ row. rank row < configurations board) rows
+ranks_below board IsRow shown rank is_rank rows is_board each = λ k d below.
+    let row = get_or rows k d in
+    let is = subst IsRow (get_or-map shown rows k d (shown d) below) (each k (shown d) (omega (arith, length-map rows shown, below))) in
+    rank_small board (rank row) is_board (is_rank row is)
 
-pub request_each : (board : PlainBoard) (rows : List AdversaryRow) → AreRequestRows board (request_rows board rows) → (k : ℕ) (d : AdversaryRow) → k < length rows → IsRequestRow board (request_row board (get_or rows k d))
-request_each board rows are k d lt =
-    subst (IsRequestRow board) (get_or-map (request_row board) rows k d (request_row board d) lt) (are.each k (request_row board d) (omega (arith, length-map rows (request_row board), lt)))
+pub answer_ranks : (board : PlainBoard) (claim : Claim) (rows : List LabellerRow) → IsBoard board
+    → AreAnswerRows board claim (answer_rows board rows) → All (λ row. row.at < configurations board) rows
+answer_ranks board claim rows is_board are =
+    ranks_below board (IsAnswerRow board claim) (answer_row board) (λ row. row.at) (λ row is. is.at) rows is_board are.each
 
-pub answer_ranks : (board : PlainBoard) (claim : Claim) (rows : List LabellerRow) → IsBoard board → AreAnswerRows board claim (answer_rows board rows) → All (λ row. row.at < configurations board) rows
-answer_ranks board claim rows is_board are = λ k d lt. rank_small board (get_or rows k d).at is_board (answer_each board claim rows are k d lt).at
-
-pub request_ranks : (board : PlainBoard) (rows : List AdversaryRow) → IsBoard board → AreRequestRows board (request_rows board rows) → All (λ row. row.at < configurations board) rows
-request_ranks board rows is_board are = λ k d lt. rank_small board (get_or rows k d).at is_board (request_each board rows are k d lt).at
+pub request_ranks : (board : PlainBoard) (rows : List AdversaryRow) → IsBoard board
+    → AreRequestRows board (request_rows board rows) → All (λ row. row.at < configurations board) rows
+request_ranks board rows is_board are =
+    ranks_below board (IsRequestRow board) (request_row board) (λ row. row.at) (λ row is. is.at) rows is_board are.each
 
 same_rank : (board : PlainBoard) (a b : ℕ) → a < configurations board → b < configurations board → configuration_at board a ≡ configuration_at board b → a ≡ b
 same_rank board a b first second same = sym (rank_of-configuration_at board a first) ∙ ap (rank_of board) same ∙ rank_of-configuration_at board b second
