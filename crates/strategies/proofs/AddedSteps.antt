@@ -1,8 +1,8 @@
 -- What is added at a step: the result of a best answer, or those of all answers of a gap.
 use Rattle.std.proofs.Common.{◌≡◌, ℕ, ◌+◌, ◌<◌, ◌≤◌, ◌↔◌, inl, inr, Bool, true, false, List, Some, None, slice_index_or, slice_set, sym, ap, ◌∙◌, subst, arith}
 use Rattle.std.proofs.Math.ListN.{replicate, length-set, length-replicate}
-use Rattle.std.proofs.lemmas.Bool.{cases_lt, cases_eq}
-use Rattle.std.proofs.lemmas.List.{get_or-set_other}
+use Rattle.std.proofs.lemmas.Bool.{both_ways, cases_lt, cases_eq}
+use Rattle.std.proofs.lemmas.List.{get_or-replicate, get_or-set_other}
 use Rattle.board_text.specs.PlainBoard.{PlainBoard, IsConfiguration}
 use Rattle.positions.specs.declared.value.Value.TheVariants.{Finite}
 use Rattle.positions.specs.Counts.{IsSmallest}
@@ -19,7 +19,6 @@ use Rattle.strategies.specs.Inside.ReachedRanks.{AreExpanded}
 use Rattle.strategies.proofs.BestAnswers.{same_answer}
 use Rattle.strategies.proofs.BestRequests.{same_request}
 use Rattle.strategies.proofs.AddedRanks.{Below, added_known, added_one, added_same, added_more, below_same, below_all}
-use Rattle.strategies.proofs.ReachedMarks.{false_not_true, all_false}
 
 -- ---- the best answer to one request
 
@@ -137,5 +136,5 @@ expanded_more board expanded gap ranks more are is_gap added = record {
 pub none_expanded : (board : PlainBoard) (size : ℕ) (ranks : List ℕ) → size ≡ gaps board → AreExpanded board (replicate size false) ranks
 none_expanded board size ranks size_is = record {
   one_each = length-replicate size false ∙ size_is;
-  there = λ gap is_gap marked rank answer. absurd (false_not_true (slice_index_or (replicate size false) gap false) (all_false size gap) marked);
+  there = λ gap is_gap marked rank answer. absurd (both_ways (slice_index_or (replicate size false) gap false) (get_or-replicate size gap false false (omega (arith, is_gap, size_is))) marked);
 }
