@@ -10,7 +10,7 @@ use Rattle.positions.specs.Value.{HasValue}
 use Rattle.positions.proofs.Cited.{each_or_some, dominates_or_not, some_tree, moved_is_configuration, some_value, forever_from_count}
 use Rattle.positions.proofs.Cited.{same_value}
 use Rattle.strategies.specs.Best.{IsLess, HasNoGreaterValue, LowersValue, IsBestRequest}
-use Rattle.strategies.proofs.ValueOrder.{at_least, less_from_tree, not_less}
+use Rattle.strategies.proofs.ValueOrder.{at_least, less_from_tree, not_less, one_smallest}
 
 -- the least number at which P holds, from one at which it does
 pub least : (P : ℕ → Type 0) → ((i : ℕ) → P i ⊎ ¬ P i) → (fuel n : ℕ) → n ≤ fuel → P n → (m : ℕ) × (m ≤ n) × P m × ((i : ℕ) → i < m → ¬ P i)
@@ -97,10 +97,7 @@ finite_from_request board configuration pebble is best =
 
 pub same_request : (board : PlainBoard) (configuration : List ℕ) (first second : ℕ)
     → IsBestRequest board configuration first → IsBestRequest board configuration second → first ≡ second
-same_request board configuration first second one other =
-    let low : first ≤ second = one.1 second other.0 in
-    let high : second ≤ first = other.1 first one.0 in
-    omega arith
+same_request board configuration = one_smallest (LowersValue board configuration)
 
 -- each smaller pebble has a legal answer after which the value is not smaller
 pub not_lowered_before : (board : PlainBoard) (configuration : List ℕ) (pebble other : ℕ) → IsConfiguration board configuration

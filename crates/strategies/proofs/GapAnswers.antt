@@ -13,30 +13,18 @@ use Rattle.positions.specs.Gaps.{gap_of, member_of, IsAnswer}
 use Rattle.positions.proofs.Cited.{moved_is_configuration, member_of-gap_of, legal_is_answer, configuration_at-rank_of, some_value}
 use Rattle.strategies.specs.declared.gap_best.Best.{Best}
 use Rattle.strategies.specs.Best.{IsLess}
-use Rattle.strategies.specs.Inside.GapBest.{IsBestFor}
-use Rattle.strategies.proofs.ValueOrder.{cases_value, not_above}
-use Rattle.strategies.proofs.BestAnswers.{IsBestBelow, NoneBelow, first_next, better_next, as_good_next, best_of_all}
+use Rattle.strategies.specs.Inside.GapBest.{IsBestFor, IsBetter}
+use Rattle.strategies.proofs.BestAnswers.{IsBestBelow, IsFoundBelow, widen, next_label, best_of_all}
 
 -- answers are few
 pub answer_few : (board : PlainBoard) (gap : ℕ) → board.labels ≤ MAX_LABELS → (label : ℕ) → IsAnswer board gap label → label < MAX_LABELS
 answer_few board gap few label is = omega (arith, is.is_label, few)
-
--- the best of the answers below a bound, if there is one
-abbrev pub IsFoundBelow : PlainBoard → List ℕ → ℕ → ℕ → Option Best → Type 0
-IsFoundBelow board configuration pebble bound (Some best) = IsBestBelow board configuration pebble bound best.label best.value
-IsFoundBelow board configuration pebble bound None = NoneBelow board configuration pebble bound
 
 -- the configuration is a member of the gap, which is the pebble's
 pub record IsMemberOf (board : PlainBoard) (configuration : List ℕ) (pebble gap : ℕ) : Type 0 where
   pub is_configuration : IsConfiguration board configuration
   pub is_pebble : pebble < board.pebbles
   pub its_gap : gap_of board configuration pebble ≡ gap
-
-is_less_or_not : (first second : Value) → IsLess first second ⊎ ¬ IsLess first second
-is_less_or_not first second = elim (cases_value first second) [
-  | inl less ↦ inl less
-  | inr not_less ↦ inr (not_above first second not_less)
-]
 
 module _ (board : PlainBoard) (configuration : List ℕ) (pebble gap : ℕ) (is : IsMemberOf board configuration pebble gap) where
   legal_there : (label : ℕ) → Legal board configuration pebble label ↔ IsAnswer board gap label
@@ -56,48 +44,17 @@ module _ (board : PlainBoard) (configuration : List ℕ) (pebble gap : ℕ) (is 
       (ap (configuration_at board) same ∙ configuration_at-rank_of board (moved configuration pebble label) (moved_is_configuration board configuration pebble label legal.is_label is.is_configuration))
       has
 
-  -- no label is legal from one bound to another
-  widen : (bound more : ℕ) (best : Option Best) → bound ≤ more → ((label : ℕ) → bound ≤ label → label < more → ¬ Legal board configuration pebble label)
-      → IsFoundBelow board configuration pebble bound best → IsFoundBelow board configuration pebble more best
-  widen bound more None enough none found = λ other below. elim (cases_lt other bound) [ inl early ↦ found other early | inr late ↦ none other late below ]
-  widen bound more (Some best) enough none found = record {
-    early = omega (arith, found.early);
-    legal = found.legal;
-    has = found.has;
-    best = λ other below legal. elim (cases_lt other bound) [ inl early ↦ found.best other early legal | inr late ↦ absurd (none other late below legal) ];
-  }
-
   -- the next answer is looked at
-  step : (best : Option Best) (later result : Best) → IsFoundBelow board configuration pebble later.label best → Legal board configuration pebble later.label
-      → HasValue board (moved configuration pebble later.label) later.value
-      → (best ≡ None → result ≡ later)
-      → ((first : Best) → best ≡ Some first → IsLess first.value later.value → result ≡ later)
-      → ((first : Best) → best ≡ Some first → ¬ IsLess first.value later.value → result ≡ first)
-      → IsFoundBelow board configuration pebble (later.label + 1) (Some result)
-  step None later result found legal has only greater kept =
-      subst (λ (b : Best). IsFoundBelow board configuration pebble (later.label + 1) (Some b)) (sym (only refl))
-      (first_next board configuration pebble later.label later.value found legal has)
-  step (Some first) later result found legal has only greater kept = elim (is_less_or_not first.value later.value) [
-    | inl less ↦ subst (λ (b : Best). IsFoundBelow board configuration pebble (later.label + 1) (Some b)) (sym (greater first refl less))
-        (better_next board configuration pebble later.label first.label first.value later.value found legal has less)
-    | inr not ↦ subst (λ (b : Best). IsFoundBelow board configuration pebble (later.label + 1) (Some b)) (sym (kept first refl not))
-        (as_good_next board configuration pebble later.label first.label first.value later.value found legal has not)
-  ]
-
-  pub found_next : (from rank : ℕ) (best : Option Best) (later result : Best)
-      → IsFoundBelow board configuration pebble from best
+  pub found_next : (from rank : ℕ) (best : Option Best) (later result : Best) → IsFoundBelow board configuration pebble from best
       → IsSmallest (λ label. (from ≤ label) × IsAnswer board gap label) (Some later.label)
       → rank ≡ rank_of board (member_of board gap later.label) → HasValue board (configuration_at board rank) later.value
-      → (best ≡ None → result ≡ later)
-      → ((first : Best) → best ≡ Some first → IsLess first.value later.value → result ≡ later)
-      → ((first : Best) → best ≡ Some first → ¬ IsLess first.value later.value → result ≡ first)
-      → IsFoundBelow board configuration pebble (later.label + 1) (Some result)
-  found_next from rank best later result found next rank_is has only greater kept =
+      → IsBetter best later result → IsBestBelow board configuration pebble (later.label + 1) result
+  found_next from rank best later result found next rank_is has better =
       let legal = (legal_there later.label).1 next.0.1 in
-      step best later result
-      (widen from later.label best next.0.0
-      (λ label late below legal. let least : later.label ≤ label = next.1 label (late, (legal_there label).0 legal) in absurd (omega arith)) found)
-      legal (value_there rank later.label later.value rank_is legal has) only greater kept
+      next_label board configuration pebble best later result
+      (widen board configuration pebble from later.label best next.0.0
+      (λ label late early is_legal. let least = next.1 label (late, (legal_there label).0 is_legal) in omega (arith, least)) found)
+      legal (value_there rank later.label later.value rank_is legal has) better
 
   -- all answers have been looked at
   pub found_all : (from : ℕ) (best : Option Best) → IsFoundBelow board configuration pebble from best
@@ -106,46 +63,23 @@ module _ (board : PlainBoard) (configuration : List ℕ) (pebble gap : ℕ) (is 
     | inl early ↦ found label early legal
     | inr late ↦ none label (late, (legal_there label).0 legal)
   ]
-  found_all from (Some best) found none = (best_of_all board configuration pebble best.label best.value all, all.has)
-    where
-      all : IsBestBelow board configuration pebble board.labels best.label best.value
-      all = record {
-        early = found.legal.is_label;
-        legal = found.legal;
-        has = found.has;
-        best = λ other below legal. elim (cases_lt other from) [
-          | inl early ↦ found.best other early legal
-          | inr late ↦ absurd (none other (late, (legal_there other).0 legal))
-        ];
-      }
+  found_all from (Some best) found none =
+      best_of_all board configuration pebble from best found (λ other late legal. absurd (none other (late, (legal_there other).0 legal)))
 
   -- one that lasts forever is the best of all, where it is the best of those before it
-  pub found_forever : (from : ℕ) (best : Best) → IsFoundBelow board configuration pebble from (Some best) → best.value ≡ Forever → IsBestFor board configuration pebble (Some best)
-  found_forever from best found forever = (best_of_all board configuration pebble best.label best.value all, all.has)
+  pub found_forever : (from : ℕ) (best : Best) → IsBestBelow board configuration pebble from best → best.value ≡ Forever
+      → IsBestFor board configuration pebble (Some best)
+  found_forever from best found forever = best_of_all board configuration pebble from best found (λ other late legal.
+      let value = some_value board (moved configuration pebble other) (moved_is_configuration board configuration pebble other legal.is_label is.is_configuration) in (
+        value.0,
+        value.1,
+        subst (λ (v : Value). IsLess value.0 v ⊎ ((value.0 ≡ v) × (best.label ≤ other))) (sym forever)
+            (less_or_same value.0 other (omega (arith, found.early, late))),
+      ))
     where
-      less_or_same : (value : Value) → IsLess value Forever ⊎ (value ≡ Forever)
-      less_or_same (Finite number) = inl tt
-      less_or_same Forever = inr refl
-
-      all : IsBestBelow board configuration pebble board.labels best.label best.value
-      all = record {
-        early = found.legal.is_label;
-        legal = found.legal;
-        has = found.has;
-        best = λ other below legal. elim (cases_lt other from) [
-          | inl early ↦ found.best other early legal
-          | inr late ↦
-              let value = some_value board (moved configuration pebble other) (moved_is_configuration board configuration pebble other legal.is_label is.is_configuration) in
-              let before : best.label ≤ other = omega (arith, found.early, late) in (
-                value.0,
-                value.1,
-                elim (less_or_same value.0) [
-                  | inl less ↦ inl (subst (IsLess value.0) (sym forever) less)
-                  | inr same ↦ inr (same ∙ sym forever, before)
-                ],
-              )
-        ];
-      }
+      less_or_same : (value : Value) (other : ℕ) → best.label ≤ other → IsLess value Forever ⊎ ((value ≡ Forever) × (best.label ≤ other))
+      less_or_same (Finite number) other before = inl tt
+      less_or_same Forever other before = inr (refl, before)
 
 -- ---- what a best answer says of a request
 

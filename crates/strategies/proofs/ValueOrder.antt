@@ -1,9 +1,10 @@
 -- What the order of values says of trees.
-use Rattle.std.proofs.Common.{◌≡◌, ℕ, zero, suc, ◌<◌, ◌≤◌, ◌⊎◌, List, inl, inr, refl, ap, subst, arith}
+use Rattle.std.proofs.Common.{◌≡◌, ℕ, zero, suc, ◌<◌, ◌≤◌, ◌⊎◌, List, Some, inl, inr, refl, ap, subst, arith}
 use Rattle.std.proofs.lemmas.Bool.{cases_lt, cases_order}
 use Rattle.board_text.specs.PlainBoard.{PlainBoard}
 use Rattle.positions.specs.declared.value.Value.{Value}
 use Rattle.positions.specs.declared.value.Value.TheVariants.{Finite, Forever}
+use Rattle.positions.specs.Counts.{IsSmallest}
 use Rattle.positions.specs.Game.{LabellerTree, AdversaryTree}
 use Rattle.positions.specs.Value.{HasValue}
 use Rattle.positions.proofs.Cited.{not_both_trees, lasts_at_most, at_most_from_tree, same_value}
@@ -94,3 +95,7 @@ IsLess-trans Forever v w p q = absurd p
 pub not_above : (v w : Value) → (v ≡ w) ⊎ IsLess w v → ¬ IsLess v w
 not_above v w (inl same) less = IsLess-irrefl w (subst (λ (u : Value). IsLess u w) same less)
 not_above v w (inr more) less = IsLess-irrefl v (IsLess-trans v w v less more)
+
+-- of what there is a smallest, there is one
+pub one_smallest : (P : ℕ → Type 0) (first second : ℕ) → IsSmallest P (Some first) → IsSmallest P (Some second) → first ≡ second
+one_smallest P first second one other = omega (arith, one.1 second other.0, other.1 first one.0)

@@ -42,7 +42,7 @@ loop-label-preserved c =
           (c.loop-label.invariant.found configuration pebble is) next
           (c.rank.ensures ∙ rw same at c.members-members.ensures.ranks label (label_is_place b label next.0.1.is_label))
           c.of-value.ensures
-          c.better-found.ensures.only c.better-found.ensures.greater c.better-found.ensures.kept);
+          c.better-found.ensures);
     }
 
 pub returns-in-Forever : goal.returns-in-Forever
@@ -57,7 +57,7 @@ returns-in-Forever c = λ configuration pebble is is_pebble its_gap.
     (c.loop-label.invariant.found configuration pebble here) next
     (c.rank.ensures ∙ rw same at c.members-members.ensures.ranks label (label_is_place b label next.0.1.is_label))
     c.of-value.ensures
-    c.better-found.ensures.only c.better-found.ensures.greater c.better-found.ensures.kept)
+    c.better-found.ensures)
     c.in-Forever.is
 
 pub returns : goal.returns

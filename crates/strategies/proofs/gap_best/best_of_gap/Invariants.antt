@@ -2,7 +2,8 @@ use Rattle.std.proofs.Common.{ℕ, ◌-◌, ◌≤◌, List}
 use Rattle.board_text.specs.declared.board.TheConstants.{MAX_LABELS}
 use Rattle.positions.specs.Gaps.{IsAnswer}
 use Rattle.positions.proofs.Cited.{AreFrom}
-use Rattle.strategies.proofs.GapAnswers.{IsFoundBelow, IsMemberOf}
+use Rattle.strategies.proofs.BestAnswers.{IsFoundBelow}
+use Rattle.strategies.proofs.GapAnswers.{IsMemberOf}
 use Rattle.strategies.proofs.gap_best.best_of_gap.Given as goal
 
 abbrev pub invariant-loop-label : goal.invariant-loop-label
