@@ -1,6 +1,7 @@
 -- The best answer of a gap: where it is found, and that it is that of each member.
-use Rattle.std.proofs.Common.{◌≡◌, ℕ, ◌+◌, ◌<◌, ◌≤◌, ◌↔◌, ◌⊎◌, List, Option, None, Some, option_map, inl, inr, refl, sym, ◌∙◌, ap, subst, arith}
+use Rattle.std.proofs.Common.{◌≡◌, ℕ, ◌+◌, ◌<◌, ◌≤◌, ◌↔◌, ◌⊎◌, List, [], ◌∷◌, ◌++◌, length, Option, None, Some, option_map, inl, inr, refl, sym, ◌∙◌, ap, subst, arith}
 use Rattle.std.proofs.lemmas.Bool.{cases_lt}
+use Rattle.std.proofs.lemmas.List.{get_or_append_left, get_or_at, length-append}
 use Rattle.board_text.specs.PlainBoard.{PlainBoard, IsConfiguration}
 use Rattle.board_text.specs.declared.board.TheConstants.{MAX_LABELS}
 use Rattle.positions.specs.declared.value.Value.{Value}
@@ -13,7 +14,7 @@ use Rattle.positions.specs.Gaps.{gap_of, member_of, IsAnswer}
 use Rattle.positions.proofs.Cited.{moved_is_configuration, member_of-gap_of, legal_is_answer, configuration_at-rank_of, some_value}
 use Rattle.strategies.specs.declared.gap_best.Best.{Best}
 use Rattle.strategies.specs.Best.{IsLess}
-use Rattle.strategies.specs.Inside.GapBest.{IsBestFor, IsBetter}
+use Rattle.strategies.specs.Inside.GapBest.{IsBestFor, IsBetter, IsGapBest, AreGapsBest}
 use Rattle.strategies.proofs.BestAnswers.{IsBestBelow, IsFoundBelow, widen, next_label, best_of_all}
 
 -- answers are few
@@ -88,3 +89,14 @@ module _ (board : PlainBoard) (configuration : List ℕ) (pebble : ℕ) where
       → (option_map (λ (b : Best). b.label) best ≡ None) ↔ ((label : ℕ) → Legal board configuration pebble label → ⊥)
   best_is_none (Some best) is = (λ same. absurd cc, λ none. absurd (none best.label is.0.0.legal))
   best_is_none None none = (λ _. none, λ _. refl)
+
+-- ---- the best answers of the first gaps
+
+pub listed_more : (board : PlainBoard) (answers : List (Option Best)) (best : Option Best) → AreGapsBest board answers
+    → IsGapBest board (length answers) best → AreGapsBest board (answers ++ best ∷ [])
+listed_more board answers best are is gap below = elim (cases_lt gap (length answers)) [
+  | inl early ↦ subst (IsGapBest board gap) (sym (get_or_append_left answers (best ∷ []) None gap early)) (are gap early)
+  | inr late ↦
+      let last : length answers ≡ gap = omega (arith, late, below, length-append answers (best ∷ [])) in
+      subst (λ (o : Option Best). IsGapBest board gap o) (sym (get_or_at answers best [] None gap last)) (subst (λ (g : ℕ). IsGapBest board g best) last is)
+]
