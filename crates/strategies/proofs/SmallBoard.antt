@@ -16,6 +16,7 @@ use Rattle.strategies.proofs.ValueOrder.{not_less}
 use Rattle.strategies.proofs.BestRequests as requests
 use Rattle.strategies.proofs.DocumentForm.{start_answerable, not_answerable}
 use Rattle.strategies.proofs.OneList.{one_answer_row, one_request_row}
+use Rattle.strategies.proofs.RowLists.{one_row}
 
 -- ---- moves
 
@@ -173,22 +174,9 @@ only_start ((pebble, label) ∷ moves) to leads some =
     (after_value pebble leads.0.is_pebble))
 
 labeller_rows : AreExactly small_board (IsLabellerRow small_board (Finite 1)) (λ (row : AnswerRow). row.at) small_document.labeller
-labeller_rows = record {
-  each = λ row. (
-    λ among. subst (IsLabellerRow small_board (Finite 1)) (the_one row among) is_labeller_row,
-    λ is. (
-      0,
-      omega arith,
-      one_answer_row small_board (Finite 1) answers row is_labeller_row is
-          (only_start is.moves row.at is.reached (record { value = is.value; has_value = is.has_value; some = is.some })),
-    ),
-  );
-  ascending = λ i j d less inside. absurd (omega arith);
-}
-  where
-    the_one : (row : AnswerRow) → Contains (answers ∷ []) row → answers ≡ row
-    the_one row (zero, inside, same) = same
-    the_one row (suc place, inside, same) = absurd (omega arith)
+labeller_rows = one_row small_board (λ (row : AnswerRow). row.at) (IsLabellerRow small_board (Finite 1)) answers is_labeller_row
+    (λ row is. one_answer_row small_board (Finite 1) answers row is_labeller_row is
+    (only_start is.moves row.at is.reached (record { value = is.value; has_value = is.has_value; some = is.some })))
 
 -- ---- the adversary's rows
 
