@@ -40,8 +40,8 @@ loop-rank-preserved c =
 
 pub returns-clause-reached : goal.returns-clause-reached
 returns-clause-reached c = λ start.
-    let is = c.start.ensures.is_board in
-    spread_ends c.args.moves.now _ _ _ is.start (request_moves c.args.moves.now) c.loop-rank.place _ c.loop-rank.invariant.spread (sym c.in_default.ensures.rank)
-
-pub returns-clause-rows : goal.returns-clause-rows
-returns-clause-rows c = λ start. adversarys c.args.moves.now start c.start.ensures.is_board.start
+    let is = c.start.ensures.is_board.start in
+    record {
+      each = spread_ends c.args.moves.now _ _ _ is (request_moves c.args.moves.now) c.loop-rank.place _ c.loop-rank.invariant.spread (sym c.in_default.ensures.rank);
+      rows = adversarys c.args.moves.now start is;
+    }

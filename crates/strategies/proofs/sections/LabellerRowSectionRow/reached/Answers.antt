@@ -46,7 +46,8 @@ loop-rank-preserved c = record {
 
 pub returns-clause-reached : goal.returns-clause-reached
 returns-clause-reached c = λ start.
-    spread_ends c.args.moves.now _ _ _ c.start-start.ensures.is_board.start (answer_moves c.args.moves.now) c.loop-rank.place _ c.loop-rank.invariant.spread (sym c.in_default.ensures.rank)
-
-pub returns-clause-rows : goal.returns-clause-rows
-returns-clause-rows c = λ start. labellers c.args.moves.now start c.start-start.ensures.is_board.start
+    let is = c.start-start.ensures.is_board.start in
+    record {
+      each = spread_ends c.args.moves.now _ _ _ is (answer_moves c.args.moves.now) c.loop-rank.place _ c.loop-rank.invariant.spread (sym c.in_default.ensures.rank);
+      rows = labellers c.args.moves.now start is;
+    }
