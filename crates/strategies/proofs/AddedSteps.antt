@@ -7,15 +7,16 @@ use Rattle.board_text.specs.PlainBoard.{PlainBoard, IsConfiguration}
 use Rattle.positions.specs.declared.value.Value.TheVariants.{Finite}
 use Rattle.positions.specs.Counts.{IsSmallest}
 use Rattle.positions.specs.Game.{Legal, moved}
-use Rattle.positions.specs.Value.{HasValue}
 use Rattle.positions.specs.Ranks.{configurations, rank_of, configuration_at}
 use Rattle.positions.specs.Gaps.{gaps, gap_of, member_of, IsAnswer}
-use Rattle.positions.proofs.Cited.{member_of-gap_of, legal_is_answer, configuration_at_is, same_value}
+use Rattle.positions.proofs.Cited.{member_of-gap_of, legal_is_answer, configuration_at_is}
 use Rattle.strategies.specs.declared.gap_best.Best.{Best}
 use Rattle.strategies.specs.Best.{IsLess, LowersValue}
 use Rattle.strategies.specs.Inside.GapBest.{IsBestFor}
 use Rattle.strategies.specs.Inside.ReachedRanks.{IsAnswerStep, IsRequestStep, RequestLeads, IsWith, IsWithAll, IsAnswerAt, IsAnswerOf}
 use Rattle.strategies.specs.Inside.ReachedRanks.{AreExpanded}
+use Rattle.strategies.specs.Document.{IsAnswerable}
+use Rattle.strategies.proofs.ValueOrder.{worthless}
 use Rattle.strategies.proofs.BestAnswers.{same_answer}
 use Rattle.strategies.proofs.BestRequests.{same_request}
 use Rattle.strategies.proofs.AddedRanks.{Below, added_known, added_one, added_same, added_more, below_same, below_all}
@@ -31,9 +32,7 @@ module _ (board : PlainBoard) (rank pebble : ℕ) (ranks : List ℕ) where
   worthless_not_added best is not = added_known ranks (IsAnswerStep board rank pebble) (λ to step.
       let c : List ℕ = configuration_at board rank in
       let same : step.label ≡ best.label = same_answer board c pebble step.label best.label step.best is.0 in
-      let has = subst (λ (l : ℕ). HasValue board (moved c pebble l) step.some.value) same step.some.has_value in
-      let value : step.some.value ≡ best.value = same_value board (moved c pebble best.label) step.some.value best.value has is.1 in
-      absurd (not (subst (IsLess (Finite 0)) value step.some.some)))
+      absurd (worthless board (moved c pebble best.label) best.value is.1 not (subst (λ (l : ℕ). IsAnswerable board (moved c pebble l)) same step.some)))
 
   pub answer_added : (best : Best) (to : ℕ) (more : List ℕ) → IsBestFor board (configuration_at board rank) pebble (Some best) → IsLess (Finite 0) best.value
       → pebble < board.pebbles → to ≡ rank_of board (moved (configuration_at board rank) pebble best.label) → IsWith ranks to more

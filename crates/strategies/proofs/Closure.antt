@@ -11,7 +11,7 @@ use Rattle.positions.specs.declared.value.Value.TheVariants.{Finite, Forever}
 use Rattle.positions.specs.Game.{Legal, moved}
 use Rattle.positions.specs.Value.{HasValue}
 use Rattle.positions.specs.Ranks.{configurations, rank_of, configuration_at}
-use Rattle.positions.proofs.Cited.{dominates_or_not, moved_is_configuration, some_value, configuration_at_is, same_value}
+use Rattle.positions.proofs.Cited.{dominates_or_not, moved_is_configuration, some_value, configuration_at_is}
 use Rattle.strategies.specs.Best.{IsBestAnswer, IsBestRequest}
 use Rattle.strategies.specs.Document.{IsAnswerable}
 use Rattle.strategies.specs.Inside.ReachedRanks.{IsAnswerStep, AnswerLeads, IsRequestStep, RequestLeads, IsWith, IsWithAll}
@@ -20,7 +20,7 @@ use Rattle.strategies.proofs.AddedRanks.{contains_or_not, few_apart, added_known
 use Rattle.strategies.proofs.AddedRanks.{Below, added_start, added_more, below_all}
 use Rattle.strategies.proofs.BestAnswers.{best_answer, same_answer}
 use Rattle.strategies.proofs.DocumentForm.{not_answerable}
-use Rattle.strategies.proofs.BestRequests.{best_request, same_request, finite_from_request}
+use Rattle.strategies.proofs.BestRequests.{best_request, same_request, not_lowered}
 use Rattle.strategies.proofs.DocumentRows.{answers_one}
 use Rattle.strategies.proofs.SpreadRanks.{get_there, AreMoves, answer_moves, request_moves}
 use Rattle.strategies.proofs.SpreadRanks.{IsSpreadBy, IsStart, spread_begins, spread_more, spread_ends}
@@ -163,10 +163,7 @@ request_step board rank label below is_label =
     is = configuration_at_is board rank below
 
     by : (value : Value) → HasValue board (configuration_at board rank) value → OneOrNone (IsRequestStep board rank label)
-    by Forever has = inr (λ to step.
-        let finite = finite_from_request board (configuration_at board rank) step.pebble is step.best in
-        let same : Finite finite.0 ≡ Forever = same_value board (configuration_at board rank) (Finite finite.0) Forever finite.1 has in
-        absurd cc)
+    by Forever has = inr (λ to step. not_lowered board (configuration_at board rank) step.pebble is has step.best.0)
     by (Finite number) has =
         let c : List ℕ = configuration_at board rank in
         let best = best_request board number c has in

@@ -16,6 +16,7 @@ use Rattle.positions.proofs.Cited.{lasts_at_most, same_value, forever_from_count
 use Rattle.proof_text.specs.Proof.{PlainProof, IsClaim, AreTurns, IsAnswerRow, IsRequestRow, AreRows, AreAnswerRows, asks_labeller, asks_adversary, IsProof}
 use Rattle.strategies.specs.Best.{IsLess}
 use Rattle.strategies.specs.Document.{IsAnswerable, IsAnswerMove, LeadsBy, IsLabellerRow, IsAdversaryRow, AsksAdversary, AreExactly, IsDocumentOf, claim_of, turns_of}
+use Rattle.strategies.proofs.ValueOrder.{worthless}
 use Rattle.strategies.proofs.ReachedByMoves.{answers_lead_to, requests_lead_to}
 
 -- a finite value is smaller than the number of configurations
@@ -75,10 +76,7 @@ start_answerable board from [] to leads some = subst (IsAnswerable board) (sym l
 start_answerable board from (move ∷ moves) to leads some = leads.0.answerable
 
 pub not_answerable : (board : PlainBoard) (configuration : List ℕ) → IsAnswerable board configuration → HasValue board configuration (Finite 0) → ⊥
-not_answerable board configuration is has =
-    let same : is.value ≡ Finite 0 = same_value board configuration is.value (Finite 0) is.has_value has in
-    let none : 0 < 0 = subst (IsLess (Finite 0)) same is.some in
-    omega (arith, none)
+not_answerable board configuration is has = worthless board configuration (Finite 0) has (λ less. omega (arith, less)) is
 
 -- ---- rows
 

@@ -1,6 +1,7 @@
 -- The document of a board breaks no rule of checking.
-use Rattle.std.proofs.Common.{◌≡◌, ℕ, zero, suc, ◌<◌, ◌≤◌, List, [], ◌∷◌, length, get_or, slice_get, slice_index, Some, refl, sym, subst, arith}
+use Rattle.std.proofs.Common.{◌≡◌, ℕ, zero, suc, ◌<◌, ◌≤◌, List, [], get_or, slice_index, refl, sym, subst, arith}
 use Rattle.std.proofs.lemmas.List.Elements.{Contains-get_or}
+use Rattle.std.proofs.lemmas.Option.{slice_get-get_or}
 use Rattle.board_text.specs.PlainBoard.{PlainBoard, IsConfiguration}
 use Rattle.positions.specs.declared.value.Value.{Value}
 use Rattle.positions.specs.declared.value.Value.TheVariants.{Finite, Forever}
@@ -21,12 +22,6 @@ use Rattle.strategies.proofs.BestAnswers.{lasts_after}
 use Rattle.strategies.proofs.ReachedByMoves.{one_more, answers_lead_to, stays_forever}
 use Rattle.strategies.proofs.RowTurns.{Keeps, enough_left}
 use Rattle.strategies.proofs.DocumentRows.{answer_row_for, request_row_for}
-
--- what a place in range holds
-pub held : (ns : List ℕ) (k : ℕ) → k < length ns → slice_get ns k ≡ Some (slice_index ns k)
-held [] k below = absurd (omega arith)
-held (n ∷ ns) zero below = refl
-held (n ∷ ns) (suc k) below = held ns k (omega arith)
 
 -- a labeller who lasts one request less at the second configuration has one request less of value there, at most
 keeps : (board : PlainBoard) (from to : List ℕ) → ((number : ℕ) → LabellerTree board (suc number) from → LabellerTree board number to)
@@ -73,7 +68,7 @@ module _ (board : PlainBoard) (is_start : IsConfiguration board board.start) (st
       listed _ to leads after.0 after.1 enough.0 (one_less (turns_of start is.value)) enough.1 in
       record {
         label = label;
-        answer = held row.answers pebble (omega (arith, below, is.one_each));
+        answer = slice_get-get_or row.answers pebble 0 (omega (arith, below, is.one_each));
         legal = best.0.legal;
         serves = subst (λ (turns : Turns). Serves rows to (one_less turns)) (sym is.turns) serves;
       }

@@ -3,6 +3,7 @@ use Rattle.std.proofs.Common.{◌≡◌, ℕ, zero, suc, ◌<◌, ◌≤◌, Lis
 use Rattle.std.specs.Option.{option_and_then, option_map}
 use Rattle.std.specs.List.{All}
 use Rattle.std.proofs.lemmas.List.Elements.{All-head, All-tail}
+use Rattle.std.proofs.lemmas.Option.{same_Some, slice_get-get_or}
 use Rattle.board_text.specs.PlainBoard.{PlainBoard, IsConfiguration}
 use Rattle.positions.specs.declared.value.Value.{Value}
 use Rattle.positions.specs.declared.value.Value.TheVariants.{Finite, Forever}
@@ -18,16 +19,12 @@ use Rattle.strategies.proofs.ValueOrder.{at_least, less_than_finite}
 use Rattle.strategies.proofs.BestAnswers.{lasts_after}
 use Rattle.strategies.proofs.ReachedByMoves.{one_more, answers_lead_to, stays_forever}
 use Rattle.strategies.proofs.DocumentRows.{answer_row_for, request_row_for}
-use Rattle.strategies.proofs.KeptRules.{held}
 use Rattle.strategies.proofs.FirstRows.{IsFound, find_row, find_listed, is_listed}
 
 -- a labeller who answers one request has a value of 1 or more
 some_from_tree : (board : PlainBoard) (configuration : List ℕ) (value : Value) → LabellerTree board 1 configuration → HasValue board configuration value → IsLess (Finite 0) value
 some_from_tree board configuration (Finite number) lasts has = let most : 1 ≤ number = at_least board 1 number configuration lasts has in omega arith
 some_from_tree board configuration Forever lasts has = tt
-
-some_is : (a b : ℕ) → Some a ≡ Some b → a ≡ b
-some_is a b same = cc
 
 -- ---- the labeller
 
@@ -56,7 +53,7 @@ module _ (board : PlainBoard) (is_start : IsConfiguration board board.start) (st
       → AnswersLegally board rows configuration pebble (slice_index found.row.answers pebble)
   answers_there configuration found pebble below = record {
     answer = ap (λ o. option_and_then (λ (row : AnswerRow). slice_get row.answers pebble) o) found.found
-        ∙ held found.row.answers pebble (omega (arith, below, (row_is configuration found).one_each));
+        ∙ slice_get-get_or found.row.answers pebble 0 (omega (arith, below, (row_is configuration found).one_each));
     legal = (best_there configuration found pebble below).0.legal;
   }
 
@@ -133,7 +130,7 @@ module _ (board : PlainBoard) (start : Value) (asks : AsksAdversary start) (rows
       ((found.row.request, subst (λ (c : List ℕ). Requests board rows c found.row.request) leads requests), omega arith)
   stops_each (label ∷ answers) number moves from to reached has leads =
       let found = asked moves from number reached has in
-      let same : found.row.request ≡ leads.0 = some_is found.row.request leads.0 (sym (request_there from found) ∙ leads.1.request) in
+      let same : found.row.request ≡ leads.0 = same_Some found.row.request leads.0 (sym (request_there from found) ∙ leads.1.request) in
       let best : IsBestRequest board from leads.0 = subst (IsBestRequest board from) same (best_asked from found) in
       let less = less_than_finite board number (moved from leads.0 label) from has (best.0.lowers label leads.2) in
       let ends = stops_each answers less.0 (moves ++ (leads.0, label) ∷ []) (moved from leads.0 label) to

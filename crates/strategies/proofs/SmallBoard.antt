@@ -1,7 +1,7 @@
 -- The document of the small board.
-use Rattle.std.proofs.Common.{◌≡◌, ◌≢◌, ℕ, zero, suc, ◌<◌, ◌≤◌, List, [], ◌∷◌, get_or, slice_index, refl, sym, ap, subst, arith}
+use Rattle.std.proofs.Common.{◌≡◌, ℕ, zero, suc, ◌-◌, ◌<◌, ◌≤◌, List, [], ◌∷◌, get_or, slice_index, refl, sym, ap, ◌∙◌, subst, arith}
 use Rattle.std.specs.List.{AllPairs, Contains}
-use Rattle.board_text.specs.PlainBoard.{Beats, BeatsPlace, AreLabels, IsBoard, places}
+use Rattle.board_text.specs.PlainBoard.{Beats, AreLabels, IsBoard, places}
 use Rattle.board_text.proofs.Cited.{start_from_numbers}
 use Rattle.positions.specs.declared.value.Value.TheVariants.{Finite}
 use Rattle.positions.specs.declared.turns.Turns.TheVariants.{Count}
@@ -47,31 +47,21 @@ is_board = record {
     pairs (suc k) d inside = absurd (omega arith)
 
 -- the pebble that bounds a request
-another : ℕ → ℕ
-another zero = 1
-another (suc pebble) = 0
+abbrev another : ℕ → ℕ
+another pebble = 1 - pebble
 
 legal_is : (configuration : List ℕ) (pebble : ℕ) → slice_index configuration (another pebble) < 2 → (label : ℕ) → Legal small_board configuration pebble label
     → (label ≡ 1) × (slice_index configuration (another pebble) ≡ 0)
-unfolding another
-legal_is configuration zero held label legal = beats_is label (slice_index configuration 1) (legal.dominates 1 (omega arith) (λ same. omega (arith, same)) held)
-legal_is configuration (suc pebble) held label legal = beats_is label (slice_index configuration 0) (legal.dominates 0 (omega arith) (λ same. omega (arith, same)) held)
+legal_is configuration pebble held label legal =
+    beats_is label (slice_index configuration (another pebble)) (legal.dominates (another pebble) (omega arith) (λ same. omega (arith, same)) held)
 
 legal_from : (configuration : List ℕ) (pebble : ℕ) → pebble < 2 → slice_index configuration (another pebble) ≡ 0 → Legal small_board configuration pebble 1
-unfolding another
-legal_from configuration zero below free = record { is_label = omega arith; dominates = bound }
-  where
-    bound : (other : ℕ) → other < 2 → other ≢ 0 → BeatsPlace small_board 1 (slice_index configuration other)
-    bound zero within differs = absurd (differs refl)
-    bound (suc zero) within differs = λ held. (0, omega arith, ap (λ (n : ℕ). (1, n)) (sym free))
-    bound (suc (suc other)) within differs = absurd (omega arith)
-legal_from configuration (suc zero) below free = record { is_label = omega arith; dominates = bound }
-  where
-    bound : (other : ℕ) → other < 2 → other ≢ 1 → BeatsPlace small_board 1 (slice_index configuration other)
-    bound zero within differs = λ held. (0, omega arith, ap (λ (n : ℕ). (1, n)) (sym free))
-    bound (suc zero) within differs = absurd (differs refl)
-    bound (suc (suc other)) within differs = absurd (omega arith)
-legal_from configuration (suc (suc pebble)) below free = absurd (omega arith)
+legal_from configuration pebble below free = record {
+  is_label = omega arith;
+  dominates = λ other within differs held.
+      let same : other ≡ another pebble = omega (arith, differs) in
+      (0, omega arith, ap (λ (n : ℕ). (1, n)) (sym (ap (slice_index configuration) same ∙ free)));
+}
 
 -- ---- values
 
@@ -82,23 +72,25 @@ start = 0 ∷ 0 ∷ []
 abbrev after : ℕ → List ℕ
 after pebble = moved start pebble 1
 
-after_value : (pebble : ℕ) → pebble < 2 → HasValue small_board (after pebble) (Finite 0)
-unfolding another
-after_value zero below = (tt, (1, omega arith, λ label legal. let taken : 1 ≡ 0 = (legal_is (1 ∷ 0 ∷ []) 1 (omega arith) label legal).1 in absurd (omega (arith, taken))))
-after_value (suc zero) below = (tt, (0, omega arith, λ label legal. let taken : 1 ≡ 0 = (legal_is (0 ∷ 1 ∷ []) 0 (omega arith) label legal).1 in absurd (omega (arith, taken))))
-after_value (suc (suc pebble)) below = absurd (omega arith)
+none_after : (pebble : ℕ) → pebble < 2 → (label : ℕ) → Legal small_board (after pebble) (another pebble) label → ⊥
+none_after zero below label legal = let taken : 1 ≡ 0 = (legal_is (1 ∷ 0 ∷ []) 1 (omega arith) label legal).1 in omega (arith, taken)
+none_after (suc zero) below label legal = let taken : 1 ≡ 0 = (legal_is (0 ∷ 1 ∷ []) 0 (omega arith) label legal).1 in omega (arith, taken)
+none_after (suc (suc pebble)) below label legal = omega arith
 
-start_free : (pebble : ℕ) → slice_index start (another pebble) ≡ 0
-unfolding another
+after_value : (pebble : ℕ) → pebble < 2 → HasValue small_board (after pebble) (Finite 0)
+after_value pebble below = (tt, (another pebble, omega arith, λ label legal. none_after pebble below label legal))
+
+start_free : (pebble : ℕ) → slice_index start pebble ≡ 0
 start_free zero = refl
-start_free (suc pebble) = refl
+start_free (suc zero) = refl
+start_free (suc (suc pebble)) = refl
 
 start_held : (pebble : ℕ) → slice_index start (another pebble) < 2
-start_held pebble = omega (arith, start_free pebble)
+start_held pebble = omega (arith, start_free (another pebble))
 
 start_value : HasValue small_board start (Finite 1)
 start_value = (
-  λ pebble below. (1, legal_from start pebble below (start_free pebble), tt),
+  λ pebble below. (1, legal_from start pebble below (start_free (another pebble)), tt),
   (
     0,
     omega arith,
@@ -112,7 +104,7 @@ start_value = (
 best_answer : (pebble : ℕ) → pebble < 2 → IsBestAnswer small_board start pebble 1
 best_answer pebble below = (
   record {
-    legal = legal_from start pebble below (start_free pebble);
+    legal = legal_from start pebble below (start_free (another pebble));
     greatest = λ other legal.
         subst (λ (l : ℕ). HasNoGreaterValue small_board (moved start pebble l) (after pebble)) (sym (legal_is start pebble (start_held pebble) other legal).0)
         (record { value = Finite 0; bound = Finite 0; of_first = after_value pebble below; of_second = after_value pebble below; not_greater = λ less. omega (arith, less) });
@@ -131,13 +123,8 @@ best_at_start = (
   λ other lowers. omega arith,
 )
 
-none_after : (label : ℕ) → Legal small_board (after 0) 1 label → ⊥
-unfolding another
-none_after label legal = let taken : 1 ≡ 0 = (legal_is (after 0) 1 (omega arith) label legal).1 in omega (arith, taken)
-
 best_after : IsBestRequest small_board (after 0) 1
-unfolding another
-best_after = (record { is_pebble = omega arith; lowers = λ label legal. absurd (none_after label legal) }, smallest)
+best_after = (record { is_pebble = omega arith; lowers = λ label legal. absurd (none_after 0 (omega arith) label legal) }, smallest)
   where
     smallest : (other : ℕ) → LowersValue small_board (after 0) other → 1 ≤ other
     smallest zero lowers = absurd (not_less small_board 0 (after 0) (after 0) tt (after_value 0 (omega arith)) (lowers.lowers 1 (legal_from (after 0) 0 (omega arith) refl)))
@@ -192,7 +179,7 @@ is_first = record { moves = []; reached = refl; has_value = start_value; best = 
 is_second : IsAdversaryRow small_board second_request
 is_second = record {
   moves = (0, 1) ∷ [];
-  reached = (record { best = best_at_start; legal = legal_from start 0 (omega arith) (start_free 0) }, refl);
+  reached = (record { best = best_at_start; legal = legal_from start 0 (omega arith) (start_free 1) }, refl);
   has_value = after_value 0 (omega arith);
   best = best_after;
 }
@@ -202,7 +189,7 @@ then_after : (moves : List (ℕ × ℕ)) (to : List ℕ) → LeadsBy (IsRequestM
 then_after [] to leads = leads
 then_after ((pebble, label) ∷ moves) to leads =
     let asked : pebble ≡ 1 = requests.same_request small_board (after 0) pebble 1 leads.0.best best_after in
-    absurd (none_after label (subst (λ (p : ℕ). Legal small_board (after 0) p label) asked leads.0.legal))
+    absurd (none_after 0 (omega arith) label (subst (λ (p : ℕ). Legal small_board (after 0) p label) asked leads.0.legal))
 
 one_of_two : (row : RequestRow) → IsAdversaryRow small_board row → Contains small_document.adversary row
 one_of_two row is = by is.moves is.reached

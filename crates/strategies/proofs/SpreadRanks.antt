@@ -11,7 +11,7 @@ use Rattle.positions.specs.Game.{moved}
 use Rattle.positions.specs.Value.{HasValue}
 use Rattle.positions.specs.Ranks.{configurations, rank_of, configuration_at}
 use Rattle.positions.proofs.Cited.{moved_is_configuration, rank_below, rank_of-configuration_at, configuration_at-rank_of}
-use Rattle.positions.proofs.Cited.{configuration_at_is, same_value}
+use Rattle.positions.proofs.Cited.{configuration_at_is}
 use Rattle.strategies.specs.Best.{IsLess}
 use Rattle.strategies.specs.Document.{IsAnswerable, IsAnswerMove, IsRequestMove, LeadsBy}
 use Rattle.strategies.specs.Inside.ReachedRanks.{AnswerLeads, RequestLeads, IsReachedBy, IsWithAll, AreRanksOf}
@@ -186,9 +186,3 @@ start_value board start value is start_is has =
 pub start_answerable : (board : PlainBoard) (start : ℕ) (value : Value) → IsConfiguration board board.start → start ≡ rank_of board board.start
     → HasValue board (configuration_at board start) value → IsLess (Finite 0) value → IsAnswerable board board.start
 start_answerable board start value is start_is has some = record { value = value; has_value = start_value board start value is start_is has; some = some }
-
-pub start_worthless : (board : PlainBoard) (start : ℕ) (value : Value) → IsConfiguration board board.start → start ≡ rank_of board board.start
-    → HasValue board (configuration_at board start) value → ¬ IsLess (Finite 0) value → ¬ IsAnswerable board board.start
-start_worthless board start value is start_is has not answerable =
-    let same : answerable.value ≡ value = same_value board board.start answerable.value value answerable.has_value (start_value board start value is start_is has) in
-    not (subst (IsLess (Finite 0)) same answerable.some)

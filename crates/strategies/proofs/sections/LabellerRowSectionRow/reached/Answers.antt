@@ -2,7 +2,8 @@ use Rattle.std.proofs.Common.{[], refl, sym, ◌∙◌, arith}
 use Rattle.std.proofs.lemmas.Option.{slice_get_within}
 use Rattle.strategies.proofs.AddedRanks.{added_known, added_one}
 use Rattle.strategies.proofs.GatheredRows.{labellers}
-use Rattle.strategies.proofs.SpreadRanks.{spread_begins, spread_more, spread_ends, spread_below, answer_moves, start_answerable, start_worthless}
+use Rattle.strategies.proofs.SpreadRanks.{spread_begins, spread_more, spread_ends, spread_below, answer_moves, start_answerable, start_value}
+use Rattle.strategies.proofs.ValueOrder.{worthless}
 use Rattle.strategies.proofs.sections.LabellerRowSectionRow.reached.Goals as goal
 use Rattle.strategies.proofs.sections.LabellerRowSectionRow.reached.Goals.{then-is_less+in_ok-add, else-is_less}
 
@@ -21,7 +22,7 @@ loop-rank-init c =
       | else-is_less w ↦ rw (w.reached-is, c.in_ok-reached.ensures.empty) (record {
         size = size;
         spread = spread_begins b _ _ _ is [] (added_known [] _ (λ rank starts. absurd
-            (start_worthless b c.start-start.result c.value.result is c.start-start.ensures.rank c.value.ensures
+            (worthless b _ c.value.result (start_value b c.start-start.result c.value.result is c.start-start.ensures.rank c.value.ensures)
             (λ some. let same = w.if-is_less.ensures.1 some in absurd cc) starts.0)));
       })
     ]
