@@ -1,9 +1,11 @@
--- The best answer of a gap: where it is found, and that it is that of each member.
-use Rattle.std.proofs.Common.{◌≡◌, ℕ, ◌+◌, ◌<◌, ◌≤◌, ◌↔◌, ◌⊎◌, List, [], ◌∷◌, ◌++◌, length, Option, None, Some, option_map, inl, inr, refl, sym, ◌∙◌, ap, subst, arith}
+-- The answers of a gap: a walk over them, and the best one, which is that of each member.
+use Rattle.std.proofs.Common.{◌≡◌, ℕ, ◌+◌, ◌<◌, ◌≤◌, ◌↔◌, ◌⊎◌, true, List, [], ◌∷◌, ◌++◌, length, Option, None, Some, option_map, inl, inr, refl, sym, ◌∙◌, ap, subst, arith}
 use Rattle.std.proofs.lemmas.Bool.{cases_lt}
 use Rattle.std.proofs.lemmas.List.{get_or_append_left, get_or_at, length-append}
-use Rattle.board_text.specs.PlainBoard.{PlainBoard, IsConfiguration}
+use Rattle.board_text.specs.Domination.{has_bit}
+use Rattle.board_text.specs.PlainBoard.{PlainBoard, IsConfiguration, places}
 use Rattle.board_text.specs.declared.board.TheConstants.{MAX_LABELS}
+use Rattle.board_text.proofs.Cited.{label_is_place}
 use Rattle.positions.specs.declared.value.Value.{Value}
 use Rattle.positions.specs.declared.value.Value.TheVariants.{Finite, Forever}
 use Rattle.positions.specs.Counts.{IsSmallest}
@@ -11,15 +13,13 @@ use Rattle.positions.specs.Game.{Legal, moved}
 use Rattle.positions.specs.Value.{HasValue}
 use Rattle.positions.specs.Ranks.{rank_of, configuration_at}
 use Rattle.positions.specs.Gaps.{gap_of, member_of, IsAnswer}
+use Rattle.positions.specs.LabelWalk.{Walk, IsStep}
+use Rattle.positions.proofs.Cited.{AreFrom, next_of, after_step, none_left}
 use Rattle.positions.proofs.Cited.{moved_is_configuration, member_of-gap_of, legal_is_answer, configuration_at-rank_of, some_value}
 use Rattle.strategies.specs.declared.gap_best.Best.{Best}
 use Rattle.strategies.specs.Best.{IsLess}
 use Rattle.strategies.specs.Inside.GapBest.{IsBestFor, IsBetter, IsGapBest, AreGapsBest}
 use Rattle.strategies.proofs.BestAnswers.{IsBestBelow, IsFoundBelow, widen, next_label, best_of_all}
-
--- answers are few
-pub answer_few : (board : PlainBoard) (gap : ℕ) → board.labels ≤ MAX_LABELS → (label : ℕ) → IsAnswer board gap label → label < MAX_LABELS
-answer_few board gap few label is = omega (arith, is.is_label, few)
 
 -- the configuration is a member of the gap, which is the pebble's
 pub record IsMemberOf (board : PlainBoard) (configuration : List ℕ) (pebble gap : ℕ) : Type 0 where
@@ -81,6 +81,41 @@ module _ (board : PlainBoard) (configuration : List ℕ) (pebble gap : ℕ) (is 
       less_or_same : (value : Value) (other : ℕ) → best.label ≤ other → IsLess value Forever ⊎ ((value ≡ Forever) × (best.label ≤ other))
       less_or_same (Finite number) other before = inl tt
       less_or_same Forever other before = inr (refl, before)
+
+-- ---- a walk over the answers, step by step
+
+-- at each member of the gap it is the best of the answers below a bound, if there is one
+abbrev pub AreFound : PlainBoard → ℕ → ℕ → Option Best → Type 0
+AreFound board gap bound best = (configuration : List ℕ) (pebble : ℕ) → IsMemberOf board configuration pebble gap
+    → IsFoundBelow board configuration pebble bound best
+
+module _ (board : PlainBoard) (gap : ℕ) (few : board.labels ≤ MAX_LABELS) where
+  answer_few : (label : ℕ) → IsAnswer board gap label → label < MAX_LABELS
+  answer_few label is = omega (arith, is.is_label, few)
+
+  module _ (walk after : Walk) (label : ℕ) (left : AreFrom (IsAnswer board gap) walk) (step : IsStep walk after label) where
+    pub next_answer : IsSmallest (λ l. (walk.from ≤ l) × IsAnswer board gap l) (Some label)
+    next_answer = next_of (IsAnswer board gap) answer_few walk left after label step
+
+    pub answer_place : label < places board
+    answer_place = label_is_place board label next_answer.0.1.is_label
+
+    pub from_after : after.from ≤ MAX_LABELS
+    from_after = omega (arith, step.from, answer_few label next_answer.0.1)
+
+    pub left_after : AreFrom (IsAnswer board gap) after
+    left_after = after_step (IsAnswer board gap) answer_few walk left after label step
+
+    pub found_after : (rank : ℕ) (value : Value) (best : Option Best) (result : Best) → AreFound board gap walk.from best
+        → rank ≡ rank_of board (member_of board gap label) → HasValue board (configuration_at board rank) value
+        → IsBetter best (record { label = label; value = value }) result → AreFound board gap (label + 1) (Some result)
+    found_after rank value best result found rank_is has better configuration pebble is =
+        found_next board configuration pebble gap is walk.from rank best (record { label = label; value = value }) result
+        (found configuration pebble is) next_answer rank_is has better
+
+  pub no_answer_left : (walk : Walk) → AreFrom (IsAnswer board gap) walk → ((label : ℕ) → label < MAX_LABELS → has_bit walk.left label ≡ true → ⊥)
+      → IsSmallest (λ l. (walk.from ≤ l) × IsAnswer board gap l) None
+  no_answer_left walk left none = none_left (IsAnswer board gap) answer_few walk left none
 
 -- ---- what a best answer says of a request
 
