@@ -28,11 +28,11 @@ pub record IsMemberOf (board : PlainBoard) (configuration : List ℕ) (pebble ga
   pub its_gap : gap_of board configuration pebble ≡ gap
 
 module _ (board : PlainBoard) (configuration : List ℕ) (pebble gap : ℕ) (is : IsMemberOf board configuration pebble gap) where
-  legal_there : (label : ℕ) → Legal board configuration pebble label ↔ IsAnswer board gap label
+  pub legal_there : (label : ℕ) → Legal board configuration pebble label ↔ IsAnswer board gap label
   legal_there label = subst (λ (g : ℕ). Legal board configuration pebble label ↔ IsAnswer board g label) is.its_gap
       (legal_is_answer board configuration pebble label is.is_configuration is.is_pebble)
 
-  member_there : (label : ℕ) → member_of board gap label ≡ moved configuration pebble label
+  pub member_there : (label : ℕ) → member_of board gap label ≡ moved configuration pebble label
   member_there label = subst (λ (g : ℕ). member_of board g label ≡ moved configuration pebble label) is.its_gap
       (member_of-gap_of board configuration pebble label is.is_configuration is.is_pebble)
 
