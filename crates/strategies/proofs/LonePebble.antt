@@ -1,5 +1,6 @@
 -- The document of the board with a lone pebble.
-use Rattle.std.proofs.Common.{◌≡◌, ℕ, zero, suc, ◌<◌, List, [], ◌∷◌, get_or, slice_index, refl, sym, subst, arith}
+use Rattle.std.proofs.Common.{◌≡◌, ℕ, zero, suc, ◌<◌, List, [], ◌∷◌, slice_index, refl, sym, subst, arith}
+use Rattle.std.proofs.lemmas.List.Elements.{All-cons, All-nil}
 use Rattle.board_text.specs.PlainBoard.{IsBoard}
 use Rattle.board_text.proofs.Cited.{start_from_numbers}
 use Rattle.positions.specs.declared.value.Value.TheVariants.{Forever}
@@ -17,17 +18,13 @@ pub is_board : IsBoard lone_board
 is_board = record {
   labels = (omega arith, omega arith);
   pebbles = (omega arith, omega arith);
-  start = start_from_numbers lone_board (refl, places);
+  start = start_from_numbers lone_board (refl, All-cons (λ place. place < 2) 0 [] (omega arith) (All-nil (λ place. place < 2)));
   pairs = record {
     of_labels = λ k d inside. absurd (omega arith);
     ascending = λ i j d less inside. absurd (omega arith);
     one_way = λ x y one other. absurd (let inside : one.0 < 0 = one.1 in omega arith);
   };
 }
-  where
-    places : (k d : ℕ) → k < 1 → get_or (0 ∷ []) k d < 2
-    places zero d inside = omega arith
-    places (suc k) d inside = absurd (omega arith)
 
 abbrev start : List ℕ
 start = 0 ∷ []

@@ -1,6 +1,8 @@
 -- The document of the small board.
-use Rattle.std.proofs.Common.{◌≡◌, ℕ, zero, suc, ◌-◌, ◌<◌, ◌≤◌, List, [], ◌∷◌, get_or, slice_index, refl, sym, ap, ◌∙◌, subst, arith}
-use Rattle.std.specs.List.{AllPairs, Contains}
+use Rattle.std.proofs.Common.{◌≡◌, ℕ, zero, suc, ◌-◌, ◌<◌, ◌≤◌, List, [], ◌∷◌, slice_index, refl, sym, ap, ◌∙◌, subst, arith}
+use Rattle.std.specs.List.{Contains}
+use Rattle.std.proofs.lemmas.List.Elements.{All-cons, All-nil}
+use Rattle.std.proofs.lemmas.List.Kept.{AllPairs-cons}
 use Rattle.board_text.specs.PlainBoard.{Beats, AreLabels, IsBoard, places}
 use Rattle.board_text.proofs.Cited.{start_from_numbers}
 use Rattle.positions.specs.declared.value.Value.TheVariants.{Finite}
@@ -29,22 +31,14 @@ pub is_board : IsBoard small_board
 is_board = record {
   labels = (omega arith, omega arith);
   pebbles = (omega arith, omega arith);
-  start = start_from_numbers small_board (refl, low);
+  start = start_from_numbers small_board
+      (refl, All-cons (λ place. place < 3) 0 (0 ∷ []) (omega arith) (All-cons (λ place. place < 3) 0 [] (omega arith) (All-nil (λ place. place < 3))));
   pairs = record {
-    of_labels = pairs;
+    of_labels = All-cons (AreLabels 2) (1, 0) [] (omega arith, omega arith) (All-nil (AreLabels 2));
     ascending = λ i j d less inside. absurd (omega arith);
     one_way = λ x y one other. omega (arith, (beats_is x y one).0, (beats_is y x other).1);
   };
 }
-  where
-    low : (k d : ℕ) → k < 2 → get_or (0 ∷ 0 ∷ []) k d < 3
-    low zero d inside = omega arith
-    low (suc zero) d inside = omega arith
-    low (suc (suc k)) d inside = absurd (omega arith)
-
-    pairs : (k : ℕ) (d : ℕ × ℕ) → k < 1 → AreLabels 2 (get_or ((1, 0) ∷ []) k d)
-    pairs zero d inside = (omega arith, omega arith)
-    pairs (suc k) d inside = absurd (omega arith)
 
 -- the pebble that bounds a request
 abbrev another : ℕ → ℕ
@@ -208,21 +202,18 @@ adversary_rows : AreExactly small_board (λ (row : RequestRow). AsksAdversary (F
 unfolding places
 adversary_rows = record {
   each = λ row. (λ among. (tt, either row among), λ is. one_of_two row is.1);
-  ascending = up;
+  ascending = AllPairs-cons Ascends first_request (second_request ∷ [])
+      (All-cons (Ascends first_request) second_request [] (omega arith) (All-nil (Ascends first_request)))
+      (λ i j d less inside. absurd (omega arith));
 }
   where
+    Ascends : RequestRow → RequestRow → Type 0
+    Ascends first second = IsBefore small_board first.at second.at
+
     either : (row : RequestRow) → Contains (first_request ∷ second_request ∷ []) row → IsAdversaryRow small_board row
     either row (zero, inside, same) = subst (IsAdversaryRow small_board) same is_first
     either row (suc zero, inside, same) = subst (IsAdversaryRow small_board) same is_second
     either row (suc (suc place), inside, same) = absurd (omega arith)
-
-    up : AllPairs (λ (first second : RequestRow). IsBefore small_board first.at second.at) (first_request ∷ second_request ∷ [])
-    up zero zero d less inside = absurd (omega arith)
-    up zero (suc zero) d less inside = omega arith
-    up zero (suc (suc j)) d less inside = absurd (omega arith)
-    up (suc i) zero d less inside = absurd (omega arith)
-    up (suc i) (suc zero) d less inside = absurd (omega arith)
-    up (suc i) (suc (suc j)) d less inside = absurd (omega arith)
 
 pub is_document : IsDocumentOf small_board small_document
 is_document = record { value = Finite 1; has_value = start_value; claim = refl; labeller = labeller_rows; adversary = adversary_rows }
