@@ -33,7 +33,8 @@ module _ (board : PlainBoard) (rank pebble : ℕ) (ranks : List ℕ) where
   worthless_not_added best is not = added_known ranks (IsAnswerStep board rank pebble) (λ to step.
       let c : List ℕ = configuration_at board rank in
       let same : step.label ≡ best.label = same_answer board c pebble step.label best.label step.best is.0 in
-      absurd (worthless board (moved c pebble best.label) best.value is.1 not (subst (λ (l : ℕ). IsAnswerable board (moved c pebble l)) same step.some)))
+      absurd (worthless board (moved c pebble best.label) best.value is.1 not
+          (subst (λ (l : ℕ). IsAnswerable board (moved c pebble l)) same step.some)))
 
   pub answer_added : (best : Best) (to : ℕ) (more : List ℕ) → IsBestFor board (configuration_at board rank) pebble (Some best) → IsLess (Finite 0) best.value
       → pebble < board.pebbles → to ≡ rank_of board (moved (configuration_at board rank) pebble best.label) → IsWith ranks to more
@@ -74,10 +75,12 @@ module _ (board : PlainBoard) (gap : ℕ) where
 
 pub no_request_added : (board : PlainBoard) (rank : ℕ) (ranks : List ℕ) → IsSmallest (LowersValue board (configuration_at board rank)) None
     → IsWithAll ranks (RequestLeads board rank) ranks
-no_request_added board rank ranks none = added_known ranks (RequestLeads board rank) (λ to leads. absurd (none leads.1.pebble leads.1.best.0))
+no_request_added board rank ranks none = added_known ranks (RequestLeads board rank)
+    (λ to leads. absurd (none leads.1.pebble leads.1.best.0))
 
 module _ (board : PlainBoard) (rank : ℕ) (is_rank : rank < configurations board) (pebble gap : ℕ)
-    (best : IsBestRequest board (configuration_at board rank) pebble) (gap_is : gap ≡ gap_of board (configuration_at board rank) pebble) where
+    (best : IsBestRequest board (configuration_at board rank) pebble)
+        (gap_is : gap ≡ gap_of board (configuration_at board rank) pebble) where
   -- what it leads to is what the answers of its gap lead to
   leads_is : (to : ℕ) → IsAnswerOf board gap to ↔ RequestLeads board rank to
   leads_is to = (there, back)
@@ -104,7 +107,8 @@ module _ (board : PlainBoard) (rank : ℕ) (is_rank : rank < configurations boar
           let same : step.pebble ≡ pebble = same_request board c step.pebble pebble step.best best in
           let legal = subst (λ (p : ℕ). Legal board c p label) same step.legal in
           let to_is = step.to_is ∙ ap (λ (p : ℕ). rank_of board (moved c p label)) same in
-          (label, ((legal_there board c pebble gap is label).0 legal, to_is ∙ sym (ap (rank_of board) (member_there board c pebble gap is label))))
+          (label, ((legal_there board c pebble gap is label).0 legal, to_is
+              ∙ sym (ap (rank_of board) (member_there board c pebble gap is label))))
 
   pub results_known : (ranks : List ℕ) (expanded : List Bool) → gap < gaps board → AreExpanded board expanded ranks
       → slice_index_or expanded gap false ≡ true → IsWithAll ranks (RequestLeads board rank) ranks
@@ -128,5 +132,6 @@ expanded_more board expanded gap ranks more are is_gap added = record {
 pub none_expanded : (board : PlainBoard) (size : ℕ) (ranks : List ℕ) → size ≡ gaps board → AreExpanded board (replicate size false) ranks
 none_expanded board size ranks size_is = record {
   one_each = length-replicate size false ∙ size_is;
-  there = λ gap is_gap marked rank answer. absurd (both_ways (slice_index_or (replicate size false) gap false) (get_or-replicate size gap false false (omega (arith, is_gap, size_is))) marked);
+  there = λ gap is_gap marked rank answer. absurd (both_ways (slice_index_or (replicate size false) gap false)
+      (get_or-replicate size gap false false (omega (arith, is_gap, size_is))) marked);
 }

@@ -41,7 +41,10 @@ module _ (board : PlainBoard) (configuration : List ℕ) (pebble : ℕ) where
   pub widen : (bound more : ℕ) (best : Option Best) → bound ≤ more
       → ((label : ℕ) → bound ≤ label → label < more → ¬ Legal board configuration pebble label)
       → IsFoundBelow board configuration pebble bound best → IsFoundBelow board configuration pebble more best
-  widen bound more None enough none found = λ other below. elim (cases_lt other bound) [ inl early ↦ found other early | inr late ↦ none other late below ]
+  widen bound more None enough none found = λ other below. elim (cases_lt other bound) [
+    | inl early ↦ found other early
+    | inr late ↦ none other late below
+  ]
   widen bound more (Some best) enough none found = record {
     early = omega (arith, found.early);
     legal = found.legal;
@@ -53,7 +56,8 @@ module _ (board : PlainBoard) (configuration : List ℕ) (pebble : ℕ) where
   }
 
   -- what is below the next bound is below this one, or is this one
-  below_or_last : (best : Best) (bound : ℕ) → ((other : ℕ) → other < bound → Legal board configuration pebble other → IsBehind board configuration pebble best other)
+  below_or_last : (best : Best) (bound : ℕ) → ((other : ℕ) → other < bound → Legal board configuration pebble other
+      → IsBehind board configuration pebble best other)
       → IsBehind board configuration pebble best bound → (other : ℕ) → other < bound + 1 → Legal board configuration pebble other
       → IsBehind board configuration pebble best other
   below_or_last best bound before last other below legal = elim (cases_lt other bound) [
@@ -62,7 +66,8 @@ module _ (board : PlainBoard) (configuration : List ℕ) (pebble : ℕ) where
   ]
 
   -- a legal label that all legal ones before it are behind
-  leads_all : (later : Best) → Legal board configuration pebble later.label → HasValue board (moved configuration pebble later.label) later.value
+  leads_all : (later : Best) → Legal board configuration pebble later.label
+      → HasValue board (moved configuration pebble later.label) later.value
       → ((other : ℕ) → other < later.label → Legal board configuration pebble other → IsBehind board configuration pebble later other)
       → IsBestBelow board configuration pebble (later.label + 1) later
   leads_all later legal has before = record {
@@ -89,7 +94,8 @@ module _ (board : PlainBoard) (configuration : List ℕ) (pebble : ℕ) where
             | inr equal ↦ subst (λ (value : Value). IsLess value later.value) (sym equal.0) less
           ]),
         )))
-    | inr not_less ↦ subst (IsBestBelow board configuration pebble (later.label + 1)) (sym (kept (not_above first.value later.value not_less))) (record {
+    | inr not_less ↦ subst (IsBestBelow board configuration pebble (later.label + 1))
+        (sym (kept (not_above first.value later.value not_less))) (record {
       early = omega (arith, found.early);
       legal = found.legal;
       has = found.has;
@@ -118,7 +124,8 @@ module _ (board : PlainBoard) (configuration : List ℕ) (pebble : ℕ) where
         )
         | inl dominates ↦
             let legal : Legal board configuration pebble bound = record { is_label = omega arith; dominates = dominates } in
-            let value = some_value board (moved configuration pebble bound) (moved_is_configuration board configuration pebble bound legal.is_label is) in
+            let value = some_value board (moved configuration pebble bound)
+                (moved_is_configuration board configuration pebble bound legal.is_label is) in
             let later : Best = record { label = bound; value = value.0 } in
             let better = better_exists before.0 later in
             let one_more : bound + 1 ≡ suc bound = omega arith in (
@@ -171,10 +178,12 @@ pub best_answer : (board : PlainBoard) (configuration : List ℕ) (pebble : ℕ)
 best_answer board configuration pebble is some legal =
     let found = best_below board configuration pebble is board.labels (omega arith) in by found.0 found.1
   where
-    by : (best : Option Best) → IsFoundBelow board configuration pebble board.labels best → (label : ℕ) × IsBestAnswer board configuration pebble label
+    by : (best : Option Best) → IsFoundBelow board configuration pebble board.labels best
+        → (label : ℕ) × IsBestAnswer board configuration pebble label
     by None none = absurd (none some legal.is_label legal)
     by (Some best) found =
-        (best.label, (best_of_all board configuration pebble board.labels best found (λ other late legal. absurd (omega (arith, legal.is_label)))).0)
+        (best.label, (best_of_all board configuration pebble board.labels best found
+            (λ other late legal. absurd (omega (arith, legal.is_label)))).0)
 
 pub same_answer : (board : PlainBoard) (configuration : List ℕ) (pebble first second : ℕ)
     → IsBestAnswer board configuration pebble first → IsBestAnswer board configuration pebble second → first ≡ second

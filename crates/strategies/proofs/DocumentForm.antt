@@ -78,7 +78,8 @@ start_answerable board from (move ∷ moves) to leads some = leads.0.answerable
 pub not_answerable : (board : PlainBoard) (configuration : List ℕ) → IsAnswerable board configuration → HasValue board configuration (Finite 0) → ⊥
 not_answerable board configuration is has = worthless board configuration (Finite 0) has (λ less. omega (arith, less)) is
 
-module _ (board : PlainBoard) (proof : PlainProof) (is_start : IsConfiguration board board.start) (few : configurations board ≤ MAX_CONFIGURATIONS)
+module _ (board : PlainBoard) (proof : PlainProof) (is_start : IsConfiguration board board.start)
+    (few : configurations board ≤ MAX_CONFIGURATIONS)
     (is : IsDocumentOf board proof) where
   claim_formed : (start : Value) → HasValue board board.start start → IsClaim (claim_of start)
   claim_formed (Finite number) has = let low = value_below board board.start number is_start has in omega (arith, low)
@@ -93,7 +94,8 @@ module _ (board : PlainBoard) (proof : PlainProof) (is_start : IsConfiguration b
   answers_formed row is_row =
       let some : IsAnswerable board board.start = start_answerable board board.start is_row.moves row.at is_row.reached
       (record { value = is_row.value; has_value = is_row.has_value; some = is_row.some }) in
-      let not_zero : is.value ≡ Finite 0 → ⊥ = λ same. not_answerable board board.start some (subst (HasValue board board.start) same is.has_value) in
+      let not_zero : is.value ≡ Finite 0 → ⊥ = λ same. not_answerable board board.start some
+          (subst (HasValue board board.start) same is.has_value) in
       record {
         at = answers_configuration row is_row;
         turns = subst (AreTurns (claim_of is.value)) (sym is_row.turns)
@@ -134,7 +136,8 @@ module _ (board : PlainBoard) (proof : PlainProof) (is_start : IsConfiguration b
   is_formed = record {
     claim = subst IsClaim (sym is.claim) (claim_formed is.value is.has_value);
     labeller = subst (λ (claim : Claim). AreAnswerRows board claim proof.labeller) (sym is.claim)
-        (section board (IsLabellerRow board is.value) (IsAnswerRow board (claim_of is.value)) (λ (row : AnswerRow). row.at) proof.labeller few
+        (section board (IsLabellerRow board is.value) (IsAnswerRow board (claim_of is.value))
+            (λ (row : AnswerRow). row.at) proof.labeller few
         answers_configuration answers_formed is.labeller);
     adversary = section board _ (IsRequestRow board) (λ (row : RequestRow). row.at) proof.adversary few
         requests_configuration requests_formed is.adversary;

@@ -71,7 +71,8 @@ module _ (board : PlainBoard) (configuration : List ℕ) (pebble gap : ℕ) (is 
   pub found_forever : (from : ℕ) (best : Best) → IsBestBelow board configuration pebble from best → best.value ≡ Forever
       → IsBestFor board configuration pebble (Some best)
   found_forever from best found forever = best_of_all board configuration pebble from best found (λ other late legal.
-      let value = some_value board (moved configuration pebble other) (moved_is_configuration board configuration pebble other legal.is_label is.is_configuration) in (
+      let value = some_value board (moved configuration pebble other)
+          (moved_is_configuration board configuration pebble other legal.is_label is.is_configuration) in (
         value.0,
         value.1,
         subst (λ (v : Value). IsLess value.0 v ⊎ ((value.0 ≡ v) × (best.label ≤ other))) (sym forever)
@@ -113,7 +114,8 @@ module _ (board : PlainBoard) (gap : ℕ) (few : board.labels ≤ MAX_LABELS) wh
         found_next board configuration pebble gap is walk.from rank best (record { label = label; value = value }) result
         (found configuration pebble is) next_answer rank_is has better
 
-  pub no_answer_left : (walk : Walk) → AreFrom (IsAnswer board gap) walk → ((label : ℕ) → label < MAX_LABELS → has_bit walk.left label ≡ true → ⊥)
+  pub no_answer_left : (walk : Walk) → AreFrom (IsAnswer board gap) walk
+      → ((label : ℕ) → label < MAX_LABELS → has_bit walk.left label ≡ true → ⊥)
       → IsSmallest (λ l. (walk.from ≤ l) × IsAnswer board gap l) None
   no_answer_left walk left none = none_left (IsAnswer board gap) answer_few walk left none
 
@@ -133,5 +135,6 @@ listed_more board answers best are is gap below = elim (cases_lt gap (length ans
   | inl early ↦ subst (IsGapBest board gap) (sym (get_or_append_left answers (best ∷ []) None gap early)) (are gap early)
   | inr late ↦
       let last : length answers ≡ gap = omega (arith, late, below, length-append answers (best ∷ [])) in
-      subst (λ (o : Option Best). IsGapBest board gap o) (sym (get_or_at answers best [] None gap last)) (subst (λ (g : ℕ). IsGapBest board g best) last is)
+      subst (λ (o : Option Best). IsGapBest board gap o) (sym (get_or_at answers best [] None gap last))
+          (subst (λ (g : ℕ). IsGapBest board g best) last is)
 ]

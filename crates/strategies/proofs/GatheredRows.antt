@@ -56,12 +56,14 @@ pub record AreSectionBelow {R : Type 0} (board : PlainBoard) (side : Side R) (bo
 
 module _ {R : Type 0} (board : PlainBoard) (side : Side R) (of_reached : AreOfReached board side) where
   -- a row whose configuration has a rank stands there
-  pub at_rank : (row : side.Row) (rank : ℕ) → side.IsRow row → rank_of board (side.at row) ≡ rank → side.at row ≡ configuration_at board rank
+  pub at_rank : (row : side.Row) (rank : ℕ) → side.IsRow row → rank_of board (side.at row) ≡ rank
+      → side.at row ≡ configuration_at board rank
   at_rank row rank is_row same =
       sym (configuration_at-rank_of board (side.at row) (of_reached.is_configuration row is_row)) ∙ ap (configuration_at board) same
 
   -- a rank at which a row stands
-  pub row_there : (rank : ℕ) (rows : List side.Row) (row : side.Row) → rank < configurations board → AreExactlyBelow board side.IsRow side.at rank rows
+  pub row_there : (rank : ℕ) (rows : List side.Row) (row : side.Row) → rank < configurations board
+      → AreExactlyBelow board side.IsRow side.at rank rows
       → side.IsRow row → side.at row ≡ configuration_at board rank → AreExactlyBelow board side.IsRow side.at (rank + 1) (rows ++ row ∷ [])
   row_there rank rows row below before is_row here =
       push_row board side.IsRow side.at rank rows row before is_row (ap (rank_of board) here ∙ rank_of-configuration_at board rank below)
@@ -69,7 +71,8 @@ module _ {R : Type 0} (board : PlainBoard) (side : Side R) (of_reached : AreOfRe
 
   -- a rank at which none stands
   pub no_row_there : (rank : ℕ) (rows : List side.Row) → AreExactlyBelow board side.IsRow side.at rank rows
-      → ((row : side.Row) → side.IsRow row → side.at row ≡ configuration_at board rank → ⊥) → AreExactlyBelow board side.IsRow side.at (rank + 1) rows
+      → ((row : side.Row) → side.IsRow row → side.at row ≡ configuration_at board rank → ⊥)
+          → AreExactlyBelow board side.IsRow side.at (rank + 1) rows
   no_row_there rank rows before none = pass_ranks board side.IsRow side.at rank (rank + 1) rows (omega arith) before
       (λ row is_row above below. none row is_row (at_rank row rank is_row (omega arith)))
 
@@ -91,7 +94,8 @@ module _ {R : Type 0} (board : PlainBoard) (side : Side R) (ranks : List ℕ) (a
   pub one_more : (rank : ℕ) (row : R) → IsNext (Some rank) → IsRowAt board side rank (Some row) → AreSectionBelow board side (rank + 1) (rows ++ row ∷ [])
   one_more rank row next (is_row, here, filled) = record {
     exactly = subst (AreExactlyBelow board side.IsRow side.at (rank + 1)) (sym (map-append side.shown rows (row ∷ [])))
-        (row_there board side are.rows rank (map side.shown rows) (side.shown row) ((are.each rank).0 next.0.1).0 (up_to rank next) is_row here);
+        (row_there board side are.rows rank (map side.shown rows) (side.shown row) ((are.each rank).0 next.0.1).0
+            (up_to rank next) is_row here);
     filled = All-push side.IsFilled rows row section.filled filled;
   }
 

@@ -44,7 +44,8 @@ module _ (board : PlainBoard) (proof : PlainProof) (is_start : IsConfiguration b
   -- ---- the labeller's rows
 
   -- a configuration that best answers lead to is listed, for the turns of its value
-  listed : (moves : List (ℕ × ℕ)) (to : List ℕ) → LeadsBy (IsAnswerMove board) board.start moves to → (value : Value) → HasValue board to value
+  listed : (moves : List (ℕ × ℕ)) (to : List ℕ) → LeadsBy (IsAnswerMove board) board.start moves to → (value : Value)
+      → HasValue board to value
       → (wanted : Turns) → IsLess (Finite 0) value × IsEnough wanted (turns_of is.value value) → IsListedFor proof.labeller to wanted
   listed moves to leads value has wanted (some, enough) =
       let found = answer_row_for board is.value value moves to is_start leads has some in
@@ -72,7 +73,8 @@ module _ (board : PlainBoard) (proof : PlainProof) (is_start : IsConfiguration b
       let still : Keeps is_row.value after.0 = keeps board row.at to
       (λ number. lasts_after board number row.at pebble label below best) is_row.value after.0 is_row.has_value after.1 in
       let stays : is.value ≡ Forever → after.0 ≡ Forever = λ same.
-      same_value board to after.0 Forever after.1 (stays_forever board board.start _ to (subst (HasValue board board.start) same is.has_value) leads) in
+      same_value board to after.0 Forever after.1 (stays_forever board board.start _ to
+          (subst (HasValue board board.start) same is.has_value) leads) in
       let turns = one_less (turns_of is.value is_row.value) in
       let serves : Serves proof.labeller to turns = λ wanted.
       listed _ to leads after.0 after.1 turns (enough_left is.value is_row.value after.0 stays still wanted) in
@@ -86,7 +88,8 @@ module _ (board : PlainBoard) (proof : PlainProof) (is_start : IsConfiguration b
   -- ---- the adversary's rows
 
   -- a configuration that best requests lead to is listed, with its value
-  listed_below : AsksAdversary is.value → (moves : List (ℕ × ℕ)) (to : List ℕ) → LeadsBy (IsRequestMove board) board.start moves to → (number bound : ℕ)
+  listed_below : AsksAdversary is.value → (moves : List (ℕ × ℕ)) (to : List ℕ) → LeadsBy (IsRequestMove board) board.start moves to
+      → (number bound : ℕ)
       → HasValue board to (Finite number) → number < bound → IsListedBelow proof.adversary to bound
   listed_below asks moves to leads number bound has below =
       let found = request_row_for board number moves to leads has in
@@ -102,7 +105,8 @@ module _ (board : PlainBoard) (proof : PlainProof) (is_start : IsConfiguration b
       let to = moved row.at row.request label in
       let less = less_than_finite board row.left to row.at is_row.has_value (is_row.best.0.lowers label legal) in
       listed_below asks _ to
-      (one_more (IsRequestMove board) board.start is_row.moves row.at row.request label is_row.reached (record { best = is_row.best; legal = legal }))
+      (one_more (IsRequestMove board) board.start is_row.moves row.at row.request label is_row.reached
+          (record { best = is_row.best; legal = legal }))
       less.0 row.left less.2 less.1
 
   -- ---- the document
@@ -118,7 +122,8 @@ module _ (board : PlainBoard) (proof : PlainProof) (is_start : IsConfiguration b
         (λ wanted. listed [] board.start refl is.value is.has_value (wanted_of (claim_of is.value)) (enough_at_start is.value wanted));
     start_below = subst (λ (claim : Claim). StartIsBelow proof.adversary board.start claim) (sym is.claim)
         (start_below is.value is.has_value (λ asks. asks));
-    labeller = λ k d inside. meets (get_or proof.labeller k d) ((is.labeller.each (get_or proof.labeller k d)).0 (Contains-get_or proof.labeller k d inside));
+    labeller = λ k d inside. meets (get_or proof.labeller k d)
+        ((is.labeller.each (get_or proof.labeller k d)).0 (Contains-get_or proof.labeller k d inside));
     adversary = λ k d inside.
         let is_row = (is.adversary.each (get_or proof.adversary k d)).0 (Contains-get_or proof.adversary k d inside) in
         meets_answers (get_or proof.adversary k d) is_row.0 is_row.1;

@@ -79,7 +79,8 @@ none_lowers board configuration pebble value best has none is not other before l
 
 pub request_none : (board : PlainBoard) (configuration : List ℕ) (pebble : ℕ) → IsConfiguration board configuration
     → IsSmallest (LowersValue board configuration) (Some pebble) → (Some pebble ≡ None) ↔ HasValue board configuration Forever
-request_none board configuration pebble is best = (λ same. absurd cc, λ forever. absurd (not_lowered board configuration pebble is forever best.0))
+request_none board configuration pebble is best =
+    (λ same. absurd cc, λ forever. absurd (not_lowered board configuration pebble is forever best.0))
 
 pub no_request : (board : PlainBoard) (configuration : List ℕ) (bound : ℕ) → IsConfiguration board configuration → board.pebbles ≤ bound
     → NoneLowersBelow board configuration bound → (◌≡◌ {A = Option ℕ} None None) ↔ HasValue board configuration Forever

@@ -28,7 +28,8 @@ module _ {X : Type 0} (board : PlainBoard) (at : X → List ℕ) where
     ascending = λ i j d less inside. absurd (omega arith);
   }
 
-  pub one_row : (IsRow : X → Type 0) (row : X) → IsRow row → ((other : X) → IsRow other → row ≡ other) → AreExactly board IsRow at (row ∷ [])
+  pub one_row : (IsRow : X → Type 0) (row : X) → IsRow row → ((other : X) → IsRow other → row ≡ other)
+      → AreExactly board IsRow at (row ∷ [])
   one_row IsRow row is only = record {
     each = λ other. (
       λ among. elim (Contains-push_cases [] row other among) [
@@ -67,7 +68,8 @@ module _ {X : Type 0} (board : PlainBoard) (IsRow : X → Type 0) (at : X → Li
       ],
     );
     ascending = all_pairs_push (λ first second. IsBefore board (at first) (at second)) rows row exactly.ascending (λ k d inside.
-        let below : rank_of board (at (get_or rows k d)) < bound = ((exactly.each (get_or rows k d)).0 (Contains-get_or rows k d inside)).1 in
+        let below : rank_of board (at (get_or rows k d)) < bound = ((exactly.each (get_or rows k d)).0
+            (Contains-get_or rows k d inside)).1 in
         omega arith);
   }
 

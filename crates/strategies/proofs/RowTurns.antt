@@ -24,6 +24,7 @@ enough_left (Finite number) Forever (Finite after) stays keeps wanted = absurd k
 enough_left (Finite number) Forever Forever stays keeps wanted = (tt, omega arith)
 
 -- where the start is to be listed, its value is 1 or more, and its turns are enough
-pub enough_at_start : (start : Value) → IsWanted (wanted_of (claim_of start)) → IsLess (Finite 0) start × IsEnough (wanted_of (claim_of start)) (turns_of start start)
+pub enough_at_start : (start : Value) → IsWanted (wanted_of (claim_of start))
+    → IsLess (Finite 0) start × IsEnough (wanted_of (claim_of start)) (turns_of start start)
 enough_at_start Forever wanted = (tt, tt)
 enough_at_start (Finite number) wanted = (omega (arith, wanted), omega arith)

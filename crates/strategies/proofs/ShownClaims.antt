@@ -64,7 +64,8 @@ module _ (board : PlainBoard) (proof : PlainProof) (is_start : IsConfiguration b
       let is_row = row_is configuration found in
       one_more (IsAnswerMove board) board.start moves configuration pebble (slice_index found.row.answers pebble) leads (record {
         is_pebble = below;
-        answerable = subst (IsAnswerable board) found.at_it (record { value = is_row.value; has_value = is_row.has_value; some = is_row.some });
+        answerable = subst (IsAnswerable board) found.at_it
+            (record { value = is_row.value; has_value = is_row.has_value; some = is_row.some });
         best = best_there configuration found pebble below;
       })
 
@@ -99,7 +100,8 @@ module _ (board : PlainBoard) (proof : PlainProof) (is_start : IsConfiguration b
       let next = leads_on configuration found is_row.moves leads pebble below in
       let lasts = stays_forever board board.start (is_row.moves ++ (pebble, label) ∷ []) (moved configuration pebble label) forever next in
       let after = finds (is_row.moves ++ (pebble, label) ∷ []) (moved configuration pebble label) next (lasts 1) in
-      (label, answers_there configuration found pebble below, is_listed (λ (row : AnswerRow). row.at) (moved configuration pebble label) proof.labeller after)
+      (label, answers_there configuration found pebble below, is_listed (λ (row : AnswerRow). row.at)
+          (moved configuration pebble label) proof.labeller after)
 
   -- ---- the adversary
 
@@ -107,18 +109,22 @@ module _ (board : PlainBoard) (proof : PlainProof) (is_start : IsConfiguration b
     abbrev AskedAt : List ℕ → Type 0
     AskedAt configuration = IsFound (λ (row : RequestRow). row.at) proof.adversary configuration
 
-    asked : (moves : List (ℕ × ℕ)) (to : List ℕ) (number : ℕ) → LeadsBy (IsRequestMove board) board.start moves to → HasValue board to (Finite number) → AskedAt to
+    asked : (moves : List (ℕ × ℕ)) (to : List ℕ) (number : ℕ) → LeadsBy (IsRequestMove board) board.start moves to
+        → HasValue board to (Finite number) → AskedAt to
     asked moves to number leads has =
         let found = request_row_for board number moves to leads has in
         find_row (λ (row : RequestRow). row.at) to proof.adversary found.0 ((is.adversary.each found.0).1 (asks, found.1)) found.2
 
-    request_there : (configuration : List ℕ) → (found : AskedAt configuration) → request_at proof.adversary configuration ≡ Some found.row.request
+    request_there : (configuration : List ℕ) → (found : AskedAt configuration)
+        → request_at proof.adversary configuration ≡ Some found.row.request
     request_there configuration found = ap (λ o. option_map (λ (row : RequestRow). row.request) o) found.found
 
     best_asked : (configuration : List ℕ) → (found : AskedAt configuration) → IsBestRequest board configuration found.row.request
-    best_asked configuration found = subst (λ (c : List ℕ). IsBestRequest board c found.row.request) found.at_it ((is.adversary.each found.row).0 found.among).1.best
+    best_asked configuration found = subst (λ (c : List ℕ). IsBestRequest board c found.row.request) found.at_it
+        ((is.adversary.each found.row).0 found.among).1.best
 
-    stops_each : (answers : List ℕ) (number : ℕ) (moves : List (ℕ × ℕ)) (from to : List ℕ) → LeadsBy (IsRequestMove board) board.start moves from → HasValue board from (Finite number)
+    stops_each : (answers : List ℕ) (number : ℕ) (moves : List (ℕ × ℕ)) (from to : List ℕ)
+        → LeadsBy (IsRequestMove board) board.start moves from → HasValue board from (Finite number)
         → Leads board proof.adversary from answers to
         → ((pebble : ℕ) × Requests board proof.adversary to pebble) × (length answers ≤ number)
     stops_each [] number moves from to reached has leads =
@@ -132,7 +138,8 @@ module _ (board : PlainBoard) (proof : PlainProof) (is_start : IsConfiguration b
         let best : IsBestRequest board from leads.0 = subst (IsBestRequest board from) same (best_asked from found) in
         let less = less_than_finite board number (moved from leads.0 label) from has (best.0.lowers label leads.2) in
         let ends = stops_each answers less.0 (moves ++ (leads.0, label) ∷ []) (moved from leads.0 label) to
-        (one_more (IsRequestMove board) board.start moves from leads.0 label reached (record { best = best; legal = leads.2 })) less.2 leads.3 in
+        (one_more (IsRequestMove board) board.start moves from leads.0 label reached
+            (record { best = best; legal = leads.2 })) less.2 leads.3 in
         let fewer : length answers ≤ less.0 = ends.1 in
         let below : less.0 < number = less.1 in
         (ends.0, omega arith)

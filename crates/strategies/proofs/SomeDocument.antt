@@ -44,7 +44,8 @@ module _ {R : Type 0} (board : PlainBoard) (side : Side R) (of_reached : AreOfRe
         )
         | inr none ↦ (
           before.0,
-          subst (λ (n : ℕ). AreExactlyBelow board side.IsRow side.at n before.0) next (no_row_there board side of_reached bound before.0 before.1 none),
+          subst (λ (n : ℕ). AreExactlyBelow board side.IsRow side.at n before.0) next
+              (no_row_there board side of_reached bound before.0 before.1 none),
         )
       ]
 

@@ -36,7 +36,8 @@ less_than_finite board number first second has less =
     let same = same_value board second less.greater (Finite number) less.of_second has in
     by less.smaller less.of_first (subst (IsLess less.smaller) same less.less)
   where
-    by : (low : Value) → HasValue board first low → IsLess low (Finite number) → (depth : ℕ) × (depth < number) × HasValue board first (Finite depth)
+    by : (low : Value) → HasValue board first low → IsLess low (Finite number)
+        → (depth : ℕ) × (depth < number) × HasValue board first (Finite depth)
     by (Finite low) one below = (low, below, one)
     by Forever one below = absurd below
 
@@ -92,7 +93,8 @@ pub one_smallest : (P : ℕ → Type 0) (first second : ℕ) → IsSmallest P (S
 one_smallest P first second one other = omega (arith, one.1 second other.0, other.1 first one.0)
 
 -- a configuration with a value that isn't 1 or more has none that is
-pub worthless : (board : PlainBoard) (configuration : List ℕ) (value : Value) → HasValue board configuration value → ¬ IsLess (Finite 0) value
+pub worthless : (board : PlainBoard) (configuration : List ℕ) (value : Value) → HasValue board configuration value
+    → ¬ IsLess (Finite 0) value
     → ¬ IsAnswerable board configuration
 worthless board configuration value has not some =
     not (subst (IsLess (Finite 0)) (same_value board configuration some.value value some.has_value has) some.some)

@@ -51,4 +51,5 @@ returns c = λ configuration pebble is is_pebble its_gap.
     let here : IsMemberOf b configuration pebble c.args.gap = record { is_configuration = is; is_pebble = is_pebble; its_gap = its_gap } in
     found_all b configuration pebble c.args.gap here c.loop-label.labels.from c.loop-label.best
     (c.loop-label.invariant.found configuration pebble here)
-    (no_answer_left b c.args.gap c.space-space.ensures.is_board.labels.1 c.loop-label.labels c.loop-label.invariant.left c.in_default.ensures)
+    (no_answer_left b c.args.gap c.space-space.ensures.is_board.labels.1 c.loop-label.labels
+    c.loop-label.invariant.left c.in_default.ensures)

@@ -8,8 +8,8 @@ returns-in_default-clause-added c = no_request_added c.args.self.now c.args.rank
 pub returns-then-get-clause-added : goal.returns-then-get-clause-added
 returns-then-get-clause-added c =
     let gap = rw c.space.ensures.value at c.gap-gap.ensures in
-    results_known c.args.self.now c.args.rank c.requires.rank c.in-Some.pebble c.gap-gap.result c.in-Some.ensures.best gap.gap _ c.args.expanded.now
-    gap.below c.requires.expanded (sym c.get.ensures ∙ c.if-get.true)
+    results_known c.args.self.now c.args.rank c.requires.rank c.in-Some.pebble c.gap-gap.result c.in-Some.ensures.best gap.gap _
+    c.args.expanded.now gap.below c.requires.expanded (sym c.get.ensures ∙ c.if-get.true)
 
 pub returns-clause-expanded : goal.returns-clause-expanded
 returns-clause-expanded c =

@@ -14,7 +14,8 @@ loop-rank-init c =
       size = c.in_ok-add.ensures.size ∙ c.in_ok-reached.ensures.size ∙ (rw c.space-space.ensures.value at c.configurations.ensures.value);
       expanded = rw c.in_ok-expanded.ensures (none_expanded b c.gaps.result _ (rw c.space-space.ensures.value at c.gaps.ensures.value));
       spread = spread_begins b _ _ _ is.start _
-          (added_one _ _ _ _ (rw (c.start.ensures.rank, c.in_ok-reached.ensures.empty) at c.in_ok-add.ensures.added) (tt, refl) (λ rank starts. starts.1));
+          (added_one _ _ _ _ (rw (c.start.ensures.rank, c.in_ok-reached.ensures.empty) at c.in_ok-add.ensures.added) (tt, refl)
+              (λ rank starts. starts.1));
     }
 
 pub add_results-requires-clause-rank : goal.add_results-requires-clause-rank
@@ -22,11 +23,13 @@ add_results-requires-clause-rank c = spread_below _ _ _ _ _ _ _ c.loop-rank.inva
 
 pub overflow_add-place : goal.overflow_add-place
 overflow_add-place c =
-    omega (arith, slice_get_within c.loop-rank.reached.ranks c.loop-rank.place c.in-Some.rank (sym c.in-Some.ensures.rank), c.in-Some.ensures.few, c.loop-rank.invariant.size, c.start.ensures.few)
+    omega (arith, slice_get_within c.loop-rank.reached.ranks c.loop-rank.place c.in-Some.rank
+        (sym c.in-Some.ensures.rank), c.in-Some.ensures.few, c.loop-rank.invariant.size, c.start.ensures.few)
 
 pub loop-rank-smaller : goal.loop-rank-smaller
 loop-rank-smaller c =
-    omega (arith, slice_get_within c.loop-rank.reached.ranks c.loop-rank.place c.in-Some.rank (sym c.in-Some.ensures.rank), c.in-Some.ensures.few, c.loop-rank.invariant.size)
+    omega (arith, slice_get_within c.loop-rank.reached.ranks c.loop-rank.place c.in-Some.rank
+        (sym c.in-Some.ensures.rank), c.in-Some.ensures.few, c.loop-rank.invariant.size)
 
 pub loop-rank-preserved : goal.loop-rank-preserved
 loop-rank-preserved c =
@@ -42,6 +45,7 @@ pub returns-clause-reached : goal.returns-clause-reached
 returns-clause-reached c = λ start.
     let is = c.start.ensures.is_board.start in
     record {
-      each = spread_ends c.args.moves.now _ _ _ is (request_moves c.args.moves.now) c.loop-rank.place _ c.loop-rank.invariant.spread (sym c.in_default.ensures.rank);
+      each = spread_ends c.args.moves.now _ _ _ is (request_moves c.args.moves.now) c.loop-rank.place _ c.loop-rank.invariant.spread
+          (sym c.in_default.ensures.rank);
       rows = adversarys c.args.moves.now start is;
     }
