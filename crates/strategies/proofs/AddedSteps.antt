@@ -34,7 +34,7 @@ module _ (board : PlainBoard) (rank pebble : ℕ) (ranks : List ℕ) where
       let c : List ℕ = configuration_at board rank in
       let same : step.label ≡ best.label = same_answer board c pebble step.label best.label step.best is.0 in
       absurd (worthless board (moved c pebble best.label) best.value is.1 not
-          (subst (λ (l : ℕ). IsAnswerable board (moved c pebble l)) same step.some)))
+      (subst (λ (l : ℕ). IsAnswerable board (moved c pebble l)) same step.some)))
 
   pub answer_added : (best : Best) (to : ℕ) (more : List ℕ) → IsBestFor board (configuration_at board rank) pebble (Some best) → IsLess (Finite 0) best.value
       → pebble < board.pebbles → to ≡ rank_of board (moved (configuration_at board rank) pebble best.label) → IsWith ranks to more
@@ -80,7 +80,7 @@ no_request_added board rank ranks none = added_known ranks (RequestLeads board r
 
 module _ (board : PlainBoard) (rank : ℕ) (is_rank : rank < configurations board) (pebble gap : ℕ)
     (best : IsBestRequest board (configuration_at board rank) pebble)
-        (gap_is : gap ≡ gap_of board (configuration_at board rank) pebble) where
+    (gap_is : gap ≡ gap_of board (configuration_at board rank) pebble) where
   -- what it leads to is what the answers of its gap lead to
   leads_is : (to : ℕ) → IsAnswerOf board gap to ↔ RequestLeads board rank to
   leads_is to = (there, back)
@@ -106,9 +106,14 @@ module _ (board : PlainBoard) (rank : ℕ) (is_rank : rank < configurations boar
       back (label, step) =
           let same : step.pebble ≡ pebble = same_request board c step.pebble pebble step.best best in
           let legal = subst (λ (p : ℕ). Legal board c p label) same step.legal in
-          let to_is = step.to_is ∙ ap (λ (p : ℕ). rank_of board (moved c p label)) same in
-          (label, ((legal_there board c pebble gap is label).0 legal, to_is
-              ∙ sym (ap (rank_of board) (member_there board c pebble gap is label))))
+          let to_is = step.to_is ∙ ap (λ (p : ℕ). rank_of board (moved c p label)) same in (
+            label,
+            (
+              (legal_there board c pebble gap is label).0 legal,
+              to_is
+                  ∙ sym (ap (rank_of board) (member_there board c pebble gap is label)),
+            ),
+          )
 
   pub results_known : (ranks : List ℕ) (expanded : List Bool) → gap < gaps board → AreExpanded board expanded ranks
       → slice_index_or expanded gap false ≡ true → IsWithAll ranks (RequestLeads board rank) ranks

@@ -96,18 +96,18 @@ module _ (board : PlainBoard) (configuration : List ℕ) (pebble : ℕ) where
         )))
     | inr not_less ↦ subst (IsBestBelow board configuration pebble (later.label + 1))
         (sym (kept (not_above first.value later.value not_less))) (record {
-      early = omega (arith, found.early);
-      legal = found.legal;
-      has = found.has;
-      behind = below_or_last first later.label found.behind (
-        later.value,
-        has,
-        elim not_less [
-          | inl same ↦ inr (sym same, omega (arith, found.early))
-          | inr less ↦ inl less
-        ],
-      );
-    })
+          early = omega (arith, found.early);
+          legal = found.legal;
+          has = found.has;
+          behind = below_or_last first later.label found.behind (
+            later.value,
+            has,
+            elim not_less [
+              | inl same ↦ inr (sym same, omega (arith, found.early))
+              | inr less ↦ inl less
+            ],
+          );
+        })
   ]
 
   -- below each bound no label is legal, or there is a best one
@@ -125,7 +125,7 @@ module _ (board : PlainBoard) (configuration : List ℕ) (pebble : ℕ) where
         | inl dominates ↦
             let legal : Legal board configuration pebble bound = record { is_label = omega arith; dominates = dominates } in
             let value = some_value board (moved configuration pebble bound)
-                (moved_is_configuration board configuration pebble bound legal.is_label is) in
+            (moved_is_configuration board configuration pebble bound legal.is_label is) in
             let later : Best = record { label = bound; value = value.0 } in
             let better = better_exists before.0 later in
             let one_more : bound + 1 ≡ suc bound = omega arith in (
@@ -181,9 +181,11 @@ best_answer board configuration pebble is some legal =
     by : (best : Option Best) → IsFoundBelow board configuration pebble board.labels best
         → (label : ℕ) × IsBestAnswer board configuration pebble label
     by None none = absurd (none some legal.is_label legal)
-    by (Some best) found =
-        (best.label, (best_of_all board configuration pebble board.labels best found
-            (λ other late legal. absurd (omega (arith, legal.is_label)))).0)
+    by (Some best) found = (
+      best.label,
+      (best_of_all board configuration pebble board.labels best found
+          (λ other late legal. absurd (omega (arith, legal.is_label)))).0,
+    )
 
 pub same_answer : (board : PlainBoard) (configuration : List ℕ) (pebble first second : ℕ)
     → IsBestAnswer board configuration pebble first → IsBestAnswer board configuration pebble second → first ≡ second

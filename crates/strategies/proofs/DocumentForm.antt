@@ -95,7 +95,7 @@ module _ (board : PlainBoard) (proof : PlainProof) (is_start : IsConfiguration b
       let some : IsAnswerable board board.start = start_answerable board board.start is_row.moves row.at is_row.reached
       (record { value = is_row.value; has_value = is_row.has_value; some = is_row.some }) in
       let not_zero : is.value ≡ Finite 0 → ⊥ = λ same. not_answerable board board.start some
-          (subst (HasValue board board.start) same is.has_value) in
+      (subst (HasValue board board.start) same is.has_value) in
       record {
         at = answers_configuration row is_row;
         turns = subst (AreTurns (claim_of is.value)) (sym is_row.turns)
@@ -137,7 +137,7 @@ module _ (board : PlainBoard) (proof : PlainProof) (is_start : IsConfiguration b
     claim = subst IsClaim (sym is.claim) (claim_formed is.value is.has_value);
     labeller = subst (λ (claim : Claim). AreAnswerRows board claim proof.labeller) (sym is.claim)
         (section board (IsLabellerRow board is.value) (IsAnswerRow board (claim_of is.value))
-            (λ (row : AnswerRow). row.at) proof.labeller few
+        (λ (row : AnswerRow). row.at) proof.labeller few
         answers_configuration answers_formed is.labeller);
     adversary = section board _ (IsRequestRow board) (λ (row : RequestRow). row.at) proof.adversary few
         requests_configuration requests_formed is.adversary;

@@ -37,7 +37,7 @@ module _ {X : Type 0} (at : X → List ℕ) (configuration : List ℕ) where
       by true passes rest = found_here first rows passes
       by false fails rest = found_behind first rows fails (rest (Contains-tail first rows row (λ equal.
           let passes : pointwise nat_eq (at first) configuration ≡ true = (bytes_decides (at first) configuration).1
-              (ap at equal ∙ is) in absurd cc) among))
+          (ap at equal ∙ is) in absurd cc) among))
 
   -- what the table lists, it finds
   pub find_listed : (rows : List X) → IsSome (find (λ r. pointwise nat_eq (at r) configuration) rows) → IsFound at rows configuration

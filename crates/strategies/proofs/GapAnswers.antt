@@ -72,7 +72,7 @@ module _ (board : PlainBoard) (configuration : List ℕ) (pebble gap : ℕ) (is 
       → IsBestFor board configuration pebble (Some best)
   found_forever from best found forever = best_of_all board configuration pebble from best found (λ other late legal.
       let value = some_value board (moved configuration pebble other)
-          (moved_is_configuration board configuration pebble other legal.is_label is.is_configuration) in (
+      (moved_is_configuration board configuration pebble other legal.is_label is.is_configuration) in (
         value.0,
         value.1,
         subst (λ (v : Value). IsLess value.0 v ⊎ ((value.0 ≡ v) × (best.label ≤ other))) (sym forever)
@@ -136,5 +136,5 @@ listed_more board answers best are is gap below = elim (cases_lt gap (length ans
   | inr late ↦
       let last : length answers ≡ gap = omega (arith, late, below, length-append answers (best ∷ [])) in
       subst (λ (o : Option Best). IsGapBest board gap o) (sym (get_or_at answers best [] None gap last))
-          (subst (λ (g : ℕ). IsGapBest board g best) last is)
+      (subst (λ (g : ℕ). IsGapBest board g best) last is)
 ]

@@ -72,7 +72,7 @@ module _ {R : Type 0} (board : PlainBoard) (side : Side R) (of_reached : AreOfRe
   -- a rank at which none stands
   pub no_row_there : (rank : ℕ) (rows : List side.Row) → AreExactlyBelow board side.IsRow side.at rank rows
       → ((row : side.Row) → side.IsRow row → side.at row ≡ configuration_at board rank → ⊥)
-          → AreExactlyBelow board side.IsRow side.at (rank + 1) rows
+      → AreExactlyBelow board side.IsRow side.at (rank + 1) rows
   no_row_there rank rows before none = pass_ranks board side.IsRow side.at rank (rank + 1) rows (omega arith) before
       (λ row is_row above below. none row is_row (at_rank row rank is_row (omega arith)))
 
@@ -95,7 +95,7 @@ module _ {R : Type 0} (board : PlainBoard) (side : Side R) (ranks : List ℕ) (a
   one_more rank row next (is_row, here, filled) = record {
     exactly = subst (AreExactlyBelow board side.IsRow side.at (rank + 1)) (sym (map-append side.shown rows (row ∷ [])))
         (row_there board side are.rows rank (map side.shown rows) (side.shown row) ((are.each rank).0 next.0.1).0
-            (up_to rank next) is_row here);
+        (up_to rank next) is_row here);
     filled = All-push side.IsFilled rows row section.filled filled;
   }
 

@@ -74,7 +74,7 @@ module _ (board : PlainBoard) (proof : PlainProof) (is_start : IsConfiguration b
       (λ number. lasts_after board number row.at pebble label below best) is_row.value after.0 is_row.has_value after.1 in
       let stays : is.value ≡ Forever → after.0 ≡ Forever = λ same.
       same_value board to after.0 Forever after.1 (stays_forever board board.start _ to
-          (subst (HasValue board board.start) same is.has_value) leads) in
+      (subst (HasValue board board.start) same is.has_value) leads) in
       let turns = one_less (turns_of is.value is_row.value) in
       let serves : Serves proof.labeller to turns = λ wanted.
       listed _ to leads after.0 after.1 turns (enough_left is.value is_row.value after.0 stays still wanted) in
@@ -106,7 +106,7 @@ module _ (board : PlainBoard) (proof : PlainProof) (is_start : IsConfiguration b
       let less = less_than_finite board row.left to row.at is_row.has_value (is_row.best.0.lowers label legal) in
       listed_below asks _ to
       (one_more (IsRequestMove board) board.start is_row.moves row.at row.request label is_row.reached
-          (record { best = is_row.best; legal = legal }))
+      (record { best = is_row.best; legal = legal }))
       less.0 row.left less.2 less.1
 
   -- ---- the document

@@ -54,10 +54,10 @@ module _ {X : Type 0} (rank : X → ℕ) where
       let rest : ones ≡ others = same_list ones others (tail_ascends one ones ascends) (tail_ascends other others also) (λ row. (
         λ among. let larger : rank one < rank row = behind_first one ones row ascends among in
             Contains-tail other others row (λ is. omega (arith, ap rank is))
-                ((same row).0 (Contains-append_right (one ∷ []) ones row among)),
+            ((same row).0 (Contains-append_right (one ∷ []) ones row among)),
         λ among. let larger : rank other < rank row = behind_first other others row also among in
             Contains-tail one ones row (λ is. omega (arith, ap rank is))
-                ((same row).1 (Contains-append_right (other ∷ []) others row among)),
+            ((same row).1 (Contains-append_right (other ∷ []) others row among)),
       )) in
       ap (λ (r : X). r ∷ ones) equal ∙ ap (λ (rs : List X). other ∷ rs) rest
 

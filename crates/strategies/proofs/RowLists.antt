@@ -69,7 +69,7 @@ module _ {X : Type 0} (board : PlainBoard) (IsRow : X → Type 0) (at : X → Li
     );
     ascending = all_pairs_push (λ first second. IsBefore board (at first) (at second)) rows row exactly.ascending (λ k d inside.
         let below : rank_of board (at (get_or rows k d)) < bound = ((exactly.each (get_or rows k d)).0
-            (Contains-get_or rows k d inside)).1 in
+        (Contains-get_or rows k d inside)).1 in
         omega arith);
   }
 

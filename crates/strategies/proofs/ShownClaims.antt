@@ -99,9 +99,12 @@ module _ (board : PlainBoard) (proof : PlainProof) (is_start : IsConfiguration b
       let label = slice_index found.row.answers pebble in
       let next = leads_on configuration found is_row.moves leads pebble below in
       let lasts = stays_forever board board.start (is_row.moves ++ (pebble, label) ∷ []) (moved configuration pebble label) forever next in
-      let after = finds (is_row.moves ++ (pebble, label) ∷ []) (moved configuration pebble label) next (lasts 1) in
-      (label, answers_there configuration found pebble below, is_listed (λ (row : AnswerRow). row.at)
-          (moved configuration pebble label) proof.labeller after)
+      let after = finds (is_row.moves ++ (pebble, label) ∷ []) (moved configuration pebble label) next (lasts 1) in (
+        label,
+        answers_there configuration found pebble below,
+        is_listed (λ (row : AnswerRow). row.at)
+            (moved configuration pebble label) proof.labeller after,
+      )
 
   -- ---- the adversary
 
@@ -139,7 +142,7 @@ module _ (board : PlainBoard) (proof : PlainProof) (is_start : IsConfiguration b
         let less = less_than_finite board number (moved from leads.0 label) from has (best.0.lowers label leads.2) in
         let ends = stops_each answers less.0 (moves ++ (leads.0, label) ∷ []) (moved from leads.0 label) to
         (one_more (IsRequestMove board) board.start moves from leads.0 label reached
-            (record { best = best; legal = leads.2 })) less.2 leads.3 in
+        (record { best = best; legal = leads.2 })) less.2 leads.3 in
         let fewer : length answers ≤ less.0 = ends.1 in
         let below : less.0 < number = less.1 in
         (ends.0, omega arith)

@@ -31,9 +31,11 @@ pub is_board : IsBoard small_board
 is_board = record {
   labels = (omega arith, omega arith);
   pebbles = (omega arith, omega arith);
-  start = start_from_numbers small_board
-      (refl, All-cons (λ place. place < 3) 0 (0 ∷ []) (omega arith)
-          (All-cons (λ place. place < 3) 0 [] (omega arith) (All-nil (λ place. place < 3))));
+  start = start_from_numbers small_board (
+    refl,
+    All-cons (λ place. place < 3) 0 (0 ∷ []) (omega arith)
+        (All-cons (λ place. place < 3) 0 [] (omega arith) (All-nil (λ place. place < 3))),
+  );
   pairs = record {
     of_labels = All-cons (AreLabels 2) (1, 0) [] (omega arith, omega arith) (All-nil (AreLabels 2));
     ascending = λ i j d less inside. absurd (omega arith);
@@ -49,7 +51,7 @@ legal_is : (configuration : List ℕ) (pebble : ℕ) → slice_index configurati
     → (label ≡ 1) × (slice_index configuration (another pebble) ≡ 0)
 legal_is configuration pebble held label legal =
     beats_is label (slice_index configuration (another pebble))
-        (legal.dominates (another pebble) (omega arith) (λ same. omega (arith, same)) held)
+    (legal.dominates (another pebble) (omega arith) (λ same. omega (arith, same)) held)
 
 legal_from : (configuration : List ℕ) (pebble : ℕ) → pebble < 2 → slice_index configuration (another pebble) ≡ 0 → Legal small_board configuration pebble 1
 legal_from configuration pebble below free = record {

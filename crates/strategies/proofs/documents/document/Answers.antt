@@ -18,7 +18,7 @@ returns-clause-document c =
       adversary = elim c.match-value.branch [
         | in-Finite+in_ok-adversary-in-Finite w ↦ rw (w.adversary-is, w.in-Finite.is)
             (same_fact b (λ row. row.at) _ _ _ (λ row. (λ is_row. (tt, is_row), λ asked. asked.1))
-                (rw c.new-moves.ensures at w.in_ok-adversary-in-Finite.ensures.exactly))
+            (rw c.new-moves.ensures at w.in_ok-adversary-in-Finite.ensures.exactly))
         | in-Forever w ↦ rw (w.adversary-is, w.in-Forever.is, w.new-adversary.ensures.items)
             (no_rows b (λ row. row.at) _ (λ row asked. asked.0))
       ];

@@ -8,7 +8,7 @@ best_of_gap-requires-clause-answers c =
     let space = c.space-space.ensures.value in
     let below : c.loop-gap.gap < gaps c.args.values.now = omega (arith, c.loop-gap-test.true, rw space at c.gaps-gaps.ensures.value) in
     rw (c.in_ok-tuples.ensures ∙ sym c.requires.same_board) at c.answers-answers.ensures c.loop-gap.gap below
-        (sym (rw space at c.gap_tuple.ensures.tuple))
+    (sym (rw space at c.gap_tuple.ensures.tuple))
 
 pub loop-gap-preserved : goal.loop-gap-preserved
 loop-gap-preserved c = record {

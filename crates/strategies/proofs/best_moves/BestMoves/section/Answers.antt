@@ -34,4 +34,4 @@ loop-rank-preserved g c =
 pub returns : goal.returns
 returns g c =
     all_gathered c.args.self.now (g.R.SectionRow.side c.args.self.now c.args.start) _
-        (c.in_ok-reached.ensures.reached c.args.start) _ _ c.loop-rank.invariant c.in_default.ensures
+    (c.in_ok-reached.ensures.reached c.args.start) _ _ c.loop-rank.invariant c.in_default.ensures

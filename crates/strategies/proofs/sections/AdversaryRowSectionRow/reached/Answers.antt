@@ -15,7 +15,7 @@ loop-rank-init c =
       expanded = rw c.in_ok-expanded.ensures (none_expanded b c.gaps.result _ (rw c.space-space.ensures.value at c.gaps.ensures.value));
       spread = spread_begins b _ _ _ is.start _
           (added_one _ _ _ _ (rw (c.start.ensures.rank, c.in_ok-reached.ensures.empty) at c.in_ok-add.ensures.added) (tt, refl)
-              (λ rank starts. starts.1));
+          (λ rank starts. starts.1));
     }
 
 pub add_results-requires-clause-rank : goal.add_results-requires-clause-rank
@@ -23,13 +23,24 @@ add_results-requires-clause-rank c = spread_below _ _ _ _ _ _ _ c.loop-rank.inva
 
 pub overflow_add-place : goal.overflow_add-place
 overflow_add-place c =
-    omega (arith, slice_get_within c.loop-rank.reached.ranks c.loop-rank.place c.in-Some.rank
-        (sym c.in-Some.ensures.rank), c.in-Some.ensures.few, c.loop-rank.invariant.size, c.start.ensures.few)
+    omega (
+      arith,
+      slice_get_within c.loop-rank.reached.ranks c.loop-rank.place c.in-Some.rank
+          (sym c.in-Some.ensures.rank),
+      c.in-Some.ensures.few,
+      c.loop-rank.invariant.size,
+      c.start.ensures.few,
+    )
 
 pub loop-rank-smaller : goal.loop-rank-smaller
 loop-rank-smaller c =
-    omega (arith, slice_get_within c.loop-rank.reached.ranks c.loop-rank.place c.in-Some.rank
-        (sym c.in-Some.ensures.rank), c.in-Some.ensures.few, c.loop-rank.invariant.size)
+    omega (
+      arith,
+      slice_get_within c.loop-rank.reached.ranks c.loop-rank.place c.in-Some.rank
+          (sym c.in-Some.ensures.rank),
+      c.in-Some.ensures.few,
+      c.loop-rank.invariant.size,
+    )
 
 pub loop-rank-preserved : goal.loop-rank-preserved
 loop-rank-preserved c =

@@ -16,9 +16,11 @@ loop-rank-init c =
       | then-is_less+in_ok-add w ↦ rw w.reached-is (record {
         size = w.in_ok-add.ensures.size ∙ size;
         spread = spread_begins b _ _ _ is _ (added_one _ _ _ _
-            (rw (c.start-start.ensures.rank, c.in_ok-reached.ensures.empty) at w.in_ok-add.ensures.added)
-            (start_answerable b c.start-start.result c.value.result is c.start-start.ensures.rank c.value.ensures
-                (w.if-is_less.ensures.0 refl), refl)
+            (rw (c.start-start.ensures.rank, c.in_ok-reached.ensures.empty) at w.in_ok-add.ensures.added) (
+              start_answerable b c.start-start.result c.value.result is c.start-start.ensures.rank c.value.ensures
+                  (w.if-is_less.ensures.0 refl),
+              refl,
+            )
             (λ rank starts. starts.1));
       })
       | else-is_less w ↦ rw (w.reached-is, c.in_ok-reached.ensures.empty) (record {
@@ -34,13 +36,24 @@ add_answers-requires-clause-rank c = spread_below _ _ _ _ _ _ _ c.loop-rank.inva
 
 pub overflow_add-place : goal.overflow_add-place
 overflow_add-place c =
-    omega (arith, slice_get_within c.loop-rank.reached.ranks c.loop-rank.place c.in-Some.rank
-        (sym c.in-Some.ensures.rank), c.in-Some.ensures.few, c.loop-rank.invariant.size, c.start-start.ensures.few)
+    omega (
+      arith,
+      slice_get_within c.loop-rank.reached.ranks c.loop-rank.place c.in-Some.rank
+          (sym c.in-Some.ensures.rank),
+      c.in-Some.ensures.few,
+      c.loop-rank.invariant.size,
+      c.start-start.ensures.few,
+    )
 
 pub loop-rank-smaller : goal.loop-rank-smaller
 loop-rank-smaller c =
-    omega (arith, slice_get_within c.loop-rank.reached.ranks c.loop-rank.place c.in-Some.rank
-        (sym c.in-Some.ensures.rank), c.in-Some.ensures.few, c.loop-rank.invariant.size)
+    omega (
+      arith,
+      slice_get_within c.loop-rank.reached.ranks c.loop-rank.place c.in-Some.rank
+          (sym c.in-Some.ensures.rank),
+      c.in-Some.ensures.few,
+      c.loop-rank.invariant.size,
+    )
 
 pub loop-rank-preserved : goal.loop-rank-preserved
 loop-rank-preserved c = record {
