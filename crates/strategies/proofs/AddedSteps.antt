@@ -106,14 +106,9 @@ module _ (board : PlainBoard) (rank : ℕ) (is_rank : rank < configurations boar
       back (label, step) =
           let same : step.pebble ≡ pebble = same_request board c step.pebble pebble step.best best in
           let legal = subst (λ (p : ℕ). Legal board c p label) same step.legal in
-          let to_is = step.to_is ∙ ap (λ (p : ℕ). rank_of board (moved c p label)) same in (
-            label,
-            (
-              (legal_there board c pebble gap is label).0 legal,
-              to_is
-                  ∙ sym (ap (rank_of board) (member_there board c pebble gap is label)),
-            ),
-          )
+          let there_is = ap (rank_of board) (member_there board c pebble gap is label) in
+          let to_is = step.to_is ∙ ap (λ (p : ℕ). rank_of board (moved c p label)) same ∙ sym there_is in
+          (label, ((legal_there board c pebble gap is label).0 legal, to_is))
 
   pub results_known : (ranks : List ℕ) (expanded : List Bool) → gap < gaps board → AreExpanded board expanded ranks
       → slice_index_or expanded gap false ≡ true → IsWithAll ranks (RequestLeads board rank) ranks

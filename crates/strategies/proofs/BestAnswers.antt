@@ -181,11 +181,9 @@ best_answer board configuration pebble is some legal =
     by : (best : Option Best) → IsFoundBelow board configuration pebble board.labels best
         → (label : ℕ) × IsBestAnswer board configuration pebble label
     by None none = absurd (none some legal.is_label legal)
-    by (Some best) found = (
-      best.label,
-      (best_of_all board configuration pebble board.labels best found
-          (λ other late legal. absurd (omega (arith, legal.is_label)))).0,
-    )
+    by (Some best) found =
+        let all = best_of_all board configuration pebble board.labels best found in
+        (best.label, (all (λ other late legal. absurd (omega (arith, legal.is_label)))).0)
 
 pub same_answer : (board : PlainBoard) (configuration : List ℕ) (pebble first second : ℕ)
     → IsBestAnswer board configuration pebble first → IsBestAnswer board configuration pebble second → first ≡ second

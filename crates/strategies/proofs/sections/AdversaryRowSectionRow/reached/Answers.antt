@@ -23,24 +23,13 @@ add_results-requires-clause-rank c = spread_below _ _ _ _ _ _ _ c.loop-rank.inva
 
 pub overflow_add-place : goal.overflow_add-place
 overflow_add-place c =
-    omega (
-      arith,
-      slice_get_within c.loop-rank.reached.ranks c.loop-rank.place c.in-Some.rank
-          (sym c.in-Some.ensures.rank),
-      c.in-Some.ensures.few,
-      c.loop-rank.invariant.size,
-      c.start.ensures.few,
-    )
+    let place = slice_get_within c.loop-rank.reached.ranks c.loop-rank.place c.in-Some.rank (sym c.in-Some.ensures.rank) in
+    omega (arith, place, c.in-Some.ensures.few, c.loop-rank.invariant.size, c.start.ensures.few)
 
 pub loop-rank-smaller : goal.loop-rank-smaller
 loop-rank-smaller c =
-    omega (
-      arith,
-      slice_get_within c.loop-rank.reached.ranks c.loop-rank.place c.in-Some.rank
-          (sym c.in-Some.ensures.rank),
-      c.in-Some.ensures.few,
-      c.loop-rank.invariant.size,
-    )
+    let place = slice_get_within c.loop-rank.reached.ranks c.loop-rank.place c.in-Some.rank (sym c.in-Some.ensures.rank) in
+    omega (arith, place, c.in-Some.ensures.few, c.loop-rank.invariant.size)
 
 pub loop-rank-preserved : goal.loop-rank-preserved
 loop-rank-preserved c =
