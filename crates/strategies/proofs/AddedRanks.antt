@@ -1,12 +1,14 @@
 -- Ranks that are added to others.
-use Rattle.std.proofs.Common.{◌≡◌, ◌≢◌, ℕ, zero, suc, ◌+◌, ◌<◌, ◌≤◌, ◌⊎◌, ◌↔◌, inl, inr, sym, subst, arith}
-use Rattle.std.proofs.Common.{List, [], ◌∷◌, ◌++◌, length, Some, slice_get, slice_index_or}
+use Rattle.std.proofs.Common.{◌≡◌, ◌≢◌, ℕ, ◌+◌, ◌<◌, ◌≤◌, ◌⊎◌, ◌↔◌, inl, inr, refl, sym, ap, ◌∙◌, subst, arith}
+use Rattle.std.proofs.Common.{List, [], ◌∷◌, ◌++◌, length}
 use Rattle.std.specs.List.{AllPairs, Contains}
+use Rattle.std.specs.Set.{is_member}
 use Rattle.std.proofs.Math.Dec.{eqb}
-use Rattle.std.proofs.lemmas.Bool.{cases_lt, cases_eq, eqb-true}
-use Rattle.std.proofs.lemmas.Bool.Decides.{Decides-eqb}
-use Rattle.std.proofs.lemmas.List.Elements.{Contains-append_left, Contains-append_right, Contains-append_cases}
-use Rattle.std.proofs.lemmas.Map.Made.{IsDistinct-from_AllPairs}
+use Rattle.std.proofs.lemmas.Bool.{cases_lt, cases_Bool, eqb-true}
+use Rattle.std.proofs.lemmas.Bool.Decides.{Decides-eqb, not_from_Decides}
+use Rattle.std.proofs.lemmas.List.{append-nil, append_assoc}
+use Rattle.std.proofs.lemmas.List.Elements.{Contains-append_left, Contains-push, Contains-push_cases}
+use Rattle.std.proofs.lemmas.Map.Made.{IsDistinct-from_AllPairs, is_member-Decides}
 use Rattle.std.proofs.lemmas.Map.Steps.{length-le_from_distinct_below}
 use Rattle.std.proofs.lemmas.Map.Views.{Contains-from_any}
 use Rattle.strategies.specs.Inside.ReachedRanks.{IsWith, IsWithAll}
@@ -19,33 +21,15 @@ few_apart ranks bound apart below =
     (λ rank any. below rank (Contains-from_any {eq = eqb} eqb-true rank ranks any))
 
 pub contains_or_not : (xs : List ℕ) (x : ℕ) → Contains xs x ⊎ ¬ Contains xs x
-contains_or_not [] x = inr (λ among. absurd (let inside : among.0 < 0 = among.1 in omega arith))
-contains_or_not (y ∷ ys) x = elim (cases_eq y x) [
-  | inl same ↦ inl (0, omega arith, same)
-  | inr differ ↦ elim (contains_or_not ys x) [
-    | inl among ↦ inl (suc among.0, omega (arith, among.1), among.2)
-    | inr not ↦ inr (λ among. by among.0 among.1 among.2 differ not)
-  ]
-]
-  where
-    by : (place : ℕ) → place < length (y ∷ ys) → slice_index_or (y ∷ ys) place x ≡ x → (y ≡ x → ⊥) → ¬ Contains ys x → ⊥
-    by zero inside same differ not = differ same
-    by (suc place) inside same differ not = not (place, omega (arith, inside), same)
-
-pub only_one : (rank other : ℕ) → Contains (rank ∷ []) other → other ≡ rank
-only_one rank other (zero, inside, same) = sym same
-only_one rank other (suc place, inside, same) = absurd (omega arith)
-
-slice_get_left : (xs ys : List ℕ) (place rank : ℕ) → slice_get xs place ≡ Some rank → slice_get (xs ++ ys) place ≡ Some rank
-slice_get_left [] ys place rank there = absurd cc
-slice_get_left (x ∷ xs) ys zero rank there = there
-slice_get_left (x ∷ xs) ys (suc place) rank there = slice_get_left xs ys place rank there
+contains_or_not xs x =
+    let tells = is_member-Decides {eq = eqb} Decides-eqb xs x in
+    elim (cases_Bool (is_member eqb xs x)) [ inl is ↦ inl (tells.0 is) | inr not ↦ inr (not_from_Decides (is_member eqb xs x) tells not) ]
 
 -- what is to be added is there
 pub added_known : (ranks : List ℕ) (P : ℕ → Type 0) → ((rank : ℕ) → P rank → Contains ranks rank) → IsWithAll ranks P ranks
 added_known ranks P there = record {
   each = λ rank. (λ among. inl among, λ either. elim either [ inl among ↦ among | inr holds ↦ there rank holds ]);
-  behind = λ place rank at. at;
+  behind = ([], sym (append-nil ranks));
 }
 
 -- one rank is added
@@ -54,13 +38,13 @@ added_one ranks more rank P with holds only = elim (contains_or_not ranks rank) 
   | inl among ↦ subst (IsWithAll ranks P) (sym (with.known among)) (added_known ranks P (λ other is. subst (Contains ranks) (sym (only other is)) among))
   | inr new ↦ subst (IsWithAll ranks P) (sym (with.other new)) (record {
     each = λ other. (
-      λ among. elim (Contains-append_cases ranks (rank ∷ []) other among) [ inl old ↦ inl old | inr last ↦ inr (subst P (sym (only_one rank other last)) holds) ],
+      λ among. elim (Contains-push_cases ranks rank other among) [ inl old ↦ inl old | inr last ↦ inr (subst P last holds) ],
       λ either. elim either [
         | inl old ↦ Contains-append_left ranks (rank ∷ []) other old
-        | inr is ↦ Contains-append_right ranks (rank ∷ []) other (0, omega arith, sym (only other is))
+        | inr is ↦ subst (Contains (ranks ++ rank ∷ [])) (sym (only other is)) (Contains-push ranks rank)
       ],
     );
-    behind = λ place other at. slice_get_left ranks (rank ∷ []) place other at;
+    behind = (rank ∷ [], refl);
   })
 ]
 
@@ -100,7 +84,10 @@ added_more ranks some more P bound first second = record {
       ]
     ]),
   );
-  behind = λ place rank at. second.behind place rank (first.behind place rank at);
+  behind = (
+    first.behind.0 ++ second.behind.0,
+    second.behind.1 ∙ ap (λ (xs : List ℕ). xs ++ second.behind.0) first.behind.1 ∙ append_assoc ranks first.behind.0 second.behind.0,
+  );
 }
 
 -- no number from one bound to another has it

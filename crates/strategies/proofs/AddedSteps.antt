@@ -1,25 +1,26 @@
 -- What is added at a step: the result of a best answer, or those of all answers of a gap.
 use Rattle.std.proofs.Common.{◌≡◌, ℕ, ◌+◌, ◌<◌, ◌≤◌, ◌↔◌, inl, inr, Bool, true, false, List, Some, None, slice_index_or, slice_set, sym, ap, ◌∙◌, subst, arith}
 use Rattle.std.proofs.Math.ListN.{replicate, length-set, length-replicate}
-use Rattle.std.proofs.lemmas.Bool.{cases_lt, cases_eq}
-use Rattle.std.proofs.lemmas.List.{get_or-set_other}
-use Rattle.board_text.specs.PlainBoard.{PlainBoard, IsConfiguration}
+use Rattle.std.proofs.lemmas.Bool.{both_ways, cases_lt, cases_eq}
+use Rattle.std.proofs.lemmas.List.{get_or-replicate, get_or-set_other}
+use Rattle.board_text.specs.PlainBoard.{PlainBoard}
 use Rattle.positions.specs.declared.value.Value.TheVariants.{Finite}
 use Rattle.positions.specs.Counts.{IsSmallest}
 use Rattle.positions.specs.Game.{Legal, moved}
-use Rattle.positions.specs.Value.{HasValue}
 use Rattle.positions.specs.Ranks.{configurations, rank_of, configuration_at}
 use Rattle.positions.specs.Gaps.{gaps, gap_of, member_of, IsAnswer}
-use Rattle.positions.proofs.Cited.{member_of-gap_of, legal_is_answer, configuration_at_is, same_value}
+use Rattle.positions.proofs.Cited.{configuration_at_is}
 use Rattle.strategies.specs.declared.gap_best.Best.{Best}
-use Rattle.strategies.specs.Best.{IsLess, LowersValue}
+use Rattle.strategies.specs.Best.{IsLess, LowersValue, IsBestRequest}
 use Rattle.strategies.specs.Inside.GapBest.{IsBestFor}
-use Rattle.strategies.specs.Inside.ReachedRanks.{IsAnswerStep, IsRequestStep, RequestLeads, IsWith, IsWithAll, IsAnswerAt, IsAnswerOf}
+use Rattle.strategies.specs.Inside.ReachedRanks.{IsAnswerStep, RequestLeads, IsWith, IsWithAll, IsAnswerAt, IsAnswerOf}
 use Rattle.strategies.specs.Inside.ReachedRanks.{AreExpanded}
+use Rattle.strategies.specs.Document.{IsAnswerable}
+use Rattle.strategies.proofs.ValueOrder.{worthless}
 use Rattle.strategies.proofs.BestAnswers.{same_answer}
 use Rattle.strategies.proofs.BestRequests.{same_request}
+use Rattle.strategies.proofs.GapAnswers.{IsMemberOf, legal_there, member_there}
 use Rattle.strategies.proofs.AddedRanks.{Below, added_known, added_one, added_same, added_more, below_same, below_all}
-use Rattle.strategies.proofs.ReachedMarks.{false_not_true, all_false}
 
 -- ---- the best answer to one request
 
@@ -32,9 +33,8 @@ module _ (board : PlainBoard) (rank pebble : ℕ) (ranks : List ℕ) where
   worthless_not_added best is not = added_known ranks (IsAnswerStep board rank pebble) (λ to step.
       let c : List ℕ = configuration_at board rank in
       let same : step.label ≡ best.label = same_answer board c pebble step.label best.label step.best is.0 in
-      let has = subst (λ (l : ℕ). HasValue board (moved c pebble l) step.some.value) same step.some.has_value in
-      let value : step.some.value ≡ best.value = same_value board (moved c pebble best.label) step.some.value best.value has is.1 in
-      absurd (not (subst (IsLess (Finite 0)) value step.some.some)))
+      absurd (worthless board (moved c pebble best.label) best.value is.1 not
+      (subst (λ (l : ℕ). IsAnswerable board (moved c pebble l)) same step.some)))
 
   pub answer_added : (best : Best) (to : ℕ) (more : List ℕ) → IsBestFor board (configuration_at board rank) pebble (Some best) → IsLess (Finite 0) best.value
       → pebble < board.pebbles → to ≡ rank_of board (moved (configuration_at board rank) pebble best.label) → IsWith ranks to more
@@ -73,55 +73,50 @@ module _ (board : PlainBoard) (gap : ℕ) where
 
 -- ---- the best request
 
-module _ (board : PlainBoard) (rank : ℕ) (is_rank : rank < configurations board) where
+pub no_request_added : (board : PlainBoard) (rank : ℕ) (ranks : List ℕ) → IsSmallest (LowersValue board (configuration_at board rank)) None
+    → IsWithAll ranks (RequestLeads board rank) ranks
+no_request_added board rank ranks none = added_known ranks (RequestLeads board rank)
+    (λ to leads. absurd (none leads.1.pebble leads.1.best.0))
+
+module _ (board : PlainBoard) (rank : ℕ) (is_rank : rank < configurations board) (pebble gap : ℕ)
+    (best : IsBestRequest board (configuration_at board rank) pebble)
+    (gap_is : gap ≡ gap_of board (configuration_at board rank) pebble) where
   -- what it leads to is what the answers of its gap lead to
-  leads_is : (pebble gap : ℕ) → pebble < board.pebbles → IsSmallest (LowersValue board (configuration_at board rank)) (Some pebble)
-      → gap ≡ gap_of board (configuration_at board rank) pebble → (to : ℕ) → IsAnswerOf board gap to ↔ RequestLeads board rank to
-  leads_is pebble gap is_pebble best gap_is to = subst (λ (g : ℕ). IsAnswerOf board g to ↔ RequestLeads board rank to) (sym gap_is) (there, back)
+  leads_is : (to : ℕ) → IsAnswerOf board gap to ↔ RequestLeads board rank to
+  leads_is to = (there, back)
     where
       c : List ℕ
       c = configuration_at board rank
 
-      is : IsConfiguration board c
-      is = configuration_at_is board rank is_rank
+      is : IsMemberOf board c pebble gap
+      is = record { is_configuration = configuration_at_is board rank is_rank; is_pebble = best.0.is_pebble; its_gap = sym gap_is }
 
-      there : IsAnswerOf board (gap_of board c pebble) to → RequestLeads board rank to
-      there answer = (
-        answer.0,
+      there : IsAnswerOf board gap to → RequestLeads board rank to
+      there (label, answer) = (
+        label,
         record {
           pebble = pebble;
           best = best;
-          legal = (legal_is_answer board c pebble answer.0 is is_pebble).1 answer.1.0;
-          to_is = answer.1.1 ∙ ap (rank_of board) (member_of-gap_of board c pebble answer.0 is is_pebble);
+          legal = (legal_there board c pebble gap is label).1 answer.0;
+          to_is = answer.1 ∙ ap (rank_of board) (member_there board c pebble gap is label);
         },
       )
 
-      back : RequestLeads board rank to → IsAnswerOf board (gap_of board c pebble) to
-      back leads =
-          let step : IsRequestStep board rank leads.0 to = leads.1 in
+      back : RequestLeads board rank to → IsAnswerOf board gap to
+      back (label, step) =
           let same : step.pebble ≡ pebble = same_request board c step.pebble pebble step.best best in
-          let legal = subst (λ (p : ℕ). Legal board c p leads.0) same step.legal in (
-            leads.0,
-            (
-              (legal_is_answer board c pebble leads.0 is is_pebble).0 legal,
-              step.to_is ∙ ap (λ (p : ℕ). rank_of board (moved c p leads.0)) same ∙ sym (ap (rank_of board) (member_of-gap_of board c pebble leads.0 is is_pebble)),
-            ),
-          )
+          let legal = subst (λ (p : ℕ). Legal board c p label) same step.legal in
+          let there_is = ap (rank_of board) (member_there board c pebble gap is label) in
+          let to_is = step.to_is ∙ ap (λ (p : ℕ). rank_of board (moved c p label)) same ∙ sym there_is in
+          (label, ((legal_there board c pebble gap is label).0 legal, to_is))
 
-  pub no_request_added : (ranks : List ℕ) → IsSmallest (LowersValue board (configuration_at board rank)) None → IsWithAll ranks (RequestLeads board rank) ranks
-  no_request_added ranks none = added_known ranks (RequestLeads board rank) (λ to leads. absurd (none leads.1.pebble leads.1.best.0))
+  pub results_known : (ranks : List ℕ) (expanded : List Bool) → gap < gaps board → AreExpanded board expanded ranks
+      → slice_index_or expanded gap false ≡ true → IsWithAll ranks (RequestLeads board rank) ranks
+  results_known ranks expanded is_gap are marked =
+      added_known ranks (RequestLeads board rank) (λ to leads. are.there gap is_gap marked to ((leads_is to).1 leads))
 
-  pub results_known : (pebble gap : ℕ) (ranks : List ℕ) (expanded : List Bool) → pebble < board.pebbles
-      → IsSmallest (LowersValue board (configuration_at board rank)) (Some pebble) → gap ≡ gap_of board (configuration_at board rank) pebble → gap < gaps board
-      → AreExpanded board expanded ranks → slice_index_or expanded gap false ≡ true → IsWithAll ranks (RequestLeads board rank) ranks
-  results_known pebble gap ranks expanded is_pebble best gap_is is_gap are marked =
-      added_known ranks (RequestLeads board rank) (λ to leads. are.there gap is_gap marked to ((leads_is pebble gap is_pebble best gap_is to).1 leads))
-
-  pub results_added : (pebble gap : ℕ) (ranks more : List ℕ) → pebble < board.pebbles
-      → IsSmallest (LowersValue board (configuration_at board rank)) (Some pebble) → gap ≡ gap_of board (configuration_at board rank) pebble
-      → IsWithAll ranks (IsAnswerOf board gap) more → IsWithAll ranks (RequestLeads board rank) more
-  results_added pebble gap ranks more is_pebble best gap_is added =
-      added_same ranks more (IsAnswerOf board gap) (RequestLeads board rank) (leads_is pebble gap is_pebble best gap_is) added
+  pub results_added : (ranks more : List ℕ) → IsWithAll ranks (IsAnswerOf board gap) more → IsWithAll ranks (RequestLeads board rank) more
+  results_added ranks more added = added_same ranks more (IsAnswerOf board gap) (RequestLeads board rank) leads_is added
 
 -- a gap more is worked off
 pub expanded_more : (board : PlainBoard) (expanded : List Bool) (gap : ℕ) (ranks more : List ℕ) → AreExpanded board expanded ranks → gap < gaps board
@@ -137,5 +132,6 @@ expanded_more board expanded gap ranks more are is_gap added = record {
 pub none_expanded : (board : PlainBoard) (size : ℕ) (ranks : List ℕ) → size ≡ gaps board → AreExpanded board (replicate size false) ranks
 none_expanded board size ranks size_is = record {
   one_each = length-replicate size false ∙ size_is;
-  there = λ gap is_gap marked rank answer. absurd (false_not_true (slice_index_or (replicate size false) gap false) (all_false size gap) marked);
+  there = λ gap is_gap marked rank answer. absurd (both_ways (slice_index_or (replicate size false) gap false)
+      (get_or-replicate size gap false false (omega (arith, is_gap, size_is))) marked);
 }

@@ -1,173 +1,193 @@
 -- Where best answers exist, and that there is one.
-use Rattle.std.proofs.Common.{◌≡◌, ℕ, zero, suc, ◌+◌, ◌<◌, ◌≤◌, ◌⊎◌, List, inl, inr, refl, sym, ◌∙◌, subst, arith}
+use Rattle.std.proofs.Common.{◌≡◌, ℕ, zero, suc, ◌+◌, ◌<◌, ◌≤◌, ◌⊎◌, List, Option, None, Some, inl, inr, refl, sym, ◌∙◌, subst, arith}
 use Rattle.std.proofs.lemmas.Bool.{cases_lt}
 use Rattle.board_text.specs.PlainBoard.{PlainBoard, IsConfiguration}
 use Rattle.positions.specs.declared.value.Value.{Value}
-use Rattle.positions.specs.Game.{Legal, LabellerTree, moved}
+use Rattle.positions.specs.Game.{Legal, Dominates, LabellerTree, moved}
 use Rattle.positions.specs.Value.{HasValue}
 use Rattle.positions.proofs.Cited.{dominates_or_not, moved_is_configuration, some_value, same_value}
+use Rattle.strategies.specs.declared.gap_best.Best.{Best}
 use Rattle.strategies.specs.Best.{IsLess, HasSmallerValue, HasNoGreaterValue, HasGreatestResult, IsBestAnswer}
-use Rattle.strategies.proofs.ValueOrder.{cases_value, IsLess-trans, not_above, lasts_too}
+use Rattle.strategies.specs.Inside.GapBest.{IsBestFor, IsBetter}
+use Rattle.strategies.proofs.ValueOrder.{cases_value, IsLess-trans, not_above, lasts_too, one_smallest}
 
--- what is known of the labels below a bound: none is legal, or this one, of the result with this value, is the first of those with the greatest
-pub record IsBestBelow (board : PlainBoard) (configuration : List ℕ) (pebble bound label : ℕ) (value : Value) : Type 0 where
-  pub early : label < bound
-  pub legal : Legal board configuration pebble label
-  pub has : HasValue board (moved configuration pebble label) value
-  pub best : (other : ℕ) → other < bound → Legal board configuration pebble other
-      → (v : Value) × HasValue board (moved configuration pebble other) v × (IsLess v value ⊎ ((v ≡ value) × (label ≤ other)))
+-- a label's result has a smaller value than the best one's, or the same, and then the best one isn't behind the label
+abbrev IsBehind : PlainBoard → List ℕ → ℕ → Best → ℕ → Type 0
+IsBehind board configuration pebble best label =
+    (value : Value) × HasValue board (moved configuration pebble label) value
+    × (IsLess value best.value ⊎ ((value ≡ best.value) × (best.label ≤ label)))
 
-abbrev pub NoneBelow : PlainBoard → List ℕ → ℕ → ℕ → Type 0
-NoneBelow board configuration pebble bound = (other : ℕ) → other < bound → ¬ Legal board configuration pebble other
+-- the first of the labels below a bound whose result has the greatest value
+pub record IsBestBelow (board : PlainBoard) (configuration : List ℕ) (pebble bound : ℕ) (best : Best) : Type 0 where
+  pub early : best.label < bound
+  pub legal : Legal board configuration pebble best.label
+  pub has : HasValue board (moved configuration pebble best.label) best.value
+  pub behind : (other : ℕ) → other < bound → Legal board configuration pebble other → IsBehind board configuration pebble best other
+
+-- that label, or none is legal
+abbrev pub IsFoundBelow : PlainBoard → List ℕ → ℕ → ℕ → Option Best → Type 0
+IsFoundBelow board configuration pebble bound (Some best) = IsBestBelow board configuration pebble bound best
+IsFoundBelow board configuration pebble bound None = (other : ℕ) → other < bound → ¬ Legal board configuration pebble other
+
+better_exists : (best : Option Best) (later : Best) → (result : Best) × IsBetter best later result
+better_exists None later = (later, refl)
+better_exists (Some first) later = elim (cases_value first.value later.value) [
+  | inl less ↦ (later, (λ _. refl, λ not. absurd (not less)))
+  | inr not_less ↦ (first, (λ less. absurd (not_above first.value later.value not_less less), λ _. refl))
+]
 
 module _ (board : PlainBoard) (configuration : List ℕ) (pebble : ℕ) where
+  -- no label is legal from one bound to another
+  pub widen : (bound more : ℕ) (best : Option Best) → bound ≤ more
+      → ((label : ℕ) → bound ≤ label → label < more → ¬ Legal board configuration pebble label)
+      → IsFoundBelow board configuration pebble bound best → IsFoundBelow board configuration pebble more best
+  widen bound more None enough none found = λ other below. elim (cases_lt other bound) [
+    | inl early ↦ found other early
+    | inr late ↦ none other late below
+  ]
+  widen bound more (Some best) enough none found = record {
+    early = omega (arith, found.early);
+    legal = found.legal;
+    has = found.has;
+    behind = λ other below legal. elim (cases_lt other bound) [
+      | inl early ↦ found.behind other early legal
+      | inr late ↦ absurd (none other late below legal)
+    ];
+  }
+
   -- what is below the next bound is below this one, or is this one
-  below_or_last : (P : ℕ → Type 0) (bound : ℕ) → ((other : ℕ) → other < bound → P other) → P bound → (other : ℕ) → other < bound + 1 → P other
-  below_or_last P bound before last other below = elim (cases_lt other bound) [
-    | inl less ↦ before other less
-    | inr most ↦ let same : bound ≡ other = omega arith in subst P same last
+  below_or_last : (best : Best) (bound : ℕ) → ((other : ℕ) → other < bound → Legal board configuration pebble other
+      → IsBehind board configuration pebble best other)
+      → IsBehind board configuration pebble best bound → (other : ℕ) → other < bound + 1 → Legal board configuration pebble other
+      → IsBehind board configuration pebble best other
+  below_or_last best bound before last other below legal = elim (cases_lt other bound) [
+    | inl less ↦ before other less legal
+    | inr most ↦ let same : bound ≡ other = omega arith in subst (IsBehind board configuration pebble best) same last
   ]
 
-  -- one label more, which is not legal
-  pub none_next : (bound : ℕ) → NoneBelow board configuration pebble bound → ¬ Legal board configuration pebble bound
-      → NoneBelow board configuration pebble (bound + 1)
-  none_next bound none not = below_or_last (λ other. ¬ Legal board configuration pebble other) bound none not
-
-  pub same_next : (bound label : ℕ) (value : Value) → IsBestBelow board configuration pebble bound label value → ¬ Legal board configuration pebble bound
-      → IsBestBelow board configuration pebble (bound + 1) label value
-  same_next bound label value so_far not = record {
-    early = omega (arith, so_far.early);
-    legal = so_far.legal;
-    has = so_far.has;
-    best = below_or_last (λ other. Legal board configuration pebble other
-        → (v : Value) × HasValue board (moved configuration pebble other) v × (IsLess v value ⊎ ((v ≡ value) × (label ≤ other)))) bound
-        so_far.best (λ legal. absurd (not legal));
-  }
-
-  -- one label more, which is the first legal one
-  pub first_next : (bound : ℕ) (value : Value) → NoneBelow board configuration pebble bound → Legal board configuration pebble bound
-      → HasValue board (moved configuration pebble bound) value → IsBestBelow board configuration pebble (bound + 1) bound value
-  first_next bound value none legal has = record {
+  -- a legal label that all legal ones before it are behind
+  leads_all : (later : Best) → Legal board configuration pebble later.label
+      → HasValue board (moved configuration pebble later.label) later.value
+      → ((other : ℕ) → other < later.label → Legal board configuration pebble other → IsBehind board configuration pebble later other)
+      → IsBestBelow board configuration pebble (later.label + 1) later
+  leads_all later legal has before = record {
     early = omega arith;
     legal = legal;
     has = has;
-    best = below_or_last (λ other. Legal board configuration pebble other
-        → (v : Value) × HasValue board (moved configuration pebble other) v × (IsLess v value ⊎ ((v ≡ value) × (bound ≤ other)))) bound
-        (λ other before is_legal. absurd (none other before is_legal)) (λ _. (value, has, inr (refl, omega arith)));
+    behind = below_or_last later later.label before (later.value, has, inr (refl, omega arith));
   }
 
-  -- one legal label more, with a greater value
-  pub better_next : (bound label : ℕ) (value greater : Value) → IsBestBelow board configuration pebble bound label value → Legal board configuration pebble bound
-      → HasValue board (moved configuration pebble bound) greater → IsLess value greater → IsBestBelow board configuration pebble (bound + 1) bound greater
-  better_next bound label value greater so_far legal has less = record {
-    early = omega arith;
-    legal = legal;
-    has = has;
-    best = below_or_last (λ other. Legal board configuration pebble other
-        → (v : Value) × HasValue board (moved configuration pebble other) v × (IsLess v greater ⊎ ((v ≡ greater) × (bound ≤ other)))) bound
-        (λ other before is_legal. let known = so_far.best other before is_legal in (
+  -- one legal label more
+  pub next_label : (best : Option Best) (later result : Best) → IsFoundBelow board configuration pebble later.label best
+      → Legal board configuration pebble later.label → HasValue board (moved configuration pebble later.label) later.value
+      → IsBetter best later result → IsBestBelow board configuration pebble (later.label + 1) result
+  next_label None later result none legal has is =
+      subst (IsBestBelow board configuration pebble (later.label + 1)) (sym is)
+      (leads_all later legal has (λ other before is_legal. absurd (none other before is_legal)))
+  next_label (Some first) later result found legal has (greater, kept) = elim (cases_value first.value later.value) [
+    | inl less ↦ subst (IsBestBelow board configuration pebble (later.label + 1)) (sym (greater less))
+        (leads_all later legal has (λ other before is_legal. let known = found.behind other before is_legal in (
           known.0,
           known.1,
-          elim known.2 [
-            | inl worse ↦ inl (IsLess-trans known.0 value greater worse less)
-            | inr equal ↦ inl (subst (λ (u : Value). IsLess u greater) (sym equal.0) less)
-          ],
-        )) (λ _. (greater, has, inr (refl, omega arith)));
-  }
-
-  -- one legal label more, with a value that is not greater
-  pub as_good_next : (bound label : ℕ) (value other : Value) → IsBestBelow board configuration pebble bound label value → Legal board configuration pebble bound
-      → HasValue board (moved configuration pebble bound) other → ¬ IsLess value other → IsBestBelow board configuration pebble (bound + 1) label value
-  as_good_next bound label value other so_far legal has not = record {
-    early = omega (arith, so_far.early);
-    legal = so_far.legal;
-    has = so_far.has;
-    best = below_or_last (λ one. Legal board configuration pebble one
-        → (v : Value) × HasValue board (moved configuration pebble one) v × (IsLess v value ⊎ ((v ≡ value) × (label ≤ one)))) bound
-        so_far.best (λ _. (
-          other,
-          has,
-          elim (cases_value other value) [
-            | inl less ↦ inl less
-            | inr (inl same) ↦ inr (same, omega (arith, so_far.early))
-            | inr (inr more) ↦ absurd (not more)
-          ],
-        ));
-  }
+          inl (elim known.2 [
+            | inl worse ↦ IsLess-trans known.0 first.value later.value worse less
+            | inr equal ↦ subst (λ (value : Value). IsLess value later.value) (sym equal.0) less
+          ]),
+        )))
+    | inr not_less ↦ subst (IsBestBelow board configuration pebble (later.label + 1))
+        (sym (kept (not_above first.value later.value not_less))) (record {
+          early = omega (arith, found.early);
+          legal = found.legal;
+          has = found.has;
+          behind = below_or_last first later.label found.behind (
+            later.value,
+            has,
+            elim not_less [
+              | inl same ↦ inr (sym same, omega (arith, found.early))
+              | inr less ↦ inl less
+            ],
+          );
+        })
+  ]
 
   -- below each bound no label is legal, or there is a best one
   best_below : IsConfiguration board configuration → (bound : ℕ) → bound ≤ board.labels
-      → NoneBelow board configuration pebble bound ⊎ ((label : ℕ) × (value : Value) × IsBestBelow board configuration pebble bound label value)
-  best_below is zero few = inl (λ other below legal. absurd (omega arith))
+      → (best : Option Best) × IsFoundBelow board configuration pebble bound best
+  best_below is zero few = (None, λ other below. absurd (omega arith))
   best_below is (suc bound) few =
-      let one_more : bound + 1 ≡ suc bound = omega arith in
-      let is_label : bound < board.labels = omega arith in
-      let None : ℕ → Type 0 = λ n. NoneBelow board configuration pebble n in
-      let Found : ℕ → Type 0 = λ n. (label : ℕ) × (value : Value) × IsBestBelow board configuration pebble n label value in
+      let before = best_below is bound (omega arith) in
       elim (dominates_or_not board configuration pebble bound) [
-        | inr not ↦
-            let illegal : ¬ Legal board configuration pebble bound = λ legal. not legal.dominates in
-            elim (best_below is bound (omega arith)) [
-              | inl none ↦ inl (subst None one_more (none_next bound none illegal))
-              | inr found ↦ inr (subst Found one_more (found.0, found.1, same_next bound found.0 found.1 found.2 illegal))
-            ]
+        | inr not ↦ (
+          before.0,
+          widen bound (suc bound) before.0 (omega arith) (λ label late early legal.
+              let same : label ≡ bound = omega arith in not (subst (Dominates board configuration pebble) same legal.dominates)) before.1,
+        )
         | inl dominates ↦
-            let legal : Legal board configuration pebble bound = record { is_label = is_label; dominates = dominates } in
-            let value = some_value board (moved configuration pebble bound) (moved_is_configuration board configuration pebble bound is_label is) in
-            elim (best_below is bound (omega arith)) [
-              | inl none ↦ inr (subst Found one_more (bound, value.0, first_next bound value.0 none legal value.1))
-              | inr found ↦ elim (cases_value found.1 value.0) [
-                | inl less ↦ inr (subst Found one_more (bound, value.0, better_next bound found.0 found.1 value.0 found.2 legal value.1 less))
-                | inr not_less ↦ inr (subst Found one_more (found.0, found.1, as_good_next bound found.0 found.1 value.0 found.2 legal value.1 (not_above found.1 value.0 not_less)))
-              ]
-            ]
+            let legal : Legal board configuration pebble bound = record { is_label = omega arith; dominates = dominates } in
+            let value = some_value board (moved configuration pebble bound)
+            (moved_is_configuration board configuration pebble bound legal.is_label is) in
+            let later : Best = record { label = bound; value = value.0 } in
+            let better = better_exists before.0 later in
+            let one_more : bound + 1 ≡ suc bound = omega arith in (
+              Some better.0,
+              subst (λ (n : ℕ). IsBestBelow board configuration pebble n better.0) one_more
+                  (next_label before.0 later better.0 before.1 legal value.1 better.1),
+            )
       ]
 
--- the best of all labels is the best answer
-module _ (board : PlainBoard) (configuration : List ℕ) (pebble label : ℕ) (value : Value) (found : IsBestBelow board configuration pebble board.labels label value) where
-  is_greatest : HasGreatestResult board configuration pebble label
-  is_greatest = record {
-    legal = found.legal;
-    greatest = λ other legal.
-        let known = found.best other legal.is_label legal in
-        record {
-          value = known.0;
-          bound = value;
-          of_first = known.1;
-          of_second = found.has;
-          not_greater = not_above value known.0 (elim known.2 [ inl less ↦ inr less | inr equal ↦ inl (sym equal.0) ]);
-        };
-  }
+  -- the best of the labels below a bound is the best answer, where all legal ones from there on are behind it
+  pub best_of_all : (bound : ℕ) (best : Best) → IsBestBelow board configuration pebble bound best
+      → ((other : ℕ) → bound ≤ other → Legal board configuration pebble other → IsBehind board configuration pebble best other)
+      → IsBestFor board configuration pebble (Some best)
+  best_of_all bound best found late = (
+    (
+      record {
+        legal = found.legal;
+        greatest = λ other legal.
+            let known = behind other legal in
+            record {
+              value = known.0;
+              bound = best.value;
+              of_first = known.1;
+              of_second = found.has;
+              not_greater = not_above best.value known.0 (elim known.2 [ inl less ↦ inr less | inr equal ↦ inl (sym equal.0) ]);
+            };
+      },
+      is_smallest,
+    ),
+    found.has,
+  )
+    where
+      behind : (other : ℕ) → Legal board configuration pebble other → IsBehind board configuration pebble best other
+      behind other legal = elim (cases_lt other bound) [ inl below ↦ found.behind other below legal | inr above ↦ late other above legal ]
 
-  is_smallest : (other : ℕ) → HasGreatestResult board configuration pebble other → label ≤ other
-  is_smallest other also =
-      let known = found.best other also.legal.is_label also.legal in
-      elim known.2 [
-        | inr equal ↦ equal.1
-        | inl less ↦
-            let most = also.greatest label found.legal in
-            let same : value ≡ most.value = same_value board (moved configuration pebble label) value most.value found.has most.of_first in
-            let bound : known.0 ≡ most.bound = same_value board (moved configuration pebble other) known.0 most.bound known.1 most.of_second in
-            absurd (most.not_greater (subst (λ (u : Value). IsLess u most.value) bound (subst (IsLess known.0) same less)))
-      ]
-
-  pub best_of_all : IsBestAnswer board configuration pebble label
-  best_of_all = (is_greatest, is_smallest)
+      is_smallest : (other : ℕ) → HasGreatestResult board configuration pebble other → best.label ≤ other
+      is_smallest other also =
+          let known = behind other also.legal in
+          elim known.2 [
+            | inr equal ↦ equal.1
+            | inl less ↦
+                let most = also.greatest best.label found.legal in
+                let same = same_value board (moved configuration pebble best.label) best.value most.value found.has most.of_first in
+                let bound = same_value board (moved configuration pebble other) known.0 most.bound known.1 most.of_second in
+                absurd (most.not_greater (subst (λ (u : Value). IsLess u most.value) bound (subst (IsLess known.0) same less)))
+          ]
 
 pub best_answer : (board : PlainBoard) (configuration : List ℕ) (pebble : ℕ) → IsConfiguration board configuration
     → (some : ℕ) → Legal board configuration pebble some → (label : ℕ) × IsBestAnswer board configuration pebble label
 best_answer board configuration pebble is some legal =
-    elim (best_below board configuration pebble is board.labels (omega arith)) [
-      | inl none ↦ absurd (none some legal.is_label legal)
-      | inr found ↦ (found.0, best_of_all board configuration pebble found.0 found.1 found.2)
-    ]
+    let found = best_below board configuration pebble is board.labels (omega arith) in by found.0 found.1
+  where
+    by : (best : Option Best) → IsFoundBelow board configuration pebble board.labels best
+        → (label : ℕ) × IsBestAnswer board configuration pebble label
+    by None none = absurd (none some legal.is_label legal)
+    by (Some best) found =
+        let all = best_of_all board configuration pebble board.labels best found in
+        (best.label, (all (λ other late legal. absurd (omega (arith, legal.is_label)))).0)
 
 pub same_answer : (board : PlainBoard) (configuration : List ℕ) (pebble first second : ℕ)
     → IsBestAnswer board configuration pebble first → IsBestAnswer board configuration pebble second → first ≡ second
-same_answer board configuration pebble first second one other =
-    let low : first ≤ second = one.1 second other.0 in
-    let high : second ≤ first = other.1 first one.0 in
-    omega arith
+same_answer board configuration pebble = one_smallest (HasGreatestResult board configuration pebble)
 
 -- a best answer leaves the labeller as many requests as any answer
 pub lasts_after : (board : PlainBoard) (number : ℕ) (configuration : List ℕ) (pebble label : ℕ) → pebble < board.pebbles

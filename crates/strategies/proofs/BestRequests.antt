@@ -1,5 +1,5 @@
 -- Where best requests exist, and that there is one.
-use Rattle.std.proofs.Common.{◌≡◌, ℕ, zero, suc, ◌<◌, ◌≤◌, ◌⊎◌, List, inl, inr, arith}
+use Rattle.std.proofs.Common.{◌≡◌, ℕ, zero, suc, ◌<◌, ◌≤◌, ◌⊎◌, List, inl, inr, subst, arith}
 use Rattle.std.proofs.lemmas.Bool.{cases_lt}
 use Rattle.board_text.specs.PlainBoard.{PlainBoard, IsConfiguration}
 use Rattle.positions.specs.declared.value.Value.{Value}
@@ -10,7 +10,7 @@ use Rattle.positions.specs.Value.{HasValue}
 use Rattle.positions.proofs.Cited.{each_or_some, dominates_or_not, some_tree, moved_is_configuration, some_value, forever_from_count}
 use Rattle.positions.proofs.Cited.{same_value}
 use Rattle.strategies.specs.Best.{IsLess, HasNoGreaterValue, LowersValue, IsBestRequest}
-use Rattle.strategies.proofs.ValueOrder.{at_least, less_from_tree, not_less}
+use Rattle.strategies.proofs.ValueOrder.{at_least, less_from_tree, not_less, one_smallest}
 
 -- the least number at which P holds, from one at which it does
 pub least : (P : ℕ → Type 0) → ((i : ℕ) → P i ⊎ ¬ P i) → (fuel n : ℕ) → n ≤ fuel → P n → (m : ℕ) × (m ≤ n) × P m × ((i : ℕ) → i < m → ¬ P i)
@@ -74,17 +74,14 @@ best_request board number configuration has =
     (first.0, (first.2, first_is_smallest (LowersValue board configuration) first.0 first.3))
 
 -- no request lowers the value of a configuration that lasts forever
-not_lowered : (board : PlainBoard) (configuration : List ℕ) (pebble : ℕ) → IsConfiguration board configuration
+pub not_lowered : (board : PlainBoard) (configuration : List ℕ) (pebble : ℕ) → IsConfiguration board configuration
     → HasValue board configuration Forever → LowersValue board configuration pebble → ⊥
 not_lowered board configuration pebble is has lowering =
     let answer = has (suc (configurations board)) pebble lowering.is_pebble in
-    let forever = forever_from_count board (moved configuration pebble answer.0) (moved_is_configuration board configuration pebble answer.0 answer.1.is_label is) answer.2 in
+    let to : List ℕ = moved configuration pebble answer.0 in
+    let forever = forever_from_count board to (moved_is_configuration board configuration pebble answer.0 answer.1.is_label is) answer.2 in
     let less = lowering.lowers answer.0 answer.1 in
-    by less.smaller less.greater forever less.of_first less.less
-  where
-    by : {to : List ℕ} (low high : Value) → HasValue board to Forever → HasValue board to low → IsLess low high → ⊥
-    by {to} (Finite low) high forever other less = let same : Forever ≡ Finite low = same_value board to Forever (Finite low) forever other in absurd cc
-    by Forever high forever other less = less
+    subst (λ (value : Value). IsLess value less.greater) (same_value board to less.smaller Forever less.of_first forever) less.less
 
 pub finite_from_request : (board : PlainBoard) (configuration : List ℕ) (pebble : ℕ) → IsConfiguration board configuration
     → IsBestRequest board configuration pebble → (number : ℕ) × HasValue board configuration (Finite number)
@@ -97,10 +94,7 @@ finite_from_request board configuration pebble is best =
 
 pub same_request : (board : PlainBoard) (configuration : List ℕ) (first second : ℕ)
     → IsBestRequest board configuration first → IsBestRequest board configuration second → first ≡ second
-same_request board configuration first second one other =
-    let low : first ≤ second = one.1 second other.0 in
-    let high : second ≤ first = other.1 first one.0 in
-    omega arith
+same_request board configuration = one_smallest (LowersValue board configuration)
 
 -- each smaller pebble has a legal answer after which the value is not smaller
 pub not_lowered_before : (board : PlainBoard) (configuration : List ℕ) (pebble other : ℕ) → IsConfiguration board configuration

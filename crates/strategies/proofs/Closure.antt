@@ -1,8 +1,9 @@
 -- Moves of one kind lead from the start to exactly the ranks of some list.
-use Rattle.std.proofs.Common.{◌≡◌, ◌≢◌, ℕ, zero, suc, ◌+◌, ◌<◌, ◌≤◌, ◌⊎◌, inl, inr, List, [], ◌∷◌, ◌++◌, length, Some, None, slice_get}
+use Rattle.std.proofs.Common.{◌≡◌, ◌≢◌, ℕ, zero, suc, ◌+◌, ◌<◌, ◌≤◌, ◌⊎◌, inl, inr, List, [], ◌∷◌, ◌++◌}
 use Rattle.std.proofs.Common.{refl, ap, ◌∙◌, subst, arith}
 use Rattle.std.specs.List.{AllPairs, Contains}
 use Rattle.std.proofs.lemmas.List.Elements.{Contains-get_or}
+use Rattle.std.proofs.lemmas.Option.{slice_get_cases}
 use Rattle.std.proofs.lemmas.List.Quantifiers.{all_pairs_push}
 use Rattle.board_text.specs.PlainBoard.{PlainBoard, IsConfiguration}
 use Rattle.positions.specs.declared.value.Value.{Value}
@@ -10,7 +11,7 @@ use Rattle.positions.specs.declared.value.Value.TheVariants.{Finite, Forever}
 use Rattle.positions.specs.Game.{Legal, moved}
 use Rattle.positions.specs.Value.{HasValue}
 use Rattle.positions.specs.Ranks.{configurations, rank_of, configuration_at}
-use Rattle.positions.proofs.Cited.{dominates_or_not, moved_is_configuration, some_value, configuration_at_is, same_value}
+use Rattle.positions.proofs.Cited.{dominates_or_not, moved_is_configuration, some_value, configuration_at_is}
 use Rattle.strategies.specs.Best.{IsBestAnswer, IsBestRequest}
 use Rattle.strategies.specs.Document.{IsAnswerable}
 use Rattle.strategies.specs.Inside.ReachedRanks.{IsAnswerStep, AnswerLeads, IsRequestStep, RequestLeads, IsWith, IsWithAll}
@@ -19,10 +20,10 @@ use Rattle.strategies.proofs.AddedRanks.{contains_or_not, few_apart, added_known
 use Rattle.strategies.proofs.AddedRanks.{Below, added_start, added_more, below_all}
 use Rattle.strategies.proofs.BestAnswers.{best_answer, same_answer}
 use Rattle.strategies.proofs.DocumentForm.{not_answerable}
-use Rattle.strategies.proofs.BestRequests.{best_request, same_request, finite_from_request}
+use Rattle.strategies.proofs.BestRequests.{best_request, same_request, not_lowered}
 use Rattle.strategies.proofs.DocumentRows.{answers_one}
-use Rattle.strategies.proofs.SpreadRanks.{get_there, somewhere, AreMoves, answer_moves, request_moves}
-use Rattle.strategies.proofs.SpreadRanks.{IsSpreadBy, spread_begins, spread_none, spread_more, spread_ends}
+use Rattle.strategies.proofs.SpreadRanks.{get_there, AreMoves, answer_moves, request_moves}
+use Rattle.strategies.proofs.SpreadRanks.{IsSpreadBy, IsStart, spread_begins, spread_more, spread_ends}
 
 -- ---- what each number below a bound leads to is added
 
@@ -67,12 +68,19 @@ add_below P (suc bound) one ranks apart =
     let next : bound + 1 ≡ suc bound = omega arith in
     (last.0, subst (λ (n : ℕ). IsWithAll ranks (Below P n) last.0) next (added_more ranks first.0 last.0 P bound first.1 last.1), last.2)
 
--- ---- a list that is worked off comes to an end
+-- of all numbers together
+add_all : (P : ℕ → ℕ → Type 0) (bound : ℕ) → ((number rank : ℕ) → P number rank → number < bound)
+    → ((number : ℕ) → number < bound → OneOrNone (P number)) → (ranks : List ℕ) → AreApart ranks
+    → CanAdd ranks (λ rank. (number : ℕ) × P number rank)
+add_all P bound low one ranks apart =
+    let added = add_below P bound one ranks apart in (
+      added.0,
+      added_same ranks added.0 (Below P bound) (λ rank. (number : ℕ) × P number rank)
+          (λ rank. below_all P bound rank (λ number is. low number rank is)) added.1,
+      added.2,
+    )
 
-there_or_end : (xs : List ℕ) (place : ℕ) → ((x : ℕ) × (slice_get xs place ≡ Some x)) ⊎ (slice_get xs place ≡ None)
-there_or_end [] place = inr refl
-there_or_end (x ∷ xs) zero = inl (x, refl)
-there_or_end (x ∷ xs) (suc place) = there_or_end xs place
+-- ---- a list that is worked off comes to an end
 
 module _ (board : PlainBoard) (IsMove : List ℕ → ℕ → ℕ → Type 0) (Holds : List ℕ → Type 0) (Leads : ℕ → ℕ → Type 0)
     (is : IsConfiguration board board.start) (are : AreMoves board IsMove Holds Leads)
@@ -80,28 +88,29 @@ module _ (board : PlainBoard) (IsMove : List ℕ → ℕ → ℕ → Type 0) (Ho
     → (ranks : List ℕ) → AreApart ranks → CanAdd ranks (Leads rank)) where
   works_off : (left place : ℕ) (ranks : List ℕ) → configurations board ≤ place + left → IsSpreadBy board IsMove Holds Leads place ranks
       → AreApart ranks → (all : List ℕ) × AreRanksOf board (IsReachedBy board IsMove Holds) all
-  works_off zero place ranks enough spread apart = elim (there_or_end ranks place) [
-    | inr end ↦ (ranks, spread_ends board IsMove Holds Leads is are place ranks spread end)
+  works_off zero place ranks enough spread apart = elim (slice_get_cases ranks place).1 [
+    | inr end ↦ (ranks, spread_ends board IsMove Holds Leads is are place ranks spread end.1)
     | inl there ↦
-        let inside : place < length ranks = somewhere ranks place there.0 there.1 in
-        let few : length ranks ≤ configurations board =
-        few_apart ranks (configurations board) apart (λ rank among. (spread.on.sound rank among).0) in
-        absurd (omega arith)
+        let few = few_apart ranks (configurations board) apart (λ rank among. (spread.on.sound rank among).0) in
+        absurd (omega (arith, few, there.1))
   ]
-  works_off (suc left) place ranks enough spread apart = elim (there_or_end ranks place) [
-    | inr end ↦ (ranks, spread_ends board IsMove Holds Leads is are place ranks spread end)
+  works_off (suc left) place ranks enough spread apart = elim (slice_get_cases ranks place).1 [
+    | inr end ↦ (ranks, spread_ends board IsMove Holds Leads is are place ranks spread end.1)
     | inl there ↦
-        let found = spread.on.sound there.0 (get_there ranks place there.0 there.1) in
+        let found = spread.on.sound there.0 (get_there ranks place there.0 there.2) in
         let added = add there.0 found.0 found.1.holds ranks apart in
         works_off left (place + 1) added.0 (omega arith)
-        (spread_more board IsMove Holds Leads is are place there.0 ranks added.0 spread there.1 added.1) added.2
+        (spread_more board IsMove Holds Leads is are place there.0 ranks added.0 spread there.2 added.1) added.2
   ]
 
   all_reached : Holds board.start ⊎ ¬ Holds board.start → (all : List ℕ) × AreRanksOf board (IsReachedBy board IsMove Holds) all
-  all_reached (inl holds) =
-      let with = with_rank [] (rank_of board board.start) none_apart in
-      works_off (configurations board) 0 with.0 (omega arith) (spread_begins board IsMove Holds Leads is with.0 holds with.1) with.2
-  all_reached (inr not) = works_off (configurations board) 0 [] (omega arith) (spread_none board IsMove Holds Leads is not) none_apart
+  all_reached either =
+      let one : OneOrNone (IsStart board IsMove Holds Leads is) = elim either [
+        | inl holds ↦ inl (rank_of board board.start, (holds, refl), λ rank starts. starts.1)
+        | inr not ↦ inr (λ rank starts. not starts.0)
+      ] in
+      let begun = add_one (IsStart board IsMove Holds Leads is) one [] none_apart in
+      works_off (configurations board) 0 begun.0 (omega arith) (spread_begins board IsMove Holds Leads is begun.0 begun.1) begun.2
 
 -- ---- best answers
 
@@ -134,20 +143,12 @@ answer_step board rank pebble below some is_pebble =
       | inr not ↦ inr (λ other step. not (subst (λ (l : ℕ). IsAnswerable board (moved c pebble l)) (one step.label step.best) step.some))
     ]
 
-answers_added : (board : PlainBoard) (rank : ℕ) → rank < configurations board → IsAnswerable board (configuration_at board rank)
-    → (ranks : List ℕ) → AreApart ranks → CanAdd ranks (AnswerLeads board rank)
-answers_added board rank below some ranks apart =
-    let added = add_below (IsAnswerStep board rank) board.pebbles (λ pebble. answer_step board rank pebble below some) ranks apart in (
-      added.0,
-      added_same ranks added.0 (Below (IsAnswerStep board rank) board.pebbles) (AnswerLeads board rank)
-          (λ to. below_all (IsAnswerStep board rank) board.pebbles to (λ pebble step. step.is_pebble)) added.1,
-      added.2,
-    )
-
 pub answers_reach : (board : PlainBoard) → IsConfiguration board board.start
     → (ranks : List ℕ) × AreRanksOf board (IsReachedByAnswers board) ranks
 answers_reach board is =
-    all_reached board _ (IsAnswerable board) (AnswerLeads board) is (answer_moves board) (answers_added board)
+    all_reached board _ (IsAnswerable board) (AnswerLeads board) is (answer_moves board)
+    (λ rank below some. add_all (IsAnswerStep board rank) board.pebbles (λ pebble to step. step.is_pebble)
+    (λ pebble. answer_step board rank pebble below some))
     (answerable_or_not board board.start is)
 
 -- ---- best requests
@@ -162,10 +163,7 @@ request_step board rank label below is_label =
     is = configuration_at_is board rank below
 
     by : (value : Value) → HasValue board (configuration_at board rank) value → OneOrNone (IsRequestStep board rank label)
-    by Forever has = inr (λ to step.
-        let finite = finite_from_request board (configuration_at board rank) step.pebble is step.best in
-        let same : Finite finite.0 ≡ Forever = same_value board (configuration_at board rank) (Finite finite.0) Forever finite.1 has in
-        absurd cc)
+    by Forever has = inr (λ to step. not_lowered board (configuration_at board rank) step.pebble is has step.best.0)
     by (Finite number) has =
         let c : List ℕ = configuration_at board rank in
         let best = best_request board number c has in
@@ -180,18 +178,9 @@ request_step board rank label below is_label =
           | inr not ↦ inr (λ other step. not (subst (λ (p : ℕ). Legal board c p label) (one step.pebble step.best) step.legal).dominates)
         ]
 
-requests_added : (board : PlainBoard) (rank : ℕ) → rank < configurations board → (ranks : List ℕ) → AreApart ranks
-    → CanAdd ranks (RequestLeads board rank)
-requests_added board rank below ranks apart =
-    let added = add_below (IsRequestStep board rank) board.labels (λ label. request_step board rank label below) ranks apart in (
-      added.0,
-      added_same ranks added.0 (Below (IsRequestStep board rank) board.labels) (RequestLeads board rank)
-          (λ to. below_all (IsRequestStep board rank) board.labels to (λ label step. step.legal.is_label)) added.1,
-      added.2,
-    )
-
 pub requests_reach : (board : PlainBoard) → IsConfiguration board board.start
     → (ranks : List ℕ) × AreRanksOf board (IsReachedByRequests board) ranks
 requests_reach board is =
     all_reached board _ (λ c. Unit {0}) (RequestLeads board) is (request_moves board)
-    (λ rank below _. requests_added board rank below) (inl tt)
+    (λ rank below _. add_all (IsRequestStep board rank) board.labels (λ label to step. step.legal.is_label)
+    (λ label. request_step board rank label below)) (inl tt)

@@ -1,6 +1,6 @@
 -- The document of a board is one as the format has it.
 use Rattle.std.proofs.Common.{◌≡◌, ℕ, zero, suc, ◌<◌, ◌≤◌, false, List, [], ◌∷◌, length, get_or, refl, sym, subst, inl, inr, arith}
-use Rattle.std.specs.List.{All, AllPairs}
+use Rattle.std.specs.List.{All, AllPairs, Contains}
 use Rattle.std.proofs.lemmas.Bool.{cases_lt}
 use Rattle.std.proofs.lemmas.List.{get_or_default}
 use Rattle.std.proofs.lemmas.List.Elements.{Contains-get_or}
@@ -16,6 +16,7 @@ use Rattle.positions.proofs.Cited.{lasts_at_most, same_value, forever_from_count
 use Rattle.proof_text.specs.Proof.{PlainProof, IsClaim, AreTurns, IsAnswerRow, IsRequestRow, AreRows, AreAnswerRows, asks_labeller, asks_adversary, IsProof}
 use Rattle.strategies.specs.Best.{IsLess}
 use Rattle.strategies.specs.Document.{IsAnswerable, IsAnswerMove, LeadsBy, IsLabellerRow, IsAdversaryRow, AsksAdversary, AreExactly, IsDocumentOf, claim_of, turns_of}
+use Rattle.strategies.proofs.ValueOrder.{worthless}
 use Rattle.strategies.proofs.ReachedByMoves.{answers_lead_to, requests_lead_to}
 
 -- a finite value is smaller than the number of configurations
@@ -75,73 +76,72 @@ start_answerable board from [] to leads some = subst (IsAnswerable board) (sym l
 start_answerable board from (move ∷ moves) to leads some = leads.0.answerable
 
 pub not_answerable : (board : PlainBoard) (configuration : List ℕ) → IsAnswerable board configuration → HasValue board configuration (Finite 0) → ⊥
-not_answerable board configuration is has =
-    let same : is.value ≡ Finite 0 = same_value board configuration is.value (Finite 0) is.has_value has in
-    let none : 0 < 0 = subst (IsLess (Finite 0)) same is.some in
-    omega (arith, none)
+not_answerable board configuration is has = worthless board configuration (Finite 0) has (λ less. omega (arith, less)) is
 
--- ---- rows
+module _ (board : PlainBoard) (proof : PlainProof) (is_start : IsConfiguration board board.start)
+    (few : configurations board ≤ MAX_CONFIGURATIONS)
+    (is : IsDocumentOf board proof) where
+  claim_formed : (start : Value) → HasValue board board.start start → IsClaim (claim_of start)
+  claim_formed (Finite number) has = let low = value_below board board.start number is_start has in omega (arith, low)
+  claim_formed Forever has = tt
 
-module _ (board : PlainBoard) (is_start : IsConfiguration board board.start) (start : Value) (has_start : HasValue board board.start start) where
-  answers_configuration : (row : AnswerRow) → IsLabellerRow board start row → IsConfiguration board row.at
-  answers_configuration row is = answers_lead_to board board.start is.moves row.at is_start is.reached
+  -- ---- rows
 
-  answers_formed : IsClaim (claim_of start) → (row : AnswerRow) → IsLabellerRow board start row → IsAnswerRow board (claim_of start) row
-  answers_formed low row is =
-      let some : IsAnswerable board board.start = start_answerable board board.start is.moves row.at is.reached
-      (record { value = is.value; has_value = is.has_value; some = is.some }) in
-      let not_zero : start ≡ Finite 0 → ⊥ = λ same. not_answerable board board.start some (subst (HasValue board board.start) same has_start) in
+  answers_configuration : (row : AnswerRow) → IsLabellerRow board is.value row → IsConfiguration board row.at
+  answers_configuration row is_row = answers_lead_to board board.start is_row.moves row.at is_start is_row.reached
+
+  answers_formed : (row : AnswerRow) → IsLabellerRow board is.value row → IsAnswerRow board (claim_of is.value) row
+  answers_formed row is_row =
+      let some : IsAnswerable board board.start = start_answerable board board.start is_row.moves row.at is_row.reached
+      (record { value = is_row.value; has_value = is_row.has_value; some = is_row.some }) in
+      let not_zero : is.value ≡ Finite 0 → ⊥ = λ same. not_answerable board board.start some
+      (subst (HasValue board board.start) same is.has_value) in
       record {
-        at = answers_configuration row is;
-        turns = subst (AreTurns (claim_of start)) (sym is.turns) (turns_formed start is.value low not_zero is.some);
+        at = answers_configuration row is_row;
+        turns = subst (AreTurns (claim_of is.value)) (sym is_row.turns)
+            (turns_formed is.value is_row.value (claim_formed is.value is.has_value) not_zero is_row.some);
         answers = (
-          is.one_each,
+          is_row.one_each,
           λ k d inside.
-              let best = is.best k (omega (arith, inside, is.one_each)) in
+              let best = is_row.best k (omega (arith, inside, is_row.one_each)) in
               subst (λ n. n < board.labels) (get_or_default row.answers k 0 d inside) best.0.legal.is_label,
         );
       }
 
-  requests_configuration : (row : RequestRow) → AsksAdversary start × IsAdversaryRow board row → IsConfiguration board row.at
-  requests_configuration row is = requests_lead_to board board.start is.1.moves row.at is_start is.1.reached
+  requests_configuration : (row : RequestRow) → AsksAdversary is.value × IsAdversaryRow board row → IsConfiguration board row.at
+  requests_configuration row (asks, is_row) = requests_lead_to board board.start is_row.moves row.at is_start is_row.reached
 
-  requests_formed : configurations board ≤ MAX_CONFIGURATIONS → (row : RequestRow) → AsksAdversary start × IsAdversaryRow board row → IsRequestRow board row
-  requests_formed few row is =
-      let low : row.left < configurations board = value_below board row.at row.left (requests_configuration row is) is.1.has_value in
+  requests_formed : (row : RequestRow) → AsksAdversary is.value × IsAdversaryRow board row → IsRequestRow board row
+  requests_formed row (asks, is_row) =
+      let low = value_below board row.at row.left (requests_configuration row (asks, is_row)) is_row.has_value in
       record {
-        at = requests_configuration row is;
-        left = omega arith;
-        request = is.1.best.0.is_pebble;
+        at = requests_configuration row (asks, is_row);
+        left = omega (arith, low, few);
+        request = is_row.best.0.is_pebble;
       }
 
-claim_formed : (board : PlainBoard) → IsConfiguration board board.start → configurations board ≤ MAX_CONFIGURATIONS → (start : Value) → HasValue board board.start start
-    → IsClaim (claim_of start)
-claim_formed board is_start few (Finite number) has =
-    let low : number < configurations board = value_below board board.start number is_start has in omega arith
-claim_formed board is_start few Forever has = tt
+  -- ---- the document
 
-always_labeller : (start : Value) (rows : List AnswerRow) → asks_labeller (claim_of start) ≡ false → rows ≡ []
-always_labeller (Finite number) rows same = absurd cc
-always_labeller Forever rows same = absurd cc
+  always_labeller : (start : Value) → asks_labeller (claim_of start) ≡ false → proof.labeller ≡ []
+  always_labeller (Finite number) same = absurd cc
+  always_labeller Forever same = absurd cc
 
-sometimes_adversary : (board : PlainBoard) (start : Value) (rows : List RequestRow)
-    → AreExactly board (λ (row : RequestRow). AsksAdversary start × IsAdversaryRow board row) (λ (row : RequestRow). row.at) rows
-    → asks_adversary (claim_of start) ≡ false → rows ≡ []
-sometimes_adversary board (Finite number) rows exactly same = absurd cc
-sometimes_adversary board Forever [] exactly same = refl
-sometimes_adversary board Forever (row ∷ rows) exactly same = absurd ((exactly.each row).0 (Contains-get_or (row ∷ rows) 0 row (omega arith))).0
+  sometimes_adversary : (start : Value) (rows : List RequestRow) → ((row : RequestRow) → Contains rows row → AsksAdversary start)
+      → asks_adversary (claim_of start) ≡ false → rows ≡ []
+  sometimes_adversary (Finite number) rows asks same = absurd cc
+  sometimes_adversary Forever [] asks same = refl
+  sometimes_adversary Forever (row ∷ rows) asks same = absurd (asks row (Contains-get_or (row ∷ rows) 0 row (omega arith)))
 
-pub is_formed : (board : PlainBoard) (proof : PlainProof) → IsConfiguration board board.start → configurations board ≤ MAX_CONFIGURATIONS → IsDocumentOf board proof
-    → IsProof board proof
-is_formed board proof is_start few is =
-    let low = claim_formed board is_start few is.value is.has_value in
-    record {
-      claim = subst IsClaim (sym is.claim) low;
-      labeller = subst (λ (claim : Claim). AreAnswerRows board claim proof.labeller) (sym is.claim)
-          (section board (IsLabellerRow board is.value) (IsAnswerRow board (claim_of is.value)) (λ (row : AnswerRow). row.at) proof.labeller few
-          (answers_configuration board is_start is.value is.has_value) (answers_formed board is_start is.value is.has_value low) is.labeller);
-      adversary = section board (λ (row : RequestRow). AsksAdversary is.value × IsAdversaryRow board row) (IsRequestRow board) (λ (row : RequestRow). row.at) proof.adversary few
-          (requests_configuration board is_start is.value is.has_value) (requests_formed board is_start is.value is.has_value few) is.adversary;
-      no_labeller = λ none. always_labeller is.value proof.labeller (subst (λ (claim : Claim). asks_labeller claim ≡ false) is.claim none);
-      no_adversary = λ none. sometimes_adversary board is.value proof.adversary is.adversary (subst (λ (claim : Claim). asks_adversary claim ≡ false) is.claim none);
-    }
+  pub is_formed : IsProof board proof
+  is_formed = record {
+    claim = subst IsClaim (sym is.claim) (claim_formed is.value is.has_value);
+    labeller = subst (λ (claim : Claim). AreAnswerRows board claim proof.labeller) (sym is.claim)
+        (section board (IsLabellerRow board is.value) (IsAnswerRow board (claim_of is.value))
+        (λ (row : AnswerRow). row.at) proof.labeller few
+        answers_configuration answers_formed is.labeller);
+    adversary = section board _ (IsRequestRow board) (λ (row : RequestRow). row.at) proof.adversary few
+        requests_configuration requests_formed is.adversary;
+    no_labeller = λ none. always_labeller is.value (subst (λ (claim : Claim). asks_labeller claim ≡ false) is.claim none);
+    no_adversary = λ none. sometimes_adversary is.value proof.adversary (λ row among. ((is.adversary.each row).0 among).0)
+        (subst (λ (claim : Claim). asks_adversary claim ≡ false) is.claim none);
+  }

@@ -1,6 +1,7 @@
 -- The first row of a configuration.
-use Rattle.std.proofs.Common.{◌≡◌, ◌≢◌, ℕ, zero, suc, ◌<◌, Bool, true, false, cond, nat_eq, List, [], ◌∷◌, length, Some, refl, sym, ap, ◌∙◌, arith, IsSome, is_some}
+use Rattle.std.proofs.Common.{◌≡◌, ℕ, suc, ◌<◌, Bool, true, false, cond, nat_eq, List, [], ◌∷◌, length, Some, refl, sym, ap, ◌∙◌, arith, IsSome, is_some}
 use Rattle.std.specs.List.{Contains, find}
+use Rattle.std.proofs.lemmas.Map.Made.{Contains-tail}
 use lib.Pointwise.{pointwise, bytes_decides}
 
 -- a row of the configuration is the first that a table has for it
@@ -27,10 +28,6 @@ module _ {X : Type 0} (at : X → List ℕ) (configuration : List ℕ) where
     at_it = behind.at_it;
   }
 
-  in_rest : (first row : X) (rows : List X) → Contains (first ∷ rows) row → at row ≡ configuration → at first ≢ configuration → Contains rows row
-  in_rest first row rows (zero, inside, same) is differs = absurd (differs (ap at same ∙ is))
-  in_rest first row rows (suc place, inside, same) is differs = (place, omega arith, same)
-
   -- where one of the rows is the configuration's, the table finds one
   pub find_row : (rows : List X) (row : X) → Contains rows row → at row ≡ configuration → IsFound at rows configuration
   find_row [] row among is = absurd (let inside : among.0 < 0 = among.1 in omega arith)
@@ -38,8 +35,9 @@ module _ {X : Type 0} (at : X → List ℕ) (configuration : List ℕ) where
     where
       by : (b : Bool) → b ≡ pointwise nat_eq (at first) configuration → (Contains rows row → IsFound at rows configuration) → IsFound at (first ∷ rows) configuration
       by true passes rest = found_here first rows passes
-      by false fails rest = found_behind first rows fails (rest (in_rest first row rows among is (λ same.
-          let passes : pointwise nat_eq (at first) configuration ≡ true = (bytes_decides (at first) configuration).1 same in absurd cc)))
+      by false fails rest = found_behind first rows fails (rest (Contains-tail first rows row (λ equal.
+          let passes : pointwise nat_eq (at first) configuration ≡ true = (bytes_decides (at first) configuration).1
+          (ap at equal ∙ is) in absurd cc) among))
 
   -- what the table lists, it finds
   pub find_listed : (rows : List X) → IsSome (find (λ r. pointwise nat_eq (at r) configuration) rows) → IsFound at rows configuration

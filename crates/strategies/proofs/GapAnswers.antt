@@ -1,8 +1,11 @@
--- The best answer of a gap: where it is found, and that it is that of each member.
-use Rattle.std.proofs.Common.{◌≡◌, ℕ, ◌+◌, ◌<◌, ◌≤◌, ◌↔◌, ◌⊎◌, List, Option, None, Some, option_map, inl, inr, refl, sym, ◌∙◌, ap, subst, arith}
+-- The answers of a gap: a walk over them, and the best one, which is that of each member.
+use Rattle.std.proofs.Common.{◌≡◌, ℕ, ◌+◌, ◌<◌, ◌≤◌, ◌↔◌, ◌⊎◌, true, List, [], ◌∷◌, ◌++◌, length, Option, None, Some, option_map, inl, inr, refl, sym, ◌∙◌, ap, subst, arith}
 use Rattle.std.proofs.lemmas.Bool.{cases_lt}
-use Rattle.board_text.specs.PlainBoard.{PlainBoard, IsConfiguration}
+use Rattle.std.proofs.lemmas.List.{get_or_append_left, get_or_at, length-append}
+use Rattle.board_text.specs.Domination.{has_bit}
+use Rattle.board_text.specs.PlainBoard.{PlainBoard, IsConfiguration, places}
 use Rattle.board_text.specs.declared.board.TheConstants.{MAX_LABELS}
+use Rattle.board_text.proofs.Cited.{label_is_place}
 use Rattle.positions.specs.declared.value.Value.{Value}
 use Rattle.positions.specs.declared.value.Value.TheVariants.{Finite, Forever}
 use Rattle.positions.specs.Counts.{IsSmallest}
@@ -10,21 +13,13 @@ use Rattle.positions.specs.Game.{Legal, moved}
 use Rattle.positions.specs.Value.{HasValue}
 use Rattle.positions.specs.Ranks.{rank_of, configuration_at}
 use Rattle.positions.specs.Gaps.{gap_of, member_of, IsAnswer}
+use Rattle.positions.specs.LabelWalk.{Walk, IsStep}
+use Rattle.positions.proofs.Cited.{AreFrom, next_of, after_step, none_left}
 use Rattle.positions.proofs.Cited.{moved_is_configuration, member_of-gap_of, legal_is_answer, configuration_at-rank_of, some_value}
 use Rattle.strategies.specs.declared.gap_best.Best.{Best}
 use Rattle.strategies.specs.Best.{IsLess}
-use Rattle.strategies.specs.Inside.GapBest.{IsBestFor}
-use Rattle.strategies.proofs.ValueOrder.{cases_value, not_above}
-use Rattle.strategies.proofs.BestAnswers.{IsBestBelow, NoneBelow, first_next, better_next, as_good_next, best_of_all}
-
--- answers are few
-pub answer_few : (board : PlainBoard) (gap : ℕ) → board.labels ≤ MAX_LABELS → (label : ℕ) → IsAnswer board gap label → label < MAX_LABELS
-answer_few board gap few label is = omega (arith, is.is_label, few)
-
--- the best of the answers below a bound, if there is one
-abbrev pub IsFoundBelow : PlainBoard → List ℕ → ℕ → ℕ → Option Best → Type 0
-IsFoundBelow board configuration pebble bound (Some best) = IsBestBelow board configuration pebble bound best.label best.value
-IsFoundBelow board configuration pebble bound None = NoneBelow board configuration pebble bound
+use Rattle.strategies.specs.Inside.GapBest.{IsBestFor, IsBetter, IsGapBest, AreGapsBest}
+use Rattle.strategies.proofs.BestAnswers.{IsBestBelow, IsFoundBelow, widen, next_label, best_of_all}
 
 -- the configuration is a member of the gap, which is the pebble's
 pub record IsMemberOf (board : PlainBoard) (configuration : List ℕ) (pebble gap : ℕ) : Type 0 where
@@ -32,18 +27,12 @@ pub record IsMemberOf (board : PlainBoard) (configuration : List ℕ) (pebble ga
   pub is_pebble : pebble < board.pebbles
   pub its_gap : gap_of board configuration pebble ≡ gap
 
-is_less_or_not : (first second : Value) → IsLess first second ⊎ ¬ IsLess first second
-is_less_or_not first second = elim (cases_value first second) [
-  | inl less ↦ inl less
-  | inr not_less ↦ inr (not_above first second not_less)
-]
-
 module _ (board : PlainBoard) (configuration : List ℕ) (pebble gap : ℕ) (is : IsMemberOf board configuration pebble gap) where
-  legal_there : (label : ℕ) → Legal board configuration pebble label ↔ IsAnswer board gap label
+  pub legal_there : (label : ℕ) → Legal board configuration pebble label ↔ IsAnswer board gap label
   legal_there label = subst (λ (g : ℕ). Legal board configuration pebble label ↔ IsAnswer board g label) is.its_gap
       (legal_is_answer board configuration pebble label is.is_configuration is.is_pebble)
 
-  member_there : (label : ℕ) → member_of board gap label ≡ moved configuration pebble label
+  pub member_there : (label : ℕ) → member_of board gap label ≡ moved configuration pebble label
   member_there label = subst (λ (g : ℕ). member_of board g label ≡ moved configuration pebble label) is.its_gap
       (member_of-gap_of board configuration pebble label is.is_configuration is.is_pebble)
 
@@ -56,48 +45,17 @@ module _ (board : PlainBoard) (configuration : List ℕ) (pebble gap : ℕ) (is 
       (ap (configuration_at board) same ∙ configuration_at-rank_of board (moved configuration pebble label) (moved_is_configuration board configuration pebble label legal.is_label is.is_configuration))
       has
 
-  -- no label is legal from one bound to another
-  widen : (bound more : ℕ) (best : Option Best) → bound ≤ more → ((label : ℕ) → bound ≤ label → label < more → ¬ Legal board configuration pebble label)
-      → IsFoundBelow board configuration pebble bound best → IsFoundBelow board configuration pebble more best
-  widen bound more None enough none found = λ other below. elim (cases_lt other bound) [ inl early ↦ found other early | inr late ↦ none other late below ]
-  widen bound more (Some best) enough none found = record {
-    early = omega (arith, found.early);
-    legal = found.legal;
-    has = found.has;
-    best = λ other below legal. elim (cases_lt other bound) [ inl early ↦ found.best other early legal | inr late ↦ absurd (none other late below legal) ];
-  }
-
   -- the next answer is looked at
-  step : (best : Option Best) (later result : Best) → IsFoundBelow board configuration pebble later.label best → Legal board configuration pebble later.label
-      → HasValue board (moved configuration pebble later.label) later.value
-      → (best ≡ None → result ≡ later)
-      → ((first : Best) → best ≡ Some first → IsLess first.value later.value → result ≡ later)
-      → ((first : Best) → best ≡ Some first → ¬ IsLess first.value later.value → result ≡ first)
-      → IsFoundBelow board configuration pebble (later.label + 1) (Some result)
-  step None later result found legal has only greater kept =
-      subst (λ (b : Best). IsFoundBelow board configuration pebble (later.label + 1) (Some b)) (sym (only refl))
-      (first_next board configuration pebble later.label later.value found legal has)
-  step (Some first) later result found legal has only greater kept = elim (is_less_or_not first.value later.value) [
-    | inl less ↦ subst (λ (b : Best). IsFoundBelow board configuration pebble (later.label + 1) (Some b)) (sym (greater first refl less))
-        (better_next board configuration pebble later.label first.label first.value later.value found legal has less)
-    | inr not ↦ subst (λ (b : Best). IsFoundBelow board configuration pebble (later.label + 1) (Some b)) (sym (kept first refl not))
-        (as_good_next board configuration pebble later.label first.label first.value later.value found legal has not)
-  ]
-
-  pub found_next : (from rank : ℕ) (best : Option Best) (later result : Best)
-      → IsFoundBelow board configuration pebble from best
+  pub found_next : (from rank : ℕ) (best : Option Best) (later result : Best) → IsFoundBelow board configuration pebble from best
       → IsSmallest (λ label. (from ≤ label) × IsAnswer board gap label) (Some later.label)
       → rank ≡ rank_of board (member_of board gap later.label) → HasValue board (configuration_at board rank) later.value
-      → (best ≡ None → result ≡ later)
-      → ((first : Best) → best ≡ Some first → IsLess first.value later.value → result ≡ later)
-      → ((first : Best) → best ≡ Some first → ¬ IsLess first.value later.value → result ≡ first)
-      → IsFoundBelow board configuration pebble (later.label + 1) (Some result)
-  found_next from rank best later result found next rank_is has only greater kept =
+      → IsBetter best later result → IsBestBelow board configuration pebble (later.label + 1) result
+  found_next from rank best later result found next rank_is has better =
       let legal = (legal_there later.label).1 next.0.1 in
-      step best later result
-      (widen from later.label best next.0.0
-      (λ label late below legal. let least : later.label ≤ label = next.1 label (late, (legal_there label).0 legal) in absurd (omega arith)) found)
-      legal (value_there rank later.label later.value rank_is legal has) only greater kept
+      next_label board configuration pebble best later result
+      (widen board configuration pebble from later.label best next.0.0
+      (λ label late early is_legal. let least = next.1 label (late, (legal_there label).0 is_legal) in omega (arith, least)) found)
+      legal (value_there rank later.label later.value rank_is legal has) better
 
   -- all answers have been looked at
   pub found_all : (from : ℕ) (best : Option Best) → IsFoundBelow board configuration pebble from best
@@ -106,46 +64,60 @@ module _ (board : PlainBoard) (configuration : List ℕ) (pebble gap : ℕ) (is 
     | inl early ↦ found label early legal
     | inr late ↦ none label (late, (legal_there label).0 legal)
   ]
-  found_all from (Some best) found none = (best_of_all board configuration pebble best.label best.value all, all.has)
-    where
-      all : IsBestBelow board configuration pebble board.labels best.label best.value
-      all = record {
-        early = found.legal.is_label;
-        legal = found.legal;
-        has = found.has;
-        best = λ other below legal. elim (cases_lt other from) [
-          | inl early ↦ found.best other early legal
-          | inr late ↦ absurd (none other (late, (legal_there other).0 legal))
-        ];
-      }
+  found_all from (Some best) found none =
+      best_of_all board configuration pebble from best found (λ other late legal. absurd (none other (late, (legal_there other).0 legal)))
 
   -- one that lasts forever is the best of all, where it is the best of those before it
-  pub found_forever : (from : ℕ) (best : Best) → IsFoundBelow board configuration pebble from (Some best) → best.value ≡ Forever → IsBestFor board configuration pebble (Some best)
-  found_forever from best found forever = (best_of_all board configuration pebble best.label best.value all, all.has)
+  pub found_forever : (from : ℕ) (best : Best) → IsBestBelow board configuration pebble from best → best.value ≡ Forever
+      → IsBestFor board configuration pebble (Some best)
+  found_forever from best found forever = best_of_all board configuration pebble from best found (λ other late legal.
+      let value = some_value board (moved configuration pebble other)
+      (moved_is_configuration board configuration pebble other legal.is_label is.is_configuration) in (
+        value.0,
+        value.1,
+        subst (λ (v : Value). IsLess value.0 v ⊎ ((value.0 ≡ v) × (best.label ≤ other))) (sym forever)
+            (less_or_same value.0 other (omega (arith, found.early, late))),
+      ))
     where
-      less_or_same : (value : Value) → IsLess value Forever ⊎ (value ≡ Forever)
-      less_or_same (Finite number) = inl tt
-      less_or_same Forever = inr refl
+      less_or_same : (value : Value) (other : ℕ) → best.label ≤ other → IsLess value Forever ⊎ ((value ≡ Forever) × (best.label ≤ other))
+      less_or_same (Finite number) other before = inl tt
+      less_or_same Forever other before = inr (refl, before)
 
-      all : IsBestBelow board configuration pebble board.labels best.label best.value
-      all = record {
-        early = found.legal.is_label;
-        legal = found.legal;
-        has = found.has;
-        best = λ other below legal. elim (cases_lt other from) [
-          | inl early ↦ found.best other early legal
-          | inr late ↦
-              let value = some_value board (moved configuration pebble other) (moved_is_configuration board configuration pebble other legal.is_label is.is_configuration) in
-              let before : best.label ≤ other = omega (arith, found.early, late) in (
-                value.0,
-                value.1,
-                elim (less_or_same value.0) [
-                  | inl less ↦ inl (subst (IsLess value.0) (sym forever) less)
-                  | inr same ↦ inr (same ∙ sym forever, before)
-                ],
-              )
-        ];
-      }
+-- ---- a walk over the answers, step by step
+
+-- at each member of the gap it is the best of the answers below a bound, if there is one
+abbrev pub AreFound : PlainBoard → ℕ → ℕ → Option Best → Type 0
+AreFound board gap bound best = (configuration : List ℕ) (pebble : ℕ) → IsMemberOf board configuration pebble gap
+    → IsFoundBelow board configuration pebble bound best
+
+module _ (board : PlainBoard) (gap : ℕ) (few : board.labels ≤ MAX_LABELS) where
+  answer_few : (label : ℕ) → IsAnswer board gap label → label < MAX_LABELS
+  answer_few label is = omega (arith, is.is_label, few)
+
+  module _ (walk after : Walk) (label : ℕ) (left : AreFrom (IsAnswer board gap) walk) (step : IsStep walk after label) where
+    pub next_answer : IsSmallest (λ l. (walk.from ≤ l) × IsAnswer board gap l) (Some label)
+    next_answer = next_of (IsAnswer board gap) answer_few walk left after label step
+
+    pub answer_place : label < places board
+    answer_place = label_is_place board label next_answer.0.1.is_label
+
+    pub from_after : after.from ≤ MAX_LABELS
+    from_after = omega (arith, step.from, answer_few label next_answer.0.1)
+
+    pub left_after : AreFrom (IsAnswer board gap) after
+    left_after = after_step (IsAnswer board gap) answer_few walk left after label step
+
+    pub found_after : (rank : ℕ) (value : Value) (best : Option Best) (result : Best) → AreFound board gap walk.from best
+        → rank ≡ rank_of board (member_of board gap label) → HasValue board (configuration_at board rank) value
+        → IsBetter best (record { label = label; value = value }) result → AreFound board gap (label + 1) (Some result)
+    found_after rank value best result found rank_is has better configuration pebble is =
+        found_next board configuration pebble gap is walk.from rank best (record { label = label; value = value }) result
+        (found configuration pebble is) next_answer rank_is has better
+
+  pub no_answer_left : (walk : Walk) → AreFrom (IsAnswer board gap) walk
+      → ((label : ℕ) → label < MAX_LABELS → has_bit walk.left label ≡ true → ⊥)
+      → IsSmallest (λ l. (walk.from ≤ l) × IsAnswer board gap l) None
+  no_answer_left walk left none = none_left (IsAnswer board gap) answer_few walk left none
 
 -- ---- what a best answer says of a request
 
@@ -154,3 +126,15 @@ module _ (board : PlainBoard) (configuration : List ℕ) (pebble : ℕ) where
       → (option_map (λ (b : Best). b.label) best ≡ None) ↔ ((label : ℕ) → Legal board configuration pebble label → ⊥)
   best_is_none (Some best) is = (λ same. absurd cc, λ none. absurd (none best.label is.0.0.legal))
   best_is_none None none = (λ _. none, λ _. refl)
+
+-- ---- the best answers of the first gaps
+
+pub listed_more : (board : PlainBoard) (answers : List (Option Best)) (best : Option Best) → AreGapsBest board answers
+    → IsGapBest board (length answers) best → AreGapsBest board (answers ++ best ∷ [])
+listed_more board answers best are is gap below = elim (cases_lt gap (length answers)) [
+  | inl early ↦ subst (IsGapBest board gap) (sym (get_or_append_left answers (best ∷ []) None gap early)) (are gap early)
+  | inr late ↦
+      let last : length answers ≡ gap = omega (arith, late, below, length-append answers (best ∷ [])) in
+      subst (λ (o : Option Best). IsGapBest board gap o) (sym (get_or_at answers best [] None gap last))
+      (subst (λ (g : ℕ). IsGapBest board g best) last is)
+]

@@ -1,5 +1,5 @@
 -- The rows of a document, gathered in ascending rank.
-use Rattle.std.proofs.Common.{◌≡◌, ℕ, ◌+◌, ◌≤◌, List, [], ◌∷◌, ◌++◌, map, Option, Some, None, refl, sym, ap, ◌∙◌, subst, inl, inr, arith}
+use Rattle.std.proofs.Common.{◌≡◌, ℕ, ◌+◌, ◌<◌, ◌≤◌, List, [], ◌∷◌, ◌++◌, map, Option, Some, None, refl, sym, ap, ◌∙◌, subst, inl, inr, arith}
 use Rattle.std.specs.List.{All, Contains}
 use Rattle.std.proofs.lemmas.Bool.{cases_lt}
 use Rattle.std.proofs.lemmas.List.{map-append}
@@ -9,12 +9,11 @@ use Rattle.positions.specs.Counts.{IsSmallest}
 use Rattle.positions.specs.declared.value.Value.{Value}
 use Rattle.positions.specs.declared.value.Value.TheVariants.{Finite, Forever}
 use Rattle.positions.specs.Value.{HasValue}
-use Rattle.positions.specs.Ranks.{rank_of, configuration_at}
+use Rattle.positions.specs.Ranks.{configurations, rank_of, configuration_at}
 use Rattle.positions.specs.Table.{RequestRow}
 use Rattle.positions.proofs.Cited.{rank_below, rank_of-configuration_at, configuration_at-rank_of, same_value}
 use Rattle.strategies.specs.Document.{IsAnswerable, IsAnswerMove, IsRequestMove, LeadsBy, IsAdversaryRow}
-use Rattle.strategies.specs.Inside.Side.{Side, AreOfReached, AreSection, IsRowAt, labeller_side, adversary_side}
-use Rattle.strategies.specs.Inside.ReachedRanks.{AreRanksOf}
+use Rattle.strategies.specs.Inside.Side.{Side, AreOfReached, AreReached, AreSection, IsRowAt, labeller_side, adversary_side}
 use Rattle.strategies.proofs.RowLists.{AreExactlyBelow, pass_ranks, push_row, all_rows}
 use Rattle.strategies.proofs.OneList.{one_answer_row, one_request_row}
 use Rattle.strategies.proofs.ReachedByMoves.{answers_lead_to, requests_lead_to}
@@ -55,21 +54,37 @@ pub record AreSectionBelow {R : Type 0} (board : PlainBoard) (side : Side R) (bo
   pub exactly : AreExactlyBelow board side.IsRow side.at bound (map side.shown rows)
   pub filled : All side.IsFilled rows
 
--- a row whose configuration has a rank stands there
-pub at_rank : {R : Type 0} (board : PlainBoard) (side : Side R) → AreOfReached board side → (row : side.Row) (rank : ℕ) → side.IsRow row
-    → rank_of board (side.at row) ≡ rank → side.at row ≡ configuration_at board rank
-at_rank board side of_reached row rank is_row same =
-    sym (configuration_at-rank_of board (side.at row) (of_reached.is_configuration row is_row)) ∙ ap (configuration_at board) same
+module _ {R : Type 0} (board : PlainBoard) (side : Side R) (of_reached : AreOfReached board side) where
+  -- a row whose configuration has a rank stands there
+  pub at_rank : (row : side.Row) (rank : ℕ) → side.IsRow row → rank_of board (side.at row) ≡ rank
+      → side.at row ≡ configuration_at board rank
+  at_rank row rank is_row same =
+      sym (configuration_at-rank_of board (side.at row) (of_reached.is_configuration row is_row)) ∙ ap (configuration_at board) same
 
-module _ {R : Type 0} (board : PlainBoard) (side : Side R) (of_reached : AreOfReached board side)
-    (ranks : List ℕ) (are : AreRanksOf board side.IsReached ranks) (from : ℕ) (rows : List R) (section : AreSectionBelow board side from rows) where
+  -- a rank at which a row stands
+  pub row_there : (rank : ℕ) (rows : List side.Row) (row : side.Row) → rank < configurations board
+      → AreExactlyBelow board side.IsRow side.at rank rows
+      → side.IsRow row → side.at row ≡ configuration_at board rank → AreExactlyBelow board side.IsRow side.at (rank + 1) (rows ++ row ∷ [])
+  row_there rank rows row below before is_row here =
+      push_row board side.IsRow side.at rank rows row before is_row (ap (rank_of board) here ∙ rank_of-configuration_at board rank below)
+      (λ other is_other same. of_reached.one row other is_row is_other (here ∙ sym (at_rank other rank is_other same)))
+
+  -- a rank at which none stands
+  pub no_row_there : (rank : ℕ) (rows : List side.Row) → AreExactlyBelow board side.IsRow side.at rank rows
+      → ((row : side.Row) → side.IsRow row → side.at row ≡ configuration_at board rank → ⊥)
+      → AreExactlyBelow board side.IsRow side.at (rank + 1) rows
+  no_row_there rank rows before none = pass_ranks board side.IsRow side.at rank (rank + 1) rows (omega arith) before
+      (λ row is_row above below. none row is_row (at_rank row rank is_row (omega arith)))
+
+module _ {R : Type 0} (board : PlainBoard) (side : Side R) (ranks : List ℕ) (are : AreReached board side ranks)
+    (from : ℕ) (rows : List R) (section : AreSectionBelow board side from rows) where
   abbrev IsNext : Option ℕ → Type 0
   IsNext = IsSmallest (λ rank. (from ≤ rank) × Contains ranks rank)
 
   among : (row : side.Row) (rank : ℕ) → side.IsRow row → rank_of board (side.at row) ≡ rank → Contains ranks rank
   among row rank is_row same =
-      let below = rank_below board (side.at row) (of_reached.is_configuration row is_row) in
-      (are rank).1 (omega (arith, below, same), of_reached.reached row rank is_row (at_rank board side of_reached row rank is_row same))
+      let below = rank_below board (side.at row) (are.rows.is_configuration row is_row) in
+      (are.each rank).1 (omega (arith, below, same), are.rows.reached row rank is_row (at_rank board side are.rows row rank is_row same))
 
   up_to : (rank : ℕ) → IsNext (Some rank) → AreExactlyBelow board side.IsRow side.at rank (map side.shown rows)
   up_to rank next = pass_ranks board side.IsRow side.at from rank (map side.shown rows) next.0.0 section.exactly (λ row is_row above below.
@@ -79,18 +94,15 @@ module _ {R : Type 0} (board : PlainBoard) (side : Side R) (of_reached : AreOfRe
   pub one_more : (rank : ℕ) (row : R) → IsNext (Some rank) → IsRowAt board side rank (Some row) → AreSectionBelow board side (rank + 1) (rows ++ row ∷ [])
   one_more rank row next (is_row, here, filled) = record {
     exactly = subst (AreExactlyBelow board side.IsRow side.at (rank + 1)) (sym (map-append side.shown rows (row ∷ [])))
-        (push_row board side.IsRow side.at rank (map side.shown rows) (side.shown row) (up_to rank next) is_row
-        (ap (rank_of board) here ∙ rank_of-configuration_at board rank ((are rank).0 next.0.1).0)
-        (λ other is_other same. of_reached.one (side.shown row) other is_row is_other
-        (here ∙ sym (at_rank board side of_reached other rank is_other same))));
+        (row_there board side are.rows rank (map side.shown rows) (side.shown row) ((are.each rank).0 next.0.1).0
+        (up_to rank next) is_row here);
     filled = All-push side.IsFilled rows row section.filled filled;
   }
 
   -- the next rank has no row
   pub none_there : (rank : ℕ) → IsNext (Some rank) → IsRowAt board side rank None → AreSectionBelow board side (rank + 1) rows
   none_there rank next none = record {
-    exactly = pass_ranks board side.IsRow side.at rank (rank + 1) (map side.shown rows) (omega arith) (up_to rank next)
-        (λ row is_row above below. none row is_row (at_rank board side of_reached row rank is_row (omega arith)));
+    exactly = no_row_there board side are.rows rank (map side.shown rows) (up_to rank next) none;
     filled = section.filled;
   }
 

@@ -1,6 +1,6 @@
 -- The document of the board with a lone pebble.
-use Rattle.std.proofs.Common.{◌≡◌, ℕ, zero, suc, ◌<◌, List, [], ◌∷◌, get_or, slice_index, refl, sym, subst, arith}
-use Rattle.std.specs.List.{Contains}
+use Rattle.std.proofs.Common.{◌≡◌, ℕ, zero, suc, ◌<◌, List, [], ◌∷◌, slice_index, refl, sym, subst, arith}
+use Rattle.std.proofs.lemmas.List.Elements.{All-cons, All-nil}
 use Rattle.board_text.specs.PlainBoard.{IsBoard}
 use Rattle.board_text.proofs.Cited.{start_from_numbers}
 use Rattle.positions.specs.declared.value.Value.TheVariants.{Forever}
@@ -12,22 +12,19 @@ use Rattle.strategies.specs.Best.{HasNoGreaterValue, IsBestAnswer}
 use Rattle.strategies.specs.Document.{IsAnswerMove, LeadsBy, IsLabellerRow, IsAdversaryRow, AsksAdversary, AreExactly, IsDocumentOf}
 use Rattle.strategies.specs.Example.{lone_board, lone_document}
 use Rattle.strategies.proofs.OneList.{one_answer_row}
+use Rattle.strategies.proofs.RowLists.{no_rows, one_row}
 
 pub is_board : IsBoard lone_board
 is_board = record {
   labels = (omega arith, omega arith);
   pebbles = (omega arith, omega arith);
-  start = start_from_numbers lone_board (refl, places);
+  start = start_from_numbers lone_board (refl, All-cons (λ place. place < 2) 0 [] (omega arith) (All-nil (λ place. place < 2)));
   pairs = record {
     of_labels = λ k d inside. absurd (omega arith);
     ascending = λ i j d less inside. absurd (omega arith);
     one_way = λ x y one other. absurd (let inside : one.0 < 0 = one.1 in omega arith);
   };
 }
-  where
-    places : (k d : ℕ) → k < 1 → get_or (0 ∷ []) k d < 2
-    places zero d inside = omega arith
-    places (suc k) d inside = absurd (omega arith)
 
 abbrev start : List ℕ
 start = 0 ∷ []
@@ -83,24 +80,12 @@ only_start ((zero, label) ∷ moves) to leads =
     only_start moves to (subst (λ (l : ℕ). LeadsBy (IsAnswerMove lone_board) (moved start 0 l) moves to) (only_label label leads.0.best.0.legal) leads.1)
 only_start ((suc pebble, label) ∷ moves) to leads = absurd (omega (arith, leads.0.is_pebble))
 
-the_one : (row : AnswerRow) → Contains (answers ∷ []) row → answers ≡ row
-the_one row (zero, inside, same) = same
-the_one row (suc place, inside, same) = absurd (omega arith)
-
 labeller_rows : AreExactly lone_board (IsLabellerRow lone_board Forever) (λ (row : AnswerRow). row.at) lone_document.labeller
-labeller_rows = record {
-  each = λ row. (
-    λ among. subst (IsLabellerRow lone_board Forever) (the_one row among) is_row,
-    λ is. (0, omega arith, one_answer_row lone_board Forever answers row is_row is (only_start is.moves row.at is.reached)),
-  );
-  ascending = λ i j d less inside. absurd (omega arith);
-}
+labeller_rows = one_row lone_board (λ (row : AnswerRow). row.at) (IsLabellerRow lone_board Forever) answers is_row
+    (λ row is. one_answer_row lone_board Forever answers row is_row is (only_start is.moves row.at is.reached))
 
 adversary_rows : AreExactly lone_board (λ (row : RequestRow). AsksAdversary Forever × IsAdversaryRow lone_board row) (λ (row : RequestRow). row.at) lone_document.adversary
-adversary_rows = record {
-  each = λ row. (λ among. absurd (let inside : among.0 < 0 = among.1 in omega arith), λ is. absurd is.0);
-  ascending = λ i j d less inside. absurd (omega arith);
-}
+adversary_rows = no_rows lone_board (λ (row : RequestRow). row.at) _ (λ row asked. asked.0)
 
 pub is_document : IsDocumentOf lone_board lone_document
 is_document = record { value = Forever; has_value = lasts; claim = refl; labeller = labeller_rows; adversary = adversary_rows }

@@ -12,7 +12,7 @@ use Rattle.strategies.specs.declared.gap_best.Best.{Best}
 use Rattle.strategies.specs.Best.{IsLess, HasSmallerValue, HasNoGreaterValue, LowersValue}
 use Rattle.strategies.specs.Inside.GapBest.{IsBestFor, LeadsBelow}
 use Rattle.strategies.proofs.ValueOrder.{cases_value, IsLess-trans}
-use Rattle.strategies.proofs.BestRequests.{first_is_smallest, best_request, finite_from_request}
+use Rattle.strategies.proofs.BestRequests.{first_is_smallest, best_request, not_lowered}
 
 module _ (board : PlainBoard) (configuration : List ℕ) (pebble : ℕ) (value : Value) (has : HasValue board configuration value) where
   less_too : (to : List ℕ) (best : Best) → HasValue board (moved configuration pebble best.label) best.value → IsLess best.value value
@@ -47,14 +47,7 @@ module _ (board : PlainBoard) (configuration : List ℕ) (pebble : ℕ) (value :
       let high : less.greater ≡ value = same_value board configuration less.greater value less.of_second has in
       subst (λ (v : Value). IsLess v value) low (subst (IsLess less.smaller) high less.less)
 
--- a configuration that some request lowers doesn't last forever
-pub lowered_ends : (board : PlainBoard) (configuration : List ℕ) (pebble : ℕ) → IsConfiguration board configuration
-    → IsSmallest (LowersValue board configuration) (Some pebble) → HasValue board configuration Forever → ⊥
-lowered_ends board configuration pebble is best forever =
-    let finite = finite_from_request board configuration pebble is best in
-    let same : Forever ≡ Finite finite.0 = same_value board configuration Forever (Finite finite.0) forever finite.1 in absurd cc
-
--- one that none lowers does
+-- a configuration that no request lowers lasts forever
 pub unlowered_lasts : (board : PlainBoard) (configuration : List ℕ) → IsConfiguration board configuration
     → ((pebble : ℕ) → pebble < board.pebbles → LowersValue board configuration pebble → ⊥) → HasValue board configuration Forever
 unlowered_lasts board configuration is none = let value = some_value board configuration is in by value.0 value.1
@@ -86,7 +79,8 @@ none_lowers board configuration pebble value best has none is not other before l
 
 pub request_none : (board : PlainBoard) (configuration : List ℕ) (pebble : ℕ) → IsConfiguration board configuration
     → IsSmallest (LowersValue board configuration) (Some pebble) → (Some pebble ≡ None) ↔ HasValue board configuration Forever
-request_none board configuration pebble is best = (λ same. absurd cc, λ forever. absurd (lowered_ends board configuration pebble is best forever))
+request_none board configuration pebble is best =
+    (λ same. absurd cc, λ forever. absurd (not_lowered board configuration pebble is forever best.0))
 
 pub no_request : (board : PlainBoard) (configuration : List ℕ) (bound : ℕ) → IsConfiguration board configuration → board.pebbles ≤ bound
     → NoneLowersBelow board configuration bound → (◌≡◌ {A = Option ℕ} None None) ↔ HasValue board configuration Forever

@@ -2,6 +2,8 @@
 use Rattle.std.proofs.Common.{◌≡◌, ℕ, zero, suc, ◌<◌, ◌↔◌, List, [], ◌∷◌, length, get_or, slice_index, refl, sym, ap, ◌∙◌, subst, arith}
 use Rattle.std.specs.List.{AllPairs, Contains}
 use Rattle.std.proofs.lemmas.List.{ext_get_or}
+use Rattle.std.proofs.lemmas.List.Elements.{Contains-append_right}
+use Rattle.std.proofs.lemmas.Map.Made.{Contains-tail}
 use Rattle.board_text.specs.PlainBoard.{PlainBoard}
 use Rattle.positions.specs.declared.value.Value.{Value}
 use Rattle.positions.specs.declared.value.Value.TheVariants.{Finite}
@@ -32,14 +34,6 @@ module _ {X : Type 0} (rank : X → ℕ) where
   in_first : (first : X) (rows : List X) → Contains (first ∷ rows) first
   in_first first rows = (0, omega arith, refl)
 
-  in_rest : (first : X) (rows : List X) (row : X) → Contains rows row → Contains (first ∷ rows) row
-  in_rest first rows row among = (suc among.0, (let inside : among.0 < length rows = among.1 in omega arith), among.2)
-
-  -- a member of a list with a first one that is behind another of the same rank as the first is in the rest
-  in_tail : (first : X) (rows : List X) (row : X) → rank first < rank row → Contains (first ∷ rows) row → Contains rows row
-  in_tail first rows row larger (zero, inside, same) = absurd (omega (arith, larger, ap rank same))
-  in_tail first rows row larger (suc place, inside, same) = (place, omega arith, same)
-
   -- the first ones of both are the same
   same_first : (one other : X) (ones others : List X) → IsAscending (one ∷ ones) → IsAscending (other ∷ others)
       → Contains (one ∷ ones) other → Contains (other ∷ others) one → one ≡ other
@@ -59,9 +53,11 @@ module _ {X : Type 0} (rank : X → ℕ) where
       let level : rank one ≡ rank other = ap rank equal in
       let rest : ones ≡ others = same_list ones others (tail_ascends one ones ascends) (tail_ascends other others also) (λ row. (
         λ among. let larger : rank one < rank row = behind_first one ones row ascends among in
-            in_tail other others row (omega arith) ((same row).0 (in_rest one ones row among)),
+            Contains-tail other others row (λ is. omega (arith, ap rank is))
+            ((same row).0 (Contains-append_right (one ∷ []) ones row among)),
         λ among. let larger : rank other < rank row = behind_first other others row also among in
-            in_tail one ones row (omega arith) ((same row).1 (in_rest other others row among)),
+            Contains-tail one ones row (λ is. omega (arith, ap rank is))
+            ((same row).1 (Contains-append_right (other ∷ []) others row among)),
       )) in
       ap (λ (r : X). r ∷ ones) equal ∙ ap (λ (rs : List X). other ∷ rs) rest
 

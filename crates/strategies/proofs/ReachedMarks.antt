@@ -1,54 +1,42 @@
 -- Marks of the ranks that were reached.
-use Rattle.std.proofs.Common.{◌≡◌, ◌≢◌, ℕ, zero, suc, ◌<◌, ◌≤◌, inl, inr, Bool, true, false, List, [], ◌∷◌, ◌++◌, length, slice_index_or, slice_set, Option, Some, None, refl, sym, ◌∙◌, subst, arith}
+use Rattle.std.proofs.Common.{◌≡◌, ◌≢◌, ℕ, ◌<◌, ◌≤◌, inl, inr, Bool, true, false, List, [], ◌∷◌, ◌++◌, length, slice_index_or, slice_set, Option, Some, None, sym, ◌∙◌, subst}
 use Rattle.std.specs.List.{Contains}
-use Rattle.std.proofs.Math.ListN.{replicate}
-use Rattle.std.proofs.lemmas.Bool.{cases_lt, cases_eq}
+use Rattle.std.proofs.lemmas.Bool.{both_ways, cases_lt, cases_eq}
 use Rattle.std.proofs.lemmas.List.{get_or-set_same, get_or-set_other, get_or_past}
-use Rattle.std.proofs.lemmas.List.Elements.{Contains-get_or, Contains-append_left, Contains-append_right, Contains-append_cases}
+use Rattle.std.proofs.lemmas.List.Elements.{Contains-get_or, Contains-append_left, Contains-push, Contains-push_cases}
 use Rattle.std.proofs.lemmas.List.Quantifiers.{all_pairs_push}
 use Rattle.positions.specs.Counts.{IsSmallest}
 use Rattle.strategies.specs.Inside.ReachedRanks.{AreMarked}
-use Rattle.strategies.proofs.AddedRanks.{few_apart, only_one}
-
-pub false_not_true : (b : Bool) → b ≡ false → b ≡ true → ⊥
-false_not_true true p q = absurd cc
-false_not_true false p q = absurd cc
-
-pub all_false : (size rank : ℕ) → slice_index_or (replicate size false) rank false ≡ false
-all_false zero rank = refl
-all_false (suc size) zero = refl
-all_false (suc size) (suc rank) = all_false size rank
+use Rattle.strategies.proofs.AddedRanks.{few_apart}
 
 -- one more is marked
-pub mark_more : (marks : List Bool) (ranks : List ℕ) (rank : ℕ) → AreMarked marks ranks → rank < length marks → ¬ Contains ranks rank
-    → AreMarked (slice_set marks rank true) (ranks ++ rank ∷ [])
-mark_more marks ranks rank are inside new = record {
+pub mark_more : (marks : List Bool) (ranks : List ℕ) (rank : ℕ) → AreMarked marks ranks → rank < length marks
+    → slice_index_or marks rank false ≡ false → AreMarked (slice_set marks rank true) (ranks ++ rank ∷ [])
+mark_more marks ranks rank are inside unmarked = record {
   marked = λ other. elim (cases_eq other rank) [
     | inl same ↦ (
-      λ marked. Contains-append_right ranks (rank ∷ []) other (0, omega arith, sym same),
+      λ marked. subst (Contains (ranks ++ rank ∷ [])) (sym same) (Contains-push ranks rank),
       λ among. rw same (get_or-set_same marks rank true false inside),
     )
     | inr differ ↦ (
       λ marked. Contains-append_left ranks (rank ∷ []) other ((are.marked other).0 (sym (get_or-set_other marks rank other true false differ) ∙ marked)),
-      λ among. elim (Contains-append_cases ranks (rank ∷ []) other among) [
+      λ among. elim (Contains-push_cases ranks rank other among) [
         | inl old ↦ get_or-set_other marks rank other true false differ ∙ (are.marked other).1 old
-        | inr last ↦ absurd (differ (only_one rank other last))
+        | inr last ↦ absurd (differ (sym last))
       ],
     )
   ];
   once = all_pairs_push (λ first second. first ≢ second) ranks rank are.once
-      (λ k d within same. new (subst (Contains ranks) same (Contains-get_or ranks k d within)));
+      (λ k d within same. both_ways (slice_index_or marks rank false) unmarked
+      ((are.marked rank).1 (subst (Contains ranks) same (Contains-get_or ranks k d within))));
 }
 
 -- there are no more than marks
 pub few_ranks : (marks : List Bool) (ranks : List ℕ) → AreMarked marks ranks → length ranks ≤ length marks
 few_ranks marks ranks are = few_apart ranks (length marks) are.once (λ rank among. elim (cases_lt rank (length marks)) [
   | inl inside ↦ inside
-  | inr beyond ↦ absurd (false_not_true (slice_index_or marks rank false) (get_or_past marks rank false beyond) ((are.marked rank).1 among))
+  | inr beyond ↦ absurd (both_ways (slice_index_or marks rank false) (get_or_past marks rank false beyond) ((are.marked rank).1 among))
 ])
-
-pub new_added : (marks : List Bool) (ranks : List ℕ) (rank : ℕ) → AreMarked marks ranks → slice_index_or marks rank false ≡ false → ¬ Contains ranks rank
-new_added marks ranks rank are unmarked among = false_not_true (slice_index_or marks rank false) unmarked ((are.marked rank).1 among)
 
 -- the first mark from a bound on is the first rank that was reached
 pub first_reached : (marks : List Bool) (ranks : List ℕ) (bound : ℕ) → AreMarked marks ranks → (found : Option ℕ)

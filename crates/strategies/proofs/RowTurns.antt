@@ -2,9 +2,9 @@
 use Rattle.std.proofs.Common.{◌≡◌, suc, ◌≤◌, refl, arith}
 use Rattle.positions.specs.declared.value.Value.{Value}
 use Rattle.positions.specs.declared.value.Value.TheVariants.{Finite, Forever}
-use Rattle.proof_text.specs.Rules.{IsEnough, IsWanted, one_less}
+use Rattle.proof_text.specs.Rules.{IsEnough, IsWanted, one_less, wanted_of}
 use Rattle.strategies.specs.Best.{IsLess}
-use Rattle.strategies.specs.Document.{turns_of}
+use Rattle.strategies.specs.Document.{claim_of, turns_of}
 
 -- the second value is at most one smaller than the first
 abbrev pub Keeps : Value → Value → Type 0
@@ -22,3 +22,9 @@ enough_left (Finite number) (Finite value) (Finite after) stays keeps wanted = (
 enough_left (Finite number) (Finite value) Forever stays keeps wanted = (tt, omega arith)
 enough_left (Finite number) Forever (Finite after) stays keeps wanted = absurd keeps
 enough_left (Finite number) Forever Forever stays keeps wanted = (tt, omega arith)
+
+-- where the start is to be listed, its value is 1 or more, and its turns are enough
+pub enough_at_start : (start : Value) → IsWanted (wanted_of (claim_of start))
+    → IsLess (Finite 0) start × IsEnough (wanted_of (claim_of start)) (turns_of start start)
+enough_at_start Forever wanted = (tt, tt)
+enough_at_start (Finite number) wanted = (omega (arith, wanted), omega arith)

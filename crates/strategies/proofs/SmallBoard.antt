@@ -1,7 +1,9 @@
 -- The document of the small board.
-use Rattle.std.proofs.Common.{◌≡◌, ◌≢◌, ℕ, zero, suc, ◌<◌, ◌≤◌, List, [], ◌∷◌, get_or, slice_index, refl, sym, ap, subst, arith}
-use Rattle.std.specs.List.{AllPairs, Contains}
-use Rattle.board_text.specs.PlainBoard.{Beats, BeatsPlace, AreLabels, IsBoard, places}
+use Rattle.std.proofs.Common.{◌≡◌, ℕ, zero, suc, ◌-◌, ◌<◌, ◌≤◌, List, [], ◌∷◌, slice_index, refl, sym, ap, ◌∙◌, subst, arith}
+use Rattle.std.specs.List.{Contains}
+use Rattle.std.proofs.lemmas.List.Elements.{All-cons, All-nil}
+use Rattle.std.proofs.lemmas.List.Kept.{AllPairs-cons}
+use Rattle.board_text.specs.PlainBoard.{Beats, AreLabels, IsBoard, places}
 use Rattle.board_text.proofs.Cited.{start_from_numbers}
 use Rattle.positions.specs.declared.value.Value.TheVariants.{Finite}
 use Rattle.positions.specs.declared.turns.Turns.TheVariants.{Count}
@@ -16,6 +18,7 @@ use Rattle.strategies.proofs.ValueOrder.{not_less}
 use Rattle.strategies.proofs.BestRequests as requests
 use Rattle.strategies.proofs.DocumentForm.{start_answerable, not_answerable}
 use Rattle.strategies.proofs.OneList.{one_answer_row, one_request_row}
+use Rattle.strategies.proofs.RowLists.{one_row}
 
 -- ---- moves
 
@@ -28,49 +31,35 @@ pub is_board : IsBoard small_board
 is_board = record {
   labels = (omega arith, omega arith);
   pebbles = (omega arith, omega arith);
-  start = start_from_numbers small_board (refl, low);
+  start = start_from_numbers small_board (
+    refl,
+    All-cons (λ place. place < 3) 0 (0 ∷ []) (omega arith)
+        (All-cons (λ place. place < 3) 0 [] (omega arith) (All-nil (λ place. place < 3))),
+  );
   pairs = record {
-    of_labels = pairs;
+    of_labels = All-cons (AreLabels 2) (1, 0) [] (omega arith, omega arith) (All-nil (AreLabels 2));
     ascending = λ i j d less inside. absurd (omega arith);
     one_way = λ x y one other. omega (arith, (beats_is x y one).0, (beats_is y x other).1);
   };
 }
-  where
-    low : (k d : ℕ) → k < 2 → get_or (0 ∷ 0 ∷ []) k d < 3
-    low zero d inside = omega arith
-    low (suc zero) d inside = omega arith
-    low (suc (suc k)) d inside = absurd (omega arith)
-
-    pairs : (k : ℕ) (d : ℕ × ℕ) → k < 1 → AreLabels 2 (get_or ((1, 0) ∷ []) k d)
-    pairs zero d inside = (omega arith, omega arith)
-    pairs (suc k) d inside = absurd (omega arith)
 
 -- the pebble that bounds a request
-another : ℕ → ℕ
-another zero = 1
-another (suc pebble) = 0
+abbrev another : ℕ → ℕ
+another pebble = 1 - pebble
 
 legal_is : (configuration : List ℕ) (pebble : ℕ) → slice_index configuration (another pebble) < 2 → (label : ℕ) → Legal small_board configuration pebble label
     → (label ≡ 1) × (slice_index configuration (another pebble) ≡ 0)
-unfolding another
-legal_is configuration zero held label legal = beats_is label (slice_index configuration 1) (legal.dominates 1 (omega arith) (λ same. omega (arith, same)) held)
-legal_is configuration (suc pebble) held label legal = beats_is label (slice_index configuration 0) (legal.dominates 0 (omega arith) (λ same. omega (arith, same)) held)
+legal_is configuration pebble held label legal =
+    beats_is label (slice_index configuration (another pebble))
+    (legal.dominates (another pebble) (omega arith) (λ same. omega (arith, same)) held)
 
 legal_from : (configuration : List ℕ) (pebble : ℕ) → pebble < 2 → slice_index configuration (another pebble) ≡ 0 → Legal small_board configuration pebble 1
-unfolding another
-legal_from configuration zero below free = record { is_label = omega arith; dominates = bound }
-  where
-    bound : (other : ℕ) → other < 2 → other ≢ 0 → BeatsPlace small_board 1 (slice_index configuration other)
-    bound zero within differs = absurd (differs refl)
-    bound (suc zero) within differs = λ held. (0, omega arith, ap (λ (n : ℕ). (1, n)) (sym free))
-    bound (suc (suc other)) within differs = absurd (omega arith)
-legal_from configuration (suc zero) below free = record { is_label = omega arith; dominates = bound }
-  where
-    bound : (other : ℕ) → other < 2 → other ≢ 1 → BeatsPlace small_board 1 (slice_index configuration other)
-    bound zero within differs = λ held. (0, omega arith, ap (λ (n : ℕ). (1, n)) (sym free))
-    bound (suc zero) within differs = absurd (differs refl)
-    bound (suc (suc other)) within differs = absurd (omega arith)
-legal_from configuration (suc (suc pebble)) below free = absurd (omega arith)
+legal_from configuration pebble below free = record {
+  is_label = omega arith;
+  dominates = λ other within differs held.
+      let same : other ≡ another pebble = omega (arith, differs) in
+      (0, omega arith, ap (λ (n : ℕ). (1, n)) (sym (ap (slice_index configuration) same ∙ free)));
+}
 
 -- ---- values
 
@@ -81,23 +70,25 @@ start = 0 ∷ 0 ∷ []
 abbrev after : ℕ → List ℕ
 after pebble = moved start pebble 1
 
-after_value : (pebble : ℕ) → pebble < 2 → HasValue small_board (after pebble) (Finite 0)
-unfolding another
-after_value zero below = (tt, (1, omega arith, λ label legal. let taken : 1 ≡ 0 = (legal_is (1 ∷ 0 ∷ []) 1 (omega arith) label legal).1 in absurd (omega (arith, taken))))
-after_value (suc zero) below = (tt, (0, omega arith, λ label legal. let taken : 1 ≡ 0 = (legal_is (0 ∷ 1 ∷ []) 0 (omega arith) label legal).1 in absurd (omega (arith, taken))))
-after_value (suc (suc pebble)) below = absurd (omega arith)
+none_after : (pebble : ℕ) → pebble < 2 → (label : ℕ) → Legal small_board (after pebble) (another pebble) label → ⊥
+none_after zero below label legal = let taken : 1 ≡ 0 = (legal_is (1 ∷ 0 ∷ []) 1 (omega arith) label legal).1 in omega (arith, taken)
+none_after (suc zero) below label legal = let taken : 1 ≡ 0 = (legal_is (0 ∷ 1 ∷ []) 0 (omega arith) label legal).1 in omega (arith, taken)
+none_after (suc (suc pebble)) below label legal = omega arith
 
-start_free : (pebble : ℕ) → slice_index start (another pebble) ≡ 0
-unfolding another
+after_value : (pebble : ℕ) → pebble < 2 → HasValue small_board (after pebble) (Finite 0)
+after_value pebble below = (tt, (another pebble, omega arith, λ label legal. none_after pebble below label legal))
+
+start_free : (pebble : ℕ) → slice_index start pebble ≡ 0
 start_free zero = refl
-start_free (suc pebble) = refl
+start_free (suc zero) = refl
+start_free (suc (suc pebble)) = refl
 
 start_held : (pebble : ℕ) → slice_index start (another pebble) < 2
-start_held pebble = omega (arith, start_free pebble)
+start_held pebble = omega (arith, start_free (another pebble))
 
 start_value : HasValue small_board start (Finite 1)
 start_value = (
-  λ pebble below. (1, legal_from start pebble below (start_free pebble), tt),
+  λ pebble below. (1, legal_from start pebble below (start_free (another pebble)), tt),
   (
     0,
     omega arith,
@@ -111,7 +102,7 @@ start_value = (
 best_answer : (pebble : ℕ) → pebble < 2 → IsBestAnswer small_board start pebble 1
 best_answer pebble below = (
   record {
-    legal = legal_from start pebble below (start_free pebble);
+    legal = legal_from start pebble below (start_free (another pebble));
     greatest = λ other legal.
         subst (λ (l : ℕ). HasNoGreaterValue small_board (moved start pebble l) (after pebble)) (sym (legal_is start pebble (start_held pebble) other legal).0)
         (record { value = Finite 0; bound = Finite 0; of_first = after_value pebble below; of_second = after_value pebble below; not_greater = λ less. omega (arith, less) });
@@ -130,13 +121,8 @@ best_at_start = (
   λ other lowers. omega arith,
 )
 
-none_after : (label : ℕ) → Legal small_board (after 0) 1 label → ⊥
-unfolding another
-none_after label legal = let taken : 1 ≡ 0 = (legal_is (after 0) 1 (omega arith) label legal).1 in omega (arith, taken)
-
 best_after : IsBestRequest small_board (after 0) 1
-unfolding another
-best_after = (record { is_pebble = omega arith; lowers = λ label legal. absurd (none_after label legal) }, smallest)
+best_after = (record { is_pebble = omega arith; lowers = λ label legal. absurd (none_after 0 (omega arith) label legal) }, smallest)
   where
     smallest : (other : ℕ) → LowersValue small_board (after 0) other → 1 ≤ other
     smallest zero lowers = absurd (not_less small_board 0 (after 0) (after 0) tt (after_value 0 (omega arith)) (lowers.lowers 1 (legal_from (after 0) 0 (omega arith) refl)))
@@ -173,22 +159,9 @@ only_start ((pebble, label) ∷ moves) to leads some =
     (after_value pebble leads.0.is_pebble))
 
 labeller_rows : AreExactly small_board (IsLabellerRow small_board (Finite 1)) (λ (row : AnswerRow). row.at) small_document.labeller
-labeller_rows = record {
-  each = λ row. (
-    λ among. subst (IsLabellerRow small_board (Finite 1)) (the_one row among) is_labeller_row,
-    λ is. (
-      0,
-      omega arith,
-      one_answer_row small_board (Finite 1) answers row is_labeller_row is
-          (only_start is.moves row.at is.reached (record { value = is.value; has_value = is.has_value; some = is.some })),
-    ),
-  );
-  ascending = λ i j d less inside. absurd (omega arith);
-}
-  where
-    the_one : (row : AnswerRow) → Contains (answers ∷ []) row → answers ≡ row
-    the_one row (zero, inside, same) = same
-    the_one row (suc place, inside, same) = absurd (omega arith)
+labeller_rows = one_row small_board (λ (row : AnswerRow). row.at) (IsLabellerRow small_board (Finite 1)) answers is_labeller_row
+    (λ row is. one_answer_row small_board (Finite 1) answers row is_labeller_row is
+    (only_start is.moves row.at is.reached (record { value = is.value; has_value = is.has_value; some = is.some })))
 
 -- ---- the adversary's rows
 
@@ -204,7 +177,7 @@ is_first = record { moves = []; reached = refl; has_value = start_value; best = 
 is_second : IsAdversaryRow small_board second_request
 is_second = record {
   moves = (0, 1) ∷ [];
-  reached = (record { best = best_at_start; legal = legal_from start 0 (omega arith) (start_free 0) }, refl);
+  reached = (record { best = best_at_start; legal = legal_from start 0 (omega arith) (start_free 1) }, refl);
   has_value = after_value 0 (omega arith);
   best = best_after;
 }
@@ -214,7 +187,7 @@ then_after : (moves : List (ℕ × ℕ)) (to : List ℕ) → LeadsBy (IsRequestM
 then_after [] to leads = leads
 then_after ((pebble, label) ∷ moves) to leads =
     let asked : pebble ≡ 1 = requests.same_request small_board (after 0) pebble 1 leads.0.best best_after in
-    absurd (none_after label (subst (λ (p : ℕ). Legal small_board (after 0) p label) asked leads.0.legal))
+    absurd (none_after 0 (omega arith) label (subst (λ (p : ℕ). Legal small_board (after 0) p label) asked leads.0.legal))
 
 one_of_two : (row : RequestRow) → IsAdversaryRow small_board row → Contains small_document.adversary row
 one_of_two row is = by is.moves is.reached
@@ -233,21 +206,18 @@ adversary_rows : AreExactly small_board (λ (row : RequestRow). AsksAdversary (F
 unfolding places
 adversary_rows = record {
   each = λ row. (λ among. (tt, either row among), λ is. one_of_two row is.1);
-  ascending = up;
+  ascending = AllPairs-cons Ascends first_request (second_request ∷ [])
+      (All-cons (Ascends first_request) second_request [] (omega arith) (All-nil (Ascends first_request)))
+      (λ i j d less inside. absurd (omega arith));
 }
   where
+    Ascends : RequestRow → RequestRow → Type 0
+    Ascends first second = IsBefore small_board first.at second.at
+
     either : (row : RequestRow) → Contains (first_request ∷ second_request ∷ []) row → IsAdversaryRow small_board row
     either row (zero, inside, same) = subst (IsAdversaryRow small_board) same is_first
     either row (suc zero, inside, same) = subst (IsAdversaryRow small_board) same is_second
     either row (suc (suc place), inside, same) = absurd (omega arith)
-
-    up : AllPairs (λ (first second : RequestRow). IsBefore small_board first.at second.at) (first_request ∷ second_request ∷ [])
-    up zero zero d less inside = absurd (omega arith)
-    up zero (suc zero) d less inside = omega arith
-    up zero (suc (suc j)) d less inside = absurd (omega arith)
-    up (suc i) zero d less inside = absurd (omega arith)
-    up (suc i) (suc zero) d less inside = absurd (omega arith)
-    up (suc i) (suc (suc j)) d less inside = absurd (omega arith)
 
 pub is_document : IsDocumentOf small_board small_document
 is_document = record { value = Finite 1; has_value = start_value; claim = refl; labeller = labeller_rows; adversary = adversary_rows }

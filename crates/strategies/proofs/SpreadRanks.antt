@@ -1,7 +1,9 @@
 -- What steps from one rank to another lead to.
-use Rattle.std.proofs.Common.{◌≡◌, ℕ, zero, suc, ◌+◌, ◌<◌, ◌≤◌, inl, inr, List, [], ◌∷◌, ◌++◌, length, Some, None, slice_get, slice_index_or, refl, sym, ap, ◌∙◌, subst, arith}
+use Rattle.std.proofs.Common.{◌≡◌, ℕ, ◌+◌, ◌<◌, ◌≤◌, inl, inr, List, [], ◌∷◌, ◌++◌, length, Some, None, slice_get, slice_index, refl, sym, ap, ◌∙◌, subst, arith}
 use Rattle.std.specs.List.{Contains}
 use Rattle.std.proofs.lemmas.Bool.{cases_lt}
+use Rattle.std.proofs.lemmas.List.{get_or_append_left, get_or_default}
+use Rattle.std.proofs.lemmas.Option.{slice_get_within, get_or_from_slice_get, slice_get-get_or}
 use Rattle.board_text.specs.PlainBoard.{PlainBoard, IsConfiguration}
 use Rattle.positions.specs.declared.value.Value.{Value}
 use Rattle.positions.specs.declared.value.Value.TheVariants.{Finite}
@@ -9,11 +11,10 @@ use Rattle.positions.specs.Game.{moved}
 use Rattle.positions.specs.Value.{HasValue}
 use Rattle.positions.specs.Ranks.{configurations, rank_of, configuration_at}
 use Rattle.positions.proofs.Cited.{moved_is_configuration, rank_below, rank_of-configuration_at, configuration_at-rank_of}
-use Rattle.positions.proofs.Cited.{configuration_at_is, same_value}
+use Rattle.positions.proofs.Cited.{configuration_at_is}
 use Rattle.strategies.specs.Best.{IsLess}
 use Rattle.strategies.specs.Document.{IsAnswerable, IsAnswerMove, IsRequestMove, LeadsBy}
-use Rattle.strategies.specs.Inside.ReachedRanks.{AnswerLeads, RequestLeads, IsReachedBy, IsWith, IsWithAll, AreRanksOf}
-use Rattle.strategies.proofs.AddedRanks.{only_one}
+use Rattle.strategies.specs.Inside.ReachedRanks.{AnswerLeads, RequestLeads, IsReachedBy, IsWithAll, AreRanksOf}
 use Rattle.strategies.proofs.ReachedByMoves.{one_more, moves_stay}
 
 -- ---- a list of ranks that is worked off
@@ -21,39 +22,17 @@ use Rattle.strategies.proofs.ReachedByMoves.{one_more, moves_stay}
 -- all ranks in the list have P, and what those before a place lead to is in it
 pub record IsSpread (P : ℕ → Type 0) (Leads : ℕ → ℕ → Type 0) (place : ℕ) (ranks : List ℕ) : Type 0 where
   pub sound : (rank : ℕ) → Contains ranks rank → P rank
-  pub spread : (at from to : ℕ) → at < place → slice_get ranks at ≡ Some from → Leads from to → Contains ranks to
+  pub spread : (at to : ℕ) → at < place → Leads (slice_index ranks at) to → Contains ranks to
 
 pub get_there : (xs : List ℕ) (place x : ℕ) → slice_get xs place ≡ Some x → Contains xs x
-get_there [] place x there = absurd cc
-get_there (y ∷ ys) zero x there = (0, omega arith, let same : Some y ≡ Some x = there in cc)
-get_there (y ∷ ys) (suc place) x there = let later = get_there ys place x there in (suc later.0, omega (arith, later.1), later.2)
+get_there xs place x there = (place, slice_get_within xs place x there, get_or_from_slice_get xs place x x there)
 
-some_before : (xs : List ℕ) (place before x : ℕ) → slice_get xs place ≡ Some x → before < place → (y : ℕ) × (slice_get xs before ≡ Some y)
-some_before [] place before x there less = absurd cc
-some_before (y ∷ ys) zero before x there less = absurd (omega arith)
-some_before (y ∷ ys) (suc place) zero x there less = (y, refl)
-some_before (y ∷ ys) (suc place) (suc before) x there less = some_before ys place before x there (omega arith)
-
--- a place past the end
-nowhere : (xs : List ℕ) (place at x : ℕ) → slice_get xs place ≡ None → slice_get xs at ≡ Some x → at < place
-nowhere [] place at x end there = absurd cc
-nowhere (y ∷ ys) zero at x end there = absurd cc
-nowhere (y ∷ ys) (suc place) zero x end there = omega arith
-nowhere (y ∷ ys) (suc place) (suc at) x end there = let less = nowhere ys place at x end there in omega (arith, less)
-
-pub somewhere : (xs : List ℕ) (place x : ℕ) → slice_get xs place ≡ Some x → place < length xs
-somewhere [] place x there = absurd cc
-somewhere (y ∷ ys) zero x there = omega arith
-somewhere (y ∷ ys) (suc place) x there = let less = somewhere ys place x there in omega (arith, less)
-
--- a place in a list that isn't longer than a bound
-pub place_below : (xs : List ℕ) (place x most bound : ℕ) → slice_get xs place ≡ Some x → length xs ≤ most → most ≡ bound → place < bound
-place_below xs place x most bound there few same = let inside = somewhere xs place x there in omega arith
-
-at_place : (xs : List ℕ) (place d : ℕ) → place < length xs → slice_get xs place ≡ Some (slice_index_or xs place d)
-at_place [] place d inside = absurd (omega arith)
-at_place (y ∷ ys) zero d inside = refl
-at_place (y ∷ ys) (suc place) d inside = at_place ys place d (omega arith)
+-- a place without a rank is past the end
+past_end : (xs : List ℕ) (place : ℕ) → slice_get xs place ≡ None → length xs ≤ place
+past_end xs place end = elim (cases_lt place (length xs)) [
+  | inl inside ↦ let there : slice_get xs place ≡ Some (slice_index xs place) = slice_get-get_or xs place 0 inside in absurd cc
+  | inr past ↦ past
+]
 
 module _ (P : ℕ → Type 0) (Leads : ℕ → ℕ → Type 0) where
   pub spread_step : (place rank : ℕ) (ranks more : List ℕ) → IsSpread P Leads place ranks → slice_get ranks place ≡ Some rank → IsWithAll ranks (Leads rank) more
@@ -63,35 +42,26 @@ module _ (P : ℕ → Type 0) (Leads : ℕ → ℕ → Type 0) where
       | inl old ↦ spread.sound to old
       | inr leads ↦ keeps to (spread.sound rank (get_there ranks place rank here)) leads
     ];
-    spread = λ at from to before there leads. elim (cases_lt at place) [
-      | inl early ↦
-          let some = some_before ranks place at rank here early in
-          let moved_there : slice_get more at ≡ Some some.0 = added.behind at some.0 some.1 in
-          let same_some : Some some.0 ≡ Some from = sym moved_there ∙ there in
-          let same : some.0 ≡ from = cc in
-          (added.each to).1 (inl (spread.spread at some.0 to early some.1 (subst (λ (f : ℕ). Leads f to) (sym same) leads)))
-      | inr late ↦
-          let level : at ≡ place = omega arith in
-          let there_too : slice_get more place ≡ Some rank = added.behind place rank here in
-          let same_some : Some rank ≡ Some from = sym there_too ∙ ap (slice_get more) (sym level) ∙ there in
-          let same : rank ≡ from = cc in
-          (added.each to).1 (inr (subst (λ (f : ℕ). Leads f to) (sym same) leads))
-    ];
+    spread = λ at to before leads.
+        let inside = slice_get_within ranks place rank here in
+        let stays : slice_index more at ≡ slice_index ranks at =
+        ap (λ (xs : List ℕ). slice_index xs at) added.behind.1 ∙ get_or_append_left ranks added.behind.0 0 at (omega (arith, inside)) in
+        let leads_too : Leads (slice_index ranks at) to = subst (λ (from : ℕ). Leads from to) stays leads in
+        (added.each to).1 (elim (cases_lt at place) [
+          | inl early ↦ inl (spread.spread at to early leads_too)
+          | inr late ↦
+              let last : at ≡ place = omega arith in
+              let same : slice_index ranks at ≡ rank = ap (slice_index ranks) last ∙ get_or_from_slice_get ranks place rank 0 here in
+              inr (subst (λ (from : ℕ). Leads from to) same leads_too)
+        ]);
   }
 
   -- at the end what ranks of the list lead to is in it
-  pub spread_all : (place : ℕ) (ranks : List ℕ) → IsSpread P Leads place ranks → slice_get ranks place ≡ None → (from to : ℕ) → Contains ranks from → Leads from to → Contains ranks to
-  spread_all place ranks spread end from to among leads =
-      let there : slice_get ranks among.0 ≡ Some from = at_place ranks among.0 from among.1 ∙ ap Some among.2 in
-      spread.spread among.0 from to (nowhere ranks place among.0 from end there) there leads
-
-only_start : (start : ℕ) (ranks : List ℕ) (rank : ℕ) → IsWith [] start ranks → Contains ranks rank → rank ≡ start
-only_start start ranks rank with among =
-    only_one start rank (subst (λ (xs : List ℕ). Contains xs rank) (with.other (λ none. absurd (let inside : none.0 < 0 = none.1 in omega arith))) among)
-
-has_start : (start : ℕ) (ranks : List ℕ) → IsWith [] start ranks → Contains ranks start
-has_start start ranks with =
-    subst (λ (xs : List ℕ). Contains xs start) (sym (with.other (λ none. absurd (let inside : none.0 < 0 = none.1 in omega arith)))) (0, omega arith, refl)
+  pub spread_all : (place : ℕ) (ranks : List ℕ) → IsSpread P Leads place ranks → slice_get ranks place ≡ None
+      → (from to : ℕ) → Contains ranks from → Leads from to → Contains ranks to
+  spread_all place ranks spread end from to (at, inside, same) leads =
+      let there : slice_index ranks at ≡ from = get_or_default ranks at 0 from inside ∙ same in
+      spread.spread at to (omega (arith, inside, past_end ranks place end)) (subst (λ (f : ℕ). Leads f to) (sym there) leads)
 
 -- ---- what moves of one kind lead to
 
@@ -139,29 +109,25 @@ IsSpreadByRequests board = IsSpreadBy board (IsRequestMove board) (λ c. Unit {0
 
 module _ (board : PlainBoard) (IsMove : List ℕ → ℕ → ℕ → Type 0) (Holds : List ℕ → Type 0) (Leads : ℕ → ℕ → Type 0)
     (is : IsConfiguration board board.start) where
-  pub spread_begins : (ranks : List ℕ) → Holds board.start → IsWith [] (rank_of board board.start) ranks → IsSpreadBy board IsMove Holds Leads 0 ranks
-  spread_begins ranks holds with = record {
-    on = record {
-      sound = λ rank among. subst (IsFound board IsMove Holds Leads) (sym (only_start (rank_of board board.start) ranks rank with among)) (
-        rank_below board board.start is,
-        record {
-          moves = [];
-          reached = sym (configuration_at-rank_of board board.start is);
-          holds = subst Holds (sym (configuration_at-rank_of board board.start is)) holds;
-        },
-      );
-      spread = λ at from to before there leads. absurd (omega arith);
-    };
-    start = λ _. has_start (rank_of board board.start) ranks with;
-  }
+  -- the rank of the start, if that has the property
+  abbrev pub IsStart : ℕ → Type 0
+  IsStart rank = Holds board.start × (rank ≡ rank_of board board.start)
 
-  pub spread_none : ¬ Holds board.start → IsSpreadBy board IsMove Holds Leads 0 []
-  spread_none not = record {
+  pub spread_begins : (ranks : List ℕ) → IsWithAll [] IsStart ranks → IsSpreadBy board IsMove Holds Leads 0 ranks
+  spread_begins ranks begun = record {
     on = record {
-      sound = λ rank among. absurd (let inside : among.0 < 0 = among.1 in omega arith);
-      spread = λ at from to before there leads. absurd (omega arith);
+      sound = λ rank among. elim ((begun.each rank).0 among) [
+        | inl none ↦ absurd (let inside : none.0 < 0 = none.1 in omega arith)
+        | inr starts ↦
+            let here : configuration_at board rank ≡ board.start =
+            ap (configuration_at board) starts.1 ∙ configuration_at-rank_of board board.start is in (
+              subst (λ (r : ℕ). r < configurations board) (sym starts.1) (rank_below board board.start is),
+              record { moves = []; reached = sym here; holds = subst Holds (sym here) starts.0 },
+            )
+      ];
+      spread = λ at to before leads. absurd (omega arith);
     };
-    start = λ holds. absurd (not holds);
+    start = λ holds. (begun.each (rank_of board board.start)).1 (inr (holds, refl));
   }
 
   module _ (are : AreMoves board IsMove Holds Leads) where
@@ -220,9 +186,3 @@ start_value board start value is start_is has =
 pub start_answerable : (board : PlainBoard) (start : ℕ) (value : Value) → IsConfiguration board board.start → start ≡ rank_of board board.start
     → HasValue board (configuration_at board start) value → IsLess (Finite 0) value → IsAnswerable board board.start
 start_answerable board start value is start_is has some = record { value = value; has_value = start_value board start value is start_is has; some = some }
-
-pub start_worthless : (board : PlainBoard) (start : ℕ) (value : Value) → IsConfiguration board board.start → start ≡ rank_of board board.start
-    → HasValue board (configuration_at board start) value → ¬ IsLess (Finite 0) value → ¬ IsAnswerable board board.start
-start_worthless board start value is start_is has not answerable =
-    let same : answerable.value ≡ value = same_value board board.start answerable.value value answerable.has_value (start_value board start value is start_is has) in
-    not (subst (IsLess (Finite 0)) same answerable.some)

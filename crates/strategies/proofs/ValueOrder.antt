@@ -1,13 +1,15 @@
 -- What the order of values says of trees.
-use Rattle.std.proofs.Common.{◌≡◌, ℕ, zero, suc, ◌<◌, ◌≤◌, ◌⊎◌, List, inl, inr, refl, ap, subst, arith}
+use Rattle.std.proofs.Common.{◌≡◌, ℕ, zero, suc, ◌<◌, ◌≤◌, ◌⊎◌, List, Some, inl, inr, refl, ap, subst, arith}
 use Rattle.std.proofs.lemmas.Bool.{cases_lt, cases_order}
 use Rattle.board_text.specs.PlainBoard.{PlainBoard}
 use Rattle.positions.specs.declared.value.Value.{Value}
 use Rattle.positions.specs.declared.value.Value.TheVariants.{Finite, Forever}
+use Rattle.positions.specs.Counts.{IsSmallest}
 use Rattle.positions.specs.Game.{LabellerTree, AdversaryTree}
 use Rattle.positions.specs.Value.{HasValue}
 use Rattle.positions.proofs.Cited.{not_both_trees, lasts_at_most, at_most_from_tree, same_value}
 use Rattle.strategies.specs.Best.{IsLess, HasSmallerValue, HasNoGreaterValue}
+use Rattle.strategies.specs.Document.{IsAnswerable}
 
 -- a labeller who lasts so many requests doesn't have a smaller value
 pub at_least : (board : PlainBoard) (number depth : ℕ) (configuration : List ℕ)
@@ -17,12 +19,6 @@ at_least board number depth configuration lasts has =
       | inl less ↦ absurd (not_both_trees board (suc depth) configuration (lasts_at_most board configuration (suc depth) number (omega arith) lasts) has.1)
       | inr enough ↦ enough
     ]
-
-same_number : (board : PlainBoard) (configuration : List ℕ) (first second : ℕ)
-    → HasValue board configuration (Finite first) → HasValue board configuration (Finite second) → first ≡ second
-same_number board configuration first second one other =
-    let same : Finite first ≡ Finite second = same_value board configuration (Finite first) (Finite second) one other in
-    cc
 
 -- a value that an adversary's tree bounds is below a number
 pub less_from_tree : (board : PlainBoard) (number : ℕ) (first second : List ℕ)
@@ -36,17 +32,14 @@ less_from_tree board (suc number) first second stops has =
 -- a configuration with a smaller value than a finite one has a finite value below that
 pub less_than_finite : (board : PlainBoard) (number : ℕ) (first second : List ℕ) → HasValue board second (Finite number) → HasSmallerValue board first second
     → (depth : ℕ) × (depth < number) × HasValue board first (Finite depth)
-less_than_finite board number first second has less = by less.smaller less.greater less.of_first less.of_second less.less
+less_than_finite board number first second has less =
+    let same = same_value board second less.greater (Finite number) less.of_second has in
+    by less.smaller less.of_first (subst (IsLess less.smaller) same less.less)
   where
-    by : (low high : Value) → HasValue board first low → HasValue board second high → IsLess low high
+    by : (low : Value) → HasValue board first low → IsLess low (Finite number)
         → (depth : ℕ) × (depth < number) × HasValue board first (Finite depth)
-    by (Finite low) (Finite high) one other below =
-        let same : high ≡ number = same_number board second high number other has in
-        let less : low < high = below in
-        (low, omega arith, one)
-    by (Finite low) Forever one other below =
-        let same : Forever ≡ Finite number = same_value board second Forever (Finite number) other has in absurd cc
-    by Forever high one other below = absurd below
+    by (Finite low) one below = (low, below, one)
+    by Forever one below = absurd below
 
 -- and so no labeller's tree of that number
 pub not_less : (board : PlainBoard) (number : ℕ) (first second : List ℕ)
@@ -94,3 +87,14 @@ IsLess-trans Forever v w p q = absurd p
 pub not_above : (v w : Value) → (v ≡ w) ⊎ IsLess w v → ¬ IsLess v w
 not_above v w (inl same) less = IsLess-irrefl w (subst (λ (u : Value). IsLess u w) same less)
 not_above v w (inr more) less = IsLess-irrefl v (IsLess-trans v w v less more)
+
+-- of what there is a smallest, there is one
+pub one_smallest : (P : ℕ → Type 0) (first second : ℕ) → IsSmallest P (Some first) → IsSmallest P (Some second) → first ≡ second
+one_smallest P first second one other = omega (arith, one.1 second other.0, other.1 first one.0)
+
+-- a configuration with a value that isn't 1 or more has none that is
+pub worthless : (board : PlainBoard) (configuration : List ℕ) (value : Value) → HasValue board configuration value
+    → ¬ IsLess (Finite 0) value
+    → ¬ IsAnswerable board configuration
+worthless board configuration value has not some =
+    not (subst (IsLess (Finite 0)) (same_value board configuration some.value value some.has_value has) some.some)

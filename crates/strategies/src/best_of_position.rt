@@ -23,10 +23,8 @@ pub fn best_answer(board: &Board, values: &Values, rank: u32, pebble: u8) -> Opt
     ensures best { IsSmallest (HasGreatestResult board.now (configuration_at board.now rank) pebble) result }
     ensures none { (result ≡ None) ↔ ((label : ℕ) → Legal board.now (configuration_at board.now rank) pebble label → ⊥) }
 {
-    match BestMoves::new(board, values, &[]).answer(rank, pebble) {
-        Some(best) => Some(best.label),
-        None => None,
-    }
+    let best = BestMoves::new(board, values, &[]).answer(rank, pebble)?;
+    Some(best.label)
 }
 
 /// The best request at the configuration of a rank, if its value is finite:

@@ -1,11 +1,10 @@
 //! The best answer of a gap, which is that of each of its members.
 
-ghost use Rattle.std.specs.Prelude.{◌≡◌, ℕ, ◌<◌, ◌↔◌, true, None, Some, IfOk, IsTrue, length};
+ghost use Rattle.std.specs.Prelude.{◌≡◌, ℕ, ◌<◌, ◌↔◌, true, IfOk, IsTrue};
 ghost use Rattle.board_text.specs.Domination.{has_bit};
 ghost use Rattle.positions.specs.Gaps.{gaps, IsAnswer};
-ghost use Rattle.strategies.specs.declared.gap_best.Best.{Best as BestOfGap};
 ghost use Rattle.strategies.specs.Best.{IsLess};
-ghost use Rattle.strategies.specs.Inside.GapBest.{IsGapBest, AreGapsBest};
+ghost use Rattle.strategies.specs.Inside.GapBest.{IsBetter, IsGapBest, AreGapsBest};
 
 use crate::listed::Listed;
 use board_text::{Board, MAX_LABELS, Memory};
@@ -64,9 +63,7 @@ pub(crate) fn best_of_gap(values: &Values, gap: u32, answers: AnswerSet) -> Opti
 
 /// The better of a best answer so far and a later one, which has to lead to a greater value.
 fn better(best: Option<Best>, later: Best) -> Best
-    ensures only { best ≡ None → result ≡ later }
-    ensures greater { (first : BestOfGap) → best ≡ Some first → IsLess first.value later.value → result ≡ later }
-    ensures kept { (first : BestOfGap) → best ≡ Some first → ¬ IsLess first.value later.value → result ≡ first }
+    ensures { IsBetter best later result }
 {
     match best {
         Some(first) if !is_less(first.value, later.value) => first,

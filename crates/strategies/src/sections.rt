@@ -1,12 +1,11 @@
 //! The sections of a document: a row for each configuration that was reached.
 
-ghost use Rattle.std.specs.Prelude.{◌≡◌, ◌<◌, ◌≤◌, IfOk, OnOk};
+ghost use Rattle.std.specs.Prelude.{◌≡◌, ◌<◌, ◌≤◌, IfOk};
 ghost use Rattle.board_text.specs.PlainBoard.{PlainBoard};
 ghost use Rattle.positions.specs.Ranks.{configurations};
 ghost use Rattle.positions.specs.declared.value.Value.{Value as Worth};
 ghost use Rattle.strategies.specs.Document.{turns_of};
-ghost use Rattle.strategies.specs.Inside.Side.{Side, AreOfReached, AreSection, IsRowAt, adversary_side, labeller_side};
-ghost use Rattle.strategies.specs.Inside.ReachedRanks.{AreRanksOf};
+ghost use Rattle.strategies.specs.Inside.Side.{Side, AreReached, AreSection, IsRowAt, adversary_side, labeller_side};
 
 use crate::best_moves::BestMoves;
 use crate::gap_best::is_less;
@@ -23,8 +22,7 @@ pub(crate) trait SectionRow: Copy {
 
     /// The configurations that a row may stand at.
     fn reached(moves: &BestMoves<'_>, alloc: Global) -> Result<Reached, Memory>
-        ensures reached { IfOk result (λ reached. (start : Worth) → AreRanksOf moves.now (side moves.now start).IsReached reached.ranks) }
-        ensures rows { OnOk result ((start : Worth) → AreOfReached moves.now (side moves.now start)) }
+        ensures reached { IfOk result (λ reached. (start : Worth) → AreReached moves.now (side moves.now start) reached.ranks) }
         ensures few { configurations moves.now ≤ MAX_CONFIGURATIONS };
 
     /// The row of a configuration that was reached, if it has one, where the start has a value.

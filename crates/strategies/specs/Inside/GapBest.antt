@@ -14,6 +14,11 @@ IsBestFor board configuration pebble (Some best) =
     IsBestAnswer board configuration pebble best.label × HasValue board (moved configuration pebble best.label) best.value
 IsBestFor board configuration pebble None = (label : ℕ) → Legal board configuration pebble label → ⊥
 
+-- the better of a best answer so far and a later one, which has to lead to a greater value
+abbrev pub IsBetter : Option Best → Best → Best → Type 0
+IsBetter (Some first) later better = (IsLess first.value later.value → better ≡ later) × (¬ IsLess first.value later.value → better ≡ first)
+IsBetter None later better = better ≡ later
+
 -- it is the best answer at each member of the gap
 abbrev pub IsGapBest : PlainBoard → ℕ → Option Best → Type 0
 IsGapBest board gap best = (configuration : List ℕ) → (pebble : ℕ) → IsConfiguration board configuration → pebble < board.pebbles

@@ -1,6 +1,5 @@
 -- Steps from one configuration to another, by ranks, and what they lead to from the start.
-use Rattle.std.specs.Prelude.{◌≡◌, ℕ, ◌<◌, ◌↔◌, ◌⊎◌, ◌++◌, ◌≢◌, Bool, true, false, List, [], ◌∷◌, Contains, AllPairs, Some, length}
-use Rattle.std.specs.Prelude.{slice_get, slice_index_or}
+use Rattle.std.specs.Prelude.{◌≡◌, ℕ, ◌<◌, ◌↔◌, ◌⊎◌, ◌++◌, ◌≢◌, Bool, true, false, List, [], ◌∷◌, Contains, AllPairs, length, slice_index_or}
 use Rattle.board_text.specs.PlainBoard.{PlainBoard}
 use Rattle.positions.specs.Game.{Legal, moved}
 use Rattle.positions.specs.Ranks.{configurations, rank_of, configuration_at}
@@ -67,7 +66,7 @@ pub record IsWith (before : List ℕ) (rank : ℕ) (after : List ℕ) : Type 0 w
 -- what the fact holds of is added, behind the others
 pub record IsWithAll (before : List ℕ) (P : ℕ → Type 0) (after : List ℕ) : Type 0 where
   pub each : (rank : ℕ) → Contains after rank ↔ (Contains before rank ⊎ P rank)
-  pub behind : (place rank : ℕ) → slice_get before place ≡ Some rank → slice_get after place ≡ Some rank
+  pub behind : (more : List ℕ) × (after ≡ before ++ more)
 
 -- the label is an answer of the gap, and leads to the rank
 abbrev pub IsAnswerAt : PlainBoard → ℕ → ℕ → ℕ → Type 0

@@ -8,7 +8,7 @@ use Rattle.proof_text.specs.declared.proof.LabellerRow.{LabellerRow}
 use Rattle.proof_text.specs.declared.proof.AdversaryRow.{AdversaryRow}
 use Rattle.proof_text.specs.Proof.{IsPadded, answer_row, request_row}
 use Rattle.strategies.specs.Document.{AreExactly, IsLabellerRow, IsAdversaryRow}
-use Rattle.strategies.specs.Inside.ReachedRanks.{IsReachedByAnswers, IsReachedByRequests}
+use Rattle.strategies.specs.Inside.ReachedRanks.{IsReachedByAnswers, IsReachedByRequests, AreRanksOf}
 
 -- the rows of one side, which name their configurations by ranks
 pub record Side (R : Type 0) : Type 1 where
@@ -51,6 +51,11 @@ pub record AreOfReached {R : Type 0} (board : PlainBoard) (side : Side R) : Type
   pub is_configuration : (row : side.Row) → side.IsRow row → IsConfiguration board (side.at row)
   pub reached : (row : side.Row) (rank : ℕ) → side.IsRow row → side.at row ≡ configuration_at board rank → side.IsReached rank
   pub one : (first second : side.Row) → side.IsRow first → side.IsRow second → side.at first ≡ side.at second → first ≡ second
+
+-- exactly the ranks that a row may stand at, and rows stand at no others
+pub record AreReached {R : Type 0} (board : PlainBoard) (side : Side R) (ranks : List ℕ) : Type 0 where
+  pub each : AreRanksOf board side.IsReached ranks
+  pub rows : AreOfReached board side
 
 -- the row at the configuration of a rank, or none where the side has none there
 abbrev pub IsRowAt : {R : Type 0} → PlainBoard → Side R → ℕ → Option R → Type 0

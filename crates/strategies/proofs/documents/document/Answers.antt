@@ -1,4 +1,4 @@
-use Rattle.std.proofs.Common.{◌<◌, arith}
+use Rattle.strategies.proofs.RowLists.{same_fact, no_rows}
 use Rattle.strategies.proofs.SpreadRanks.{start_value}
 use Rattle.strategies.proofs.DocumentForm.{is_formed}
 use Rattle.strategies.proofs.KeptRules.{breaks_no_rule}
@@ -17,14 +17,10 @@ returns-clause-document c =
       labeller = rw c.new-moves.ensures at c.in_ok-labeller.ensures.exactly;
       adversary = elim c.match-value.branch [
         | in-Finite+in_ok-adversary-in-Finite w ↦ rw (w.adversary-is, w.in-Finite.is)
-            (let section = rw c.new-moves.ensures at w.in_ok-adversary-in-Finite.ensures.exactly in record {
-              each = λ row. (λ among. (tt, (section.each row).0 among), λ is. (section.each row).1 is.1);
-              ascending = section.ascending;
-            })
-        | in-Forever w ↦ rw (w.adversary-is, w.in-Forever.is, w.new-adversary.ensures.items) (record {
-          each = λ row. (λ among. absurd (let below : among.0 < 0 = among.1 in omega arith), λ is. absurd is.0);
-          ascending = λ i j row before below. absurd (omega (arith, below));
-        })
+            (same_fact b (λ row. row.at) _ _ _ (λ row. (λ is_row. (tt, is_row), λ asked. asked.1))
+            (rw c.new-moves.ensures at w.in_ok-adversary-in-Finite.ensures.exactly))
+        | in-Forever w ↦ rw (w.adversary-is, w.in-Forever.is, w.new-adversary.ensures.items)
+            (no_rows b (λ row. row.at) _ (λ row asked. asked.0))
       ];
     }
 

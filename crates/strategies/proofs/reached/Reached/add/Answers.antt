@@ -1,10 +1,11 @@
 use Rattle.std.proofs.Common.{◌≡◌, ◌<◌, ap, length, sym, ◌∙◌}
 use Rattle.strategies.specs.Inside.ReachedRanks.{ReachedRanks}
-use Rattle.strategies.proofs.ReachedMarks.{mark_more, new_added}
+use Rattle.strategies.proofs.ReachedMarks.{mark_more}
 use Rattle.strategies.proofs.reached.Reached.add.Goals as goal
 
 pub invariant_of-self-then-not-get : goal.invariant_of-self-then-not-get
 invariant_of-self-then-not-get c =
     let size : length c.self.inside.marks ≡ c.args.self.now.size = ap (λ (r : ReachedRanks). r.size) c.self.view_is in
     let inside : c.args.rank < length c.self.inside.marks = rw size c.requires in
-    rw (c.set.ensures, c.push.ensures.items, c.if-is_err.ensures.negation) (mark_more _ _ _ c.self.invariant inside (new_added _ _ _ c.self.invariant (sym c.get.ensures ∙ c.if-not-get.true)))
+    rw (c.set.ensures, c.push.ensures.items, c.if-is_err.ensures.negation)
+    (mark_more _ _ _ c.self.invariant inside (sym c.get.ensures ∙ c.if-not-get.true))

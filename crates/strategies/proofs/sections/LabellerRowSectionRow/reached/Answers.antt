@@ -1,6 +1,9 @@
-use Rattle.std.proofs.Common.{refl, sym, ◌∙◌, arith}
+use Rattle.std.proofs.Common.{[], refl, sym, ◌∙◌, arith}
+use Rattle.std.proofs.lemmas.Option.{slice_get_within}
+use Rattle.strategies.proofs.AddedRanks.{added_known, added_one}
 use Rattle.strategies.proofs.GatheredRows.{labellers}
-use Rattle.strategies.proofs.SpreadRanks.{place_below, spread_begins, spread_none, spread_more, spread_ends, spread_below, answer_moves, start_answerable, start_worthless}
+use Rattle.strategies.proofs.SpreadRanks.{spread_begins, spread_more, spread_ends, spread_below, answer_moves, start_answerable, start_value}
+use Rattle.strategies.proofs.ValueOrder.{worthless}
 use Rattle.strategies.proofs.sections.LabellerRowSectionRow.reached.Goals as goal
 use Rattle.strategies.proofs.sections.LabellerRowSectionRow.reached.Goals.{then-is_less+in_ok-add, else-is_less}
 
@@ -12,12 +15,19 @@ loop-rank-init c =
     elim c.if-is_less.branch [
       | then-is_less+in_ok-add w ↦ rw w.reached-is (record {
         size = w.in_ok-add.ensures.size ∙ size;
-        spread = spread_begins b _ _ _ is _ (start_answerable b c.start-start.result c.value.result is c.start-start.ensures.rank c.value.ensures (w.if-is_less.ensures.0 refl))
-            (rw (c.start-start.ensures.rank, c.in_ok-reached.ensures.empty) at w.in_ok-add.ensures.added);
+        spread = spread_begins b _ _ _ is _ (added_one _ _ _ _
+            (rw (c.start-start.ensures.rank, c.in_ok-reached.ensures.empty) at w.in_ok-add.ensures.added) (
+              start_answerable b c.start-start.result c.value.result is c.start-start.ensures.rank c.value.ensures
+                  (w.if-is_less.ensures.0 refl),
+              refl,
+            )
+            (λ rank starts. starts.1));
       })
       | else-is_less w ↦ rw (w.reached-is, c.in_ok-reached.ensures.empty) (record {
         size = size;
-        spread = spread_none b _ _ _ is (start_worthless b c.start-start.result c.value.result is c.start-start.ensures.rank c.value.ensures (λ some. let same = w.if-is_less.ensures.1 some in absurd cc));
+        spread = spread_begins b _ _ _ is [] (added_known [] _ (λ rank starts. absurd
+            (worthless b _ c.value.result (start_value b c.start-start.result c.value.result is c.start-start.ensures.rank c.value.ensures)
+            (λ some. let same = w.if-is_less.ensures.1 some in absurd cc) starts.0)));
       })
     ]
 
@@ -26,11 +36,13 @@ add_answers-requires-clause-rank c = spread_below _ _ _ _ _ _ _ c.loop-rank.inva
 
 pub overflow_add-place : goal.overflow_add-place
 overflow_add-place c =
-    omega (arith, place_below _ _ _ _ _ (sym c.in-Some.ensures.rank) c.in-Some.ensures.few c.loop-rank.invariant.size, c.start-start.ensures.few)
+    let place = slice_get_within c.loop-rank.reached.ranks c.loop-rank.place c.in-Some.rank (sym c.in-Some.ensures.rank) in
+    omega (arith, place, c.in-Some.ensures.few, c.loop-rank.invariant.size, c.start-start.ensures.few)
 
 pub loop-rank-smaller : goal.loop-rank-smaller
 loop-rank-smaller c =
-    omega (arith, place_below _ _ _ _ _ (sym c.in-Some.ensures.rank) c.in-Some.ensures.few c.loop-rank.invariant.size)
+    let place = slice_get_within c.loop-rank.reached.ranks c.loop-rank.place c.in-Some.rank (sym c.in-Some.ensures.rank) in
+    omega (arith, place, c.in-Some.ensures.few, c.loop-rank.invariant.size)
 
 pub loop-rank-preserved : goal.loop-rank-preserved
 loop-rank-preserved c = record {
@@ -41,7 +53,9 @@ loop-rank-preserved c = record {
 
 pub returns-clause-reached : goal.returns-clause-reached
 returns-clause-reached c = λ start.
-    spread_ends c.args.moves.now _ _ _ c.start-start.ensures.is_board.start (answer_moves c.args.moves.now) c.loop-rank.place _ c.loop-rank.invariant.spread (sym c.in_default.ensures.rank)
-
-pub returns-clause-rows : goal.returns-clause-rows
-returns-clause-rows c = λ start. labellers c.args.moves.now start c.start-start.ensures.is_board.start
+    let is = c.start-start.ensures.is_board.start in
+    record {
+      each = spread_ends c.args.moves.now _ _ _ is (answer_moves c.args.moves.now) c.loop-rank.place _ c.loop-rank.invariant.spread
+          (sym c.in_default.ensures.rank);
+      rows = labellers c.args.moves.now start is;
+    }
