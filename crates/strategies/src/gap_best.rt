@@ -13,7 +13,7 @@ use retro_core::Values;
 use std::alloc::Global;
 
 /// The best answer to a request, and the value of the configuration after it.
-#[derive(Clone, Copy, Debug, PartialEq, Eq)]
+#[derive(Clone, Copy)]
 pub(crate) struct Best {
     pub(crate) label: u16,
     pub(crate) value: Value,
