@@ -96,7 +96,7 @@ def counted(name, path):
 
 def stored_documents():
     """Each stored document is accepted with its claim, and is what solve writes."""
-    for name in stored('.strategy'):
+    for name in stored('.proof'):
         text = text_of(strategy(name))
         claim = text.split(b'\n')[1]
         yield check(f'the stored {name}', Ran(output=b'accepted %s\n' % claim), ['check', board(name), strategy(name)])

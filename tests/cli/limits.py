@@ -130,7 +130,7 @@ def locked_board(work, program):
     """The check of a board that the user may not read."""
     locked = written(work, 'locked.board', text_of(board('one-pair')))
     os.chmod(locked, 0)
-    document = readable(work, 'locked.strategy', text_of(strategy('one-pair')))
+    document = readable(work, 'locked.proof', text_of(strategy('one-pair')))
     return Check('a file that may not be read', partial(may_not_read, program, locked, document))
 
 

@@ -1,13 +1,11 @@
-"""The built program, a run of it, and a check: what a run left beside what it should leave."""
+"""A run of the built program, and checks of it: what a run left beside what it should leave."""
 import os
 import subprocess
 from dataclasses import dataclass
 from functools import partial
 
-TOP = os.path.dirname(os.path.dirname(os.path.dirname(os.path.abspath(__file__))))
-CRATE = os.path.join(TOP, 'crates', 'pebbles')
-PROGRAM = os.path.join(CRATE, 'out', 'pebbles')
-BOARDS = os.path.join(TOP, 'boards')
+from harness import BOARDS, PROGRAM, TOP, Check
+
 # the seconds after which a run is taken for one without an end
 LONGEST = 300
 
@@ -18,13 +16,6 @@ class Ran:
     status: int = 0
     output: bytes = b''
     errors: bytes = b''
-
-
-@dataclass
-class Check:
-    """`call` makes the check, in another process. It answers None, or what is wrong."""
-    name: str
-    call: partial
 
 
 # ---- runs
@@ -96,7 +87,7 @@ def board(name):
 
 def strategy(name):
     """The path of a stored document."""
-    return os.path.join(BOARDS, f'{name}.strategy')
+    return os.path.join(BOARDS, f'{name}.proof')
 
 
 def stored(ending):

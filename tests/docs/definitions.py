@@ -1,0 +1,155 @@
+"""The definitions that a reader of a statement has to read, and the passages of docs/theorems.md that list and count them.
+
+A passage begins with a mark and ends with `<!-- end -->`. `<!-- table of A B, beyond C -->` is followed by a table of all definitions that
+A and B reach, themselves included, and C doesn't; `<!-- count of A B, beyond C -->` by their number and that of their lines, without
+comments, imports and empty lines; `<!-- code of A B -->` by the types and the constants of the code that they reach.
+"""
+import os
+import re
+
+from harness import CRATES, TOP
+
+THEOREMS = os.path.join(TOP, 'docs', 'theorems.md')
+HEAD = re.compile(r'^(?:(?:abbrev|unfoldable) pub|pub record|pub data|(?:pub )?record|abbrev|unfoldable) ([\w-]+)')
+USE = re.compile(r'^use Rattle\.(\w+)\.specs\.([\w.-]+?)(?:\.\{([^}]*)\}| as ([\w-]+))$')
+WORD = re.compile(r"[\w'-]+(?:\.[\w'-]+)*")
+PASSAGE = re.compile(r'<!-- (table|count|code) of ([\w ]+?)(?:, beyond ([\w ]+?))? -->(.*?)<!-- end -->', re.S)
+
+
+class Definition:
+    """A definition of specs/: where it stands, its lines, and the words that stand in them."""
+
+    def __init__(self, file, place):
+        self.file, self.place, self.lines = file, place, []
+
+    def words(self):
+        return [word for line in self.lines for word in WORD.findall(line)]
+
+
+class Specs:
+    """All definitions of specs/, each by the module that it stands in and its name."""
+
+    def __init__(self):
+        self.defined, self.named = {}, {}
+        with open(os.path.join(TOP, 'crates.txt')) as file:
+            self.crates = [line.split(':')[0].split()[0] for line in file if ':' in line and not line.startswith('#')]
+        for crate in self.crates:
+            for folder, _, names in os.walk(os.path.join(CRATES, crate, 'specs')):
+                for name in sorted(names):
+                    self.read(crate, os.path.join(folder, name))
+
+    def read(self, crate, path):
+        """Reads the definitions of a file, and what its imports name."""
+        module = crate, os.path.relpath(path, os.path.join(CRATES, crate, 'specs')).removesuffix('.antt').replace(os.sep, '.')
+        named, current = {}, None
+        with open(path) as file:
+            lines = [line.rstrip('\n') for line in file]
+        for place, line in enumerate(lines):
+            head, use = HEAD.match(line), USE.match(line)
+            if use:
+                given, items, alias = (use[1], use[2]), use[3], use[4]
+                for item in items.split(',') if items else ():
+                    name, _, other = item.strip().partition(' as ')
+                    named[other or name] = (*given, name)
+                if alias:
+                    named[alias] = (*given, None)
+            elif head:
+                current = self.defined[(*module, head[1])] = Definition(os.path.relpath(path, TOP), place)
+                named[head[1]] = (*module, head[1])
+            if current and line.strip() and not line.startswith(('--', 'use ')):
+                current.lines.append(line)
+        self.named[module] = named
+
+    def meant(self, module, word):
+        """The definition, type or constant that a word of a module names, by its crate, module and name; None for other words."""
+        first, _, rest = word.partition('.')
+        found = self.named[module].get(first)
+        if found and found[2] is None:
+            return (found[0], found[1], rest.split('.')[0])
+        return found
+
+    def reached(self, names):
+        """All that these definitions reach, themselves included: definitions, and what is declared in the code."""
+        left = [key for key in self.defined if key[2] in names]
+        missing = set(names) - {key[2] for key in left}
+        if missing:
+            raise ValueError(f'no definition is named {", ".join(sorted(missing))}')
+        found, code = set(left), set()
+        while left:
+            crate, module, name = left.pop()
+            for word in self.defined[crate, module, name].words():
+                key = self.meant((crate, module), word)
+                if key in self.defined and key not in found:
+                    found.add(key)
+                    left.append(key)
+                elif key and key[1].startswith('declared.'):
+                    code.add(key)
+        return found, code
+
+    def size(self, keys):
+        """The number of definitions, and of their lines."""
+        return len(keys), sum(len(self.defined[key].lines) for key in keys)
+
+    def table(self, keys):
+        """A row for each file: its definitions in their order there, and the number of their lines."""
+        files = {}
+        for key in keys:
+            files.setdefault((-self.crates.index(key[0]), self.defined[key].file), []).append(key)
+        rows = ['| File | Names to read in it | Lines |', '|---|---|---|']
+        for (_, file), found in sorted(files.items()):
+            found.sort(key=lambda key: self.defined[key].place)
+            names = ', '.join(f'`{key[2]}`' for key in found)
+            rows.append(f'| `{file}` | {names} | {self.size(found)[1]} |')
+        return '\n'.join(rows)
+
+
+def listed(names):
+    """Names with commas, and an `and` before the last."""
+    return names[0] if len(names) == 1 else f'{", ".join(names[:-1])} and {names[-1]}'
+
+
+def code_of(code):
+    """The types and the constants of the code, each with its file."""
+    types = sorted({(key[0], key[1].split('.')[1], key[1].split('.')[2]) for key in code if 'TheConstants' not in key[1]})
+    limits = sorted({(key[0], key[1].split('.')[1], key[2]) for key in code if 'TheConstants' in key[1]})
+    shown = [[f'`{name}` (`crates/{crate}/src/{file}.rt`)' for crate, file, name in found] for found in (types, limits)]
+    return f'the types {listed(shown[0])}; and the constants {listed(shown[1])}'
+
+
+def passage(specs, kind, names, beyond):
+    """The text of a passage."""
+    found, code = specs.reached(names.split())
+    if beyond:
+        found -= specs.reached(beyond.split())[0]
+    if kind == 'table':
+        return f'\n{specs.table(found)}\n'
+    definitions, lines = specs.size(found)
+    return code_of(code) if kind == 'code' else f'{definitions} definitions in {lines} lines'
+
+
+def written(text):
+    """The text with all its passages as the definitions have them."""
+    specs = Specs()
+
+    def put(mark):
+        head = mark[0][:mark[0].index('-->') + 3]
+        return f'{head}{passage(specs, mark[1], mark[2], mark[3])}<!-- end -->'
+
+    return PASSAGE.sub(put, text)
+
+
+def differs():
+    """None where docs/theorems.md has all passages as the definitions have them."""
+    with open(THEOREMS) as file:
+        text = file.read()
+    if not PASSAGE.search(text):
+        return 'docs/theorems.md has no passage that lists definitions'
+    return None if written(text) == text else 'docs/theorems.md lists other definitions: tests/docs/run --write mends it'
+
+
+def write():
+    """Writes the passages of docs/theorems.md."""
+    with open(THEOREMS) as file:
+        text = file.read()
+    with open(THEOREMS, 'w') as file:
+        file.write(written(text))

@@ -1,0 +1,95 @@
+"""What the scripts of tests/ share: the built program and tests, checks that are made side by side, and the closing line."""
+import multiprocessing
+import os
+import subprocess
+from dataclasses import dataclass
+from functools import partial
+
+TOP = os.path.dirname(os.path.dirname(os.path.abspath(__file__)))
+BOARDS = os.path.join(TOP, 'boards')
+CRATES = os.path.join(TOP, 'crates')
+PROGRAM = os.path.join(CRATES, 'pebbles', 'out', 'pebbles')
+TESTS = os.path.join(CRATES, 'acceptance', 'out', 'acceptance_tests')
+# the words that build the program, as README.md has them, and the output of the run that they end with
+BUILD = '(cd crates/pebbles && rt run < stdin)'
+BUILT = 'accepted least 2\n'
+BUILD_TESTS = '(cd crates/acceptance && rt test)'
+
+
+@dataclass
+class Check:
+    """`call` makes the check, in another process. It answers None, or a text that says what is wrong."""
+    name: str
+    call: partial
+
+
+# ---- what is built
+
+def newest():
+    """The time of the last change of a file that the crates are built from."""
+    files = [os.path.join(TOP, 'crates.txt')]
+    for crate in os.listdir(CRATES):
+        for part in ('src', 'specs', 'proofs'):
+            for folder, _, names in os.walk(os.path.join(CRATES, crate, part)):
+                files += [folder, *(os.path.join(folder, name) for name in names)]
+    return max(os.stat(file).st_mtime for file in files)
+
+
+def is_built(path):
+    """Whether this was built, and nothing that it is built from has changed since."""
+    return os.access(path, os.X_OK) and os.stat(path).st_mtime >= newest()
+
+
+def build(words):
+    """Runs these words of a shell from the top of the repository."""
+    return subprocess.run(words, shell=True, cwd=TOP, stdin=subprocess.DEVNULL, capture_output=True, text=True)
+
+
+def lacks_program():
+    """None, or why there is no program that is built from the files as they are. It is built where it isn't there or is older."""
+    if is_built(PROGRAM):
+        return None
+    done = build(BUILD)
+    if not is_built(PROGRAM):
+        return f'no program at {os.path.relpath(PROGRAM, TOP)}: {done.stderr[-400:]}'
+    return None if done.stdout == BUILT else f'{BUILD} wrote {done.stdout!r}, and not {BUILT!r}'
+
+
+def lacks_tests():
+    """None, or why there are no tests of `acceptance` that are built from the files as they are."""
+    if not is_built(TESTS):
+        build(BUILD_TESTS)
+    return None if is_built(TESTS) else f'no tests at {os.path.relpath(TESTS, TOP)}'
+
+
+# ---- checks and the closing line
+
+def closing(name, passed, failed):
+    """Prints the closing line of a script, and gives its exit status."""
+    print(f'{name}: {passed} passed, {failed} failed')
+    return 1 if failed else 0
+
+
+def stopped(name, why):
+    """Says why a script makes no check, and gives its exit status."""
+    print(f'FAILED {why}')
+    return closing(name, 0, 1)
+
+
+def made(check):
+    """The check's name, and None or what is wrong."""
+    try:
+        return check.name, check.call()
+    except Exception as error:
+        return check.name, repr(error)
+
+
+def all_made(name, checks, processes=None):
+    """Makes all checks, prints what is wrong, and gives the exit status."""
+    passed = failed = 0
+    with multiprocessing.Pool(processes) as pool:
+        for called, wrong in pool.imap(made, checks):
+            passed, failed = passed + (wrong is None), failed + (wrong is not None)
+            if wrong is not None:
+                print(f'FAILED {called}: {wrong}', flush=True)
+    return closing(name, passed, failed)
