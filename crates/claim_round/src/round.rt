@@ -3,13 +3,14 @@
 ghost use Rattle.std.specs.Prelude.{◌≡◌, ℕ, ◌<◌, ◌≤◌, [], length, false, IfOk, IfErr};
 ghost use Rattle.index_lists.specs.Lists.{times};
 ghost use Rattle.claim_round.specs.Shared.{IsOf, Stays, IsSplit, IsJoined, IsClosedBy, Finishes};
+ghost use Rattle.claim_round.specs.History.{HasHistory, LostWereWon, TellsClosedGaps};
 ghost use Rattle.claim_round.specs.Calls.{Opens, HasStruck, HasClaimed};
 ghost use Rattle.claim_round.specs.Reasons.{IsReason};
 
 use crate::closed::Closed;
 use crate::room::{make_places, make_room, owe_members, places_for};
 use crate::seat::RoundSeat;
-use crate::table::{Halves, Hand, Look, Plan, Read, Rule, Strike, Try};
+use crate::table::{Halves, Hand, Look, Plan, Rule, Strike, Try};
 use crate::words::{OPEN, first_words};
 use atomic_table::Table;
 use board_text::Memory;
@@ -151,7 +152,7 @@ impl<'a, S: ListStore> SharedRound<'a, S> {
         }
     }
 
-    /// Claims the first configuration that is owed: one step on its value, or a look where it has one already.
+    /// Claims the first configuration that is owed: one step on its value. That single try decides.
     pub fn claim(&self, seat: &mut RoundSeat) -> Claim
         requires mine { IsOf self.now seat.old }
         requires owed { 0 < length seat.old.view.has.owed }
@@ -163,11 +164,10 @@ impl<'a, S: ListStore> SharedRound<'a, S> {
         };
         let word = self.solver.space().gaps() as usize + config as usize;
         let next = u64::from(self.solver.round_number()) + 1;
-        let shared = &self.table.shared;
-        if shared.load::<Read>(&mut seat.seat, word) != OPEN {
-            return Claim { config, won: false };
-        }
-        let found = shared.compare_exchange::<Try>(&mut seat.seat, word, OPEN, next);
+        let found = self
+            .table
+            .shared
+            .compare_exchange::<Try>(&mut seat.seat, word, OPEN, next);
         if found == OPEN {
             seat.won.push_reserved(config);
             return Claim { config, won: true };
@@ -267,7 +267,9 @@ impl<'a, S: ListStore> SharedRound<'a, S> {
         requires mine { IsOf self seat }
         ensures ok { IfOk result (λ c. IsClosedBy self.entry seat c) }
         ensures finished { IfOk result (λ c. Finishes self.entry.key.solving c) }
-        ensures lost { IfOk result (λ c. (x : ℕ) → 0 < times x seat.view.lost → 0 < times x c.won) }
+        ensures history { IfOk result (λ c. HasHistory self.entry.key seat.view.made c) }
+        ensures lost { IfOk result (λ c. LostWereWon seat.view.made c.won) }
+        ensures closed { IfOk result (λ c. TellsClosedGaps self.entry.key.solving seat.view.made c.counts) }
         ensures err { IfErr result (λ n. (n.round ≡ self.entry) × (n.seat ≡ seat) × IsReason n.why self.entry seat) }
     {
         if seat.width < self.width {
