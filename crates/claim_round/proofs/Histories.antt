@@ -1,15 +1,15 @@
 -- The history of a round after each step: one step more, whose answer is told to the seat that made it.
-use Rattle.std.proofs.Common.{◌≡◌, ℕ, zero, suc, max, ◌+◌, ◌<◌, ◌≤◌, List, [], ◌∷◌, ◌++◌, length, map, set, get_or, refl, sym, ap, ◌∙◌, subst, arith, inl, inr, length-append, Some}
+use Rattle.std.proofs.Common.{◌≡◌, ℕ, zero, suc, max, ◌+◌, ◌<◌, ◌≤◌, List, [], ◌∷◌, ◌++◌, length, set, get_or, refl, sym, ap, ◌∙◌, subst, arith, inl, inr, length-append, Some}
 use mathlib.Core.Option.{some}
 use lib.ListN.{get_elem?}
-use Rattle.std.specs.List.{All, Contains, sum_by}
+use Rattle.std.specs.List.{All, Contains}
 use Rattle.std.proofs.lemmas.Option.{same_Some}
 use Rattle.std.proofs.lemmas.List.{map_push}
 use Rattle.std.proofs.lemmas.List.Elements.{All-push, All-set, All-append}
 use Rattle.index_lists.specs.Lists.{times}
 use Rattle.index_lists.proofs.Cited.{times-append, times-later}
 use Rattle.retro_core.specs.Solving.{IsSolving}
-use Rattle.retro_core.specs.Round.{Round, IsLawful}
+use Rattle.retro_core.specs.Round.{IsLawful}
 use Rattle.retro_core.specs.declared.step.Step.{Step}
 use Rattle.retro_core.specs.declared.step.Seen.{Seen}
 use Rattle.retro_core.specs.Stepping.{Does}
@@ -100,9 +100,10 @@ module _ (k : Key) (words words' : List ℕ) (views : List View) (h : IsHistory 
     counted = h.counted;
     leads = lead-more h.first h.steps (round_of_words k.solving k.width words (seats_of views)) step answer (round_of_words k.solving k.width words' (seats_of (set views id w))) h.leads does;
     told = All-set (IsToldBy longer) views id w
-        (let old = view_at (IsToldBy h.steps) views id v h.told at in
-        (subst (AreTold longer) (sym made) (All-push (λ (call : ℕ × Seen). answer_at longer call.0 ≡ Some call.1) v.made (length h.steps, answer) (told-more h.steps (step, answer) v.made old.0) (answer-last h.steps (step, answer))),
-        (let l = length-append h.steps ((step, answer) ∷ []) in omega arith)))
+        (let old = view_at (IsToldBy h.steps) views id v h.told at in (
+          subst (AreTold longer) (sym made) (All-push (λ (call : ℕ × Seen). answer_at longer call.0 ≡ Some call.1) v.made (length h.steps, answer) (told-more h.steps (step, answer) v.made old.0) (answer-last h.steps (step, answer))),
+          (let l = length-append h.steps ((step, answer) ∷ []) in omega arith),
+        ))
         (views-more h.steps (step, answer) views h.told);
     once = λ place.
         let sum = total_set (told_of place) views id v w at in

@@ -12,7 +12,6 @@ use Rattle.positions.specs.Value.{HasValue}
 use Rattle.positions.specs.Ranks.{configurations, configuration_at}
 use Rattle.positions.specs.Gaps.{gaps}
 use Rattle.positions.specs.Counts.{HasSize}
-use Rattle.positions.proofs.Cited.{size_zero}
 use Rattle.retro_core.specs.Solving.{Solving, IsSolving, AnswerLasts, bucket}
 use Rattle.retro_core.specs.Round.{AreToStrike, AreFirstCounts, AreFirstValues, IsDue, opening}
 use Rattle.retro_core.specs.Inside.Arena.{dominated}

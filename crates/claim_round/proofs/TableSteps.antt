@@ -1,9 +1,9 @@
 -- Each step on the table keeps the rule: it is one step more of the history, or none.
 use Rattle.std.proofs.Common.{◌≡◌, ◌≢◌, ℕ, zero, suc, ◌+◌, ◌-◌, ◌*◌, ◌%◌, ◌^◌, ◌<◌, ◌≤◌, ◌==◌, Bool, true, false, cond, eqb, List, [], ◌∷◌, ◌++◌, length, drop, set, get_or, refl, sym, ap, ◌∙◌, subst, inl, inr, arith, Some, None}
 use Rattle.std.specs.Prelude.{slice_index}
-use Rattle.std.proofs.lemmas.List.{map-set, map_push, length-map, length-set, length-take, length-drop}
+use Rattle.std.proofs.lemmas.List.{map-set, map_push, length-map, length-take, length-drop}
 use Rattle.std.proofs.lemmas.List.Elements.{All-push, All-set}
-use Rattle.std.specs.List.{flat_map, sum_by}
+use Rattle.std.specs.List.{sum_by}
 use mathlib.Core.Option.{none, some, some-ne-none}
 use prog.Atomic.{either}
 use lib.ListN.{get_elem?}
@@ -16,7 +16,6 @@ use Rattle.positions.specs.Gaps.{gaps, gap_of, IsDominator}
 use Rattle.retro_core.specs.Solving.{Solving, source}
 use Rattle.retro_core.specs.Round.{PlainSeat, IsLawful, spent as spent_seat, first_of, seat_struck, seat_tried, seat_kept, seat_new}
 use Rattle.retro_core.specs.Round.{seat_joined}
-use Rattle.retro_core.specs.declared.step.Step.{Step}
 use Rattle.retro_core.specs.declared.step.Step.TheVariants as steps
 use Rattle.retro_core.specs.declared.step.Seen.TheVariants as seen
 use Rattle.retro_core.specs.Stepping.{Does}
@@ -28,7 +27,7 @@ use Rattle.claim_round.specs.Plays.{TableStrikes, Claims, Looks, IsBounded, view
 use Rattle.claim_round.specs.declared.words.TheConstants.{OPEN}
 use Rattle.claim_round.specs.Words.{value_of_word, round_of_words}
 use Rattle.claim_round.proofs.Histories.{history-lawful, history-call, history-split, history-join, IsToldBy}
-use Rattle.claim_round.proofs.WordSteps.{IsWordStruck, word-strike, word-try}
+use Rattle.claim_round.proofs.WordSteps.{word-strike, word-try}
 use Rattle.claim_round.proofs.Loads.{few_members, load_struck, load_claimed, load_cut, load_glue}
 use Rattle.claim_round.proofs.Totals.{get_elsewhere, knows_at, seat_read, total_at, total_set, total_cut, total_glue, width_at, won_total, view_at}
 
@@ -81,11 +80,11 @@ strike_allowed k slots id me gap pebble wide some_todo dominates gap_is s kept s
     let history : IsHistory k (set s.words gap (n - 1)) (set s.views id w) =
     history-call k s.words (set s.words gap (n - 1)) s.views kept.history (steps.Strike id) (seen.Struck (first_of v.has.todo) (cond (n == 1) (Some gap) None)) id v w at done.strikes refl refl refl in
     let few : sum_by (load (most k)) (set s.views id w) ≤ most k * size k = (
-        let sum = total_set (load (most k)) s.views id v w at in
-        let members : length (source v.key.solving gap) ≤ most k = subst (λ (q : Key). length (source q.solving gap) ≤ most k) (sym knows) (few_members k.solving kept.solving gap low) in
-        let less = load_struck (most k) v gap n place some_todo members in
-        let f = kept.few in
-        omega arith) in
+    let sum = total_set (load (most k)) s.views id v w at in
+    let members : length (source v.key.solving gap) ≤ most k = subst (λ (q : Key). length (source q.solving gap) ≤ most k) (sym knows) (few_members k.solving kept.solving gap low) in
+    let less = load_struck (most k) v gap n place some_todo members in
+    let f = kept.few in
+    omega arith) in
     let P : ℕ → Type 0 = λ m. Kept k (record { words = set s.words gap m; homes = s.homes; views = set s.views id w }) in
     let kept' : P (n - 1) = record { solving = kept.solving; history = history; knows = All-set (KnowsRound k) s.views id w (known k w knows wide) kept.knows; few = few } in
     let positive : 0 < n = done.some_left in

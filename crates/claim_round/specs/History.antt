@@ -37,8 +37,8 @@ calls_of None = 0
 abbrev pub calls_at : List (Step × Seen) → ℕ → ℕ
 calls_at steps place = calls_of (answer_at steps place)
 
--- steps of the machine lead from an opening to these words and seats. What a seat was told is the answers at its places,
--- which are all before the end, and each strike and each try was told to one seat, once
+-- steps of the machine lead from an opening, whose counts are those of the solver, to these words and seats. What a seat was told is
+-- the answers at its places, its next one can stand at the end, and each strike and each try was told to one seat, once
 pub record IsHistory (k : Key) (words : List ℕ) (views : List View) : Type 0 where
   pub first : Round
   pub steps : List (Step × Seen)
@@ -48,8 +48,8 @@ pub record IsHistory (k : Key) (words : List ℕ) (views : List View) : Type 0 w
   pub told : All (λ view. AreTold steps view.made × (view.since ≤ length steps)) views
   pub once : (place : ℕ) → sum_by (λ view. times place (places_of view.made)) views ≡ calls_at steps place
 
--- steps of the machine lead from an opening to an end at which no seat has work left, which has these counts, these values and what
--- was won. What was told is the answers of all strikes and tries, each once
+-- steps of the machine lead from an opening, whose counts are those of the solver, to an end at which no seat has work left. The end has
+-- these counts and values, and what was won. What was told is the answers of all strikes and tries, each once
 pub record HasHistory (k : Key) (made : List (ℕ × Seen)) (end : Ended) : Type 0 where
   pub first : Round
   pub steps : List (Step × Seen)

@@ -32,7 +32,8 @@ TableStrikes s m n m' = (place : ℕ) × (m.0.since ≤ place) × (m'.0 ≡ view
 
 -- a claim tells the word that it found, and stands at such a place
 abbrev pub Claims : Step Unit0 → Me Unit0 View → ℕ → Me Unit0 View → Type 0
-Claims s m n m' = (place : ℕ) × (m.0.since ≤ place) × (m'.0 ≡ claimed m.0 n place) × (m'.1 ≡ m.1) × (length m'.0.has.won ≤ size m'.0.key)
+Claims s m n m' = (place : ℕ) × (m.0.since ≤ place) × (m'.0 ≡ claimed m.0 n place) × (m'.1 ≡ m.1)
+    × (length m'.0.has.won ≤ size m'.0.key)
 
 -- what any state of the round says of one seat: its width is at most the round's, and its lists are no longer than they can be
 pub record IsBounded (v : View) : Type 0 where

@@ -22,8 +22,11 @@ use std::marker::Model;
 
 /// A round of a solver at the value that it has reached, over shared words: one for each gap's count, and then one for each configuration.
 ///
-/// Each call makes one step, and waits for no other thread. Contracts see which table of words it is, and the solver and
-/// the width that it was opened with. What the words and all seats hold is lawful between any two steps.
+/// A call waits for no other thread. A strike, a claim and a split make one step on one word. A join makes two: the join of
+/// the two seats, and a load that changes nothing. Contracts see which table of words it is, and the solver and the width
+/// that it was opened with. All calls together have one history, which is a run of the machine (`IsHistory`); each strike and
+/// each claim has its place in it. The calls of a seat stand in their order, and after those of the seats that it was split
+/// or joined from. No order is promised of the calls of two seats that never met.
 #[derive(Drop)]
 pub struct SharedRound<'a, S: ListStore> {
     alloc: Global,
@@ -58,7 +61,7 @@ pub struct Struck {
 pub struct Claim {
     /// The rank of the configuration that was claimed.
     pub config: u32,
-    /// Whether it was won by this claim. Else it stands in a won list already, the seat's own or another's.
+    /// Whether it was won by this claim. Else an earlier claim won it, this seat's or another's.
     pub won: bool,
 }
 
@@ -152,7 +155,7 @@ impl<'a, S: ListStore> SharedRound<'a, S> {
         }
     }
 
-    /// Claims the first configuration that is owed: one step on its value. That single try decides.
+    /// Claims the first configuration that is owed: one step on its value word, and that single try decides.
     pub fn claim(&self, seat: &mut RoundSeat) -> Claim
         requires mine { IsOf self.now seat.old }
         requires owed { 0 < length seat.old.view.has.owed }
@@ -214,6 +217,9 @@ impl<'a, S: ListStore> SharedRound<'a, S> {
     /// Appends the second seat's lists to the first's, and adds the widths. A refusal comes before the step, and gives
     /// both seats back as they were.
     ///
+    /// Beside the step it makes one load, which changes nothing: from it is learned that the won list has no doubles and that
+    /// the lists are no longer than they can be.
+    ///
     /// The first seat's lists get room for what both have, and for what both may win, which is no more than there are
     /// configurations.
     pub fn join(
@@ -263,6 +269,8 @@ impl<'a, S: ListStore> SharedRound<'a, S> {
     }
 
     /// Closes the round, with a seat of its whole width that has nothing left to do.
+    ///
+    /// The history is then whole: all strikes and claims that were made were told to this seat, or to one that was joined in.
     pub fn close(self, seat: RoundSeat) -> Result<Closed, NotClosed<'a, S>>
         requires mine { IsOf self seat }
         ensures ok { IfOk result (λ c. IsClosedBy self.entry seat c) }

@@ -34,6 +34,7 @@ impl<'a, S: ListStore> Model for Plan<'a, S> {
     ghost view = { λ p. record { solving = p.solver.now; width = p.width } };
 }
 
+/// The rule between any two steps of any threads: the words and the seats have a history.
 pub struct Rule;
 
 impl<'a, S: ListStore> TableRule<(), Hand, Plan<'a, S>> for Rule {

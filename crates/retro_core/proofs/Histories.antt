@@ -1,12 +1,11 @@
 -- What the steps of a round answer, and what came before: each lost try and each closed gap has its cause.
 use Rattle.std.proofs.Common.{◌≡◌, ◌≢◌, ◌⊎◌, ℕ, zero, suc, ◌+◌, ◌-◌, ◌<◌, ◌≤◌, ◌==◌, Bool, true, false, cond, List, [], ◌∷◌, ◌++◌, length, set, refl, sym, ap, ◌∙◌, inl, inr, subst, arith, Option, Some, None, slice_get, get_or, slice_index, get_or-set_other}
 use Rattle.std.proofs.lemmas.Option.{none-some, same_Some}
-use Rattle.std.specs.List.{flat_map, sum_by}
 use Rattle.index_lists.specs.Lists.{times}
 use Rattle.index_lists.proofs.Cited.{cond_same, cond_other, times-append, times-here, times-later}
 use Rattle.retro_core.specs.Solving.{Solving, IsSolving}
 use Rattle.retro_core.specs.Round.{PlainSeat, Round, spent, seat_at, all_won, IsLawful, IsOpening, first_of, seat_struck, seat_tried, first_is_open}
-use Rattle.retro_core.specs.Round.{seat_kept, seat_new, seat_joined, struck, tried, split, joined}
+use Rattle.retro_core.specs.Round.{seat_kept, seat_new, seat_joined}
 use Rattle.retro_core.specs.declared.step.Step.{Step}
 use Rattle.retro_core.specs.declared.step.Step.TheVariants as steps
 use Rattle.retro_core.specs.declared.step.Seen.{Seen}

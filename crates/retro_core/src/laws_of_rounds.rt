@@ -37,9 +37,9 @@ pub fn worked_off_rounds_have_won_all()
         → IsSolving s → IsOpening s width first → LeadTo first steps last → IsWorkedOff last → (last.solving ≡ s) × HasWonAll last }
 {}
 
-/// Each lost try and each closed gap has its cause among the steps from an opening: a try is lost only after one that won
-/// the same configuration, and what is answered as won stands in a won list at the end. A gap is told as closed at most once, only where it had a count at the opening and has none at
-/// the end, and always there.
+/// Lost tries and closed gaps have a cause among the steps that lead from one round to another. From an opening on, a try is
+/// lost only after a try that won the same configuration; what is answered as won stands in a won list at the end. A gap is
+/// answered as closed at most once, only if it had a count at first and has none at the end, and always then.
 pub fn answers_have_a_cause()
     ensures lost { (s : Solving) → (width : ℕ) → (first : Round) → (steps : List (Doing × Answer)) → (last : Round)
         → IsSolving s → IsOpening s width first → LeadTo first steps last
