@@ -1,12 +1,13 @@
 -- When one seat has the whole width and nothing left to do, the round is finished.
-use Rattle.std.proofs.Common.{◌≡◌, ◌≢◌, ◌⊎◌, ℕ, zero, suc, ◌+◌, ◌^◌, ◌<◌, ◌≤◌, ◌↔◌, List, [], ◌∷◌, map, length, take, drop, get_or, refl, sym, ap, ◌∙◌, subst, inl, inr, arith, Some, None}
+use Rattle.std.proofs.Common.{◌≡◌, ◌≢◌, ◌⊎◌, ℕ, zero, suc, ◌+◌, ◌^◌, ◌<◌, ◌≤◌, ◌↔◌, List, [], ◌∷◌, map, length, take, drop, get_or, true, false, refl, sym, ap, ◌∙◌, subst, inl, inr, arith, Some, None}
 use Rattle.std.specs.Prelude.{slice_index}
 use Rattle.board_text.specs.declared.board.TheConstants.{MAX_LABELS}
 use Rattle.std.proofs.lemmas.Bool.{cases_lt}
 use Rattle.std.proofs.lemmas.List.{get_or-map, length-map}
-use Rattle.std.specs.List.{flat_map, sum_by}
+use Rattle.std.specs.List.{All, Contains, flat_map, sum_by}
+use Rattle.std.proofs.lemmas.List.Elements.{All-contains}
 use Rattle.std.proofs.lemmas.List.Sums.{sum_by-cons}
-use mathlib.Core.Option.{some}
+use mathlib.Core.Option.{some, some-ne-none, some-injective}
 use lib.ListN.{get_elem?}
 use Rattle.atomic_table.specs.Seated.{TableId}
 use Rattle.atomic_table.specs.Table.{State, Final, Seen}
@@ -22,16 +23,21 @@ use Rattle.positions.proofs.Cited.{same_size, size_zero, size_at_most}
 use Rattle.retro_core.specs.Solving.{Solving, IsSolving, AnswerLasts}
 use Rattle.retro_core.specs.Round.{PlainSeat, Round, IsLawful, IsWorkedOff, spent as spent_seat, seat_at, all_todo}
 use Rattle.retro_core.specs.Round.{all_won}
+use Rattle.retro_core.specs.declared.step.Seen.{Seen as Answer}
+use Rattle.retro_core.specs.declared.step.Seen.TheVariants as seen
+use Rattle.retro_core.specs.History.{answer_at}
 use Rattle.retro_core.specs.Ending.{IsRoundEnd}
-use Rattle.retro_core.proofs.Cited.{same_or_not, times-together, worked-off}
+use Rattle.retro_core.proofs.Cited.{closed-always, closed-gone, closed-once, lost-opened, won-told, same_or_not, times-together, worked-off}
 use Rattle.claim_round.specs.Shared.{Key, View, Ended, Finishes}
-use Rattle.claim_round.specs.Inside.Shared.{Unit0, Kept, seats_of}
+use Rattle.claim_round.specs.History.{IsHistory, HasHistory, AreTold, LostWereWon, TellsClosedGaps, places_of, calls_of, calls_at, seats_of}
+use Rattle.claim_round.specs.Rule.{Unit0, Kept, KnowsRound}
 use Rattle.claim_round.specs.Inside.Seats.{IsSeated}
 use Rattle.claim_round.specs.Inside.Rounds.{IsRound}
 use Rattle.claim_round.specs.declared.seat.RoundSeat.TheInside.{Inside}
 use Rattle.claim_round.specs.declared.words.TheConstants.{OPEN}
-use Rattle.claim_round.specs.Inside.Words.{value_of_word, round_of_words}
-use Rattle.claim_round.proofs.Totals.{seat_read, total_at, two_widths, width_at}
+use Rattle.claim_round.specs.Words.{value_of_word, round_of_words}
+use Rattle.claim_round.proofs.Histories.{history-lawful, told-there, told_of, IsToldBy}
+use Rattle.claim_round.proofs.Totals.{seat_read, two_widths, view_at, width_at}
 use Rattle.claim_round.proofs.TableSteps.{words_length}
 use Rattle.claim_round.proofs.Seats.{no_length}
 
@@ -49,16 +55,41 @@ only f z (x ∷ xs) (suc id) idle =
     let here : f x ≡ 0 = ap f (idle 0 (λ e. absurd (omega arith))) ∙ z in
     omega (arith, here, only f z xs id (λ j ne. idle (suc j) (λ e. ne (omega arith))), sum_by-cons f x xs)
 
+-- f of all views is f of one, where it is nothing of all others
+none_of : (f : View → ℕ) (views : List View) → ((j : ℕ) (u : View) → get_elem? views j ≡ some u → f u ≡ 0) → sum_by f views ≡ 0
+none_of f [] idle = refl
+none_of f (x ∷ xs) idle = let here = idle 0 x refl in let rest = none_of f xs (λ j u at. idle (suc j) u at) in omega (arith, sum_by-cons f x xs)
+
+only_of : (f : View → ℕ) (views : List View) (id : ℕ) (v : View) → get_elem? views id ≡ some v → ((j : ℕ) (u : View) → j ≢ id → get_elem? views j ≡ some u → f u ≡ 0) → sum_by f views ≡ f v
+only_of f [] id v at idle = absurd (some-ne-none v (sym at))
+only_of f (x ∷ xs) zero v at idle =
+    let here : f x ≡ f v = ap f (some-injective x v at) in
+    let rest = none_of f xs (λ j u there. idle (suc j) u (λ e. absurd (omega arith)) there) in
+    omega (arith, sum_by-cons f x xs)
+only_of f (x ∷ xs) (suc id) v at idle =
+    let here = idle 0 x (λ e. absurd (omega arith)) refl in
+    let rest = only_of f xs id v at (λ j u ne there. idle (suc j) u (λ e. ne (omega arith)) there) in
+    omega (arith, sum_by-cons f x xs)
+
+-- the counts, values and won list of a table's words
+abbrev pub end_of_words : Key → List ℕ → List ℕ → Ended
+end_of_words k words won = record { counts = take (gaps k.solving.board) words; values = map value_of_word (drop (gaps k.solving.board) words); won = won }
+
 pub record IsClosed (k : Key) (words : List ℕ) (v : View) : Type 0 where
   pub wide : v.has.width ≡ k.width
   pub long : length words ≡ gaps k.solving.board + configurations k.solving.board
-  pub finishes : Finishes k.solving (record { counts = take (gaps k.solving.board) words; values = map value_of_word (drop (gaps k.solving.board) words); won = v.has.won })
-  pub lost : (x : ℕ) → 0 < times x v.lost → 0 < times x v.has.won
+  pub finishes : Finishes k.solving (end_of_words k words v.has.won)
+  pub history : HasHistory k v.made (end_of_words k words v.has.won)
+  pub lost : LostWereWon v.made v.has.won
+  pub closed : TellsClosedGaps k.solving v.made (take (gaps k.solving.board) words)
 
-module _ (k : Key) (words : List ℕ) (views : List View) (sol : IsSolving k.solving) (law : IsLawful (round_of_words k.solving k.width words (seats_of views)))
+module _ (k : Key) (words : List ℕ) (views : List View) (sol : IsSolving k.solving) (h : IsHistory k words views) (knows : All (KnowsRound k) views)
     (id : ℕ) (v : View) (at : get_elem? views id ≡ some v) (whole : k.width ≤ v.has.width) (no_todo : v.has.todo ≡ []) (no_owed : v.has.owed ≡ []) where
   abbrev round : Round
   round = round_of_words k.solving k.width words (seats_of views)
+
+  law : IsLawful round
+  law = history-lawful k words views sol h
 
   read : seat_at round id ≡ v.has
   read = seat_read views id v at
@@ -130,24 +161,79 @@ module _ (k : Key) (words : List ℕ) (views : List View) (sol : IsSolving k.sol
         ],
       )
 
-  finished : Finishes k.solving (record { counts = take (gaps k.solving.board) words; values = map value_of_word (drop (gaps k.solving.board) words); won = v.has.won })
+  finished : Finishes k.solving (end_of_words k words v.has.won)
   finished = record { end = ended; wide = law.values_length; values = valued }
+
+  -- what was told in all was told to the one seat
+  told_once : (place : ℕ) → times place (places_of v.made) ≡ calls_at h.steps place
+  told_once place = sym (only_of (told_of place) views id v at (λ j u ne there.
+      let width : u.has.width ≡ 0 = ap (λ (q : PlainSeat). q.width) (sym (seat_read views j u there) ∙ others j ne) in
+      ap (λ (m : List (ℕ × Answer)). times place (places_of m)) ((view_at (KnowsRound k) views j u knows there).nothing width))) ∙ h.once place
+
+  told : AreTold h.steps v.made
+  told = (view_at (IsToldBy h.steps) views id v h.told at).0
+
+  -- a call at a place was told
+  has_told : (place : ℕ) (answer : Answer) → answer_at h.steps place ≡ Some answer → calls_of (Some answer) ≡ 1 → Contains v.made (place, answer)
+  has_told place answer is call = told-there h.steps v.made place answer told is (let once = told_once place in let one = ap calls_of is in omega arith)
+
+  -- what was told stands in the history
+  stands : (place : ℕ) (answer : Answer) → Contains v.made (place, answer) → answer_at h.steps place ≡ Some answer
+  stands place answer there = All-contains (λ (call : ℕ × Answer). answer_at h.steps call.0 ≡ Some call.1) v.made (place, answer) told there
+
+  history : HasHistory k v.made (end_of_words k words v.has.won)
+  history = record {
+    first = h.first;
+    steps = h.steps;
+    last = round;
+    opens = h.opens;
+    counted = h.counted;
+    leads = h.leads;
+    worked_off = off;
+    counts = refl;
+    values = refl;
+    won = won_all;
+    told = told;
+    once = told_once;
+  }
+
+  lost : LostWereWon v.made v.has.won
+  lost place config there =
+      let found = lost-opened k.solving k.width h.first h.steps round sol h.opens h.leads place config (stands place (seen.Tried config false) there) in
+      let won = won-told h.first h.steps round h.leads found.0 config found.2 in
+      (found.0, found.1, has_told found.0 (seen.Tried config true) found.2 refl, (let all = won_all config in omega arith))
+
+  closed : TellsClosedGaps k.solving v.made (take (gaps k.solving.board) words)
+  closed = record {
+    once = λ gap place other config another here there. closed-once h.first h.steps round h.leads gap place other
+        (config, stands place (seen.Struck config (Some gap)) here) (another, stands other (seen.Struck another (Some gap)) there);
+    only = λ gap place config here. (closed-gone h.first h.steps round h.leads gap place (config, stands place (seen.Struck config (Some gap)) here)).1;
+    always = λ gap label low answer none.
+        let P : ℕ → Type 0 = AnswerLasts k.solving.board gap k.solving.rounds in
+        let some : 0 < slice_index h.first.counts gap = elim (same_or_not (slice_index h.first.counts gap) 0) [
+          | inl zero_left ↦ absurd ((size_zero P).0 (subst (HasSize P) zero_left (h.counted gap low)) label answer)
+          | inr left ↦ (let more = left in omega arith)
+        ] in
+        let found = closed-always h.first h.steps round h.leads gap some none in
+        (found.0, found.1.0, has_told found.0 (seen.Struck found.1.0 (Some gap)) found.1.1 refl);
+  }
 
 -- what is known of the last state, with a seat of the whole width that has nothing to do
 pub closed_state : (k : Key) (id : ℕ) (v : View) (words : List ℕ) (slots : List Unit0) → Final (Seen (Kept k) id v) words slots → k.width ≤ v.has.width → v.has.todo ≡ [] → v.has.owed ≡ [] → IsClosed k words v
 closed_state k id v words slots last whole no_todo no_owed =
     let s : State Unit0 View = last.0 in
-    let kept = last.1.0 in
+    let kept : Kept k s = last.1.0 in
     let at : get_elem? s.views id ≡ some v = last.1.1 in
+    let sol = kept.solving in
+    let h = kept.history in
+    let knows = kept.knows in
     subst (λ (ws : List ℕ). IsClosed k ws v) last.2 (record {
-      wide = same_width k s.words s.views kept.0 kept.1 id v at whole no_todo no_owed;
-      long = words_length k.solving k.width s.words (seats_of s.views) kept.1;
-      finishes = finished k s.words s.views kept.0 kept.1 id v at whole no_todo no_owed;
-      lost = λ x h.
-          let part = total_at (λ u. times x u.lost) s.views id v at in
-          let there = kept.2.lost x (omega arith) in
-          let all = won_all k s.words s.views kept.0 kept.1 id v at whole no_todo no_owed x in
-          omega arith;
+      wide = same_width k s.words s.views sol h knows id v at whole no_todo no_owed;
+      long = words_length k.solving k.width s.words (seats_of s.views) (history-lawful k s.words s.views sol h);
+      finishes = finished k s.words s.views sol h knows id v at whole no_todo no_owed;
+      history = history k s.words s.views sol h knows id v at whole no_todo no_owed;
+      lost = lost k s.words s.views sol h knows id v at whole no_todo no_owed;
+      closed = closed k s.words s.views sol h knows id v at whole no_todo no_owed;
     })
 
 -- the same, told of the fields of a round and of its seat

@@ -6,7 +6,7 @@ use Rattle.positions.specs.Gaps.{gaps}
 use Rattle.retro_core.specs.Solving.{Solving}
 use Rattle.retro_core.specs.Round.{IsDue, first_of}
 use Rattle.claim_round.specs.Shared.{Key, IsOf, RoundId, Place}
-use Rattle.claim_round.specs.Inside.Shared.{size}
+use Rattle.claim_round.specs.Rule.{size}
 use Rattle.claim_round.specs.Inside.Seats.{IsSeated, place_of}
 use Rattle.claim_round.specs.Inside.Rounds.{IsRound, round_id}
 use Rattle.claim_round.specs.declared.seat.RoundSeat.TheInside.{Inside}

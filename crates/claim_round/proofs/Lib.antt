@@ -1,7 +1,7 @@
 pub mod WordSteps
 pub mod Totals
 pub mod Loads
-pub mod Traces
+pub mod Histories
 pub mod TableSteps
 pub mod Seats
 pub mod FirstEntries

@@ -13,7 +13,8 @@ use Rattle.positions.specs.declared.space.TheConstants.{MAX_CONFIGURATIONS}
 use Rattle.retro_core.specs.Solving.{Solving, IsSolving, source}
 use Rattle.retro_core.proofs.Cited.{same_or_not, source-once}
 use Rattle.claim_round.specs.Shared.{Key, View, kept_part, new_part, view_joined}
-use Rattle.claim_round.specs.Inside.Shared.{most, size, load, view_struck, claimed}
+use Rattle.claim_round.specs.Rule.{most, size, load}
+use Rattle.claim_round.specs.Plays.{view_struck, claimed}
 
 -- ---- how many members a gap has
 
@@ -69,16 +70,16 @@ pub length_rest : (xs : List ℕ) → 0 < length xs → length xs ≡ 1 + length
 length_rest [] some = absurd (omega arith)
 length_rest (x ∷ xs) some = omega arith
 
-pub load_struck : (most : ℕ) (v : View) (gap n : ℕ) → 0 < length v.has.todo → length (source v.key.solving gap) ≤ most → load most (view_struck v gap n) ≤ load most v
-load_struck most v gap n some few =
+pub load_struck : (most : ℕ) (v : View) (gap n place : ℕ) → 0 < length v.has.todo → length (source v.key.solving gap) ≤ most → load most (view_struck v gap n place) ≤ load most v
+load_struck most v gap n place some few =
     let more : List ℕ = source v.key.solving gap in
     let l = ap (λ (i : ℕ). most * i) (length_rest v.has.todo some) ∙ times_one_more most (length (drop 1 v.has.todo)) in
     dite (ℕ_discrete n 1)
     (λ e. let o = ap length (cond_same n 1 (v.has.owed ++ more) v.has.owed e) ∙ length-append v.has.owed more in omega arith)
     (λ ne. let o = ap length (cond_other n 1 (v.has.owed ++ more) v.has.owed ne) in omega arith)
 
-pub load_claimed : (most : ℕ) (v : View) (n : ℕ) → load most (claimed v n) ≤ load most v
-load_claimed most v n = let l = length-drop 1 v.has.owed in omega arith
+pub load_claimed : (most : ℕ) (v : View) (n place : ℕ) → load most (claimed v n place) ≤ load most v
+load_claimed most v n place = let l = length-drop 1 v.has.owed in omega arith
 
 pub load_cut : (most : ℕ) (v : View) → load most (kept_part v) + load most (new_part v) ≡ load most v
 load_cut most v =

@@ -12,18 +12,18 @@ use Rattle.positions.specs.Value.{HasValue}
 use Rattle.positions.specs.Ranks.{configurations, configuration_at}
 use Rattle.positions.specs.Gaps.{gaps}
 use Rattle.positions.specs.Counts.{HasSize}
-use Rattle.positions.proofs.Cited.{size_zero}
 use Rattle.retro_core.specs.Solving.{Solving, IsSolving, AnswerLasts, bucket}
-use Rattle.retro_core.specs.Round.{AreToStrike, AreFirstCounts, AreFirstValues, IsDue}
+use Rattle.retro_core.specs.Round.{AreToStrike, AreFirstCounts, AreFirstValues, IsDue, opening}
 use Rattle.retro_core.specs.Inside.Arena.{dominated}
 use Rattle.retro_core.specs.Inside.BoardArena.{arena_of}
 use Rattle.retro_core.proofs.Cited.{same_or_not, dominated-tells, times-filter-true, times-filter-le, opening-lawful}
-use Rattle.claim_round.specs.Shared.{Key}
-use Rattle.claim_round.specs.Inside.Shared.{KnowsRound, Kept, opening_view, most}
+use Rattle.claim_round.specs.Shared.{Key, View}
+use Rattle.claim_round.specs.History.{AreTold}
+use Rattle.claim_round.specs.Rule.{KnowsRound, Kept, most}
 use Rattle.std.proofs.lemmas.List.Elements.{All-push}
-use Rattle.claim_round.specs.Inside.Openings.{HasCounts, AreOpeningWords}
+use Rattle.claim_round.specs.Inside.Openings.{HasCounts, AreOpeningWords, opening_view}
 use Rattle.claim_round.specs.declared.words.TheConstants.{OPEN}
-use Rattle.claim_round.specs.Inside.Words.{value_of_word}
+use Rattle.claim_round.specs.Words.{value_of_word}
 
 -- ---- words that are read one after the other
 
@@ -122,17 +122,20 @@ opened s width words ranks sol some are to_strike =
     subst (λ o. (o ≡ Some value) ↔ ((value ≤ s.rounds) × HasValue b (configuration_at b rank) (Finite value)))
     (sym (get_or-map value_of_word (drop G words) rank 0 None (let l = length-drop G words in omega arith) ∙ ap value_of_word (get_or-drop G words rank 0))) (are.valued rank value i) in
     let all : AreToStrike s (filter (dominated (arena_of b)) (bucket s s.rounds)) = λ test tells. sym (to_strike (dominated (arena_of b)) (dominated-tells b)) ∙ to_strike test tells in
-    let law = (opening-lawful s sol width (take G words) (map value_of_word (drop G words)) (filter (dominated (arena_of b)) (bucket s s.rounds)) some counts_length values_length counts values all).lawful in
     let ranks_all : List ℕ = filter (dominated (arena_of b)) (bucket s s.rounds) in
-    let short : length ranks_all ≤ C = (ranks_due s ranks_all sol all).few in (
-      sol,
-      law,
-      record {
-        knows = All-push (KnowsRound k) [] (opening_view k) (λ i d below. absurd (omega arith)) (λ _. refl);
-        lost = λ x h. absurd (omega arith);
-        shut_once = λ gap i. omega arith;
-        shut_none = λ gap i h. omega arith;
-        shut_all = λ gap label i z answer. absurd ((size_zero (AnswerLasts b gap s.rounds)).0 (subst (HasSize (AnswerLasts b gap s.rounds)) z (are.counted gap i)) label answer);
-        few = (let m : most k * length ranks_all ≤ most k * C = mul-le-mul_left (most k) short in omega arith);
-      },
-    )
+    let opens = opening-lawful s sol width (take G words) (map value_of_word (drop G words)) ranks_all some counts_length values_length counts values all in
+    let short : length ranks_all ≤ C = (ranks_due s ranks_all sol all).few in
+    record {
+      solving = sol;
+      history = record {
+        first = opening s width (take G words) (map value_of_word (drop G words)) ranks_all;
+        steps = [];
+        opens = opens;
+        counted = counts;
+        leads = refl;
+        told = All-push (λ (v : View). AreTold [] v.made × (v.since ≤ 0)) [] (opening_view k) (λ i d below. absurd (omega arith)) ((λ i d below. absurd (omega arith)), omega arith);
+        once = λ place. refl;
+      };
+      knows = All-push (KnowsRound k) [] (opening_view k) (λ i d below. absurd (omega arith)) (record { round = λ _. refl; nothing = λ _. refl });
+      few = (let m : most k * length ranks_all ≤ most k * C = mul-le-mul_left (most k) short in omega arith);
+    }

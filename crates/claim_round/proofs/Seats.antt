@@ -11,8 +11,10 @@ use Rattle.retro_core.specs.Solving.{Solving, IsSolving, source}
 use Rattle.retro_core.specs.Round.{AreToStrike, IsDue, first_of}
 use Rattle.retro_core.proofs.Cited.{times-cut, times_here, split_first, source-rank}
 use Rattle.claim_round.specs.Shared.{Key, View, kept_part, new_part, view_joined}
-use Rattle.claim_round.specs.Inside.Shared.{IsDueIn, most, size, load, opening_view, view_struck, claimed, IsBounded}
-use Rattle.claim_round.specs.Inside.Seats.{IsSeated, SeatHasRoom}
+use Rattle.claim_round.specs.Rule.{most, size, load}
+use Rattle.claim_round.specs.Plays.{view_struck, claimed, IsBounded}
+use Rattle.claim_round.specs.Inside.Openings.{opening_view}
+use Rattle.claim_round.specs.Inside.Seats.{IsDueIn, IsSeated, SeatHasRoom}
 use Rattle.claim_round.specs.declared.seat.RoundSeat.TheInside.{Inside}
 use Rattle.claim_round.specs.declared.words.TheConstants.{OPEN}
 use Rattle.claim_round.proofs.Loads.{length_rest, few_members, narrow, some_most}
@@ -46,10 +48,10 @@ room_told : (t : Inside) (k : Key) (room : ℕ) → t.seat.me.0.key ≡ k → ve
     → SeatHasRoom t.seat.me.0.key (length t.won.items) (length t.owed.items) (length t.todo.items) (vec_capacity t.won)
 room_told t k room terms capacity = subst (λ (p : Key × ℕ). SeatHasRoom p.0 (length t.won.items) (length t.owed.items) (length t.todo.items) p.1) (λ j. (sym terms j, sym capacity j))
 
-pub claimed_seat : (s t : Inside) (n : ℕ) → IsSeated s → 0 < length s.seat.me.0.has.owed → t.seat.me.0 ≡ claimed s.seat.me.0 n → t.seat.me.1 ≡ s.seat.me.1
+pub claimed_seat : (s t : Inside) (n place : ℕ) → IsSeated s → 0 < length s.seat.me.0.has.owed → t.seat.me.0 ≡ claimed s.seat.me.0 n place → t.seat.me.1 ≡ s.seat.me.1
     → t.todo.items ≡ s.todo.items → t.owed.items ≡ drop 1 s.owed.items → deque_capacity t.owed ≡ deque_capacity s.owed
     → t.won.items ≡ (cond (n == OPEN) (s.won.items ++ first_of s.owed.items ∷ []) s.won.items) → vec_capacity t.won ≡ vec_capacity s.won → t.width ≡ s.width → IsSeated t
-claimed_seat s t n seated some view slots todo owed room_owed won room_won width =
+claimed_seat s t n place seated some view slots todo owed room_owed won room_won width =
     let v : View = s.seat.me.0 in
     let some' : 0 < length s.owed.items = subst (λ (xs : List ℕ). 0 < length xs) (sym seated.owed) some in
     record {
@@ -72,11 +74,11 @@ claimed_seat s t n seated some view slots todo owed room_owed won room_won width
     }
 
 -- the same after a strike, of a seat that owed nothing
-pub struck_seat : (s t : Inside) (n gap : ℕ) (k : Key) → IsSeated s → IsSolving k.solving → gap < gaps k.solving.board → s.seat.me.0.key ≡ k → 0 < length s.seat.me.0.has.todo → s.seat.me.0.has.owed ≡ []
-    → t.seat.me.0 ≡ view_struck s.seat.me.0 gap n → t.seat.me.1 ≡ s.seat.me.1
+pub struck_seat : (s t : Inside) (n gap place : ℕ) (k : Key) → IsSeated s → IsSolving k.solving → gap < gaps k.solving.board → s.seat.me.0.key ≡ k → 0 < length s.seat.me.0.has.todo → s.seat.me.0.has.owed ≡ []
+    → t.seat.me.0 ≡ view_struck s.seat.me.0 gap n place → t.seat.me.1 ≡ s.seat.me.1
     → t.todo.items ≡ drop 1 s.todo.items → t.owed.items ≡ (cond (n == 1) (s.owed.items ++ source k.solving gap) s.owed.items) → deque_capacity t.owed ≡ deque_capacity s.owed
     → t.won.items ≡ s.won.items → vec_capacity t.won ≡ vec_capacity s.won → t.width ≡ s.width → IsSeated t
-struck_seat s t n gap k seated sol in_gaps knows some none_owed view slots todo owed room_owed won room_won width =
+struck_seat s t n gap place k seated sol in_gaps knows some none_owed view slots todo owed room_owed won room_won width =
     let v : View = s.seat.me.0 in
     let some' : 0 < length s.todo.items = subst (λ (xs : List ℕ). 0 < length xs) (sym seated.todo) some in
     let more : List ℕ = source k.solving gap in
@@ -94,11 +96,11 @@ struck_seat s t n gap k seated sol in_gaps knows some none_owed view slots todo 
       due = subst (λ (u : View). (c : ℕ) → 0 < times c u.has.todo → IsDueIn u.key c) (sym view) (λ c there. seated.due c (let r = times_rest c v.has.todo in omega arith));
       inside = subst (λ (u : View). (c : ℕ) → 0 < times c u.has.owed → c < size u.key) (sym view) (λ c there. dite (ℕ_discrete n 1)
           (λ e.
-          let o : times c (view_struck v gap n).has.owed ≡ times c v.has.owed + times c own = ap (times c) (cond_same n 1 (v.has.owed ++ own) v.has.owed e) ∙ times-append c v.has.owed own in
+          let o : times c (view_struck v gap n place).has.owed ≡ times c v.has.owed + times c own = ap (times c) (cond_same n 1 (v.has.owed ++ own) v.has.owed e) ∙ times-append c v.has.owed own in
           let z : times c v.has.owed ≡ 0 = ap (times c) none_owed in
           subst (λ (q : Key). c < size q) (sym knows) (source-rank k.solving sol gap c in_gaps (subst (λ (xs : List ℕ). 0 < times c xs) (sym same) (omega arith))))
           (λ ne.
-          let o : times c (view_struck v gap n).has.owed ≡ times c v.has.owed = ap (times c) (cond_other n 1 (v.has.owed ++ own) v.has.owed ne) in
+          let o : times c (view_struck v gap n place).has.owed ≡ times c v.has.owed = ap (times c) (cond_other n 1 (v.has.owed ++ own) v.has.owed ne) in
           let z : times c v.has.owed ≡ 0 = ap (times c) none_owed in
           absurd (omega arith)));
       room_owed = subst (λ (u : View). most u.key ≤ deque_capacity t.owed) (sym view) (let r = seated.room_owed in omega arith);

@@ -1,29 +1,35 @@
--- Each step on the table keeps the rule.
-use Rattle.std.proofs.Common.{◌≡◌, ◌≢◌, ℕ, zero, suc, ◌+◌, ◌-◌, ◌*◌, ◌%◌, ◌^◌, ◌<◌, ◌≤◌, Bool, true, false, eqb, List, [], ◌∷◌, ◌++◌, length, drop, set, get_or, refl, sym, ap, ◌∙◌, subst, inl, inr, arith}
+-- Each step on the table keeps the rule: it is one step more of the history, or none.
+use Rattle.std.proofs.Common.{◌≡◌, ◌≢◌, ℕ, zero, suc, ◌+◌, ◌-◌, ◌*◌, ◌%◌, ◌^◌, ◌<◌, ◌≤◌, ◌==◌, Bool, true, false, cond, eqb, List, [], ◌∷◌, ◌++◌, length, drop, set, get_or, refl, sym, ap, ◌∙◌, subst, inl, inr, arith, Some, None}
 use Rattle.std.specs.Prelude.{slice_index}
 use Rattle.std.proofs.lemmas.List.{map-set, map_push, length-map, length-take, length-drop}
-use Rattle.std.specs.List.{flat_map, sum_by}
+use Rattle.std.proofs.lemmas.List.Elements.{All-push, All-set}
+use Rattle.std.specs.List.{sum_by}
 use mathlib.Core.Option.{none, some, some-ne-none}
 use prog.Atomic.{either}
 use lib.ListN.{get_elem?}
-use Rattle.atomic_table.specs.Table.{Me, step, stepped, keeps, Allows, Splits, Joins}
+use Rattle.atomic_table.specs.Table.{State, Me, step, keeps, Allows, Splits, Joins}
 use Rattle.atomic_table.proofs.Lists.{exchanged, set_again}
 use Rattle.index_lists.specs.Lists.{times}
-use Rattle.index_lists.proofs.Cited.{cond_same, cond_other, distinct-length, same_is, differ_is}
+use Rattle.index_lists.proofs.Cited.{distinct-length, same_is, differ_is}
 use Rattle.positions.specs.Ranks.{configuration_at, configurations}
 use Rattle.positions.specs.Gaps.{gaps, gap_of, IsDominator}
-use Rattle.retro_core.specs.Solving.{Solving}
+use Rattle.retro_core.specs.Solving.{Solving, source}
 use Rattle.retro_core.specs.Round.{PlainSeat, IsLawful, spent as spent_seat, first_of, seat_struck, seat_tried, seat_kept, seat_new}
 use Rattle.retro_core.specs.Round.{seat_joined}
-use Rattle.retro_core.proofs.Cited.{same_or_not, split-lawful, join-lawful}
-use Rattle.claim_round.proofs.WordSteps.{IsWordStruck, word-strike, word-try}
+use Rattle.retro_core.specs.declared.step.Step.TheVariants as steps
+use Rattle.retro_core.specs.declared.step.Seen.TheVariants as seen
+use Rattle.retro_core.specs.Stepping.{Does}
+use Rattle.retro_core.proofs.Cited.{same_or_not}
 use Rattle.claim_round.specs.Shared.{Key, View, kept_part, new_part, view_joined}
-use Rattle.claim_round.specs.Inside.Shared.{Unit0, Kept, IsTraced, TableStrikes, Claims, Reads, Looks, IsBounded, seats_of, most, size}
-use Rattle.claim_round.specs.Inside.Shared.{load, view_struck, claimed, spent_view}
+use Rattle.claim_round.specs.History.{IsHistory, seats_of}
+use Rattle.claim_round.specs.Rule.{Unit0, Kept, KnowsRound, most, size, load, spent_view}
+use Rattle.claim_round.specs.Plays.{TableStrikes, Claims, Looks, IsBounded, view_struck, claimed}
 use Rattle.claim_round.specs.declared.words.TheConstants.{OPEN}
-use Rattle.claim_round.specs.Inside.Words.{value_of_word, round_of_words}
-use Rattle.claim_round.proofs.Totals.{get_elsewhere, knows_at, seat_read, total_at, width_at, won_total}
-use Rattle.claim_round.proofs.Traces.{traced_strike, traced_try, lost_of_win, lost_of_loss, traced_split, traced_join}
+use Rattle.claim_round.specs.Words.{value_of_word, round_of_words}
+use Rattle.claim_round.proofs.Histories.{history-lawful, history-call, history-split, history-join, IsToldBy}
+use Rattle.claim_round.proofs.WordSteps.{word-strike, word-try}
+use Rattle.claim_round.proofs.Loads.{few_members, load_struck, load_claimed, load_cut, load_glue}
+use Rattle.claim_round.proofs.Totals.{get_elsewhere, knows_at, seat_read, total_at, total_set, total_cut, total_glue, width_at, won_total, view_at}
 
 pub put_back : (l : List ℕ) (i : ℕ) → set l i (get_or l i 0) ≡ l
 put_back [] i = refl
@@ -44,38 +50,47 @@ words_length s w words seats law =
     by_sizes : (n g c : ℕ) → g ≤ n → n - g ≡ c → n ≡ g + c
     by_sizes n g c low e = omega arith
 
+-- a state of the table that keeps the rule is a lawful round
+pub kept-lawful : (k : Key) (s : State Unit0 View) → Kept k s → IsLawful (round_of_words k.solving k.width s.words (seats_of s.views))
+kept-lawful k s kept = history-lawful k s.words s.views kept.solving kept.history
+
+-- the seat's next step stands after all that it knows
+since_at : (k : Key) (s : State Unit0 View) (kept : Kept k s) (id : ℕ) (v : View) → get_elem? s.views id ≡ some v → v.since ≤ length kept.history.steps
+since_at k s kept id v at = (view_at (IsToldBy kept.history.steps) s.views id v kept.history.told at).1
+
+-- a view that has a width and the round's key knows the round
+known : (k : Key) (v : View) → v.key ≡ k → 0 < v.has.width → KnowsRound k v
+known k v same wide = record { round = λ _. same; nothing = λ none. absurd (omega arith) }
+
 pub strike_allowed : (k : Key) (slots id : ℕ) (me : Me Unit0 View) (gap pebble : ℕ) → 0 < me.0.has.width → 0 < length me.0.has.todo
     → IsDominator k.solving.board (configuration_at k.solving.board (first_of me.0.has.todo)) pebble → gap ≡ gap_of k.solving.board (configuration_at k.solving.board (first_of me.0.has.todo)) pebble
     → Allows (Kept k) slots id me gap (λ n. (n + (2 ^ 64 - 1)) % 2 ^ 64) (TableStrikes (step slots gap 1 0 none) me)
 strike_allowed k slots id me gap pebble wide some_todo dominates gap_is s kept same at small =
     let b = k.solving.board in
+    let v : View = me.0 in
     let n : ℕ = slice_index s.words gap in
-    let w : View = view_struck me.0 gap n in
+    let place : ℕ = length kept.history.steps in
+    let w : View = view_struck v gap n place in
     let seats : List PlainSeat = seats_of s.views in
-    let sol = kept.0 in
-    let law = kept.1 in
-    let read : get_or seats id spent_seat ≡ me.0.has = seat_read s.views id me.0 at in
-    let knows : me.0.key ≡ k = knows_at k s.views id me.0 kept.2.knows at wide in
-    let first : gap_of b (configuration_at b (first_of (get_or seats id spent_seat).todo)) pebble ≡ gap = ap (λ (v : PlainSeat). gap_of b (configuration_at b (first_of v.todo)) pebble) read ∙ sym gap_is in
-    let done : IsWordStruck k.solving k.width s.words seats sol law id gap = subst (IsWordStruck k.solving k.width s.words seats sol law id) first
-    (word-strike k.solving k.width s.words seats sol law id pebble
-    (subst (λ (v : PlainSeat). 0 < length v.todo) (sym read) some_todo)
-    (subst (λ (v : PlainSeat). IsDominator b (configuration_at b (first_of v.todo)) pebble) (sym read) dominates)) in
-    let after : set seats id (seat_struck k.solving gap n (get_or seats id spent_seat)) ≡ seats_of (set s.views id w) =
-    ap (λ (v : PlainSeat). set seats id (seat_struck k.solving gap n v)) read
-    ∙ ap (λ (q : Key). set seats id (seat_struck q.solving gap n me.0.has)) (sym knows)
-    ∙ sym (map-set (λ (v : View). v.has) s.views id w) in
-    let lawful : IsLawful (round_of_words k.solving k.width (set s.words gap (n - 1)) (seats_of (set s.views id w))) =
-    subst (λ (l : List PlainSeat). IsLawful (round_of_words k.solving k.width (set s.words gap (n - 1)) l)) after done.lawful in
-    let long = words_length k.solving k.width s.words seats law in
+    let knows : v.key ≡ k = knows_at k s.views id v kept.knows at wide in
+    let after : set seats id (seat_struck k.solving gap n v.has) ≡ seats_of (set s.views id w) =
+    ap (λ (q : Key). set seats id (seat_struck q.solving gap n v.has)) (sym knows) ∙ sym (map-set (λ (u : View). u.has) s.views id w) in
+    let done = word-strike k.solving k.width s.words seats kept.solving (kept-lawful k s kept) id v.has (seat_read s.views id v at) pebble gap (seats_of (set s.views id w)) some_todo dominates gap_is after in
     let low : gap < gaps b = done.gap_in in
-    let traced = traced_strike k s.words s.views kept.2 sol id me.0 at wide some_todo gap low (omega arith) done.some_left in
+    let history : IsHistory k (set s.words gap (n - 1)) (set s.views id w) =
+    history-call k s.words (set s.words gap (n - 1)) s.views kept.history (steps.Strike id) (seen.Struck (first_of v.has.todo) (cond (n == 1) (Some gap) None)) id v w at done.strikes refl refl refl in
+    let few : sum_by (load (most k)) (set s.views id w) ≤ most k * size k = (
+    let sum = total_set (load (most k)) s.views id v w at in
+    let members : length (source v.key.solving gap) ≤ most k = subst (λ (q : Key). length (source q.solving gap) ≤ most k) (sym knows) (few_members k.solving kept.solving gap low) in
+    let less = load_struck (most k) v gap n place some_todo members in
+    let f = kept.few in
+    omega arith) in
+    let P : ℕ → Type 0 = λ m. Kept k (record { words = set s.words gap m; homes = s.homes; views = set s.views id w }) in
+    let kept' : P (n - 1) = record { solving = kept.solving; history = history; knows = All-set (KnowsRound k) s.views id w (known k w knows wide) kept.knows; few = few } in
     let positive : 0 < n = done.some_left in
     let fits : n < 18446744073709551616 = small in
     let less : n - 1 ≡ (n + 18446744073709551615) % 18446744073709551616 = omega arith in
-    let P : ℕ → Type 0 = λ m. IsLawful (round_of_words k.solving k.width (set s.words gap m) (seats_of (set s.views id w))) × IsTraced k (set s.words gap m) (set s.views id w) in
-    let both = subst P less (lawful, traced) in
-    (w, keeps, tt, (sol, both.0, both.1), (refl, refl, positive))
+    (w, keeps, tt, subst P less kept', (place, since_at k s kept id v at, refl, refl, positive))
 
 -- all that a seat has won is of the game, and stands once
 won_few : (k : Key) (words : List ℕ) (views : List View) (id : ℕ) (v : View) → IsLawful (round_of_words k.solving k.width words (seats_of views)) → get_elem? views id ≡ some v
@@ -98,57 +113,49 @@ pub claim_allowed : (k : Key) (slots id : ℕ) (me : Me Unit0 View) (i next : �
     → i ≡ gaps k.solving.board + first_of me.0.has.owed → next ≡ suc k.solving.rounds
     → Allows (Kept k) slots id me i (λ n. either (eqb n OPEN) next n) (Claims (step slots i OPEN next none) me)
 claim_allowed k slots id me i next below wide some_owed here is_next s kept same at small =
+    let v : View = me.0 in
     let n : ℕ = slice_index s.words i in
-    let w : View = claimed me.0 n in
+    let place : ℕ = length kept.history.steps in
+    let w : View = claimed v n place in
     let seats : List PlainSeat = seats_of s.views in
-    let sol = kept.0 in
-    let law = kept.1 in
-    let c : ℕ = first_of me.0.has.owed in
+    let c : ℕ = first_of v.has.owed in
     let G : ℕ = gaps k.solving.board in
     let r : ℕ = suc k.solving.rounds in
-    let read : get_or seats id spent_seat ≡ me.0.has = seat_read s.views id me.0 at in
-    let knows : me.0.key ≡ k = knows_at k s.views id me.0 kept.2.knows at wide in
-    let few = sol.few in
+    let knows : v.key ≡ k = knows_at k s.views id v kept.knows at wide in
+    let top = kept.solving.few in
     let not_open : r ≢ OPEN = λ e. absurd (omega arith) in
-    let first : first_of (get_or seats id spent_seat).owed ≡ c = ap (λ (v : PlainSeat). first_of v.owed) read in
     let is : slice_index s.words (G + c) ≡ n = ap (slice_index s.words) (sym here) in
-    let P : ℕ → Type 0 = λ m. IsLawful (round_of_words k.solving k.width (set s.words i m) (seats_of (set s.views id w))) × IsTraced k (set s.words i m) (set s.views id w) in
-    let elsewhere : (m g : ℕ) → g < G → slice_index (set s.words i m) g ≡ slice_index s.words g = λ m g j. other_word s.words i g m (omega arith) in
-    let moved = word-try k.solving k.width s.words seats sol law id not_open (subst (λ (v : PlainSeat). 0 < length v.owed) (sym read) some_owed) in
-    let both : P (either (eqb n OPEN) next n) = elim moved [
+    let P : ℕ → Type 0 = λ m. Kept k (record { words = set s.words i m; homes = s.homes; views = set s.views id w }) in
+    let keep : (m : ℕ) → IsHistory k (set s.words i m) (set s.views id w) → P m = λ m history. record {
+      solving = kept.solving;
+      history = history;
+      knows = All-set (KnowsRound k) s.views id w (known k w knows wide) kept.knows;
+      few = (let sum = total_set (load (most k)) s.views id v w at in let less = load_claimed (most k) v n place in let f = kept.few in omega arith);
+    } in
+    let after : Bool → List PlainSeat = λ won. set seats id (seat_tried won v.has) in
+    let now : (won : Bool) → (n == OPEN) ≡ won → after won ≡ seats_of (set s.views id w) = λ won e.
+    ap (λ (o : Bool). set seats id (seat_tried o v.has)) (sym e) ∙ sym (map-set (λ (u : View). u.has) s.views id w) in
+    let done = word-try k.solving k.width s.words seats kept.solving (kept-lawful k s kept) id v.has (seat_read s.views id v at) after not_open some_owed (λ won. refl) in
+    let all : P (either (eqb n OPEN) next n) = elim done [
       | inl won ↦ (
-          let hit : n ≡ OPEN = sym is ∙ ap (λ x. slice_index s.words (G + x)) (sym first) ∙ won.is_open in
-          let after : set seats id (seat_tried true (get_or seats id spent_seat)) ≡ seats_of (set s.views id w) =
-          ap (λ (v : PlainSeat). set seats id (seat_tried true v)) read ∙ ap (λ (o : Bool). set seats id (seat_tried o me.0.has)) (sym (same_is n OPEN hit)) ∙ sym (map-set (λ (v : View). v.has) s.views id w) in
-          let place : G + first_of (get_or seats id spent_seat).owed ≡ i = ap (λ x. G + x) first ∙ sym here in
-          let lawful : IsLawful (round_of_words k.solving k.width (set s.words i next) (seats_of (set s.views id w))) =
-          subst (λ (l : List PlainSeat). IsLawful (round_of_words k.solving k.width (set s.words i next) l)) after
-          (subst (λ m. IsLawful (round_of_words k.solving k.width (set s.words i m) (set seats id (seat_tried true (get_or seats id spent_seat))))) (sym is_next)
-          (subst (λ j. IsLawful (round_of_words k.solving k.width (set s.words j r) (set seats id (seat_tried true (get_or seats id spent_seat))))) place won.lawful)) in
-          let traced = traced_try k s.words s.views kept.2 id me.0 at wide (set s.words i next) (elsewhere next) n (lost_of_win k s.words s.views kept.2 id me.0 at wide (set s.words i next) (elsewhere next) n hit) in
-          exchanged n OPEN next P (λ _. (lawful, traced)) (λ miss. absurd (miss hit)))
+          let hit : n ≡ OPEN = sym is ∙ won.is_open in
+          let is_won : (n == OPEN) ≡ true = same_is n OPEN hit in
+          let does : Does (round_of_words k.solving k.width s.words seats) (steps.Try id) (seen.Tried c (n == OPEN)) (round_of_words k.solving k.width (set s.words i next) (seats_of (set s.views id w))) =
+          subst (λ (p : Bool × ℕ × ℕ × List PlainSeat). Does (round_of_words k.solving k.width s.words seats) (steps.Try id) (seen.Tried c p.0) (round_of_words k.solving k.width (set s.words p.1 p.2) p.3))
+          (λ j. (sym is_won j, sym here j, sym is_next j, now true is_won j)) won.tries in
+          exchanged n OPEN next P (λ _. keep next (history-call k s.words (set s.words i next) s.views kept.history (steps.Try id) (seen.Tried c (n == OPEN)) id v w at does refl refl refl)) (λ miss. absurd (miss hit)))
       | inr lost ↦ (
-          let word : n ≡ r = sym is ∙ ap (λ x. slice_index s.words (G + x)) (sym first) ∙ lost.has_next in
+          let word : n ≡ r = sym is ∙ lost.has_next in
           let miss : n ≢ OPEN = λ e. not_open (sym word ∙ e) in
-          let after : set seats id (seat_tried false (get_or seats id spent_seat)) ≡ seats_of (set s.views id w) =
-          ap (λ (v : PlainSeat). set seats id (seat_tried false v)) read ∙ ap (λ (o : Bool). set seats id (seat_tried o me.0.has)) (sym (differ_is n OPEN miss)) ∙ sym (map-set (λ (v : View). v.has) s.views id w) in
-          let words_same : s.words ≡ set s.words i n = sym (put_back s.words i) in
-          let lawful : IsLawful (round_of_words k.solving k.width (set s.words i n) (seats_of (set s.views id w))) =
-          subst (λ (l : List ℕ). IsLawful (round_of_words k.solving k.width l (seats_of (set s.views id w)))) words_same
-          (subst (λ (l : List PlainSeat). IsLawful (round_of_words k.solving k.width s.words l)) after lost.lawful) in
-          let stands : 0 < sum_by (λ u. times c u.has.won) s.views = subst (λ m. 0 < m) (won_total c s.views) (subst (λ x. 0 < times x (flat_map (λ seat. seat.won) seats)) first lost.stands) in
-          let traced = traced_try k s.words s.views kept.2 id me.0 at wide (set s.words i n) (elsewhere n) n (lost_of_loss k s.words s.views kept.2 id me.0 at wide (set s.words i n) (elsewhere n) n miss stands) in
-          exchanged n OPEN next P (λ hit. absurd (miss hit)) (λ _. (lawful, traced)))
+          let is_lost : (n == OPEN) ≡ false = differ_is n OPEN miss in
+          let does : Does (round_of_words k.solving k.width s.words seats) (steps.Try id) (seen.Tried c (n == OPEN)) (round_of_words k.solving k.width (set s.words i n) (seats_of (set s.views id w))) =
+          subst (λ (p : Bool × List ℕ × List PlainSeat). Does (round_of_words k.solving k.width s.words seats) (steps.Try id) (seen.Tried c p.0) (round_of_words k.solving k.width p.1 p.2))
+          (λ j. (sym is_lost j, sym (put_back s.words i) j, now false is_lost j)) lost.tries in
+          exchanged n OPEN next P (λ hit. absurd (miss hit)) (λ _. keep n (history-call k s.words (set s.words i n) s.views kept.history (steps.Try id) (seen.Tried c (n == OPEN)) id v w at does refl refl refl)))
     ] in
-    let bounded = won_few k (set s.words i (either (eqb n OPEN) next n)) (set s.views id w) id w both.0 (set_there s.views id me.0 w at) in
-    (w, keeps, tt, (sol, both.0, both.1), (refl, refl, subst (λ (q : Key). length w.has.won ≤ size q) (sym knows) bounded.1))
+    let bounded = won_few k (set s.words i (either (eqb n OPEN) next n)) (set s.views id w) id w (history-lawful k (set s.words i (either (eqb n OPEN) next n)) (set s.views id w) kept.solving all.history) (set_there s.views id v w at) in
+    (w, keeps, tt, all, (place, since_at k s kept id v at, refl, refl, subst (λ (q : Key). length w.has.won ≤ size q) (sym knows) bounded.1))
   where
-    other_word : (words : List ℕ) (i g m : ℕ) → g < i → slice_index (set words i m) g ≡ slice_index words g
-    other_word [] i g m low = refl
-    other_word (x ∷ xs) zero g m low = absurd (omega arith)
-    other_word (x ∷ xs) (suc i) zero m low = refl
-    other_word (x ∷ xs) (suc i) (suc g) m low = other_word xs i g m (omega arith)
-
     set_there : (views : List View) (j : ℕ) (v u : View) → get_elem? views j ≡ some v → get_elem? (set views j u) j ≡ some u
     set_there [] j v u e = absurd (some-ne-none v (sym e))
     set_there (x ∷ xs) zero v u e = refl
@@ -156,71 +163,66 @@ claim_allowed k slots id me i next below wide some_owed here is_next s kept same
 
 pub split_allowed : (k : Key) (id : ℕ) (v : View) → 2 ≤ v.has.width → Splits (Kept k) id v (kept_part v) (new_part v)
 split_allowed k id v wide s kept at =
+    let a : View = kept_part v in
+    let b : View = new_part v in
     let seats : List PlainSeat = seats_of s.views in
     let read : get_or seats id spent_seat ≡ v.has = seat_read s.views id v at in
-    let after : set seats id (seat_kept (get_or seats id spent_seat)) ++ seat_new (get_or seats id spent_seat) ∷ [] ≡ seats_of (set s.views id (kept_part v) ++ new_part v ∷ []) =
+    let knows : v.key ≡ k = knows_at k s.views id v kept.knows at (omega arith) in
+    let after : set seats id (seat_kept (get_or seats id spent_seat)) ++ seat_new (get_or seats id spent_seat) ∷ [] ≡ seats_of (set s.views id a ++ b ∷ []) =
     ap (λ (u : PlainSeat). set seats id (seat_kept u) ++ seat_new u ∷ []) read
-    ∙ ap (λ (l : List PlainSeat). l ++ seat_new v.has ∷ []) (sym (map-set (λ (u : View). u.has) s.views id (kept_part v)))
-    ∙ sym (map_push (λ (u : View). u.has) (set s.views id (kept_part v)) (new_part v)) in (
-      kept.0,
-      subst (λ (l : List PlainSeat). IsLawful (round_of_words k.solving k.width s.words l)) after
-          (split-lawful (round_of_words k.solving k.width s.words seats) kept.0 kept.1 id (subst (λ (u : PlainSeat). 2 ≤ u.width) (sym read) wide)),
-      traced_split k s.words s.views kept.2 id v at (omega arith),
-    )
+    ∙ ap (λ (l : List PlainSeat). l ++ seat_new v.has ∷ []) (sym (map-set (λ (u : View). u.has) s.views id a))
+    ∙ sym (map_push (λ (u : View). u.has) (set s.views id a) b) in
+    let does : Does (round_of_words k.solving k.width s.words seats) (steps.Split id) (seen.Parted (length seats)) (round_of_words k.solving k.width s.words (seats_of (set s.views id a ++ b ∷ []))) = record {
+      wide = subst (λ (u : PlainSeat). 2 ≤ u.width) (sym read) wide;
+      next_number = refl;
+      after_is = ap (λ (l : List PlainSeat). round_of_words k.solving k.width s.words l) (sym after);
+    } in
+    record {
+      solving = kept.solving;
+      history = history-split k s.words s.words s.views kept.history (steps.Split id) (seen.Parted (length seats)) id v a b at does refl refl refl refl refl;
+      knows = All-push (KnowsRound k) (set s.views id a) b (All-set (KnowsRound k) s.views id a (known k a knows (omega arith)) kept.knows) (known k b knows (omega arith));
+      few = subst (λ n. n ≤ most k * size k) (sym (total_cut (load (most k)) s.views id v a b at (load_cut (most k) v))) kept.few;
+    }
 
 pub join_allowed : (k : Key) (id : ℕ) (v : View) (other : ℕ) (u : View) → 0 < v.has.width → 0 < u.has.width → Joins (Kept k) id v other u (view_joined v u) spent_view
 join_allowed k id v other u wide other_wide s kept at apart there =
+    let a : View = view_joined v u in
     let seats : List PlainSeat = seats_of s.views in
     let differ : id ≢ other = λ e. apart (sym e) in
-    let there' : get_elem? s.views other ≡ some u = sym (get_elsewhere s.views id other (view_joined v u) differ) ∙ there in
+    let there' : get_elem? s.views other ≡ some u = sym (get_elsewhere s.views id other a differ) ∙ there in
     let read : get_or seats id spent_seat ≡ v.has = seat_read s.views id v at in
     let other_read : get_or seats other spent_seat ≡ u.has = seat_read s.views other u there' in
-    let after : set (set seats id (seat_joined (get_or seats id spent_seat) (get_or seats other spent_seat))) other spent_seat ≡ seats_of (set (set s.views id (view_joined v u)) other spent_view) =
+    let knows : v.key ≡ k = knows_at k s.views id v kept.knows at wide in
+    let after : set (set seats id (seat_joined (get_or seats id spent_seat) (get_or seats other spent_seat))) other spent_seat ≡ seats_of (set (set s.views id a) other spent_view) =
     ap (λ (p : PlainSeat × PlainSeat). set (set seats id (seat_joined p.0 p.1)) other spent_seat) (λ j. (read j, other_read j))
-    ∙ ap (λ (l : List PlainSeat). set l other spent_seat) (sym (map-set (λ (w : View). w.has) s.views id (view_joined v u)))
-    ∙ sym (map-set (λ (w : View). w.has) (set s.views id (view_joined v u)) other spent_view) in (
-      kept.0,
-      subst (λ (l : List PlainSeat). IsLawful (round_of_words k.solving k.width s.words l)) after
-          (join-lawful (round_of_words k.solving k.width s.words seats) kept.0 kept.1 id other differ (subst (λ (w : PlainSeat). 0 < w.width) (sym read) wide) (subst (λ (w : PlainSeat). 0 < w.width) (sym other_read) other_wide)),
-      traced_join k s.words s.views kept.2 id other v u at there wide,
-    )
+    ∙ ap (λ (l : List PlainSeat). set l other spent_seat) (sym (map-set (λ (w : View). w.has) s.views id a))
+    ∙ sym (map-set (λ (w : View). w.has) (set s.views id a) other spent_view) in
+    let does : Does (round_of_words k.solving k.width s.words seats) (steps.Join id other) seen.Joined (round_of_words k.solving k.width s.words (seats_of (set (set s.views id a) other spent_view))) = record {
+      differ = differ;
+      has_into = subst (λ (w : PlainSeat). 0 < w.width) (sym read) wide;
+      has_from = subst (λ (w : PlainSeat). 0 < w.width) (sym other_read) other_wide;
+      after_is = ap (λ (l : List PlainSeat). round_of_words k.solving k.width s.words l) (sym after);
+    } in
+    record {
+      solving = kept.solving;
+      history = history-join k s.words s.words s.views kept.history (steps.Join id other) seen.Joined id other v u a spent_view at there' there does refl refl refl refl refl;
+      knows = All-set (KnowsRound k) (set s.views id a) other spent_view (record { round = λ h. absurd (omega arith); nothing = λ _. refl })
+          (All-set (KnowsRound k) s.views id a (known k a knows (omega arith)) kept.knows);
+      few = subst (λ n. n ≤ most k * size k) (sym (total_glue (load (most k)) s.views id other v u a spent_view at there (let l = load_glue (most k) v u in omega arith))) kept.few;
+    }
 
 pub look_allowed : (k : Key) (slots id : ℕ) (me : Me Unit0 View) (i : ℕ) → 0 < me.0.has.width → Allows (Kept k) slots id me i (λ n. n) (Looks (step slots i 0 0 none) me)
 look_allowed k slots id me i wide s kept same at small =
-    let knows : me.0.key ≡ k = knows_at k s.views id me.0 kept.2.knows at wide in
-    let few = won_few k s.words s.views id me.0 kept.1 at in
-    let P : List ℕ × List View → Type 0 = λ p. IsLawful (round_of_words k.solving k.width p.0 (seats_of p.1)) × IsTraced k p.0 p.1 in
-    let bounded : IsBounded me.0 = record {
-      width = subst (λ (q : Key). me.0.has.width ≤ q.width) (sym knows) (let all = kept.1.widths in let part = width_at (seats_of s.views) id in let here = ap (λ (u : PlainSeat). u.width) (seat_read s.views id me.0 at) in omega arith);
+    let v : View = me.0 in
+    let law = kept-lawful k s kept in
+    let knows : v.key ≡ k = knows_at k s.views id v kept.knows at wide in
+    let few = won_few k s.words s.views id v law at in
+    let bounded : IsBounded v = record {
+      width = subst (λ (q : Key). v.has.width ≤ q.width) (sym knows) (let all = law.widths in let part = width_at (seats_of s.views) id in let here = ap (λ (u : PlainSeat). u.width) (seat_read s.views id v at) in omega arith);
       once = few.0;
-      won = subst (λ (q : Key). length me.0.has.won ≤ size q) (sym knows) few.1;
-      load = subst (λ (q : Key). load (most q) me.0 ≤ most q * size q) (sym knows) (let a = total_at (load (most k)) s.views id me.0 at in let f = kept.2.few in omega arith);
+      won = subst (λ (q : Key). length v.has.won ≤ size q) (sym knows) few.1;
+      load = subst (λ (q : Key). load (most q) v ≤ most q * size q) (sym knows) (let a = total_at (load (most k)) s.views id v at in let f = kept.few in omega arith);
     } in
-    let both : P (set s.words i (get_or s.words i 0), set s.views id me.0) = subst P (λ j. (sym (put_back s.words i) j, sym (set_again s.views id me.0 at) j)) (kept.1, kept.2) in
-    (me.0, keeps, tt, (kept.0, both.0, both.1), (refl, bounded))
-
--- a look at the value of the first that is owed is a look where it has none, and a claim that is lost where it has one
-pub read_allowed : (k : Key) (slots id : ℕ) (me : Me Unit0 View) (i : ℕ) → k.solving.rounds < configurations k.solving.board → 0 < me.0.has.width → 0 < length me.0.has.owed
-    → i ≡ gaps k.solving.board + first_of me.0.has.owed → Allows (Kept k) slots id me i (λ n. n) (Reads (step slots i 0 0 none) me)
-read_allowed k slots id me i below wide some_owed here s kept same at small =
-    let n : ℕ = slice_index s.words i in
-    elim (same_or_not n OPEN) [
-      | inl hit ↦ (
-          let look = look_allowed k slots id me i wide s kept same at small in
-          let stays = ap (λ (m : Me Unit0 View). m.0) look.4.0 ∙ sym (cond_same n OPEN me.0 (claimed me.0 n) hit) in
-          (look.0, look.1, look.2, look.3, (stays, ap (λ (m : Me Unit0 View). m.1) look.4.0)))
-      | inr miss ↦ (
-          let next : ℕ = suc k.solving.rounds in
-          let lost = claim_allowed k slots id me i next below wide some_owed here refl s kept same at small in
-          let as_it_was : either (eqb n OPEN) next n ≡ n = exchanged n OPEN next (λ m. m ≡ n) (λ hit. absurd (miss hit)) (λ _. refl) in (
-            lost.0,
-            lost.1,
-            lost.2,
-            subst (λ m. Kept k (stepped s i m id me.1 lost.0 lost.1)) as_it_was lost.3,
-            (lost.4.0 ∙ sym (cond_other n OPEN me.0 (claimed me.0 n) miss), lost.4.1),
-          ))
-    ]
-
--- what has no value is left as it was
-pub read_open : (m m' : Me Unit0 View) (n : ℕ) → Reads (step 0 0 0 0 none) m n m' → n ≡ OPEN → m' ≡ m
-read_open m m' n reads hit j = ((reads.0 ∙ cond_same n OPEN m.0 (claimed m.0 n) hit) j, reads.1 j)
+    let P : List ℕ × List View → Type 0 = λ p. Kept k (record { words = p.0; homes = s.homes; views = p.1 }) in
+    let as_it_was : P (set s.words i (get_or s.words i 0), set s.views id v) = subst P (λ j. (sym (put_back s.words i) j, sym (set_again s.views id v at) j)) kept in
+    (v, keeps, tt, as_it_was, (refl, bounded))

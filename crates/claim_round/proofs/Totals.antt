@@ -1,5 +1,5 @@
 -- Sums over the views, and how they change where one view changes.
-use Rattle.std.proofs.Common.{◌≡◌, ◌≢◌, ℕ, zero, suc, ◌+◌, ◌≤◌, List, [], ◌∷◌, ◌++◌, set, get_or, refl, sym, ap, subst, arith}
+use Rattle.std.proofs.Common.{◌≡◌, ◌≢◌, ℕ, zero, suc, ◌+◌, ◌<◌, ◌≤◌, List, [], ◌∷◌, ◌++◌, set, get_or, refl, sym, ap, subst, arith}
 use Rattle.std.specs.Prelude.{Some, slice_get}
 use Rattle.std.specs.List.{All, flat_map, sum_by}
 use Rattle.std.proofs.lemmas.Option.{get_or_from_slice_get, slice_get_within}
@@ -11,7 +11,8 @@ use Rattle.index_lists.proofs.Cited.{times-append}
 use Rattle.retro_core.specs.Round.{PlainSeat, spent as spent_seat}
 use Rattle.retro_core.proofs.Cited.{total-at, total-cut, total-set}
 use Rattle.claim_round.specs.Shared.{Key, View}
-use Rattle.claim_round.specs.Inside.Shared.{KnowsRound, seats_of}
+use Rattle.claim_round.specs.History.{seats_of}
+use Rattle.claim_round.specs.Rule.{KnowsRound}
 
 -- a view that the table has is one of the list
 seen : (views : List View) (i : ℕ) (v : View) → get_elem? views i ≡ some v → slice_get views i ≡ Some v
@@ -70,8 +71,12 @@ two_widths (x ∷ xs) (suc i) zero ne = omega (arith, width_at xs i, sum_by-cons
 two_widths (x ∷ xs) (suc i) (suc j) ne =
     omega (arith, two_widths xs i j (λ e. ne (ap suc e)), sum_by-cons (λ seat. seat.width) x xs)
 
--- who has a width knows the round
-pub knows_at : (k : Key) (views : List View) (id : ℕ) (v : View) → All (KnowsRound k) views → get_elem? views id ≡ some v → KnowsRound k v
-knows_at k views id v each at =
+-- what holds of all views holds of one that the table has
+pub view_at : (P : View → Type 0) (views : List View) (id : ℕ) (v : View) → All P views → get_elem? views id ≡ some v → P v
+view_at P views id v each at =
     let there = seen views id v at in
-    subst (KnowsRound k) (get_or_from_slice_get views id v v there) (each id v (slice_get_within views id v there))
+    subst P (get_or_from_slice_get views id v v there) (each id v (slice_get_within views id v there))
+
+-- who has a width knows the round
+pub knows_at : (k : Key) (views : List View) (id : ℕ) (v : View) → All (KnowsRound k) views → get_elem? views id ≡ some v → 0 < v.has.width → v.key ≡ k
+knows_at k views id v each at = (view_at (KnowsRound k) views id v each at).round

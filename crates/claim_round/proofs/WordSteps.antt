@@ -1,90 +1,117 @@
--- The steps of a round on words in one list.
-use Rattle.std.proofs.Common.{◌≡◌, ◌≢◌, ◌⊎◌, ℕ, suc, ◌+◌, ◌-◌, ◌<◌, Bool, true, false, cond, List, map, length, take, drop, set, sym, ap, ◌∙◌, inl, inr, subst, arith, Option, Some, None, get_or, slice_index}
+-- The steps of the machine on words in one list: what a strike and a try of a lawful round find and answer.
+use Rattle.std.proofs.Common.{◌≡◌, ◌≢◌, ◌⊎◌, ℕ, suc, ◌+◌, ◌-◌, ◌<◌, ◌==◌, Bool, true, false, cond, List, map, length, take, drop, set, sym, ap, ◌∙◌, inl, inr, subst, arith, Option, Some, None, get_or, slice_index}
 use Rattle.std.specs.Option.{is_none}
 use Rattle.std.proofs.lemmas.List.{get_or-map, map-set, take-set-le, drop-set-lt, drop-set-add, get_or-take, get_or-drop, length-map}
 use Rattle.std.proofs.Math.Seq.{take-set-lt}
-use Rattle.index_lists.specs.Lists.{times}
 use Rattle.index_lists.proofs.Cited.{cond_same, cond_other}
 use Rattle.positions.specs.Ranks.{configuration_at}
 use Rattle.positions.specs.Gaps.{gaps, gap_of, IsDominator}
 use Rattle.retro_core.specs.Solving.{Solving, IsSolving}
-use Rattle.retro_core.specs.Round.{PlainSeat, spent, all_won, IsLawful, first_of, seat_struck, seat_tried, first_is_open, round_of}
+use Rattle.retro_core.specs.Round.{PlainSeat, Round, spent, IsLawful, first_of, seat_struck, seat_tried, struck, tried, first_is_open, round_of}
+use Rattle.retro_core.specs.Stepping.{Strikes, Tries}
 use Rattle.retro_core.proofs.Cited.{same_or_not, strike-lawful, try-lawful}
 use Rattle.claim_round.specs.declared.words.TheConstants.{OPEN}
-use Rattle.claim_round.specs.Inside.Words.{value_of_word, round_of_words}
+use Rattle.claim_round.specs.Words.{value_of_word, round_of_words}
 
-module _ (s : Solving) (w : ℕ) (words : List ℕ) (seats : List PlainSeat) (sol : IsSolving s) (law : IsLawful (round_of_words s w words seats)) (id : ℕ) where
+-- a lawful round on words, and a seat of it
+module _ (s : Solving) (w : ℕ) (words : List ℕ) (seats : List PlainSeat) (sol : IsSolving s) (law : IsLawful (round_of_words s w words seats)) (id : ℕ) (v : PlainSeat) (read : get_or seats id spent ≡ v) where
+  abbrev pub here : Round
+  here = round_of_words s w words seats
+
   -- a strike that found the count n
-  pub record IsWordStruck (gap : ℕ) : Type 0 where
+  pub record IsWordStruck (gap : ℕ) (after : List PlainSeat) : Type 0 where
     pub gap_in : gap < gaps s.board
     pub some_left : 0 < slice_index words gap
-    pub lawful : IsLawful (round_of_words s w (set words gap (slice_index words gap - 1)) (set seats id (seat_struck s gap (slice_index words gap) (get_or seats id spent))))
+    pub strikes : Strikes here id (first_of v.todo) (cond (slice_index words gap == 1) (Some gap) None) (round_of_words s w (set words gap (slice_index words gap - 1)) after)
 
-  pub word-strike : (pebble : ℕ) → 0 < length (get_or seats id spent).todo → IsDominator s.board (configuration_at s.board (first_of (get_or seats id spent).todo)) pebble
-      → IsWordStruck (gap_of s.board (configuration_at s.board (first_of (get_or seats id spent).todo)) pebble)
-  word-strike pebble some dominates =
-      let gap : ℕ = gap_of s.board (configuration_at s.board (first_of (get_or seats id spent).todo)) pebble in
-      let G : ℕ = gaps s.board in
-      let done = strike-lawful (round_of_words s w words seats) sol law id pebble some dominates in
-      let low : gap < G = done.gap_in in
-      let read : slice_index (take G words) gap ≡ slice_index words gap = get_or-take G words gap 0 low in
+  pub word-strike : (pebble gap : ℕ) (after : List PlainSeat) → 0 < length v.todo → IsDominator s.board (configuration_at s.board (first_of v.todo)) pebble
+      → gap ≡ gap_of s.board (configuration_at s.board (first_of v.todo)) pebble → set seats id (seat_struck s gap (slice_index words gap) v) ≡ after → IsWordStruck gap after
+  word-strike pebble gap after some dominates gap_is after_is =
+      let b = s.board in
+      let seat : PlainSeat = get_or seats id spent in
+      let G : ℕ = gaps b in
+      let some' : 0 < length seat.todo = subst (λ (u : PlainSeat). 0 < length u.todo) (sym read) some in
+      let dominates' : IsDominator b (configuration_at b (first_of seat.todo)) pebble = subst (λ (u : PlainSeat). IsDominator b (configuration_at b (first_of u.todo)) pebble) (sym read) dominates in
+      let done = strike-lawful here sol law id pebble some' dominates' in
+      let at : gap_of b (configuration_at b (first_of seat.todo)) pebble ≡ gap = ap (λ (u : PlainSeat). gap_of b (configuration_at b (first_of u.todo)) pebble) read ∙ sym gap_is in
+      let low : gap < G = subst (λ g. g < G) at done.gap_in in
       let n : ℕ = slice_index words gap in
+      let word : slice_index (take G words) gap ≡ n = get_or-take G words gap 0 low in
       let counts : set (take G words) gap (n - 1) ≡ take G (set words gap (n - 1)) = sym (take-set-lt G words gap (n - 1) low) in
       let values : drop G words ≡ drop G (set words gap (n - 1)) = sym (drop-set-lt G words gap (n - 1) low) in
-      let after : List PlainSeat = set seats id (seat_struck s gap n (get_or seats id spent)) in
+      let same : struck here id gap ≡ round_of_words s w (set words gap (n - 1)) after =
+      ap (λ m. round_of s w (set (take G words) gap (m - 1)) (map value_of_word (drop G words)) (set seats id (seat_struck s gap m seat))) word
+      ∙ ap (λ (u : PlainSeat). round_of s w (set (take G words) gap (n - 1)) (map value_of_word (drop G words)) (set seats id (seat_struck s gap n u))) read
+      ∙ ap (λ (l : List PlainSeat). round_of s w (set (take G words) gap (n - 1)) (map value_of_word (drop G words)) l) after_is
+      ∙ ap (λ (l : List ℕ). round_of s w l (map value_of_word (drop G words)) after) counts
+      ∙ ap (λ (l : List ℕ). round_of s w (take G (set words gap (n - 1))) (map value_of_word l) after) values in
       record {
         gap_in = low;
-        some_left = subst (λ m. 0 < m) read done.some_left;
-        lawful = subst IsLawful
-            (ap (λ m. round_of s w (set (take G words) gap (m - 1)) (map value_of_word (drop G words)) (set seats id (seat_struck s gap m (get_or seats id spent)))) read
-            ∙ ap (λ (l : List ℕ). round_of s w l (map value_of_word (drop G words)) after) counts
-            ∙ ap (λ (l : List ℕ). round_of s w (take G (set words gap (n - 1))) (map value_of_word l) after) values)
-            done.lawful;
+        some_left = subst (λ m. 0 < m) word (subst (λ g. 0 < slice_index (take G words) g) at done.some_left);
+        strikes = record {
+          some_todo = some';
+          first = ap (λ (u : PlainSeat). first_of u.todo) (sym read);
+          pebble = pebble;
+          dominates = dominates;
+          gap = gap;
+          gap_is = gap_is;
+          closed_is = ap (λ m. cond (m == 1) (Some gap) None) (sym word);
+          after_is = sym same;
+        };
       }
 
   -- a try that found the word open, or the next value
-  pub record IsWordWon (c : ℕ) : Type 0 where
+  pub record IsWordWon (c : ℕ) (after : List PlainSeat) : Type 0 where
     pub is_open : slice_index words (gaps s.board + c) ≡ OPEN
-    pub lawful : IsLawful (round_of_words s w (set words (gaps s.board + c) (suc s.rounds)) (set seats id (seat_tried true (get_or seats id spent))))
+    pub tries : Tries here id c true (round_of_words s w (set words (gaps s.board + c) (suc s.rounds)) after)
 
-  pub record IsWordNotWon (c : ℕ) : Type 0 where
+  pub record IsWordLost (c : ℕ) (after : List PlainSeat) : Type 0 where
     pub has_next : slice_index words (gaps s.board + c) ≡ suc s.rounds
-    pub stands : 0 < times c (all_won (round_of_words s w words seats))
-    pub lawful : IsLawful (round_of_words s w words (set seats id (seat_tried false (get_or seats id spent))))
+    pub tries : Tries here id c false (round_of_words s w words after)
 
-  pub word-try : suc s.rounds ≢ OPEN → 0 < length (get_or seats id spent).owed
-      → IsWordWon (first_of (get_or seats id spent).owed) ⊎ IsWordNotWon (first_of (get_or seats id spent).owed)
-  word-try small some =
-      let c : ℕ = first_of (get_or seats id spent).owed in
+  pub word-try : (after : Bool → List PlainSeat) → suc s.rounds ≢ OPEN → 0 < length v.owed → ((won : Bool) → set seats id (seat_tried won v) ≡ after won)
+      → IsWordWon (first_of v.owed) (after true) ⊎ IsWordLost (first_of v.owed) (after false)
+  word-try after small some after_is =
+      let seat : PlainSeat = get_or seats id spent in
+      let c : ℕ = first_of v.owed in
       let G : ℕ = gaps s.board in
-      let done = try-lawful (round_of_words s w words seats) sol law id some in
+      let r : ℕ = suc s.rounds in
+      let old : List (Option ℕ) = map value_of_word (drop G words) in
+      let some' : 0 < length seat.owed = subst (λ (u : PlainSeat). 0 < length u.owed) (sym read) some in
+      let first : first_of seat.owed ≡ c = ap (λ (u : PlainSeat). first_of u.owed) read in
+      let done = try-lawful here sol law id some' in
       let long : c < length (drop G words) = (let e = law.values_length in let m = length-map (drop G words) value_of_word in let low = done.is_rank in omega arith) in
-      let read : get_or (map value_of_word (drop G words)) c None ≡ value_of_word (slice_index words (G + c)) =
+      let word : get_or old c None ≡ value_of_word (slice_index words (G + c)) =
       get_or-map value_of_word (drop G words) c 0 None long ∙ ap value_of_word (get_or-drop G words c 0) in
+      let at : get_or old (first_of seat.owed) None ≡ value_of_word (slice_index words (G + c)) = ap (λ x. get_or old x None) first ∙ word in
+      let round : (won : Bool) → won ≡ first_is_open here id → round_of s w (take G words) (cond won (set old c (Some r)) old) (after won) ≡ tried here id = λ won is.
+      ap (λ (l : List PlainSeat). round_of s w (take G words) (cond won (set old c (Some r)) old) l) (sym (after_is won))
+      ∙ ap (λ (u : PlainSeat). round_of s w (take G words) (cond won (set old (first_of u.owed) (Some r)) old) (set seats id (seat_tried won u))) (sym read)
+      ∙ ap (λ (o : Bool). round_of s w (take G words) (cond o (set old (first_of seat.owed) (Some r)) old) (set seats id (seat_tried o seat))) is in
       elim done.word [
         | inl none ↦ (
-            let opened : first_is_open (round_of_words s w words seats) id ≡ true = ap is_none none in
-            let counts : take G words ≡ take G (set words (G + c) (suc s.rounds)) = sym (take-set-le G words (G + c) (suc s.rounds) (omega arith)) in
-            let next : value_of_word (suc s.rounds) ≡ Some (suc s.rounds) = cond_other (suc s.rounds) OPEN None (Some (suc s.rounds)) small in
-            let values : set (map value_of_word (drop G words)) c (Some (suc s.rounds)) ≡ map value_of_word (drop G (set words (G + c) (suc s.rounds))) =
-            ap (set (map value_of_word (drop G words)) c) (sym next) ∙ sym (map-set value_of_word (drop G words) c (suc s.rounds)) ∙ ap (map value_of_word) (sym (drop-set-add G words c (suc s.rounds))) in
-            let after : List PlainSeat = set seats id (seat_tried true (get_or seats id spent)) in
+            let opened : true ≡ first_is_open here id = sym (ap is_none none) in
+            let counts : take G (set words (G + c) r) ≡ take G words = take-set-le G words (G + c) r (omega arith) in
+            let next : value_of_word r ≡ Some r = cond_other r OPEN None (Some r) small in
+            let values : map value_of_word (drop G (set words (G + c) r)) ≡ set old c (Some r) =
+            ap (map value_of_word) (drop-set-add G words c r) ∙ map-set value_of_word (drop G words) c r ∙ ap (set old c) next in
             inl (record {
-              is_open = word_open (slice_index words (G + c)) (sym read ∙ none);
-              lawful = subst IsLawful
-                  (ap (λ (o : Bool). round_of s w (take G words) (cond o (set (map value_of_word (drop G words)) c (Some (suc s.rounds))) (map value_of_word (drop G words))) (set seats id (seat_tried o (get_or seats id spent)))) opened
-                  ∙ ap (λ (l : List ℕ). round_of s w l (set (map value_of_word (drop G words)) c (Some (suc s.rounds))) after) counts
-                  ∙ ap (λ (l : List (Option ℕ)). round_of s w (take G (set words (G + c) (suc s.rounds))) l after) values)
-                  done.lawful;
+              is_open = word_open (slice_index words (G + c)) (sym at ∙ none);
+              tries = record {
+                some_owed = some';
+                first = sym first;
+                won_is = opened;
+                after_is =
+                    ap (λ (l : List ℕ). round_of s w l (map value_of_word (drop G (set words (G + c) r))) (after true)) counts
+                    ∙ ap (λ (l : List (Option ℕ)). round_of s w (take G words) l (after true)) values
+                    ∙ round true opened;
+              };
             }))
         | inr has ↦ (
-            let shut : first_is_open (round_of_words s w words seats) id ≡ false = ap is_none has in
+            let shut : false ≡ first_is_open here id = sym (ap is_none has) in
             inr (record {
-              has_next = word_value (slice_index words (G + c)) (suc s.rounds) (sym read ∙ has);
-              stands = done.not_won shut;
-              lawful = subst IsLawful
-                  (ap (λ (o : Bool). round_of s w (take G words) (cond o (set (map value_of_word (drop G words)) c (Some (suc s.rounds))) (map value_of_word (drop G words))) (set seats id (seat_tried o (get_or seats id spent)))) shut)
-                  done.lawful;
+              has_next = word_value (slice_index words (G + c)) r (sym at ∙ has);
+              tries = record { some_owed = some'; first = sym first; won_is = shut; after_is = round false shut };
             }))
       ]
     where

@@ -1,8 +1,10 @@
 -- What a round's calls answer and do.
-use Rattle.std.specs.Prelude.{◌≡◌, ℕ, ◌<◌, ◌==◌, Bool, cond, [], ◌∷◌, ◌++◌, Option, Some, None}
+use Rattle.std.specs.Prelude.{◌≡◌, ℕ, suc, ◌<◌, ◌≤◌, ◌==◌, Bool, cond, [], ◌∷◌, ◌++◌, Option, Some, None}
 use Rattle.positions.specs.Ranks.{configuration_at}
 use Rattle.positions.specs.Gaps.{gap_of, IsDominator}
 use Rattle.retro_core.specs.Solving.{Solving}
+use Rattle.retro_core.specs.declared.step.Seen.{Seen}
+use Rattle.retro_core.specs.declared.step.Seen.TheVariants as seen
 use Rattle.retro_core.specs.Round.{AreToStrike, first_of, seat_struck, seat_tried}
 use Rattle.claim_round.specs.Shared.{View, RoundId, Place}
 
@@ -15,11 +17,17 @@ pub record Opens (s : Solving) (width : ℕ) (round : RoundId) (seat : Place) : 
   pub no_owed : seat.view.has.owed ≡ []
   pub no_won : seat.view.has.won ≡ []
   pub wide : seat.view.has.width ≡ width
-  pub no_lost : seat.view.lost ≡ []
-  pub no_shut : seat.view.shut ≡ []
+  pub none_made : seat.view.made ≡ []
+
+-- the answer stands in the history at one more place of the seat, which is not before its earlier ones
+pub record StandsNext (before : View) (answer : Seen) (after : View) : Type 0 where
+  pub place : ℕ
+  pub not_before : before.since ≤ place
+  pub made_is : after.made ≡ before.made ++ (place, answer) ∷ []
+  pub since_is : after.since ≡ suc place
 
 -- the first that the seat had to strike was struck in the gap of the pebble that dominates there, whose count was found.
--- With the last the gap is closed, and its open members are owed
+-- With the last the gap is closed, and its open members are owed. The answer has its place in the history
 pub record HasStruck (before : View) (config : ℕ) (closed : Option ℕ) (after : View) : Type 0 where
   pub first : config ≡ first_of before.has.todo
   pub pebble : ℕ
@@ -30,12 +38,10 @@ pub record HasStruck (before : View) (config : ℕ) (closed : Option ℕ) (after
   pub some_left : 0 < count
   pub closed_is : closed ≡ cond (count == 1) (Some gap) None
   pub after_is : after.has ≡ seat_struck before.key.solving gap count before.has
-  pub shut_is : after.shut ≡ cond (count == 1) (before.shut ++ gap ∷ []) before.shut
-  pub lost_is : after.lost ≡ before.lost
+  pub stands : StandsNext before (seen.Struck config closed) after
 
--- the first that the seat owed was won, or stands among those that it claimed and did not win
+-- the first that the seat owed was won, or not. The answer has its place in the history
 pub record HasClaimed (before : View) (config : ℕ) (won : Bool) (after : View) : Type 0 where
   pub first : config ≡ first_of before.has.owed
   pub after_is : after.has ≡ seat_tried won before.has
-  pub lost_is : after.lost ≡ cond won before.lost (before.lost ++ config ∷ [])
-  pub shut_is : after.shut ≡ before.shut
+  pub stands : StandsNext before (seen.Tried config won) after

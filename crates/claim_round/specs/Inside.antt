@@ -3,5 +3,3 @@ pub mod ClosedTable
 pub mod Openings
 pub mod Rounds
 pub mod Seats
-pub mod Shared
-pub mod Words

@@ -1,5 +1,5 @@
--- The rule of a round's table, and what its steps tell.
-use Rattle.std.specs.Prelude.{◌≡◌, ℕ, suc, ◌<◌, ◌≤◌, ◌↔◌, List, [], ◌++◌, length}
+-- A shared round as clauses see it: what is known of it and of its seats, how these split and join, and how it ends.
+use Rattle.std.specs.Prelude.{◌≡◌, ℕ, suc, max, ◌<◌, ◌≤◌, ◌↔◌, List, [], ◌++◌, length}
 use Rattle.std.specs.Prelude.{slice_index_or, Option, Some, None}
 use Rattle.atomic_table.specs.Seated.{TableId}
 use Rattle.positions.specs.declared.value.Value.TheVariants.{Finite}
@@ -8,6 +8,7 @@ use Rattle.positions.specs.Ranks.{configurations, configuration_at}
 use Rattle.retro_core.specs.Solving.{Solving}
 use Rattle.retro_core.specs.Round.{PlainSeat}
 use Rattle.retro_core.specs.Round.{seat_kept, seat_new, seat_joined}
+use Rattle.retro_core.specs.declared.step.Seen.{Seen}
 use Rattle.retro_core.specs.Ending.{IsRoundEnd}
 
 -- what a table is told: the solver whose round it is, and the round's width
@@ -15,12 +16,13 @@ pub record Key : Type 0 where
   pub solving : Solving
   pub width : ℕ
 
--- what a table knows of one seat: its round, what it has, the configurations that it claimed and did not win, and the gaps that it closed
+-- what is known of a seat: its round, what it has, the answers of its strikes and claims, each with its place in the round's history, and
+-- from which place on its next one can stand
 pub record View : Type 0 where
   pub key : Key
   pub has : PlainSeat
-  pub lost : List ℕ
-  pub shut : List ℕ
+  pub made : List (ℕ × Seen)
+  pub since : ℕ
 
 -- what a clause sees of a shared round: which table it is, and its key
 pub record RoundId : Type 0 where
@@ -32,16 +34,16 @@ pub record Place : Type 0 where
   pub table : TableId
   pub view : View
 
--- the two seats after a split
+-- the two seats after a split: what was told stays with the first, and both stand after it
 abbrev pub kept_part : View → View
-kept_part v = record { key = v.key; has = seat_kept v.has; lost = v.lost; shut = v.shut }
+kept_part v = record { key = v.key; has = seat_kept v.has; made = v.made; since = v.since }
 
 abbrev pub new_part : View → View
-new_part v = record { key = v.key; has = seat_new v.has; lost = []; shut = [] }
+new_part v = record { key = v.key; has = seat_new v.has; made = []; since = v.since }
 
--- the seat after a join
+-- the seat after a join: it was told what both were, and stands after both
 abbrev pub view_joined : View → View → View
-view_joined v u = record { key = v.key; has = seat_joined v.has u.has; lost = v.lost ++ u.lost; shut = v.shut ++ u.shut }
+view_joined v u = record { key = v.key; has = seat_joined v.has u.has; made = v.made ++ u.made; since = max v.since u.since }
 
 -- ---- what clauses say
 

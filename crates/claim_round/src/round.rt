@@ -3,13 +3,14 @@
 ghost use Rattle.std.specs.Prelude.{◌≡◌, ℕ, ◌<◌, ◌≤◌, [], length, false, IfOk, IfErr};
 ghost use Rattle.index_lists.specs.Lists.{times};
 ghost use Rattle.claim_round.specs.Shared.{IsOf, Stays, IsSplit, IsJoined, IsClosedBy, Finishes};
+ghost use Rattle.claim_round.specs.History.{HasHistory, LostWereWon, TellsClosedGaps};
 ghost use Rattle.claim_round.specs.Calls.{Opens, HasStruck, HasClaimed};
 ghost use Rattle.claim_round.specs.Reasons.{IsReason};
 
 use crate::closed::Closed;
 use crate::room::{make_places, make_room, owe_members, places_for};
 use crate::seat::RoundSeat;
-use crate::table::{Halves, Hand, Look, Plan, Read, Rule, Strike, Try};
+use crate::table::{Halves, Hand, Look, Plan, Rule, Strike, Try};
 use crate::words::{OPEN, first_words};
 use atomic_table::Table;
 use board_text::Memory;
@@ -21,8 +22,11 @@ use std::marker::Model;
 
 /// A round of a solver at the value that it has reached, over shared words: one for each gap's count, and then one for each configuration.
 ///
-/// Each call makes one step, and waits for no other thread. Contracts see which table of words it is, and the solver and
-/// the width that it was opened with. What the words and all seats hold is lawful between any two steps.
+/// A call waits for no other thread. A strike, a claim and a split make one step on one word. A join makes two: the join of
+/// the two seats, and a load that changes nothing. Contracts see which table of words it is, and the solver and the width
+/// that it was opened with. All calls together have one history, which is a run of the machine (`IsHistory`); each strike and
+/// each claim has its place in it. The calls of a seat stand in their order, and after those of the seats that it was split
+/// or joined from. No order is promised of the calls of two seats that never met.
 #[derive(Drop)]
 pub struct SharedRound<'a, S: ListStore> {
     alloc: Global,
@@ -57,7 +61,7 @@ pub struct Struck {
 pub struct Claim {
     /// The rank of the configuration that was claimed.
     pub config: u32,
-    /// Whether it was won by this claim. Else it stands in a won list already, the seat's own or another's.
+    /// Whether it was won by this claim. Else an earlier claim won it, this seat's or another's.
     pub won: bool,
 }
 
@@ -151,7 +155,7 @@ impl<'a, S: ListStore> SharedRound<'a, S> {
         }
     }
 
-    /// Claims the first configuration that is owed: one step on its value, or a look where it has one already.
+    /// Claims the first configuration that is owed: one step on its value word, and that single try decides.
     pub fn claim(&self, seat: &mut RoundSeat) -> Claim
         requires mine { IsOf self.now seat.old }
         requires owed { 0 < length seat.old.view.has.owed }
@@ -163,11 +167,10 @@ impl<'a, S: ListStore> SharedRound<'a, S> {
         };
         let word = self.solver.space().gaps() as usize + config as usize;
         let next = u64::from(self.solver.round_number()) + 1;
-        let shared = &self.table.shared;
-        if shared.load::<Read>(&mut seat.seat, word) != OPEN {
-            return Claim { config, won: false };
-        }
-        let found = shared.compare_exchange::<Try>(&mut seat.seat, word, OPEN, next);
+        let found = self
+            .table
+            .shared
+            .compare_exchange::<Try>(&mut seat.seat, word, OPEN, next);
         if found == OPEN {
             seat.won.push_reserved(config);
             return Claim { config, won: true };
@@ -213,6 +216,9 @@ impl<'a, S: ListStore> SharedRound<'a, S> {
 
     /// Appends the second seat's lists to the first's, and adds the widths. A refusal comes before the step, and gives
     /// both seats back as they were.
+    ///
+    /// Beside the step it makes one load, which changes nothing: from it is learned that the won list has no doubles and that
+    /// the lists are no longer than they can be.
     ///
     /// The first seat's lists get room for what both have, and for what both may win, which is no more than there are
     /// configurations.
@@ -263,11 +269,15 @@ impl<'a, S: ListStore> SharedRound<'a, S> {
     }
 
     /// Closes the round, with a seat of its whole width that has nothing left to do.
+    ///
+    /// The history is then whole: all strikes and claims that were made were told to this seat, or to one that was joined in.
     pub fn close(self, seat: RoundSeat) -> Result<Closed, NotClosed<'a, S>>
         requires mine { IsOf self seat }
         ensures ok { IfOk result (λ c. IsClosedBy self.entry seat c) }
         ensures finished { IfOk result (λ c. Finishes self.entry.key.solving c) }
-        ensures lost { IfOk result (λ c. (x : ℕ) → 0 < times x seat.view.lost → 0 < times x c.won) }
+        ensures history { IfOk result (λ c. HasHistory self.entry.key seat.view.made c) }
+        ensures lost { IfOk result (λ c. LostWereWon seat.view.made c.won) }
+        ensures closed { IfOk result (λ c. TellsClosedGaps self.entry.key.solving seat.view.made c.counts) }
         ensures err { IfErr result (λ n. (n.round ≡ self.entry) × (n.seat ≡ seat) × IsReason n.why self.entry seat) }
     {
         if seat.width < self.width {

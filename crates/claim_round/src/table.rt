@@ -12,7 +12,7 @@ pub struct Hand {
 
 impl Model for Hand {
     ghost use Rattle.claim_round.specs.Shared.{View};
-    ghost use Rattle.claim_round.specs.Inside.Shared.{spent_view};
+    ghost use Rattle.claim_round.specs.Rule.{spent_view};
 
     ghost Value = { View };
 
@@ -34,10 +34,12 @@ impl<'a, S: ListStore> Model for Plan<'a, S> {
     ghost view = { λ p. record { solving = p.solver.now; width = p.width } };
 }
 
+/// The rule between any two steps of any threads: the words and the seats have a history.
 pub struct Rule;
 
 impl<'a, S: ListStore> TableRule<(), Hand, Plan<'a, S>> for Rule {
-    ghost use Rattle.claim_round.specs.Inside.Shared.{Kept, opening_view};
+    ghost use Rattle.claim_round.specs.Rule.{Kept};
+    ghost use Rattle.claim_round.specs.Inside.Openings.{opening_view};
 
     ghost holds = { Kept };
 
@@ -47,7 +49,7 @@ impl<'a, S: ListStore> TableRule<(), Hand, Plan<'a, S>> for Rule {
 pub struct Strike;
 
 impl Play<(), Hand> for Strike {
-    ghost use Rattle.claim_round.specs.Inside.Shared.{TableStrikes};
+    ghost use Rattle.claim_round.specs.Plays.{TableStrikes};
 
     ghost then = { TableStrikes };
 }
@@ -55,7 +57,7 @@ impl Play<(), Hand> for Strike {
 pub struct Try;
 
 impl Play<(), Hand> for Try {
-    ghost use Rattle.claim_round.specs.Inside.Shared.{Claims};
+    ghost use Rattle.claim_round.specs.Plays.{Claims};
 
     ghost then = { Claims };
 }
@@ -72,25 +74,17 @@ impl Split<Hand> for Halves {
 
 impl Join<Hand> for Halves {
     ghost use Rattle.claim_round.specs.Shared.{view_joined};
-    ghost use Rattle.claim_round.specs.Inside.Shared.{spent_view};
+    ghost use Rattle.claim_round.specs.Rule.{spent_view};
 
     ghost both = { view_joined };
 
     ghost spent = { spent_view };
 }
 
-pub struct Read;
-
-impl Play<(), Hand> for Read {
-    ghost use Rattle.claim_round.specs.Inside.Shared.{Reads};
-
-    ghost then = { Reads };
-}
-
 pub struct Look;
 
 impl Play<(), Hand> for Look {
-    ghost use Rattle.claim_round.specs.Inside.Shared.{Looks};
+    ghost use Rattle.claim_round.specs.Plays.{Looks};
 
     ghost then = { Looks };
 }

@@ -12,6 +12,7 @@ pub mod DominatorTable
 pub mod ValueSizes
 pub mod SeatSums
 pub mod SeatSteps
+pub mod Histories
 pub mod Homes
 pub mod RoundStart
 pub mod RoundLaws

@@ -1,14 +1,17 @@
 //! Laws of rounds, each the contract of a function without a body.
 
-ghost use Rattle.std.specs.Prelude.{◌≡◌, ℕ, ◌<◌, List, Option, length};
+ghost use Rattle.std.specs.Prelude.{◌≡◌, ℕ, ◌<◌, List, Option, Some, true, false, length, slice_index};
+ghost use Rattle.index_lists.specs.Lists.{times};
 ghost use Rattle.positions.specs.Ranks.{configurations};
 ghost use Rattle.positions.specs.Gaps.{gaps};
 ghost use Rattle.retro_core.specs.Solving.{Solving, IsSolving};
-ghost use Rattle.retro_core.specs.Round.{Round, AreFirstCounts, AreFirstValues, AreToStrike, opening, IsOpening, IsLawful, IsWorkedOff};
+ghost use Rattle.retro_core.specs.Round.{Round, AreFirstCounts, AreFirstValues, AreToStrike, opening, IsOpening, IsLawful, IsWorkedOff, all_won};
 ghost use Rattle.retro_core.specs.Round.{HasWonAll};
 ghost use Rattle.retro_core.specs.Stepping.{Does, LeadTo};
+ghost use Rattle.retro_core.specs.History.{answer_at, IsClosedAt};
 ghost use Rattle.retro_core.specs.declared.step.Step.{Step as Doing};
 ghost use Rattle.retro_core.specs.declared.step.Seen.{Seen as Answer};
+ghost use Rattle.retro_core.specs.declared.step.Seen.TheVariants as answers;
 
 /// A round opens lawfully with what a solver has counted and filed.
 pub fn rounds_open_lawfully()
@@ -32,4 +35,22 @@ pub fn worked_off_rounds_have_won_all()
     ensures lawful { (round : Round) → IsSolving round.solving → IsLawful round → IsWorkedOff round → HasWonAll round }
     ensures opened { (s : Solving) → (width : ℕ) → (first : Round) → (steps : List (Doing × Answer)) → (last : Round)
         → IsSolving s → IsOpening s width first → LeadTo first steps last → IsWorkedOff last → (last.solving ≡ s) × HasWonAll last }
+{}
+
+/// Lost tries and closed gaps have a cause among the steps that lead from one round to another. From an opening on, a try is
+/// lost only after a try that won the same configuration; what is answered as won stands in a won list at the end. A gap is
+/// answered as closed at most once, only if it had a count at first and has none at the end, and always then.
+pub fn answers_have_a_cause()
+    ensures lost { (s : Solving) → (width : ℕ) → (first : Round) → (steps : List (Doing × Answer)) → (last : Round)
+        → IsSolving s → IsOpening s width first → LeadTo first steps last
+        → (place : ℕ) → (config : ℕ) → answer_at steps place ≡ Some (answers.Tried config false)
+        → (earlier : ℕ) × (earlier < place) × (answer_at steps earlier ≡ Some (answers.Tried config true)) }
+    ensures won { (first : Round) → (steps : List (Doing × Answer)) → (last : Round) → LeadTo first steps last
+        → (place : ℕ) → (config : ℕ) → answer_at steps place ≡ Some (answers.Tried config true) → 0 < times config (all_won last) }
+    ensures closed_once { (first : Round) → (steps : List (Doing × Answer)) → (last : Round) → LeadTo first steps last → (gap : ℕ)
+        → (place : ℕ) → (other : ℕ) → IsClosedAt steps gap place → IsClosedAt steps gap other → place ≡ other }
+    ensures closed_only { (first : Round) → (steps : List (Doing × Answer)) → (last : Round) → LeadTo first steps last → (gap : ℕ)
+        → (place : ℕ) → IsClosedAt steps gap place → (0 < slice_index first.counts gap) × (slice_index last.counts gap ≡ 0) }
+    ensures closed_always { (first : Round) → (steps : List (Doing × Answer)) → (last : Round) → LeadTo first steps last → (gap : ℕ)
+        → 0 < slice_index first.counts gap → slice_index last.counts gap ≡ 0 → (place : ℕ) × IsClosedAt steps gap place }
 {}

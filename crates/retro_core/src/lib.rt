@@ -22,7 +22,8 @@ mod values;
 pub use end::RoundEnd;
 pub use fault::SolveFault;
 pub use laws_of_rounds::{
-    rounds_open_lawfully, steps_keep_rounds_lawful, worked_off_rounds_have_won_all,
+    answers_have_a_cause, rounds_open_lawfully, steps_keep_rounds_lawful,
+    worked_off_rounds_have_won_all,
 };
 pub use positions::Value;
 pub use progress::Progress;

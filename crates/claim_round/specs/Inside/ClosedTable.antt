@@ -4,7 +4,7 @@ use Rattle.std.specs.Slots.{slots_items, slots_len, IsFull}
 use Rattle.claim_round.specs.Shared.{Ended}
 use Rattle.claim_round.specs.declared.closed.Closed.TheInside.{Inside}
 use Rattle.claim_round.specs.declared.words.TheConstants.{OPEN}
-use Rattle.claim_round.specs.Inside.Words.{value_of_word}
+use Rattle.claim_round.specs.Words.{value_of_word}
 
 -- the words of a closed table
 abbrev pub words_of : Inside → List ℕ

@@ -3,8 +3,13 @@ use Rattle.std.specs.Prelude.{◌≡◌, ℕ, ◌+◌, ◌*◌, ◌^◌, ◌<◌
 use Rattle.std.specs.VecDeque.{deque_capacity}
 use Rattle.index_lists.specs.Lists.{times}
 use Rattle.claim_round.specs.Shared.{Key, Place}
-use Rattle.claim_round.specs.Inside.Shared.{most, size, IsDueIn}
+use Rattle.retro_core.specs.Round.{IsDue}
+use Rattle.claim_round.specs.Rule.{most, size}
 use Rattle.claim_round.specs.declared.seat.RoundSeat.TheInside.{Inside}
+
+-- it has the round's value and a dominating pebble
+abbrev pub IsDueIn : Key → ℕ → Type 0
+IsDueIn k rank = IsDue k.solving.board rank k.solving.rounds
 
 abbrev pub place_of : Inside → Place
 place_of s = record { table = s.seat.table_id; view = s.seat.me.0 }

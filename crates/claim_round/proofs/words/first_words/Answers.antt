@@ -3,7 +3,7 @@ use Rattle.positions.specs.declared.value.Value.TheVariants.{Finite}
 use Rattle.positions.specs.Value.{HasValue}
 use Rattle.positions.specs.Ranks.{configurations, configuration_at}
 use Rattle.claim_round.specs.Inside.Openings.{AreOpeningWords}
-use Rattle.claim_round.specs.Inside.Words.{value_of_word}
+use Rattle.claim_round.specs.Words.{value_of_word}
 use Rattle.claim_round.proofs.OpeningWords.{words_more, word_some, word_none}
 use Rattle.claim_round.proofs.words.first_words.Goals.{in-Some, in-None}
 use Rattle.claim_round.proofs.words.first_words.Goals as goal

@@ -5,7 +5,7 @@ use Rattle.std.specs.Slots.{slots_items, slots_len, slots_counts}
 use Rattle.index_lists.proofs.Cited.{cond_same, cond_other}
 use Rattle.claim_round.specs.Shared.{Ended}
 use Rattle.claim_round.specs.declared.words.TheConstants.{OPEN}
-use Rattle.claim_round.specs.Inside.Words.{value_of_word}
+use Rattle.claim_round.specs.Words.{value_of_word}
 use Rattle.claim_round.proofs.Lookup.{read_at, value_read}
 use Rattle.claim_round.proofs.closed.Closed.value_at.Goals as goal
 

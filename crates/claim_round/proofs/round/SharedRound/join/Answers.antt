@@ -5,7 +5,8 @@ use Rattle.board_text.specs.PlainBoard.{places}
 use Rattle.positions.specs.Ranks.{configurations}
 use Rattle.retro_core.specs.Solving.{Solving}
 use Rattle.claim_round.specs.Shared.{Key, View}
-use Rattle.claim_round.specs.Inside.Shared.{IsBounded, Unit0, most, size}
+use Rattle.claim_round.specs.Plays.{IsBounded}
+use Rattle.claim_round.specs.Rule.{Unit0, most, size}
 use Rattle.claim_round.proofs.FirstEntries.{of_round}
 use Rattle.claim_round.proofs.Loads.{some_gaps}
 use Rattle.claim_round.proofs.TableSteps.{join_allowed, look_allowed}

@@ -5,8 +5,8 @@ use Rattle.board_text.specs.PlainBoard.{places}
 use Rattle.positions.specs.Ranks.{configurations}
 use Rattle.retro_core.specs.Round.{AreToStrike}
 use Rattle.claim_round.specs.Shared.{Key, View}
-use Rattle.claim_round.specs.Inside.Shared.{opening_view, most, size}
-use Rattle.claim_round.specs.Inside.Openings.{AreOpeningWords}
+use Rattle.claim_round.specs.Rule.{most, size}
+use Rattle.claim_round.specs.Inside.Openings.{AreOpeningWords, opening_view}
 use Rattle.claim_round.proofs.Loads.{narrow}
 use Rattle.claim_round.proofs.OpeningWords.{ranks_due, opened}
 use Rattle.claim_round.proofs.Seats.{first_seat}
@@ -60,6 +60,5 @@ returns g c =
       no_owed = ap (λ (v : View). v.has.owed) view;
       no_won = ap (λ (v : View). v.has.won) view;
       wide = ap (λ (v : View). v.has.width) view;
-      no_lost = ap (λ (v : View). v.lost) view;
-      no_shut = ap (λ (v : View). v.shut) view;
+      none_made = ap (λ (v : View). v.made) view;
     }

@@ -5,7 +5,7 @@ use Rattle.board_text.specs.PlainBoard.{places}
 use Rattle.positions.specs.Ranks.{configurations}
 use Rattle.retro_core.specs.Solving.{Solving}
 use Rattle.claim_round.specs.Shared.{Key, View, Place}
-use Rattle.claim_round.specs.Inside.Shared.{most, size}
+use Rattle.claim_round.specs.Rule.{most, size}
 use Rattle.claim_round.proofs.FirstEntries.{of_round}
 use Rattle.claim_round.proofs.Loads.{some_gaps}
 use Rattle.claim_round.proofs.TableSteps.{split_allowed}

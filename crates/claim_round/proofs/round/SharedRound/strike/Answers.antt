@@ -6,7 +6,7 @@ use Rattle.positions.specs.Gaps.{gap_of, IsDominator}
 use Rattle.retro_core.specs.Solving.{Solving, source}
 use Rattle.retro_core.specs.Round.{first_of}
 use Rattle.claim_round.specs.Shared.{Key, View}
-use Rattle.claim_round.specs.Inside.Shared.{most}
+use Rattle.claim_round.specs.Rule.{most}
 use Rattle.claim_round.proofs.FirstEntries.{strikes_next, in_gaps}
 use Rattle.claim_round.proofs.Loads.{few_members}
 use Rattle.claim_round.proofs.TableSteps.{strike_allowed}
@@ -61,9 +61,9 @@ invariant_of-seat g c =
     let k : Key = c.self.inside.table.shared.key in
     let next = strikes_next _ _ _ _ _ c.seat.inside _ c.in-Some.config _ c.self.view_is c.seat.view_is c.self.invariant c.seat.invariant c.requires.mine c.requires.todo c.requires.owed c.in-Some.ensures.items in
     let low = in_gaps k _ _ c.gap-gap.result next.solving c.space.ensures c.gap-gap.ensures.below in
-    let e = c.fetch_sub-found.ensures in
+    let e = c.fetch_sub-found.ensures.2 in
     let members : source c.self.inside.solver.now c.gap-gap.result ≡ source k.solving c.gap-gap.result = ap (λ (s : Solving). source s c.gap-gap.result) (sym next.solving) in
-    struck_seat c.seat.inside _ c.fetch_sub-found.result c.gap-gap.result k c.seat.invariant c.self.invariant.sound low next.of.1 next.some_todo next.none_owed e.2.0 e.2.1 (ap (drop 1) (sym c.in-Some.ensures.items))
+    struck_seat c.seat.inside _ c.fetch_sub-found.result c.gap-gap.result e.0 k c.seat.invariant c.self.invariant.sound low next.of.1 next.some_todo next.none_owed e.2 e.3 (ap (drop 1) (sym c.in-Some.ensures.items))
     (c.owe_members.ensures.items ∙ ap (λ (xs : List ℕ). c.seat.inside.owed.items ++ xs) members ∙ sym (cond_same _ _ _ _ c.if-found-eq1.true)) c.owe_members.ensures.room refl refl refl
 
 pub invariant_of-seat-else-found-eq1 : goal.invariant_of-seat-else-found-eq1
@@ -71,6 +71,6 @@ invariant_of-seat-else-found-eq1 g c =
     let k : Key = c.self.inside.table.shared.key in
     let next = strikes_next _ _ _ _ _ c.seat.inside _ c.in-Some.config _ c.self.view_is c.seat.view_is c.self.invariant c.seat.invariant c.requires.mine c.requires.todo c.requires.owed c.in-Some.ensures.items in
     let low = in_gaps k _ _ c.gap-gap.result next.solving c.space.ensures c.gap-gap.ensures.below in
-    let e = c.fetch_sub-found.ensures in
-    struck_seat c.seat.inside _ c.fetch_sub-found.result c.gap-gap.result k c.seat.invariant c.self.invariant.sound low next.of.1 next.some_todo next.none_owed e.2.0 e.2.1 (ap (drop 1) (sym c.in-Some.ensures.items))
+    let e = c.fetch_sub-found.ensures.2 in
+    struck_seat c.seat.inside _ c.fetch_sub-found.result c.gap-gap.result e.0 k c.seat.invariant c.self.invariant.sound low next.of.1 next.some_todo next.none_owed e.2 e.3 (ap (drop 1) (sym c.in-Some.ensures.items))
     (sym (cond_other _ _ _ _ c.if-found-eq1.false)) refl refl refl refl

@@ -1,0 +1,78 @@
+-- The history of a shared round: the steps of one run of the machine, in which each call of each seat has its place.
+use Rattle.std.specs.Prelude.{◌≡◌, ℕ, ◌<◌, ◌≤◌, false, true, List, map, length, slice_index, Option, Some, None}
+use Rattle.std.specs.List.{All, Contains, sum_by}
+use Rattle.index_lists.specs.Lists.{times}
+use Rattle.retro_core.specs.declared.step.Step.{Step}
+use Rattle.retro_core.specs.declared.step.Seen.{Seen}
+use Rattle.retro_core.specs.declared.step.Seen.TheVariants as seen
+use Rattle.positions.specs.Gaps.{gaps}
+use Rattle.retro_core.specs.Solving.{Solving, AnswerLasts}
+use Rattle.retro_core.specs.Round.{PlainSeat, Round, IsOpening, AreFirstCounts, IsWorkedOff, all_won}
+use Rattle.retro_core.specs.Stepping.{LeadTo}
+use Rattle.retro_core.specs.History.{answer_at}
+use Rattle.claim_round.specs.Shared.{Key, View, Ended}
+use Rattle.claim_round.specs.Words.{round_of_words}
+
+-- what all seats have
+abbrev pub seats_of : List View → List PlainSeat
+seats_of views = map (λ view. view.has) views
+
+-- each answer that was told is that of the step at its place
+abbrev pub AreTold : List (Step × Seen) → List (ℕ × Seen) → Type 0
+AreTold steps made = All (λ call. answer_at steps call.0 ≡ Some call.1) made
+
+-- the places of what was told
+abbrev pub places_of : List (ℕ × Seen) → List ℕ
+places_of made = map (λ call. call.0) made
+
+-- one for the answer of a strike or of a try, each of which is the call of a seat, and none for a split, a join or no step
+abbrev pub calls_of : Option Seen → ℕ
+calls_of (Some (seen.Struck config closed)) = 1
+calls_of (Some (seen.Tried config won)) = 1
+calls_of (Some (seen.Parted seat)) = 0
+calls_of (Some seen.Joined) = 0
+calls_of None = 0
+
+-- the number of strikes and tries at a place
+abbrev pub calls_at : List (Step × Seen) → ℕ → ℕ
+calls_at steps place = calls_of (answer_at steps place)
+
+-- steps of the machine lead from an opening, whose counts are those of the solver, to these words and seats. What a seat was told is
+-- the answers at its places, its next one can stand at the end, and each strike and each try was told to one seat, once
+pub record IsHistory (k : Key) (words : List ℕ) (views : List View) : Type 0 where
+  pub first : Round
+  pub steps : List (Step × Seen)
+  pub opens : IsOpening k.solving k.width first
+  pub counted : AreFirstCounts k.solving first.counts
+  pub leads : LeadTo first steps (round_of_words k.solving k.width words (seats_of views))
+  pub told : All (λ view. AreTold steps view.made × (view.since ≤ length steps)) views
+  pub once : (place : ℕ) → sum_by (λ view. times place (places_of view.made)) views ≡ calls_at steps place
+
+-- steps of the machine lead from an opening, whose counts are those of the solver, to an end at which no seat has work left. The end has
+-- these counts and values, and what was won. What was told is the answers of all strikes and tries, each once
+pub record HasHistory (k : Key) (made : List (ℕ × Seen)) (end : Ended) : Type 0 where
+  pub first : Round
+  pub steps : List (Step × Seen)
+  pub last : Round
+  pub opens : IsOpening k.solving k.width first
+  pub counted : AreFirstCounts k.solving first.counts
+  pub leads : LeadTo first steps last
+  pub worked_off : IsWorkedOff last
+  pub counts : last.counts ≡ end.counts
+  pub values : last.values ≡ end.values
+  pub won : (rank : ℕ) → times rank (all_won last) ≡ times rank end.won
+  pub told : AreTold steps made
+  pub once : (place : ℕ) → times place (places_of made) ≡ calls_at steps place
+
+-- what was told as lost was told as won at an earlier place, and stands in what was won
+abbrev pub LostWereWon : List (ℕ × Seen) → List ℕ → Type 0
+LostWereWon made won = (place config : ℕ) → Contains made (place, seen.Tried config false)
+    → (earlier : ℕ) × (earlier < place) × Contains made (earlier, seen.Tried config true) × (0 < times config won)
+
+-- of each gap it was told at most once that it is closed, only where it has no count left, and always there if it had one at the opening
+pub record TellsClosedGaps (s : Solving) (made : List (ℕ × Seen)) (counts : List ℕ) : Type 0 where
+  pub once : (gap place other config another : ℕ) → Contains made (place, seen.Struck config (Some gap))
+      → Contains made (other, seen.Struck another (Some gap)) → place ≡ other
+  pub only : (gap place config : ℕ) → Contains made (place, seen.Struck config (Some gap)) → slice_index counts gap ≡ 0
+  pub always : (gap label : ℕ) → gap < gaps s.board → AnswerLasts s.board gap s.rounds label → slice_index counts gap ≡ 0
+      → (place : ℕ) × (config : ℕ) × Contains made (place, seen.Struck config (Some gap))

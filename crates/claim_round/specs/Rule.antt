@@ -1,0 +1,53 @@
+-- The rule of a round's table, which holds between any two steps of any threads.
+use Rattle.std.specs.Prelude.{◌≡◌, ℕ, ◌+◌, ◌*◌, ◌<◌, ◌≤◌, Bool, [], length}
+use Rattle.std.specs.List.{All, sum_by}
+use Rattle.atomic_table.specs.Table.{State}
+use Rattle.board_text.specs.PlainBoard.{places}
+use Rattle.positions.specs.Ranks.{configurations}
+use Rattle.retro_core.specs.Solving.{IsSolving}
+use Rattle.retro_core.specs.Round.{spent as spent_seat}
+use Rattle.claim_round.specs.Shared.{Key, View}
+use Rattle.claim_round.specs.History.{IsHistory}
+
+abbrev pub Unit0 : Type 0
+Unit0 = Unit {0}
+
+-- no gap has more members, and no more configurations are without a value
+abbrev pub most : Key → ℕ
+most k = places k.solving.board
+
+abbrev pub size : Key → ℕ
+size k = configurations k.solving.board
+
+-- what a seat may still owe: what it owes, and that number of members for each that it has to strike
+abbrev pub load : ℕ → View → ℕ
+load most v = length v.has.owed + most * length v.has.todo
+
+-- who has a width knows the round, and who has none was told nothing
+pub record KnowsRound (k : Key) (v : View) : Type 0 where
+  pub round : 0 < v.has.width → v.key ≡ k
+  pub nothing : v.has.width ≡ 0 → v.made ≡ []
+
+-- the words and the seats have a history from an opening on, and no more is owed, or may be, than for each configuration that could
+-- be struck
+pub record Kept (k : Key) (s : State Unit0 View) : Type 0 where
+  pub solving : IsSolving k.solving
+  pub history : IsHistory k s.words s.views
+  pub knows : All (KnowsRound k) s.views
+  pub few : sum_by (load (most k)) s.views ≤ most k * size k
+
+-- the view of a seat that was joined into another, of no round
+abbrev pub no_key : Key
+no_key = record {
+  solving = record {
+    board = record { labels = 0; pebbles = 0; start = []; pairs = [] };
+    rounds = 0;
+    is_done = Bool.false;
+    buckets = [];
+    sources = [];
+  };
+  width = 0;
+}
+
+abbrev pub spent_view : View
+spent_view = record { key = no_key; has = spent_seat; made = []; since = 0 }
