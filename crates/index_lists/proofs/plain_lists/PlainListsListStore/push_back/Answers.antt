@@ -1,71 +1,82 @@
-use Rattle.std.proofs.Common.{◌≡◌, ◌<◌, ◌+◌, ℕ, ◌∙◌, ◌==◌, ◌++◌, ◌∷◌, [], if◌then◌else◌, ap, sym, subst, arith, length}
-use Rattle.std.proofs.lemmas.List.{length_push}
-use Rattle.index_lists.specs.Lists.{times}
-use Rattle.index_lists.specs.Pairs.{ListedPairs}
-use Rattle.index_lists.specs.Inside.Pairs.{nodes_of}
-use Rattle.index_lists.specs.Inside.Runs.{entries_of}
-use Rattle.index_lists.proofs.Entries.{plain-are, plain-room, plain-push, nodes-push}
-use Rattle.index_lists.proofs.RunPlaces.{entries-length, entries-push}
+use Rattle.std.proofs.Common.{◌≡◌, ◌+◌, ◌-◌, ◌++◌, ◌∷◌, [], ◌<◌, ◌==◌, if◌then◌else◌, length, drop, replicate, refl, sym, subst, ap, ◌∙◌, arith}
+use Rattle.std.specs.Prelude.{sum}
+use Rattle.index_lists.specs.Lists.{IsFree}
+use Rattle.index_lists.specs.Parts.{PlainParts}
+use Rattle.index_lists.specs.Inside.Parts.{laid, part, parts_of}
+use Rattle.index_lists.proofs.Parts.{plain-are, plain-nodes, cut-sum, list-cut, list-room, list-small, pushed-cut, pushed-plain, pushed-list}
 use Rattle.index_lists.proofs.plain_lists.PlainListsListStore.push_back.Goals as goal
-use Rattle.index_lists.proofs.plain_lists.PlainListsListStore.push_back.Goals.{After-add_place-arg-1, After-push_reserved}
+use Rattle.index_lists.proofs.plain_lists.PlainListsListStore.push_back.Goals.{After-deref-2, After-put}
 
--- before the push
-module _ (c : After-add_place-arg-1) where
+module _ (c : After-deref-2) where
+  to-in : c.args.to < c.self.inside.list_count
+  to-in = rw (ap (λ (p : PlainParts). p.lists) c.self.view_is) c.requires.to_in
+
   node-in : c.args.node < c.self.inside.node_count
-  node-in = rw (ap (λ (p : ListedPairs). p.nodes) c.self.view_is) c.requires.node_in
+  node-in = rw (ap (λ (p : PlainParts). p.nodes) c.self.view_is) c.requires.node_in
 
-  free : (l : ℕ) → times c.args.node (nodes_of (entries_of c.self.inside.runs.items c.self.inside.nodes.items) l) ≡ 0
-  free = subst (λ (p : ListedPairs). (l : ℕ) → times c.args.node (nodes_of p.entries l) ≡ 0) (sym c.self.view_is) c.requires.free.free
+  free : IsFree (laid (record {
+    nodes = c.self.inside.node_count;
+    lists = c.self.inside.list_count;
+    parts = parts_of c.self.inside.lens.items c.self.inside.nodes.items;
+  })) c.args.node
+  free = subst (λ (p : PlainParts). IsFree (laid p) c.args.node) (sym c.self.view_is) c.requires.free
 
-  room : length c.self.inside.nodes.items < c.self.inside.node_count
-  room =
-      let few = plain-room _ c.self.invariant.0 c.args.to c.args.node node-in free in
-      let size = entries-length c.self.inside.runs.items c.self.inside.nodes.items c.self.invariant.1.fits in
-      omega arith
+  begun : c.begin.new.lens.items ≡ c.self.inside.lens.items ++ replicate (c.args.to + 1 - length c.self.inside.lens.items) 0
+  begun = c.begin.ensures.lens
 
-pub add_place-requires-clause-few : goal.add_place-requires-clause-few
-add_place-requires-clause-few c = let room = room (goal.at.add_place-requires-clause-few c).After-add_place-arg-1 in omega
-    (arith, room, c.self.invariant.1.fits, c.self.ranges)
+pub end_of-end-requires-clause-whole : goal.end_of-end-requires-clause-whole
+end_of-end-requires-clause-whole c =
+    let cut = list-cut _ _ c.self.invariant.0 c.self.invariant.1 c.args.to c.args.node (to-in c) (node-in c) (free c) _ (begun c) in
+    ap sum c.deref-2.ensures.value ∙ cut-sum cut ∙ sym (ap length c.deref.ensures.value)
 
-pub add_place-requires-clause-room : goal.add_place-requires-clause-room
-add_place-requires-clause-room c =
-    let room = room (goal.at.add_place-requires-clause-room c).After-add_place-arg-1 in omega
-    (arith, room, c.self.invariant.1.fits, c.self.invariant.1.for_runs)
+pub end_of-end-requires-clause-few : goal.end_of-end-requires-clause-few
+end_of-end-requires-clause-few c =
+    let few = plain-nodes _ c.self.invariant.0 refl c.self.invariant.1 in
+    omega (arith, few, ap length c.deref.ensures.value, c.self.invariant.0.few)
 
-pub push_reserved-requires : goal.push_reserved-requires
-push_reserved-requires c = let room = room (goal.at.push_reserved-requires c).After-add_place-arg-1 in omega
-    (arith, room, c.self.invariant.1.for_nodes)
+pub overflow_add-index_mut : goal.overflow_add-index_mut
+overflow_add-index_mut c =
+    let b = (goal.at.overflow_add-index_mut c).After-deref-2 in
+    let small = list-small _ _ c.self.invariant.0 c.self.invariant.1 c.args.to c.args.node (to-in b) (node-in b) (free b) _ (begun b)
+    c.index_mut.result.now c.index_mut.result.now c.index_mut.ensures.value in
+    omega (arith, small, c.self.invariant.0.few)
 
-entries-are : (c : After-push_reserved) → entries_of c.add_place.new.runs.items c.push_reserved.new.self.items
-    ≡ entries_of c.self.inside.runs.items c.self.inside.nodes.items ++ (c.args.to, c.args.node) ∷ []
-entries-are c = ap (entries_of c.add_place.new.runs.items) c.push_reserved.ensures.items
-    ∙ entries-push c.self.inside.runs.items c.add_place.new.runs.items c.self.inside.nodes.items c.args.to c.args.node
-    c.self.invariant.1.fits c.add_place.ensures.places
+pub put-requires-clause-room : goal.put-requires-clause-room
+put-requires-clause-room c =
+    let before = (goal.at.put-requires-clause-room c).After-deref-2 in
+    let room = list-room _ _ c.self.invariant.0 c.self.invariant.1 c.args.to c.args.node (to-in before) (node-in before) (free before) _
+    (begun before) in
+    omega (arith, room, c.self.invariant.1.for_nodes)
+
+module _ (c : After-put) where
+  ends : c.end_of-end.result + sum (drop (c.args.to + 1) c.begin.new.lens.items) ≡ length c.self.inside.nodes.items
+  ends = sym (ap (λ ns. c.end_of-end.result + sum (drop (c.args.to + 1) ns)) c.deref-2.ensures.value) ∙ c.end_of-end.ensures
+      ∙ ap length c.deref.ensures.value
 
 pub invariant_of-self : goal.invariant_of-self
 invariant_of-self c =
-    let before = (goal.at.invariant_of-self c).After-add_place-arg-1 in
-    let to_in : c.args.to < c.self.inside.list_count = rw (ap (λ (p : ListedPairs). p.lists) c.self.view_is) c.requires.to_in in
-    let runs = c.self.invariant.1 in (
-      rw (entries-are (goal.at.invariant_of-self c).After-push_reserved)
-          (plain-push _ c.self.invariant.0 c.args.to c.args.node to_in (node-in before) (free before)),
-      record {
-        filled = c.add_place.ensures.filled;
-        fits = ap length c.add_place.ensures.places ∙ length_push _ c.args.to ∙ ap (λ n. n + 1) runs.fits
-            ∙ sym (ap length c.push_reserved.ensures.items ∙ length_push _ c.args.node);
-        for_runs = rw c.add_place.ensures.capacity runs.for_runs;
-        for_nodes = rw c.push_reserved.ensures.capacity runs.for_nodes;
-      },
+    let b = (goal.at.invariant_of-self c).After-deref-2 in
+    let n = c.self.inside.node_count in
+    let l = c.self.inside.list_count in (
+      pushed-plain n l c.self.invariant.0 c.self.invariant.1 c.args.to c.args.node (to-in b) (node-in b) (free b) _ (begun b) c.end_of-end.result
+          c.index_mut.result.now _ (ends ((goal.at.invariant_of-self c).After-put)) c.index_mut.ensures.value c.put.ensures.items,
+      pushed-cut n l c.self.invariant.0 c.self.invariant.1 c.args.to c.args.node (to-in b) (node-in b) (free b) _ (begun b) c.end_of-end.result
+          c.index_mut.result.now _ (ends ((goal.at.invariant_of-self c).After-put)) c.index_mut.ensures.value c.put.ensures.items _ _
+          (omega (arith, c.self.invariant.1.for_nodes, c.put.ensures.capacity)) (omega (arith, c.self.invariant.1.for_lens, c.begin.ensures.capacity)),
     )
 
 pub returns-clause-pushed : goal.returns-clause-pushed
-returns-clause-pushed c = record {
-  same_nodes = ap (λ (p : ListedPairs). p.nodes) c.self.view_is;
-  same_lists = ap (λ (p : ListedPairs). p.lists) c.self.view_is;
-  same_list = λ l. ap (λ es. nodes_of es l) (entries-are (goal.at.returns-clause-pushed c).After-push_reserved)
-      ∙ nodes-push c.args.to c.args.node l _
-      ∙ ap (λ (p : ListedPairs). if l == c.args.to then nodes_of p.entries l ++ c.args.node ∷ [] else nodes_of p.entries l) c.self.view_is;
-}
+returns-clause-pushed c =
+    let b = (goal.at.returns-clause-pushed c).After-deref-2 in
+    let n = c.self.inside.node_count in
+    let l = c.self.inside.list_count in
+    record {
+      same_nodes = ap (λ (p : PlainParts). p.nodes) c.self.view_is;
+      same_lists = ap (λ (p : PlainParts). p.lists) c.self.view_is;
+      same_list = λ m. pushed-list n l c.self.invariant.0 c.self.invariant.1 c.args.to c.args.node (to-in b) (node-in b) (free b) _ (begun b)
+          c.end_of-end.result c.index_mut.result.now _ (ends ((goal.at.returns-clause-pushed c).After-put)) c.index_mut.ensures.value c.put.ensures.items m
+          ∙ ap (λ (p : PlainParts). if m == c.args.to then part p.parts m ++ c.args.node ∷ [] else part p.parts m) c.self.view_is;
+    }
 
 pub returns-clause-kept : goal.returns-clause-kept
 returns-clause-kept c = plain-are _ (invariant_of-self c).0
