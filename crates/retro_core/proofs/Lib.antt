@@ -1,3 +1,4 @@
+pub mod AscendingMembers
 pub mod Arenas
 pub mod Rules
 pub mod Counts

@@ -20,6 +20,7 @@ use Rattle.retro_core.specs.Round.{AreToStrike}
 use Rattle.retro_core.specs.Solving.{Solving, AreOpenMembers, IsSolving, NoneHas, AnswerLasts, AnswerForever}
 use Rattle.retro_core.specs.Inside.Stage.{first_lists, PlainStage, filed_at, due_now, turned, IsFiled, IsStage, IsKept, IsStriking, IsUnstruck, IsOpened, IsState}
 use Rattle.retro_core.specs.Inside.Tables.{is_open, open_members, is_unstruck, struck_rounds, AreWords, AreValues}
+use Rattle.retro_core.proofs.AscendingMembers.{members-ascend}
 use Rattle.retro_core.proofs.Arenas.{IsArena}
 use Rattle.retro_core.proofs.Counts.{count_below-some, count_below-less, count_below-bound}
 use Rattle.retro_core.proofs.LastingRanks.{none_some, some_same, both_true, true_or_false, true_not_false, same_or_not, same_is, lasts-less, lasts-at-most}
@@ -297,6 +298,7 @@ module _ (s : PlainStage) (round : ℕ) (is_done : Bool) (st : IsState s round i
         let m = members-are arena (is_open s.values) g 0 arena.places x h in
         let low = m.below in
         (m.label, omega arith, sym m.is));
+    ascending = λ g i. rw (source-shown g i) (members-ascend b st.is_board (is_open s.values) g 0 arena.places);
   }
 
   pub solving_of : IsSolving shown

@@ -1,4 +1,4 @@
-use Rattle.std.proofs.Common.{◌∙◌, ◌<◌, length, ap, sym, arith}
+use Rattle.std.proofs.Common.{◌∙◌, length, ap, sym, arith}
 use Rattle.retro_core.specs.Inside.Stage.{PlainStage}
 use Rattle.retro_core.proofs.FiledRanks.{filed-shown}
 use Rattle.retro_core.proofs.stage.Stage.filed.Goals as goal

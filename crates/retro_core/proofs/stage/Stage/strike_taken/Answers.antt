@@ -1,15 +1,14 @@
-use Rattle.std.proofs.Common.{◌≡◌, ◌+◌, ◌<◌, ◌∙◌, ℕ, Bool, true, false, List, ◌∷◌, cond, drop, length, suc, refl, sym, ap, subst, arith, slice_index, get_or, add-one}
+use Rattle.std.proofs.Common.{◌≡◌, ◌<◌, ◌∙◌, ℕ, Bool, true, false, List, ◌∷◌, cond, drop, length, suc, sym, ap, subst, arith, slice_index, get_or, add-one}
 use Rattle.std.specs.List.{filter}
 use Rattle.std.proofs.Math.Seq.{drop-cons}
-use Rattle.std.proofs.lemmas.List.{get_or_read, drop_all}
+use Rattle.std.proofs.lemmas.List.{get_or_read}
 use Rattle.index_lists.specs.Lists.{times}
-use Rattle.index_lists.proofs.Cited.{stands-at}
 use Rattle.positions.specs.Ranks.{configurations}
 use Rattle.retro_core.specs.Inside.Arena.{dominated}
 use Rattle.retro_core.specs.Inside.BoardArena.{arena_of}
 use Rattle.retro_core.specs.Inside.Stage.{PlainStage, IsStriking}
 use Rattle.retro_core.proofs.DominatedRanks.{read-dominated, read-alone}
-use Rattle.retro_core.proofs.StageStrikes.{kept-on, kept-self}
+use Rattle.retro_core.proofs.StageStrikes.{kept-on}
 use Rattle.retro_core.proofs.FirstLists.{in_list}
 use Rattle.retro_core.specs.declared.stage.TheConstants.{NO_PEBBLE}
 use Rattle.retro_core.proofs.stage.Stage.strike_taken.Given

@@ -1,4 +1,4 @@
-use Rattle.std.proofs.Common.{◌≡◌, ◌+◌, ◌-◌, ◌<◌, ◌≤◌, ◌∙◌, ◌++◌, List, ℕ, length, sym, subst, ap, arith}
+use Rattle.std.proofs.Common.{◌≡◌, ◌-◌, ◌∙◌, ◌++◌, List, ℕ, length, sym, subst, ap, arith}
 use Rattle.index_lists.proofs.Cited.{fits}
 use Rattle.retro_core.specs.Inside.Stage.{PlainStage, stage_of, filed_at, taken}
 use Rattle.retro_core.proofs.FiledRanks.{list-shown}
