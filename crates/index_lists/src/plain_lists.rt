@@ -2,7 +2,7 @@
 
 ghost use Rattle.std.specs.Prelude.{◌≡◌, ℕ, ◌+◌, ◌-◌, ◌^◌, ◌++◌, ◌<◌, ◌≤◌, ◌==◌, length, drop, replicate, sum, slice_get, vec_capacity, Some, None, if◌then◌else◌};
 ghost use Rattle.std.specs.List.{insert};
-ghost use Rattle.index_lists.specs.Lists.{times, AreLists};
+ghost use Rattle.index_lists.specs.Lists.{times, IsFree, AreLists, AreSame, pushed};
 ghost use Rattle.index_lists.specs.Inside.Parts.{laid, part};
 
 use crate::store::ListStore;
@@ -53,10 +53,12 @@ impl ListStore for PlainLists {
     }
 
     fn push_back(&mut self, to: u32, node: u32) {
-        begin(&mut self.lens, to);
-        let end = end_of(&self.nodes, &self.lens, to);
-        self.lens[to as usize] += 1;
-        put(&mut self.nodes, end, node);
+        if self.lens.len() == to as usize + 1 {
+            self.lens[to as usize] += 1;
+            self.nodes.push_reserved(node);
+            return;
+        }
+        self.insert(to, node);
     }
 
     fn unlink(&mut self, node: u32) {
@@ -111,6 +113,22 @@ impl ListStore for PlainLists {
 }
 
 impl PlainLists {
+    /// Puts a node behind the others of any list. Most pushes are to the last list: this stays out of their way.
+    #[cold]
+    #[inline(never)]
+    fn insert(&mut self, to: u32, node: u32)
+        requires to_in { to < self.old.lists }
+        requires node_in { node < self.old.nodes }
+        requires free { IsFree (laid self.old) node }
+        ensures pushed { AreSame (laid self.new) (pushed (laid self.old) to node) }
+        ensures kept { AreLists (laid self.new) }
+    {
+        begin(&mut self.lens, to);
+        let end = end_of(&self.nodes, &self.lens, to);
+        self.lens[to as usize] += 1;
+        put(&mut self.nodes, end, node);
+    }
+
     /// The nodes of a list.
     fn nodes_of(&self, of: u32) -> &[u32]
         ensures nodes { result.now ≡ part self.now.parts of }

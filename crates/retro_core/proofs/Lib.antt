@@ -17,6 +17,7 @@ pub mod Homes
 pub mod RoundStart
 pub mod RoundLaws
 pub mod RoundSteps
+pub mod RoundsLeft
 pub mod OwedWalks
 pub mod Machine
 pub mod Lending

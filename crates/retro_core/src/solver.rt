@@ -274,4 +274,18 @@ impl<S: ListStore + Drop> Solver<S> {
         } = stage;
         Ok(Values::new(space, values, dominators, sizes))
     }
+
+    /// The values of the board, by as many rounds as it takes.
+    pub fn solve(self) -> Values
+        ensures { result ≡ self.board }
+    {
+        let mut solver = self;
+        loop {
+            match solver.finish() {
+                Ok(values) => return values,
+                Err(unfinished) => solver = unfinished.solver,
+            }
+            solver.round();
+        }
+    }
 }

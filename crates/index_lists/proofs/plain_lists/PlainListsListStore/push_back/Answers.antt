@@ -1,13 +1,16 @@
-use Rattle.std.proofs.Common.{◌≡◌, ◌+◌, ◌-◌, ◌++◌, ◌∷◌, [], ◌<◌, ◌==◌, if◌then◌else◌, length, drop, replicate, refl, sym, subst, ap, ◌∙◌, arith}
+use Rattle.std.proofs.Common.{◌≡◌, ◌+◌, ◌-◌, ◌++◌, ◌∷◌, [], ◌<◌, ◌==◌, if◌then◌else◌, length, drop, replicate, sym, subst, ap, ◌∙◌, arith}
 use Rattle.std.specs.Prelude.{sum}
+use Rattle.std.specs.List.{insert}
+use Rattle.std.proofs.lemmas.List.{append-nil, drop_all}
+use Rattle.std.proofs.lemmas.List.Edits.{insert_end}
 use Rattle.index_lists.specs.Lists.{IsFree}
 use Rattle.index_lists.specs.Parts.{PlainParts}
 use Rattle.index_lists.specs.Inside.Parts.{laid, part, parts_of}
-use Rattle.index_lists.proofs.Parts.{plain-are, plain-nodes, cut-sum, list-cut, list-room, list-small, pushed-cut, pushed-plain, pushed-list}
+use Rattle.index_lists.proofs.Parts.{plain-are, list-room, list-small, pushed-cut, pushed-plain, pushed-list}
 use Rattle.index_lists.proofs.plain_lists.PlainListsListStore.push_back.Goals as goal
-use Rattle.index_lists.proofs.plain_lists.PlainListsListStore.push_back.Goals.{After-deref-2, After-put}
+use Rattle.index_lists.proofs.plain_lists.PlainListsListStore.push_back.Goals.{After-index_mut, After-push_reserved}
 
-module _ (c : After-deref-2) where
+module _ (c : After-index_mut) where
   to-in : c.args.to < c.self.inside.list_count
   to-in = rw (ap (λ (p : PlainParts). p.lists) c.self.view_is) c.requires.to_in
 
@@ -21,62 +24,63 @@ module _ (c : After-deref-2) where
   })) c.args.node
   free = subst (λ (p : PlainParts). IsFree (laid p) c.args.node) (sym c.self.view_is) c.requires.free
 
-  begun : c.begin.new.lens.items ≡ c.self.inside.lens.items ++ replicate (c.args.to + 1 - length c.self.inside.lens.items) 0
-  begun = c.begin.ensures.lens
+  last : length c.self.inside.lens.items ≡ c.args.to + 1
+  last = omega (arith, c.if-len-to.true, c.len.ensures, c.self.inside.lens.ok.0)
 
-pub end_of-end-requires-clause-whole : goal.end_of-end-requires-clause-whole
-end_of-end-requires-clause-whole c =
-    let cut = list-cut _ _ c.self.invariant.0 c.self.invariant.1 c.args.to c.args.node (to-in c) (node-in c) (free c) _ (begun c) in
-    ap sum c.deref-2.ensures.value ∙ cut-sum cut ∙ sym (ap length c.deref.ensures.value)
+  -- the list has a length already
+  begun : c.self.inside.lens.items ≡ c.self.inside.lens.items ++ replicate (c.args.to + 1 - length c.self.inside.lens.items) 0
+  begun =
+      let none : c.args.to + 1 - length c.self.inside.lens.items ≡ 0 = let e = last in omega (arith, e) in
+      rw none (sym (append-nil c.self.inside.lens.items))
 
-pub end_of-end-requires-clause-few : goal.end_of-end-requires-clause-few
-end_of-end-requires-clause-few c =
-    let few = plain-nodes _ c.self.invariant.0 refl c.self.invariant.1 in
-    omega (arith, few, ap length c.deref.ensures.value, c.self.invariant.0.few)
+  -- it ends where all do
+  ends : length c.self.inside.nodes.items + sum (drop (c.args.to + 1) c.self.inside.lens.items) ≡ length c.self.inside.nodes.items
+  ends = ap (λ ns. length c.self.inside.nodes.items + sum ns)
+      (drop_all (c.args.to + 1) c.self.inside.lens.items (let e = last in omega (arith, e))) ∙ omega arith
+
+put : (c : After-push_reserved) → c.push_reserved.new.self.items
+    ≡ insert c.self.inside.nodes.items (length c.self.inside.nodes.items) c.args.node
+put c = c.push_reserved.ensures.items ∙ sym (insert_end c.self.inside.nodes.items c.args.node)
 
 pub overflow_add-index_mut : goal.overflow_add-index_mut
 overflow_add-index_mut c =
-    let b = (goal.at.overflow_add-index_mut c).After-deref-2 in
+    let b = (goal.at.overflow_add-index_mut c).After-index_mut in
     let small = list-small _ _ c.self.invariant.0 c.self.invariant.1 c.args.to c.args.node (to-in b) (node-in b) (free b) _ (begun b)
     c.index_mut.result.now c.index_mut.result.now c.index_mut.ensures.value in
     omega (arith, small, c.self.invariant.0.few)
 
-pub put-requires-clause-room : goal.put-requires-clause-room
-put-requires-clause-room c =
-    let before = (goal.at.put-requires-clause-room c).After-deref-2 in
-    let room = list-room _ _ c.self.invariant.0 c.self.invariant.1 c.args.to c.args.node (to-in before) (node-in before) (free before) _
-    (begun before) in
-    omega (arith, room, c.self.invariant.1.for_nodes)
-
-module _ (c : After-put) where
-  ends : c.end_of-end.result + sum (drop (c.args.to + 1) c.begin.new.lens.items) ≡ length c.self.inside.nodes.items
-  ends = sym (ap (λ ns. c.end_of-end.result + sum (drop (c.args.to + 1) ns)) c.deref-2.ensures.value) ∙ c.end_of-end.ensures
-      ∙ ap length c.deref.ensures.value
+pub push_reserved-requires : goal.push_reserved-requires
+push_reserved-requires c =
+    let b = (goal.at.push_reserved-requires c).After-index_mut in
+    let room = list-room _ _ c.self.invariant.0 c.self.invariant.1 c.args.to c.args.node (to-in b) (node-in b) (free b) _ (begun b) in
+    omega (arith, room, c.self.invariant.1.for_nodes, c.self.inside.nodes.ok.0)
 
 pub invariant_of-self : goal.invariant_of-self
 invariant_of-self c =
-    let b = (goal.at.invariant_of-self c).After-deref-2 in
+    let b = (goal.at.invariant_of-self c).After-index_mut in
+    let more = put (goal.at.invariant_of-self c).After-push_reserved in
     let n = c.self.inside.node_count in
     let l = c.self.inside.list_count in (
-      pushed-plain n l c.self.invariant.0 c.self.invariant.1 c.args.to c.args.node (to-in b) (node-in b) (free b) _ (begun b) c.end_of-end.result
-          c.index_mut.result.now _ (ends ((goal.at.invariant_of-self c).After-put)) c.index_mut.ensures.value c.put.ensures.items,
-      pushed-cut n l c.self.invariant.0 c.self.invariant.1 c.args.to c.args.node (to-in b) (node-in b) (free b) _ (begun b) c.end_of-end.result
-          c.index_mut.result.now _ (ends ((goal.at.invariant_of-self c).After-put)) c.index_mut.ensures.value c.put.ensures.items _ _
-          (omega (arith, c.self.invariant.1.for_nodes, c.put.ensures.capacity)) (omega (arith, c.self.invariant.1.for_lens, c.begin.ensures.capacity)),
+      pushed-plain n l c.self.invariant.0 c.self.invariant.1 c.args.to c.args.node (to-in b) (node-in b) (free b) _ (begun b) _
+          c.index_mut.result.now _ (ends b) c.index_mut.ensures.value more,
+      pushed-cut n l c.self.invariant.0 c.self.invariant.1 c.args.to c.args.node (to-in b) (node-in b) (free b) _ (begun b) _
+          c.index_mut.result.now _ (ends b) c.index_mut.ensures.value more _ _
+          (omega (arith, c.self.invariant.1.for_nodes, c.push_reserved.ensures.capacity)) c.self.invariant.1.for_lens,
     )
 
-pub returns-clause-pushed : goal.returns-clause-pushed
-returns-clause-pushed c =
-    let b = (goal.at.returns-clause-pushed c).After-deref-2 in
+pub returns-then-len-to-clause-pushed : goal.returns-then-len-to-clause-pushed
+returns-then-len-to-clause-pushed c =
+    let b = (goal.at.returns-then-len-to-clause-pushed c).After-index_mut in
+    let more = put (goal.at.returns-then-len-to-clause-pushed c).After-push_reserved in
     let n = c.self.inside.node_count in
     let l = c.self.inside.list_count in
     record {
       same_nodes = ap (λ (p : PlainParts). p.nodes) c.self.view_is;
       same_lists = ap (λ (p : PlainParts). p.lists) c.self.view_is;
-      same_list = λ m. pushed-list n l c.self.invariant.0 c.self.invariant.1 c.args.to c.args.node (to-in b) (node-in b) (free b) _ (begun b)
-          c.end_of-end.result c.index_mut.result.now _ (ends ((goal.at.returns-clause-pushed c).After-put)) c.index_mut.ensures.value c.put.ensures.items m
+      same_list = λ m. pushed-list n l c.self.invariant.0 c.self.invariant.1 c.args.to c.args.node (to-in b) (node-in b) (free b) _ (begun b) _
+          c.index_mut.result.now _ (ends b) c.index_mut.ensures.value more m
           ∙ ap (λ (p : PlainParts). if m == c.args.to then part p.parts m ++ c.args.node ∷ [] else part p.parts m) c.self.view_is;
     }
 
-pub returns-clause-kept : goal.returns-clause-kept
-returns-clause-kept c = plain-are _ (invariant_of-self c).0
+pub returns-then-len-to-clause-kept : goal.returns-then-len-to-clause-kept
+returns-then-len-to-clause-kept c = plain-are _ (invariant_of-self c).0
