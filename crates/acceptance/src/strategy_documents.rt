@@ -5,6 +5,7 @@
 ghost use Rattle.std.specs.Prelude.{◌≡◌, ◌≤◌, IfOk, IfSome};
 ghost use Rattle.positions.specs.Ranks.{configurations};
 ghost use Rattle.proof_text.specs.Proof.{IsDocument};
+ghost use Rattle.retro_core.specs.Solving.{IsSolving};
 
 use crate::assertions::assert_same;
 use crate::documents::{check_document, print_document};
@@ -32,7 +33,8 @@ use strategies::{best_answer, best_request, document};
 
 /// A solver of a board, where it is refused no growth.
 fn solver_of<S: ListStore + Drop>(alloc: Global, board: &Board) -> Result<Solver<S>, SolveFault>
-    ensures { IfOk result (λ solver. solver.board ≡ board.now) }
+    ensures board { IfOk result (λ solver. solver.board ≡ board.now) }
+    ensures kept { IfOk result (λ solver. IsSolving solver) }
 {
     match Solver::open(alloc, board) {
         Err(SolveFault::Memory) => Solver::open(alloc, board),
