@@ -198,6 +198,30 @@ fn one_node<S: ListStore + Drop>(rt: &impl Abort, alloc: Global) {
     assert!(rt; unlink(&mut one, 0) && reads_as(&one, 0, &[]) && is_loose(&one, 0));
 }
 
+/// Whether a vector of the number 7 has these numbers when a list is appended to it.
+fn appended_is<S: ListStore>(store: &S, alloc: Global, of: u32, wanted: &[u32]) -> bool
+    requires { of < (S.state store.now).lists }
+{
+    let room = store.len(of) as usize + 1;
+    let made = match Vec::with_capacity(alloc, room) {
+        Err(_) => Vec::with_capacity(alloc, room),
+        made => made,
+    };
+    let Ok(mut list) = made else { return false };
+    list.push_reserved(7);
+    store.append_list(of, &mut list);
+    list.as_slice() == wanted
+}
+
+/// Lists that were filled in turns, appended to a vector.
+fn appended_lists<S: ListStore + Drop>(rt: &impl Abort, alloc: Global) {
+    let mut store: S = make(rt, alloc, 4, 3);
+    assert!(rt; push(&mut store, 1, 2) & push(&mut store, 0, 3) & push(&mut store, 1, 0));
+    assert!(rt; appended_is(&store, alloc, 1, &[7, 2, 0]));
+    assert!(rt; appended_is(&store, alloc, 0, &[7, 3]));
+    assert!(rt; appended_is(&store, alloc, 2, &[7]));
+}
+
 /// Makes one of the three operations, where it may be made.
 fn operate<S: ListStore>(store: &mut S, operation: u32, node: u32, list: u32)
     requires node_in { node < (S.state store.old).nodes }
@@ -278,6 +302,12 @@ fn smallest_sizes(rt: HostRuntime) {
     empty_stores::<LinkLists>(&rt, rt.alloc());
     one_node::<PlainLists>(&rt, rt.alloc());
     one_node::<LinkLists>(&rt, rt.alloc());
+}
+
+#[test]
+fn lists_are_appended(rt: HostRuntime) {
+    appended_lists::<PlainLists>(&rt, rt.alloc());
+    appended_lists::<LinkLists>(&rt, rt.alloc());
 }
 
 #[test]

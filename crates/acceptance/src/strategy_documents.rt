@@ -5,6 +5,7 @@
 ghost use Rattle.std.specs.Prelude.{◌≡◌, ◌≤◌, IfOk, IfSome};
 ghost use Rattle.positions.specs.Ranks.{configurations};
 ghost use Rattle.proof_text.specs.Proof.{IsDocument};
+ghost use Rattle.retro_core.specs.Solving.{IsSolving};
 
 use crate::assertions::assert_same;
 use crate::documents::{check_document, print_document};
@@ -20,19 +21,20 @@ use fakes::documents::{
     LONE_WITHOUT_LABEL_FOREVER, PAIR_VALUE_ONE, PAIR_WITHOUT_LABELS_VALUE_TWO,
     SHARED_LABEL_VALUE_ZERO, THREE_PEBBLES_VALUE_ONE, WAY_IN_VALUE_ONE,
 };
-use index_lists::LinkLists;
+use index_lists::{LinkLists, ListStore, PlainLists};
 use positions::MAX_CONFIGURATIONS;
 use proof_check::{CheckFault, Shown};
 use proof_text::{Claim, Proof};
-use retro_core::{Progress, SolveFault, Solver, Values};
+use retro_core::{SolveFault, Solver, Values};
 use std::alloc::{AllocError, Global};
 use std::process::Abort;
 use std::thread::Threads;
 use strategies::{best_answer, best_request, document};
 
 /// A solver of a board, where it is refused no growth.
-fn solver_of(alloc: Global, board: &Board) -> Result<Solver<LinkLists>, SolveFault>
-    ensures { IfOk result (λ solver. solver.board ≡ board.now) }
+fn solver_of<S: ListStore + Drop>(alloc: Global, board: &Board) -> Result<Solver<S>, SolveFault>
+    ensures board { IfOk result (λ solver. solver.board ≡ board.now) }
+    ensures kept { IfOk result (λ solver. IsSolving solver) }
 {
     match Solver::open(alloc, board) {
         Err(SolveFault::Memory) => Solver::open(alloc, board),
@@ -40,18 +42,21 @@ fn solver_of(alloc: Global, board: &Board) -> Result<Solver<LinkLists>, SolveFau
     }
 }
 
-/// The values of a board that isn't too large.
+/// The values of a board that isn't too large, found over the store that runs use.
 pub(crate) fn values_of(alloc: Global, board: &Board) -> Option<Values>
     ensures values { IfSome result (λ values. values ≡ board.now) }
     ensures few { IfSome result (λ _. configurations board.now ≤ MAX_CONFIGURATIONS) }
 {
-    let mut solver = solver_of(alloc, board).ok()?;
-    for _ in 0..=solver.space().configurations() {
-        if solver.round() == Progress::Done {
-            break;
-        }
-    }
-    solver.finish().ok()
+    values_over::<PlainLists>(alloc, board)
+}
+
+/// The values of a board that isn't too large, found over a store of lists.
+fn values_over<S: ListStore + Drop>(alloc: Global, board: &Board) -> Option<Values>
+    ensures values { IfSome result (λ values. values ≡ board.now) }
+    ensures few { IfSome result (λ _. configurations board.now ≤ MAX_CONFIGURATIONS) }
+{
+    let solver = solver_of::<S>(alloc, board).ok()?;
+    Some(solver.solve())
 }
 
 /// What `document` answers where it is refused no growth.
@@ -81,9 +86,9 @@ pub(crate) fn assert_text(
 }
 
 /// Asserts that the document of the board with the first text has the second.
-fn assert_document(rt: &impl Abort, alloc: Global, board: &str, text: &str) {
+fn assert_document<S: ListStore + Drop>(rt: &impl Abort, alloc: Global, board: &str, text: &str) {
     let board = board_of(rt, alloc, board);
-    let values = values_of(alloc, &board).expect(rt, "values");
+    let values = values_over::<S>(alloc, &board).expect(rt, "values");
     assert_text(rt, alloc, &board, &values, text);
 }
 
@@ -101,7 +106,8 @@ fn documents_of_worked_boards(rt: HostRuntime) {
         (CYCLE_WITHOUT_LABELS, CYCLE_WITHOUT_LABELS_FOREVER),
         (LONE_WITHOUT_LABEL, LONE_WITHOUT_LABEL_FOREVER),
     ] {
-        assert_document(&rt, rt.alloc(), board, text);
+        assert_document::<PlainLists>(&rt, rt.alloc(), board, text);
+        assert_document::<LinkLists>(&rt, rt.alloc(), board, text);
     }
 }
 

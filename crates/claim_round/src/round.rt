@@ -100,11 +100,11 @@ impl<'a, S: ListStore> SharedRound<'a, S> {
         ensures { IfOk result (λ r. Opens solver.now width r.0 r.1) }
     {
         let words = first_words(alloc, solver)?;
-        let ranks = solver.to_strike();
+        let ranks = solver.to_strike(alloc)?;
         let most = solver.space().places() as usize;
-        let todo = VecDeque::from_vec(Vec::from_slice(alloc, ranks)?);
         let owed = VecDeque::with_capacity(alloc, most)?;
         let won = Vec::with_capacity(alloc, places_for(solver, most * ranks.len()))?;
+        let todo = VecDeque::from_vec(ranks);
         let plan = Plan { solver, width };
         let (table, seat) = Table::of_words(alloc, words.as_slice(), &plan)?;
         let round = SharedRound {

@@ -6,8 +6,7 @@ pub mod AllLists
 pub mod LinkAnswers
 pub mod LinkCalls
 pub mod MovedNodes
-pub mod Scans
-pub mod RunPlaces
-pub mod Entries
+pub mod Parts
+pub mod Walks
 pub mod Fields
 pub mod Cited

@@ -1,11 +1,11 @@
 -- Nodes at places of a list.
-use Rattle.std.proofs.Common.{◌≡◌, ℕ, ◌+◌, ◌<◌, ◌≤◌, inl, inr, zero, suc, List, [], ◌∷◌, length, refl, sym, ap, arith, Option, Some, None, IfSome, slice_get, slice_index, drop, Bool, true, false, cond, ◌==◌}
+use Rattle.std.proofs.Common.{◌≡◌, ℕ, ◌+◌, ◌<◌, ◌≤◌, inl, inr, zero, suc, List, [], ◌∷◌, length, refl, sym, ap, subst, ◌∙◌, arith, Option, Some, None, IfSome, slice_get, slice_index, drop, Bool, true, false, cond, ◌==◌}
 use Rattle.std.proofs.lemmas.Bool.{cases_eq}
-use Rattle.std.specs.List.{count_by}
+use Rattle.std.specs.List.{count_by, list_any}
 use Rattle.std.proofs.lemmas.List.Recursion.{is_count_by}
 use Rattle.std.proofs.Math.Seq.{drop-nil}
 use Rattle.index_lists.specs.Lists.{Lists, times, AreLists}
-use Rattle.index_lists.proofs.Times.{same_is, times-here, times-more, times-rest}
+use Rattle.index_lists.proofs.Times.{same_is, differ_is, times-here, times-later, times-more, times-rest}
 
 pub some_is : (x y : ℕ) → Some x ≡ Some y → x ≡ y
 some_is x y e = cc
@@ -60,3 +60,27 @@ pub get-inside : (node : ℕ) (xs : List ℕ) (place : ℕ) → 0 < times node (
 get-inside node [] place h e = absurd (let none = ap (times node) (drop-nil {A = ℕ} place) in omega arith)
 get-inside node (x ∷ xs) zero h e = ap Some e
 get-inside node (x ∷ xs) (suc place) h e = get-inside node xs place h e
+
+-- a node stands at one place of one list
+pub same-place : (s : Lists) (h l node at place : ℕ) → AreLists s → slice_get (s.list h) at ≡ Some node → slice_get (s.list l) place ≡ Some node
+    → (l ≡ h) × (place ≡ at)
+same-place s h l node at place are e f =
+    let same : l ≡ h = are.apart l h node (stands-at place node (s.list l) f) (stands-at at node (s.list h) e) in
+    (same, one-place place at node (s.list h) (are.once h node) (subst (λ m. slice_get (s.list m) place ≡ Some node) same f) e)
+
+-- a list in which a node is found has it
+pub any-in : (node : ℕ) (xs : List ℕ) → list_any (λ y. y == node) xs ≡ true → 0 < times node xs
+any-in node [] e = absurd (cc e)
+any-in node (x ∷ xs) e = elim (cases_eq x node) [
+  | inl d ↦ times-here x node xs d
+  | inr d ↦ times-more x node xs (any-in node xs (let f : list_any (λ y. y == node) (x ∷ xs) ≡ list_any (λ y. y == node) xs =
+      rw (differ_is x node d) refl in sym f ∙ e))
+]
+
+pub any-out : (node : ℕ) (xs : List ℕ) → list_any (λ y. y == node) xs ≡ false → times node xs ≡ 0
+any-out node [] e = refl
+any-out node (x ∷ xs) e = elim (cases_eq x node) [
+  | inl d ↦ absurd (let f : list_any (λ y. y == node) (x ∷ xs) ≡ true = rw (same_is x node d) refl in let g : true ≡ false = sym f ∙ e in cc g)
+  | inr d ↦ times-later x node xs d ∙ any-out node xs (let f : list_any (λ y. y == node) (x ∷ xs) ≡ list_any (λ y. y == node) xs =
+      rw (differ_is x node d) refl in sym f ∙ e)
+]

@@ -1,4 +1,3 @@
 -- What the clauses of this crate's own functions cite, and no public contract.
 pub mod Links
-pub mod Pairs
-pub mod Runs
+pub mod Parts

@@ -3,9 +3,7 @@
 
 mod laws;
 mod link_lists;
-mod pair_walk;
 mod plain_lists;
-mod runs;
 mod store;
 
 pub use laws::{lists_without_a_node, nodes_at_places, nodes_in_lists};

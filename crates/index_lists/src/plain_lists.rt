@@ -1,107 +1,189 @@
-//! Lists as one vector of nodes.
+//! The store of lists that runs use: one vector of nodes, list by list.
 
-ghost use Rattle.std.specs.Prelude.{◌≡◌, ◌+◌, ◌^◌, ◌<◌, ◌==◌, length, slice_get, Some};
-ghost use Rattle.index_lists.specs.Lists.{times};
-ghost use Rattle.index_lists.specs.Inside.Pairs.{ArePlain, nodes_of, paired, home_in, after, before_from, last_from};
-ghost use Rattle.index_lists.specs.Inside.Runs.{pairs_left};
+ghost use Rattle.std.specs.Prelude.{◌≡◌, ℕ, ◌+◌, ◌-◌, ◌^◌, ◌++◌, ◌<◌, ◌≤◌, ◌==◌, length, drop, replicate, sum, slice_get, vec_capacity, Some, None, if◌then◌else◌};
+ghost use Rattle.std.specs.List.{insert};
+ghost use Rattle.index_lists.specs.Lists.{times, IsFree, AreLists, AreSame, pushed};
+ghost use Rattle.index_lists.specs.Inside.Parts.{laid, part};
 
-use crate::pair_walk::PairWalk;
-use crate::runs::{Run, add_place, take_place};
 use crate::store::ListStore;
 use board_text::Memory;
 use std::alloc::Global;
 use std::marker::Model;
 
-/// The nodes of all lists in one vector, in the order of pushing, and beside it which of them are of which list: so many
-/// nodes of one list, then so many of another. Where lists are filled one after the other, a node takes four bytes and
-/// a list eight. Each call but `new` and `push_back` may go through all of them: this is the store that others are
-/// compared with.
+/// The nodes of all lists in one vector, list by list, and beside it the length of each list.
+///
+/// Where lists are filled in ascending order, a push writes four bytes at the end and counts them. The nodes of a list
+/// stand next to each other, so that they are copied as one block. To go from a node to another is to look for it.
 #[derive(Drop)]
 pub struct PlainLists {
-    runs: Vec<Run>,
+    /// The nodes of list 0, then those of list 1, and so on.
     nodes: Vec<u32>,
+    /// The length of each list, up to the last that ever had a node.
+    lens: Vec<u32>,
     node_count: u32,
     list_count: u32,
 }
 
 impl Model for PlainLists {
     ghost use Rattle.std.specs.Prelude.{vec_capacity};
-    ghost use Rattle.index_lists.specs.Pairs.{ListedPairs};
-    ghost use Rattle.index_lists.specs.Inside.Pairs.{ArePlain};
-    ghost use Rattle.index_lists.specs.Inside.Runs.{entries_of, AreRuns};
+    ghost use Rattle.index_lists.specs.Parts.{PlainParts};
+    ghost use Rattle.index_lists.specs.Inside.Parts.{parts_of, ArePlain, AreCut};
 
-    ghost Value = { ListedPairs };
+    ghost Value = { PlainParts };
 
-    ghost view = { λ s. record { nodes = s.node_count; lists = s.list_count; entries = entries_of s.runs.items s.nodes.items } };
+    ghost view = { λ s. record { nodes = s.node_count; lists = s.list_count; parts = parts_of s.lens.items s.nodes.items } };
 
     ghost invariant = { λ s.
-        ArePlain (record { nodes = s.node_count; lists = s.list_count; entries = entries_of s.runs.items s.nodes.items })
-        × AreRuns s.node_count (vec_capacity s.runs) (vec_capacity s.nodes) s.runs.items s.nodes.items };
+        ArePlain (record { nodes = s.node_count; lists = s.list_count; parts = parts_of s.lens.items s.nodes.items })
+        × AreCut s.node_count s.list_count (vec_capacity s.nodes) (vec_capacity s.lens) s.lens.items s.nodes.items };
 }
 
 impl ListStore for PlainLists {
-    ghost state = { paired };
+    ghost state = { laid };
 
     fn new(alloc: Global, node_count: u32, list_count: u32) -> Result<Self, Memory> {
-        let runs = Vec::with_capacity(alloc, node_count as usize)?;
         let nodes = Vec::with_capacity(alloc, node_count as usize)?;
+        let lens = Vec::with_capacity(alloc, list_count as usize)?;
         Ok(PlainLists {
-            runs,
             nodes,
+            lens,
             node_count,
             list_count,
         })
     }
 
     fn push_back(&mut self, to: u32, node: u32) {
-        add_place(&mut self.runs, to);
-        self.nodes.push_reserved(node);
+        if self.lens.len() == to as usize + 1 {
+            self.lens[to as usize] += 1;
+            self.nodes.push_reserved(node);
+            return;
+        }
+        self.insert(to, node);
     }
 
     fn unlink(&mut self, node: u32) {
+        let Some(home) = self.home(node) else {
+            unreachable!()
+        };
         let place = place_of(&self.nodes, node);
-        take_place(&mut self.runs, place);
+        self.lens[home as usize] -= 1;
         self.nodes.remove(place);
     }
 
     fn first(&self, of: u32) -> Option<u32> {
-        first_of(self.pairs(), of)
+        self.nodes_of(of).first().copied()
     }
 
     fn last(&self, of: u32) -> Option<u32> {
-        last_of(self.pairs(), of)
+        self.nodes_of(of).last().copied()
     }
 
     fn next(&self, node: u32) -> Option<u32> {
-        match home_of(self.pairs(), node) {
-            Some(home) => next_of(self.pairs(), home, node),
+        match self.home(node) {
+            Some(home) => next_in(self.nodes_of(home), node),
             None => None,
         }
     }
 
     fn prev(&self, node: u32) -> Option<u32> {
-        match home_of(self.pairs(), node) {
-            Some(home) => prev_of(self.pairs(), home, node),
+        match self.home(node) {
+            Some(home) => prev_in(self.nodes_of(home), node),
             None => None,
         }
     }
 
     fn home(&self, node: u32) -> Option<u32> {
-        home_of(self.pairs(), node)
+        for list in 0..self.list_count {
+            if self.nodes_of(list).contains(&node) {
+                return Some(list);
+            }
+        }
+        None
     }
 
     fn len(&self, of: u32) -> u32 {
-        count_of(self.pairs(), of)
+        self.nodes_of(of).len() as u32
+    }
+
+    fn append_list(&self, of: u32, to: &mut Vec<u32>) {
+        if to.extend_from_slice(self.nodes_of(of)).is_err() {
+            unreachable!()
+        }
     }
 }
 
 impl PlainLists {
-    /// A walk over all pairs (list, node).
-    fn pairs(&self) -> PairWalk<'_>
-        ensures entries { pairs_left result ≡ self.now.entries }
-        ensures kept { ArePlain self.now }
+    /// Puts a node behind the others of any list. Most pushes are to the last list: this stays out of their way.
+    #[cold]
+    #[inline(never)]
+    fn insert(&mut self, to: u32, node: u32)
+        requires to_in { to < self.old.lists }
+        requires node_in { node < self.old.nodes }
+        requires free { IsFree (laid self.old) node }
+        ensures pushed { AreSame (laid self.new) (pushed (laid self.old) to node) }
+        ensures kept { AreLists (laid self.new) }
     {
-        PairWalk::new(&self.runs, &self.nodes)
+        begin(&mut self.lens, to);
+        let end = end_of(&self.nodes, &self.lens, to);
+        self.lens[to as usize] += 1;
+        put(&mut self.nodes, end, node);
+    }
+
+    /// The nodes of a list.
+    fn nodes_of(&self, of: u32) -> &[u32]
+        ensures nodes { result.now ≡ part self.now.parts of }
+        ensures fits { length result.now < 2 ^ 32 }
+        ensures kept { AreLists (laid self.now) }
+    {
+        if self.lens.len() <= of as usize {
+            return &[];
+        }
+        let end = end_of(&self.nodes, &self.lens, of);
+        &self.nodes[end - self.lens[of as usize] as usize..end]
+    }
+}
+
+/// Gives each list up to this one a length.
+fn begin(lens: &mut Vec<u32>, list: u32)
+    requires { list < vec_capacity lens.old }
+    ensures lens { lens.new.items ≡ lens.old.items ++ replicate (list + 1 - length lens.old.items) 0 }
+    ensures capacity { vec_capacity lens.old ≤ vec_capacity lens.new }
+{
+    let count = list as usize + 1;
+    if lens.len() < count && lens.resize(count, 0).is_err() {
+        unreachable!()
+    }
+}
+
+/// The place after the last node of a list.
+fn end_of(nodes: &[u32], lens: &[u32], of: u32) -> usize
+    requires begun { of < length lens.now }
+    requires whole { sum lens.now ≡ length nodes.now }
+    requires few { length nodes.now < 2 ^ 32 }
+    ensures { result + sum (drop (of + 1) lens.now) ≡ length nodes.now }
+{
+    nodes.len() - total(&lens[of as usize + 1..]) as usize
+}
+
+/// The sum of numbers.
+fn total(numbers: &[u32]) -> u32
+    requires { sum numbers.now < 2 ^ 32 }
+    ensures { result ≡ sum numbers.now }
+{
+    numbers.iter().sum()
+}
+
+/// Puts a node at a place, for which there is room.
+fn put(nodes: &mut Vec<u32>, place: usize, node: u32)
+    requires place { place ≤ length nodes.old.items }
+    requires room { length nodes.old.items < vec_capacity nodes.old }
+    ensures items { nodes.new.items ≡ insert nodes.old.items place node }
+    ensures capacity { vec_capacity nodes.old ≤ vec_capacity nodes.new }
+{
+    if place == nodes.len() {
+        nodes.push_reserved(node);
+    } else if nodes.insert(place, node).is_err() {
+        unreachable!()
     }
 }
 
@@ -117,85 +199,23 @@ fn place_of(nodes: &[u32], node: u32) -> usize
     place
 }
 
-/// The first node of a list.
-fn first_of(mut pairs: PairWalk<'_>, of: u32) -> Option<u32>
-    ensures { result ≡ slice_get (nodes_of (pairs_left pairs.entry) of) 0 }
+/// The node after a node of a list.
+fn next_in(nodes: &[u32], node: u32) -> Option<u32>
+    requires { 0 < times node nodes.now }
+    ensures { (place : ℕ) × (slice_get nodes.now place ≡ Some node) × (result ≡ slice_get nodes.now (place + 1)) }
 {
-    while let Some((list, node)) = pairs.take_next() {
-        if list == of {
-            return Some(node);
-        }
-    }
-    None
+    nodes.get(place_of(nodes, node) + 1).copied()
 }
 
-/// The last node of a list.
-fn last_of(mut pairs: PairWalk<'_>, of: u32) -> Option<u32>
-    ensures { result ≡ last_from None (nodes_of (pairs_left pairs.entry) of) }
+/// The node before a node of a list.
+fn prev_in(nodes: &[u32], node: u32) -> Option<u32>
+    requires { 0 < times node nodes.now }
+    ensures { (place : ℕ) × (slice_get nodes.now place ≡ Some node)
+        × (result ≡ (if place == 0 then None else slice_get nodes.now (place - 1))) }
 {
-    let mut last = None;
-    while let Some((list, node)) = pairs.take_next() {
-        if list == of {
-            last = Some(node);
-        }
+    let place = place_of(nodes, node);
+    if place == 0 {
+        return None;
     }
-    last
-}
-
-/// The node behind a node in a list.
-fn next_of(mut pairs: PairWalk<'_>, home: u32, node: u32) -> Option<u32>
-    ensures { result ≡ after node (nodes_of (pairs_left pairs.entry) home) }
-{
-    let mut passed = false;
-    while let Some((list, other)) = pairs.take_next() {
-        if list == home {
-            if passed {
-                return Some(other);
-            }
-            passed = other == node;
-        }
-    }
-    None
-}
-
-/// The node before a node in a list.
-fn prev_of(mut pairs: PairWalk<'_>, home: u32, node: u32) -> Option<u32>
-    ensures { result ≡ before_from None node (nodes_of (pairs_left pairs.entry) home) }
-{
-    let mut before = None;
-    while let Some((list, other)) = pairs.take_next() {
-        if list == home {
-            if other == node {
-                return before;
-            }
-            before = Some(other);
-        }
-    }
-    None
-}
-
-/// The list of a node's pair.
-fn home_of(mut pairs: PairWalk<'_>, node: u32) -> Option<u32>
-    ensures { result ≡ home_in node (pairs_left pairs.entry) }
-{
-    while let Some((list, other)) = pairs.take_next() {
-        if other == node {
-            return Some(list);
-        }
-    }
-    None
-}
-
-/// How many pairs are of a list.
-fn count_of(mut pairs: PairWalk<'_>, of: u32) -> u32
-    requires { length (pairs_left pairs) < 2 ^ 32 }
-    ensures { result ≡ length (nodes_of (pairs_left pairs.entry) of) }
-{
-    let mut count = 0;
-    while let Some((list, _)) = pairs.take_next() {
-        if list == of {
-            count += 1;
-        }
-    }
-    count
+    nodes.get(place - 1).copied()
 }

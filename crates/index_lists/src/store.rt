@@ -1,6 +1,6 @@
 //! What a store of lists is.
 
-ghost use Rattle.std.specs.Prelude.{◌≡◌, ℕ, ◌+◌, ◌-◌, ◌<◌, length, slice_get, IfOk, IfSome, MatchOption};
+ghost use Rattle.std.specs.Prelude.{◌≡◌, ℕ, ◌+◌, ◌-◌, ◌++◌, ◌<◌, ◌≤◌, length, slice_get, vec_capacity, IfOk, IfSome, MatchOption};
 ghost use Rattle.index_lists.specs.Lists.{Lists, IsFree, IsIn, IsHome, AreLists, AreSame, empty, pushed, unlinked, node_moved};
 
 use board_text::Memory;
@@ -75,6 +75,21 @@ pub trait ListStore {
         requires { of < (state self.now).lists }
         ensures len { result ≡ length ((state self.now).list of) }
         ensures kept { AreLists (state self.now) };
+
+    /// Appends the nodes of a list, in order, to a vector that has room for them.
+    fn append_list(&self, of: u32, to: &mut Vec<u32>)
+        requires of_in { of < (state self.now).lists }
+        requires room { length to.old.items + length ((state self.now).list of) ≤ vec_capacity to.old }
+        ensures appended { to.new.items ≡ to.old.items ++ (state self.now).list of }
+        ensures capacity { vec_capacity to.old ≤ vec_capacity to.new }
+        ensures kept { AreLists (state self.now) }
+    {
+        let mut next = self.first(of);
+        while let Some(node) = next {
+            to.push_reserved(node);
+            next = self.next(node);
+        }
+    }
 
     /// Takes a node to the end of a list, from wherever it was.
     fn move_to(&mut self, node: u32, to: u32)

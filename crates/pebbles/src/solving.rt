@@ -126,12 +126,5 @@ pub(crate) fn values_of(alloc: Global, board: &Board) -> Result<Values, RunFault
     ensures values { IfOk result (λ values. values ≡ board.now) }
     ensures memory { IfErr result IsMemory }
 {
-    let mut solver = Solver::<PlainLists>::open(alloc, board)?;
-    loop {
-        match solver.finish() {
-            Ok(values) => return Ok(values),
-            Err(unfinished) => solver = unfinished.solver,
-        }
-        solver.round();
-    }
+    Ok(Solver::<PlainLists>::open(alloc, board)?.solve())
 }

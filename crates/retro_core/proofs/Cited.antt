@@ -8,5 +8,6 @@ pub use Rattle.retro_core.proofs.RoundLaws.{source-once, source-rank}
 pub use Rattle.retro_core.proofs.DominatedRanks.{dominated-tells}
 pub use Rattle.retro_core.proofs.RoundSteps.{opening-lawful, step-lawful, steps-lawful, strike-lawful, try-lawful, worked-off}
 pub use Rattle.retro_core.proofs.Lending.{solver_sync}
+pub use Rattle.retro_core.proofs.RoundsLeft.{fewer_left, rounds_left}
 pub use Rattle.retro_core.proofs.SeatSteps.{split_first, times_here}
 pub use Rattle.retro_core.proofs.SeatSums.{times-cut, times-together, total-at, total-cut, total-set}

@@ -23,6 +23,7 @@ pub record IsToClose (s : PlainStage) (gap : ℕ) : Type 0 where
 -- the open ones of the first members are filed
 pub record IsClosingGap (s : PlainStage) (gap place : ℕ) (now : PlainStage) : Type 0 where
   pub kept : IsKept s now
+  pub strikes_is : now.strikes ≡ s.strikes
   pub counts_is : now.counts ≡ s.counts
   pub closing : IsClosing (arena_of s.board) gap s.value s.values now.values
   pub shut : (v : ℕ) → v < place → is_open now.values ((arena_of s.board).member gap v) ≡ false
@@ -54,9 +55,9 @@ module _ (s : PlainStage) (gap place rank : ℕ) (now : PlainStage) (to_close : 
         kept = record {
           board_is = so_far.kept.board_is;
           value_is = so_far.kept.value_is;
-          strikes_is = so_far.kept.strikes_is;
           others = λ v d. listed-away now rank v (λ e. d (e ∙ value_is)) ∙ so_far.kept.others v d;
         };
+        strikes_is = so_far.strikes_is;
         counts_is = so_far.counts_is;
         closing = subst (λ n. IsClosing a gap s.value s.values (slice_set now.values rank n)) (sym value_is)
             (closing-step a gap s.value s.values now.values rank rank_in all (λ e. omega arith) still
@@ -68,6 +69,7 @@ module _ (s : PlainStage) (gap place rank : ℕ) (now : PlainStage) (to_close : 
   pub gap-skips : is_open now.values rank ≡ false → IsClosingGap s gap (place + 1) now
   gap-skips shut = record {
     kept = so_far.kept;
+    strikes_is = so_far.strikes_is;
     counts_is = so_far.counts_is;
     closing = so_far.closing;
     shut = shut-same a gap place now.values rank rank_is shut so_far.shut;
@@ -77,6 +79,7 @@ module _ (s : PlainStage) (gap place rank : ℕ) (now : PlainStage) (to_close : 
 pub gap-closed : (s : PlainStage) (gap place : ℕ) (now : PlainStage) → IsToClose s gap → places s.board ≤ place → IsClosingGap s gap place now → Closes s gap now
 gap-closed s gap place now to_close all so_far = record {
   kept = so_far.kept;
+  strikes_is = so_far.strikes_is;
   counts_is = so_far.counts_is;
   words = closing-end (arena_of s.board) gap s.value s.values now.values
       (all-shut (arena_of s.board) (arena_is s.board to_close.is_board) gap now.values to_close.is_gap (λ v h. so_far.shut v (omega arith))) so_far.closing;

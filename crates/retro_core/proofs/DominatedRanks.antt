@@ -1,9 +1,7 @@
 -- Where a pebble dominates, and that counts depend on nothing else.
-use Rattle.std.proofs.Common.{◌≡◌, ◌≢◌, ℕ, ◌<◌, ◌==◌, ◌&&◌, not, Bool, true, false, cond, inl, inr, refl, sym, ap, ◌∙◌, subst, arith, List, [], ◌∷◌, ◌++◌, ◌+◌, Some, None, slice_index}
+use Rattle.std.proofs.Common.{◌≡◌, ◌≢◌, ℕ, ◌<◌, ◌==◌, ◌&&◌, not, Bool, true, false, cond, inl, inr, refl, sym, ap, ◌∙◌, subst, arith, List, [], ◌∷◌, ◌+◌, Some, None, slice_index}
 use Rattle.std.specs.List.{filter}
 use Rattle.std.proofs.lemmas.Bool.Decides.{nat_tests}
-use Rattle.std.proofs.lemmas.List.{append-nil, length_push}
-use Rattle.std.proofs.lemmas.List.Elements.{filter-append}
 use Rattle.index_lists.specs.Lists.{times}
 use Rattle.index_lists.proofs.Cited.{cond_same, cond_other, times-here, times-more, times-later}
 use Rattle.board_text.specs.PlainBoard.{PlainBoard}
@@ -13,7 +11,7 @@ use Rattle.positions.specs.Counts.{IsSmallest}
 use Rattle.retro_core.specs.Inside.Arena.{Arena, live, next, Dominant, dominated}
 use Rattle.retro_core.specs.Inside.BoardArena.{arena_of}
 use Rattle.retro_core.specs.Round.{TellsDominated}
-use Rattle.retro_core.specs.Inside.Stored.{known_pebble, AreDominators, AreNext}
+use Rattle.retro_core.specs.Inside.Stored.{known_pebble, AreDominators}
 use Rattle.retro_core.specs.Inside.Tables.{IsCounted, AreWords}
 use Rattle.retro_core.specs.declared.stage.TheConstants.{NO_PEBBLE}
 use Rattle.retro_core.proofs.Arenas.{IsArena}
@@ -87,6 +85,18 @@ no-dominator b dominators c are i e =
 pub dominator-byte : (b : PlainBoard) (dominators : List ℕ) (c : ℕ) → AreDominators b dominators → c < configurations b → dominated (arena_of b) c ≡ true → Dominant (arena_of b) c (slice_index dominators c)
 dominator-byte b dominators c are i holds = some-dominator b dominators c are i (λ e. true_not_false (dominated (arena_of b) c) holds (no-dominator b dominators c are i e))
 
+-- a byte that was read of the dominators of a board
+pub read-dominated : (b b' : PlainBoard) (dominators : List ℕ) (c byte : ℕ) → AreDominators b dominators → b ≡ b' → c < configurations b'
+    → byte ≡ slice_index dominators c → byte ≢ NO_PEBBLE → dominated (arena_of b') c ≡ true
+read-dominated b b' dominators c byte are same i is d =
+    let here : AreDominators b' dominators = subst (λ (p : PlainBoard). AreDominators p dominators) same are in
+    dominated-by (arena_of b') c _ (some-dominator b' dominators c here i (λ e. d (is ∙ e)))
+
+pub read-alone : (b b' : PlainBoard) (dominators : List ℕ) (c byte : ℕ) → AreDominators b dominators → b ≡ b' → c < configurations b'
+    → byte ≡ slice_index dominators c → byte ≡ NO_PEBBLE → dominated (arena_of b') c ≡ false
+read-alone b b' dominators c byte are same i is e =
+    no-dominator b' dominators c (subst (λ (p : PlainBoard). AreDominators p dominators) same are) i (sym is ∙ e)
+
 -- ---- counts
 
 -- counts are the same for tests that agree where a pebble dominates
@@ -116,20 +126,3 @@ words-alike a is f h values same t = record {
   lasting = t.lasting;
   stopping = t.stopping;
 }
-
--- ---- those of a bucket that have a dominator
-
-pub next-more : (b : PlainBoard) (bucket bucket' next : List ℕ) (filed rank : ℕ) → bucket' ≡ bucket ++ rank ∷ [] → dominated (arena_of b) rank ≡ true → AreNext b bucket next filed
-    → AreNext b bucket' (next ++ rank ∷ []) (filed + 1)
-next-more b bucket bucket' next filed rank longer holds are = rw longer (record {
-  next_are = ap (λ (xs : List ℕ). xs ++ rank ∷ []) are.next_are ∙ ap (λ t. filter (dominated (arena_of b)) bucket ++ cond t (rank ∷ []) []) (sym holds) ∙ sym (filter-append (dominated (arena_of b)) bucket (rank ∷ []));
-  filed_is = ap (λ n. n + 1) are.filed_is ∙ sym (length_push bucket rank);
-})
-
-pub next-same : (b : PlainBoard) (bucket bucket' next : List ℕ) (filed rank : ℕ) → bucket' ≡ bucket ++ rank ∷ [] → dominated (arena_of b) rank ≡ false → AreNext b bucket next filed
-    → AreNext b bucket' next (filed + 1)
-next-same b bucket bucket' next filed rank longer fails are = rw longer (record {
-  next_are = are.next_are ∙ sym (append-nil (filter (dominated (arena_of b)) bucket))
-      ∙ ap (λ t. filter (dominated (arena_of b)) bucket ++ cond t (rank ∷ []) []) (sym fails) ∙ sym (filter-append (dominated (arena_of b)) bucket (rank ∷ []));
-  filed_is = ap (λ n. n + 1) are.filed_is ∙ sym (length_push bucket rank);
-})

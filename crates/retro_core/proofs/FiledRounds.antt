@@ -38,7 +38,6 @@ files-more s ranks rank now few low i still new so_far =
       kept = record {
         board_is = so_far.kept.board_is;
         value_is = value_is;
-        strikes_is = so_far.kept.strikes_is;
         others = λ v d. listed-away now rank v (λ e. d (e ∙ value_is)) ∙ so_far.kept.others v d;
       };
       counts_is = so_far.counts_is;
@@ -159,6 +158,5 @@ module _ (s : PlainStage) (unstruck : IsUnstruck s) where
     end-kept = subst (IsKept s) (sym takes.rest) (record {
       board_is = files.kept.board_is;
       value_is = files.kept.value_is;
-      strikes_is = files.kept.strikes_is;
       others = files.kept.others;
     })

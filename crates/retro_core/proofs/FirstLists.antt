@@ -32,7 +32,7 @@ pub record IsListing (s : PlainStage) (rank : ℕ) (now : PlainStage) : Type 0 w
 none-of : (xs ys : List ℕ) (x : ℕ) → xs ≡ ys → ys ≡ [] → times x xs ≡ 0
 none-of xs ys x e none = ap (times x) (e ∙ none)
 
-in_list : (xs : List ℕ) (k d : ℕ) → k < length xs → 0 < times (get_or xs k d) xs
+pub in_list : (xs : List ℕ) (k d : ℕ) → k < length xs → 0 < times (get_or xs k d) xs
 in_list [] k d h = absurd (omega arith)
 in_list (x ∷ xs) zero d h = times-here x x xs refl
 in_list (x ∷ xs) (suc k) d h = times-more x (get_or xs k d) xs (in_list xs k d (omega arith))

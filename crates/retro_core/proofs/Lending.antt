@@ -26,7 +26,7 @@ stage_sync T g lent = view_sync (parts.the_row T g) _ _ _ _ (recorded_sync (part
           search (sendable, crosses) depth 30,
           (
             search (sendable, lent),
-            (search (sendable, crosses) depth 30, (search (sendable, crosses) depth 30, (search sendable, tt))),
+            (search (sendable, crosses) depth 30, tt),
           ),
         ),
       ),

@@ -1,3 +1,4 @@
+pub mod AscendingMembers
 pub mod Arenas
 pub mod Rules
 pub mod Counts
@@ -17,6 +18,7 @@ pub mod Homes
 pub mod RoundStart
 pub mod RoundLaws
 pub mod RoundSteps
+pub mod RoundsLeft
 pub mod OwedWalks
 pub mod Machine
 pub mod Lending

@@ -8,7 +8,7 @@ use Rattle.positions.specs.Ranks.{configurations}
 use Rattle.positions.specs.declared.space.TheConstants.{MAX_CONFIGURATIONS}
 use Rattle.retro_core.specs.Inside.Arena.{Arena, lasts, Dominant}
 use Rattle.retro_core.specs.Inside.BoardArena.{arena_of}
-use Rattle.retro_core.specs.Inside.Stage.{PlainStage, counting, IsFiled, IsKept, Closes, IsStruckAt, IsStriking}
+use Rattle.retro_core.specs.Inside.Stage.{PlainStage, counting, taken, IsFiled, IsKept, Closes, IsStruckAt, IsStriking}
 use Rattle.retro_core.specs.Inside.Tables.{is_unstruck, IsCounted, AreWords}
 use Rattle.retro_core.proofs.Arenas.{IsArena, without, IsBetween}
 use Rattle.retro_core.proofs.BoardArenas.{arena_is}
@@ -158,9 +158,30 @@ pub kept-on : (s t u : PlainStage) → IsKept s t → IsKept t u → IsKept s u
 kept-on s t u one two = record {
   board_is = two.board_is ∙ one.board_is;
   value_is = two.value_is ∙ one.value_is;
-  strikes_is = two.strikes_is ∙ one.strikes_is;
   others = λ v d. two.others v (λ e. d (e ∙ one.value_is)) ∙ one.others v d;
 }
 
 pub kept-self : (s : PlainStage) → IsKept s s
-kept-self s = record { board_is = refl; value_is = refl; strikes_is = refl; others = λ v d. refl }
+kept-self s = record { board_is = refl; value_is = refl; others = λ v d. refl }
+
+-- what was taken out of the store is no part of what is left to be struck
+pub striking-taken : (s : PlainStage) (todo : List ℕ) → IsStriking s todo → IsStriking (taken s) todo
+striking-taken s todo k = record {
+  round = k.round;
+  value_is = k.value_is;
+  stage = record {
+    counts_are = k.stage.counts_are;
+    words_are = k.stage.words_are;
+    filed_are = record {
+      values_length = k.stage.filed_are.values_length;
+      lists_length = k.stage.filed_are.lists_length;
+      below = k.stage.filed_are.below;
+      once = k.stage.filed_are.once;
+    };
+  };
+  due = k.due;
+  once = k.once;
+}
+
+pub kept-taken : (s t : PlainStage) → IsKept (taken s) t → IsKept s t
+kept-taken s t k = record { board_is = k.board_is; value_is = k.value_is; others = k.others }

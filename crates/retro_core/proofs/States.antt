@@ -18,8 +18,9 @@ use Rattle.retro_core.specs.Inside.Arena.{Arena, count_below, live, lasts, IsLas
 use Rattle.retro_core.specs.Inside.BoardArena.{arena_of}
 use Rattle.retro_core.specs.Round.{AreToStrike}
 use Rattle.retro_core.specs.Solving.{Solving, AreOpenMembers, IsSolving, NoneHas, AnswerLasts, AnswerForever}
-use Rattle.retro_core.specs.Inside.Stage.{first_lists, PlainStage, filed_at, turned, IsFiled, IsStage, IsKept, IsStriking, IsUnstruck, IsOpened, IsState}
+use Rattle.retro_core.specs.Inside.Stage.{first_lists, PlainStage, filed_at, due_now, turned, IsFiled, IsStage, IsKept, IsStriking, IsUnstruck, IsOpened, IsState}
 use Rattle.retro_core.specs.Inside.Tables.{is_open, open_members, is_unstruck, struck_rounds, AreWords, AreValues}
+use Rattle.retro_core.proofs.AscendingMembers.{members-ascend}
 use Rattle.retro_core.proofs.Arenas.{IsArena}
 use Rattle.retro_core.proofs.Counts.{count_below-some, count_below-less, count_below-bound}
 use Rattle.retro_core.proofs.LastingRanks.{none_some, some_same, both_true, true_or_false, true_not_false, same_or_not, same_is, lasts-less, lasts-at-most}
@@ -92,18 +93,18 @@ module _ (s : PlainStage) (board_is : IsBoard s.board) (few : configurations s.b
       let shut = shut_word s.values x (λ e. omega arith) in
       (subst (λ n. lasts a n x ≡ true) word (w.lasting x i shut), subst (λ n. lasts a (suc n) x ≡ false) word (w.stopping x i shut))
 
-  pub round-starts : (r : ℕ) → r < configurations s.board → s.value ≡ suc r → s.strikes ≡ filter (dominated a) (filed_at s r) → IsStage (lasts a r) s → IsStriking s s.strikes
-  round-starts r i value_is strikes_are stage =
-      let alike : (x : ℕ) → x < a.configurations → dominated a x ≡ true → lasts a r x ≡ is_unstruck a r s.strikes x = λ x j holds. elim (true_or_false (lasts a (suc r) x)) [
-        | inl more ↦ lasts-less a is r x j more ∙ sym (alive-lasts a r s.strikes x more)
+  pub round-starts : (r : ℕ) → r < configurations s.board → s.value ≡ suc r → (todo : List ℕ) → todo ≡ filter (dominated a) (filed_at s r) → IsStage (lasts a r) s → IsStriking s todo
+  round-starts r i value_is todo todo_are stage =
+      let alike : (x : ℕ) → x < a.configurations → dominated a x ≡ true → lasts a r x ≡ is_unstruck a r todo x = λ x j holds. elim (true_or_false (lasts a (suc r) x)) [
+        | inl more ↦ lasts-less a is r x j more ∙ sym (alive-lasts a r todo x more)
         | inr fails ↦
-            let times_are : times x s.strikes ≡ times x (filed_at s r) = ap (times x) strikes_are ∙ filtered-times (dominated a) x (filed_at s r) holds in
+            let times_are : times x todo ≡ times x (filed_at s r) = ap (times x) todo_are ∙ filtered-times (dominated a) x (filed_at s r) holds in
             elim (true_or_false (lasts a r x)) [
               | inl one ↦
                   let word = word-at a is (lasts a r) s.values r x j stage.words_are (stage.words_are.opened x j ∙ fails) one fails in
                   let there = filed-there s r x stage.filed_are (omega arith) j word in
-                  one ∙ sym (alive-fails a r s.strikes x fails ∙ some_times (times x s.strikes) (omega arith))
-              | inr none ↦ none ∙ sym (alive-fails a r s.strikes x fails ∙ no_times (times x s.strikes) (elim (cases_lt 0 (times x (filed_at s r))) [
+                  one ∙ sym (alive-fails a r todo x fails ∙ some_times (times x todo) (omega arith))
+              | inr none ↦ none ∙ sym (alive-fails a r todo x fails ∙ no_times (times x todo) (elim (cases_lt 0 (times x (filed_at s r))) [
                 | inr nothing ↦ omega arith
                 | inl some ↦ absurd (true_not_false (lasts a r x) (filed-lasts (lasts a r) r x stage.words_are stage.filed_are (omega arith) some).0 none)
               ]))
@@ -113,17 +114,17 @@ module _ (s : PlainStage) (board_is : IsBoard s.board) (few : configurations s.b
         round = r;
         value_is = value_is;
         stage = record {
-          counts_are = counted-alike a is (lasts a r) (is_unstruck a r s.strikes) s.counts alike stage.counts_are;
-          words_are = words-alike a is (lasts a r) (is_unstruck a r s.strikes) s.values alike stage.words_are;
+          counts_are = counted-alike a is (lasts a r) (is_unstruck a r todo) s.counts alike stage.counts_are;
+          words_are = words-alike a is (lasts a r) (is_unstruck a r todo) s.values alike stage.words_are;
           filed_are = stage.filed_are;
         };
         due = λ x h.
-            let among : 0 < times x (filter (dominated a) (filed_at s r)) = subst (λ (xs : List ℕ). 0 < times x xs) strikes_are h in
+            let among : 0 < times x (filter (dominated a) (filed_at s r)) = subst (λ (xs : List ℕ). 0 < times x xs) todo_are h in
             let fewer = times-filter-le (dominated a) x (filed_at s r) in
             let some : 0 < times x (filed_at s r) = omega arith in
             let word = filed-lasts (lasts a r) r x stage.words_are stage.filed_are (omega arith) some in
             record { is_rank = stage.filed_are.below r x some; lasting = word.0; stopping = word.1; has_dominator = times-filter-true (dominated a) x (filed_at s r) among };
-        once = λ x. let all = ap (times x) strikes_are in let fewer = times-filter-le (dominated a) x (filed_at s r) in let one = filed-few s r x stage.filed_are in omega arith;
+        once = λ x. let all = ap (times x) todo_are in let fewer = times-filter-le (dominated a) x (filed_at s r) in let one = filed-few s r x stage.filed_are in omega arith;
       }
 
   pub round-ends : (k : IsStriking s []) → IsStage (lasts a (suc k.round)) s
@@ -189,7 +190,6 @@ start-state s is_board few some opened = record {
   bound = (let most = count_below-bound (configurations s.board) (lasts (arena_of s.board) 0) in omega arith);
   last = λ e. absurd (not_true e);
   ascending = opened.ascending;
-  strikes_are = ap (λ v. filter (dominated (arena_of s.board)) (filed_at s v)) opened.value_is;
 }
 
 -- ---- values, by the words
@@ -298,6 +298,7 @@ module _ (s : PlainStage) (round : ℕ) (is_done : Bool) (st : IsState s round i
         let m = members-are arena (is_open s.values) g 0 arena.places x h in
         let low = m.below in
         (m.label, omega arith, sym m.is));
+    ascending = λ g i. rw (source-shown g i) (members-ascend b st.is_board (is_open s.values) g 0 arena.places);
   }
 
   pub solving_of : IsSolving shown
@@ -315,9 +316,12 @@ module _ (s : PlainStage) (round : ℕ) (is_done : Bool) (st : IsState s round i
     forever = λ done x i tree. forever-of done x i (lasts_of_tree b st.is_board (suc round) x i tree);
   }
 
+  due-is : due_now s ≡ filter (dominated arena) (filed_at s round)
+  due-is = ap (λ v. filter (dominated arena) (filed_at s v)) (let at = st.value_is in omega arith)
+
   -- what a round strikes, by any test of what has a dominator
-  pub to-strike : AreToStrike shown s.strikes
-  to-strike = λ test tells. st.strikes_are ∙ same-filter (dominated arena) test (filed_at s round) (λ x h. tells-dominated b test tells x (st.stage.filed_are.below round x h))
+  pub to-strike : (ranks : List ℕ) → ranks ≡ due_now s → AreToStrike shown ranks
+  to-strike ranks is = λ test tells. is ∙ due-is ∙ same-filter (dominated arena) test (filed_at s round) (λ x h. tells-dominated b test tells x (st.stage.filed_are.below round x h))
 
   pub value-open : (x : ℕ) → x < configurations b → is_open s.values x ≡ true → (o : Option ℕ) → o ≡ None → (v : ℕ) → (o ≡ Some v) ↔ ((v ≤ round) × HasValue b (configuration_at b x) (Finite v))
   value-open x i still o none v = (
@@ -355,8 +359,8 @@ module _ (s : PlainStage) (round : ℕ) (is_done : Bool) (st : IsState s round i
 
   -- ---- a round, from the state before it
 
-  pub to-begin : is_done ≡ false → IsStriking s s.strikes
-  to-begin going = round-starts s st.is_board st.few round round-below st.value_is st.strikes_are
+  pub to-begin : is_done ≡ false → IsStriking s (due_now s)
+  to-begin going = round-starts s st.is_board st.few round round-below st.value_is (due_now s) due-is
       (subst (λ d. IsStage (lasts arena (struck_rounds d round)) s) going st.stage)
 
   -- the same, where nothing is to be struck again
@@ -400,8 +404,6 @@ module _ (s : PlainStage) (round : ℕ) (is_done : Bool) (st : IsState s round i
       bound = subst (λ p. count_below (configurations p) (lasts (arena_of p) round) + round ≤ configurations p) (sym kept.board_is) st.bound;
       last = λ e. round-last s' board' few' round below' after (ap (filed_at s') (sym value_is) ∙ empty (filed_at s' s'.value) none);
       ascending = subst (λ (xs : List ℕ). AllPairs (λ first second. first < second) xs) (sym (other 0 (omega arith))) st.ascending;
-      strikes_are = kept.strikes_is ∙ st.strikes_are ∙ ap (filter (dominated arena)) (sym (other round (omega arith)))
-          ∙ ap (λ p. filter (dominated (arena_of p)) (filed_at s' round)) (sym kept.board_is);
     }
       where
         empty : (xs : List ℕ) → length xs ≡ 0 → xs ≡ []
@@ -419,22 +421,6 @@ module _ (s : PlainStage) (round : ℕ) (is_done : Bool) (st : IsState s round i
     pub size-below : length (filed_at s' s'.value) ≢ 0 → suc round < configurations s.board
     size-below some = subst (λ p. suc round < configurations p) kept.board_is (let low = next-below some in let at = value_is in omega arith)
 
-    -- nothing has the value behind
-    pub none-later : filed_at s' (suc s'.value) ≡ []
-    none-later = nothing (filed_at s' (suc s'.value)) (λ x h.
-        let low = value-in-range s' (suc s'.value) x after.filed_are h in
-        let i = after.filed_are.below (suc s'.value) x h in
-        let word = filed-word s' (suc s'.value) x after.filed_are low i h in
-        let few = few' in
-        let shut = shut_word s'.values x (λ e. omega arith) in
-        let lasting : lasts (arena_of s'.board) (suc s'.value) x ≡ true = subst (λ n. lasts (arena_of s'.board) n x ≡ true) word (after.words_are.lasting x i shut) in
-        let longer : lasts (arena_of s'.board) (suc (suc round)) x ≡ true = subst (λ n. lasts (arena_of s'.board) (suc n) x ≡ true) value_is lasting in
-        true_not_false (is_open s'.values x) (after.words_are.opened x i ∙ longer) shut)
-      where
-        nothing : (xs : List ℕ) → ((x : ℕ) → 0 < times x xs → ⊥) → xs ≡ []
-        nothing [] none = refl
-        nothing (x ∷ xs) none = absurd (none x (times-here x x xs refl))
-
     pub further-state : is_done ≡ false → length (filed_at s' s'.value) ≢ 0 → IsState (turned s') (suc round) false
     further-state going some =
         let more = further some in record {
@@ -446,5 +432,4 @@ module _ (s : PlainStage) (round : ℕ) (is_done : Bool) (st : IsState s round i
           bound = more.1;
           last = λ e. absurd (not_true e);
           ascending = subst (λ (xs : List ℕ). AllPairs (λ first second. first < second) xs) (sym (other 0 (omega arith))) st.ascending;
-          strikes_are = ap (λ v. filter (dominated (arena_of s'.board)) (filed_at s' v)) value_is;
         }

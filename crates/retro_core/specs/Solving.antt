@@ -34,7 +34,7 @@ pub record AreBuckets (s : Solving) : Type 0 where
   pub ranks : (value rank : ℕ) → 0 < times rank (bucket s value) → rank < configurations s.board
   pub ascending : AllPairs (λ first second. first < second) (bucket s 0)
 
--- the members of a gap that have no value of at most the number of rounds, each once
+-- the members of a gap that have no value of at most the number of rounds, each once, in ascending rank
 pub record AreOpenMembers (s : Solving) : Type 0 where
   pub listed : (gap place : ℕ) → gap < gaps s.board → place < places s.board
       → (0 < times (rank_of s.board (member_of s.board gap place)) (source s gap))
@@ -42,6 +42,7 @@ pub record AreOpenMembers (s : Solving) : Type 0 where
   pub once : (gap rank : ℕ) → gap < gaps s.board → rank < configurations s.board → times rank (source s gap) ≤ 1
   pub members : (gap rank : ℕ) → gap < gaps s.board → 0 < times rank (source s gap)
       → (place : ℕ) × (place < places s.board) × (rank ≡ rank_of s.board (member_of s.board gap place))
+  pub ascending : (gap : ℕ) → gap < gaps s.board → AllPairs (λ first second. first < second) (source s gap)
 
 -- what a solver knows, whenever no call of it runs
 pub record IsSolving (s : Solving) : Type 0 where

@@ -1,9 +1,9 @@
 //! The two ways in which the configurations of the next value are found and filed.
 
-ghost use Rattle.std.specs.Prelude.{false, []};
+ghost use Rattle.std.specs.Prelude.{false, [], ◌<◌};
 ghost use Rattle.retro_core.specs.Ending.{IsRoundEnd};
 ghost use Rattle.retro_core.specs.Solving.{Solving};
-ghost use Rattle.retro_core.specs.Inside.Stage.{as_solving, IsKept, IsStriking, IsUnstruck};
+ghost use Rattle.retro_core.specs.Inside.Stage.{as_solving, due_now, IsKept, IsStriking, IsUnstruck};
 
 use crate::end::RoundEnd;
 use crate::stage::Stage;
@@ -16,7 +16,8 @@ pub(crate) trait NextValue {
 
     /// Files the configurations of the next value: all is struck then.
     fn file<S: ListStore>(&self, stage: &mut Stage<S>)
-        requires striking { IsStriking stage.old stage.old.strikes }
+        requires round { 0 < stage.old.value }
+        requires striking { IsStriking stage.old (due_now stage.old) }
         requires unstruck { IsUnstruck stage.old }
         requires serves { serves self.now (as_solving stage.old false) }
         ensures struck { IsStriking stage.new [] }

@@ -29,7 +29,6 @@ impl<S: ListStore + Drop> Stage<S> {
         let values = first_words(alloc, &space, &counts)?;
         let buckets = S::new(alloc, size, size + 1)?;
         let strikes = Vec::with_capacity(alloc, size as usize)?;
-        let next = Vec::with_capacity(alloc, size as usize)?;
         let mut stage = Stage {
             space,
             value: 0,
@@ -38,8 +37,6 @@ impl<S: ListStore + Drop> Stage<S> {
             counts,
             buckets,
             strikes,
-            next,
-            filed: 0,
         };
         stage.list_zeros();
         Ok(stage)

@@ -56,7 +56,7 @@ impl<'a, S: ListStore> RoundState<'a, S> {
     {
         let counts = first_counts(alloc, solver)?;
         let values = first_values(alloc, solver)?;
-        let todo = Vec::from_slice(alloc, solver.to_strike())?;
+        let todo = solver.to_strike(alloc)?;
         let mut seats = Vec::with_capacity(alloc, 1)?;
         if seats.push(Seat::first(alloc, width, todo)).is_err() {
             return Err(Memory);

@@ -76,7 +76,8 @@ impl<S: ListStore + Drop> Solver<S> {
     {
         let mut sizes = Vec::with_capacity(alloc, space.configurations() as usize)?;
         let mut stage = Stage::<S>::open(alloc, space, board)?;
-        sizes.push_reserved(stage.turn());
+        sizes.push_reserved(stage.filed());
+        stage.turn();
         Ok(Solver {
             stage,
             sizes,
@@ -126,11 +127,12 @@ impl<S: ListStore> Solver<S> {
             return Progress::Done;
         }
         by.file(&mut self.stage);
-        if self.stage.filed() == 0 {
+        let filed = self.stage.filed();
+        if filed == 0 {
             self.done = true;
             return Progress::Done;
         }
-        let filed = self.stage.turn();
+        self.stage.turn();
         self.sizes.push_reserved(filed);
         Progress::Filed(filed)
     }
@@ -205,11 +207,11 @@ impl<S: ListStore> Solver<S> {
     }
 
     /// What a round at the value of the solver strikes: the configurations of that value that have a dominator, in order of filing.
-    pub fn to_strike(&self) -> &[u32]
-        ensures ranks { AreToStrike self.now result.now }
+    pub fn to_strike(&self, alloc: Global) -> Result<Vec<u32>, Memory>
+        ensures ranks { IfOk result (λ ranks. AreToStrike self.now ranks.items) }
         ensures kept { IsSolving self.now }
     {
-        self.stage.strikes()
+        self.stage.due(alloc)
     }
 
     /// The members of a gap that have no value of at most the number of rounds, one after the other.
@@ -271,5 +273,19 @@ impl<S: ListStore + Drop> Solver<S> {
             ..
         } = stage;
         Ok(Values::new(space, values, dominators, sizes))
+    }
+
+    /// The values of the board, by as many rounds as it takes.
+    pub fn solve(self) -> Values
+        ensures { result ≡ self.board }
+    {
+        let mut solver = self;
+        loop {
+            match solver.finish() {
+                Ok(values) => return values,
+                Err(unfinished) => solver = unfinished.solver,
+            }
+            solver.round();
+        }
     }
 }

@@ -1,17 +1,18 @@
 //! A board's words and lists, and what a round does to them.
 
-ghost use Rattle.std.specs.Prelude.{◌≡◌, ℕ, ◌+◌, ◌-◌, ◌<◌, true, suc, List, [], ◌∷◌, length};
+ghost use Rattle.std.specs.Prelude.{◌≡◌, ℕ, ◌+◌, ◌-◌, ◌<◌, true, List, [], ◌∷◌, length, filter};
 ghost use Rattle.index_lists.specs.Lists.{times};
 ghost use Rattle.board_text.specs.PlainBoard.{places};
 ghost use Rattle.positions.specs.Ranks.{configurations};
 ghost use Rattle.positions.specs.Gaps.{gaps};
+ghost use Rattle.retro_core.specs.Inside.Arena.{dominated};
+ghost use Rattle.retro_core.specs.Inside.BoardArena.{arena_of};
 ghost use Rattle.retro_core.specs.Inside.Tables.{is_open};
-ghost use Rattle.retro_core.specs.Inside.Stage.{PlainStage, filed_at, listed, filed, turned, IsFiled, IsKept, Closes, IsStriking};
+ghost use Rattle.retro_core.specs.Inside.Stage.{PlainStage, filed_at, due_now, listed, filed, turned, taken, IsFiled, IsKept, Closes, IsStriking};
 
 use index_lists::ListStore;
 use positions::Space;
 use std::marker::Model;
-use std::mem;
 
 /// The word of a configuration that has no value yet.
 pub(crate) const OPEN: u32 = u32::MAX;
@@ -19,9 +20,8 @@ pub(crate) const OPEN: u32 = u32::MAX;
 /// The byte of a configuration at which no pebble dominates all others.
 pub(crate) const NO_PEBBLE: u8 = u8::MAX;
 
-/// A word for each configuration and each gap, and lists of ranks, while configurations are filed at one value after the other.
-///
-/// What is filed stands in its bucket for callers alone: a round strikes a list of its own.
+/// A word for each configuration and each gap, and the ranks that are filed at each value, while configurations are filed at one value
+/// after the other.
 #[derive(Drop)]
 pub(crate) struct Stage<S: ListStore> {
     pub(crate) space: Space,
@@ -35,18 +35,15 @@ pub(crate) struct Stage<S: ListStore> {
     pub(crate) counts: Vec<u32>,
     /// For each value the ranks that are filed at it.
     pub(crate) buckets: S,
-    /// What this round strikes: what is filed at the value before and has a dominator.
+    /// Room for what a round takes out of the store. Between two rounds nobody reads it.
     pub(crate) strikes: Vec<u32>,
-    /// What is filed at the value and has a dominator: the next round strikes it.
-    pub(crate) next: Vec<u32>,
-    /// How many are filed at the value.
-    pub(crate) filed: u32,
 }
 
 impl<S: ListStore> Model for Stage<S> {
-    ghost use Rattle.std.specs.Prelude.{◌≡◌, length, vec_capacity};
+    ghost use Rattle.std.specs.Prelude.{◌≤◌, vec_capacity};
+    ghost use Rattle.positions.specs.Ranks.{configurations};
     ghost use Rattle.retro_core.specs.Inside.Stage.{PlainStage, stage_of};
-    ghost use Rattle.retro_core.specs.Inside.Stored.{IsSmall, AreWide, AreDominators, AreNext, AreStored, HasRoom};
+    ghost use Rattle.retro_core.specs.Inside.Stored.{IsSmall, AreWide, AreDominators, AreStored};
 
     ghost Value = { PlainStage };
 
@@ -54,8 +51,7 @@ impl<S: ListStore> Model for Stage<S> {
 
     ghost invariant = { λ s. IsSmall s.space s.value × AreWide s.space s.values.items s.counts.items
         × AreDominators s.space s.dominators.items × AreStored s.space (S.state s.buckets)
-        × AreNext s.space ((S.state s.buckets).list s.value) s.next.items s.filed
-        × HasRoom s.space (vec_capacity s.strikes) (vec_capacity s.next) };
+        × (configurations s.space ≤ vec_capacity s.strikes) };
 }
 
 impl<S: ListStore> Stage<S> {
@@ -66,10 +62,6 @@ impl<S: ListStore> Stage<S> {
         ensures { self.new ≡ listed self.old rank }
     {
         self.buckets.push_back(self.value, rank);
-        self.filed += 1;
-        if self.dominators[rank as usize] != NO_PEBBLE {
-            self.next.push_reserved(rank);
-        }
     }
 
     /// Files an open configuration at the value.
@@ -104,6 +96,7 @@ impl<S: ListStore> Stage<S> {
         requires { (rest : List ℕ) × IsStriking self.old (rank ∷ rest) }
         ensures struck { (rest : List ℕ) → IsStriking self.old (rank ∷ rest) → IsStriking self.new rest }
         ensures kept { IsKept self.old self.new }
+        ensures strikes { self.new.strikes ≡ self.old.strikes }
     {
         let gap = self.space.gap(rank, self.dominators[rank as usize]);
         let left = self.counts[gap as usize] - 1;
@@ -113,15 +106,38 @@ impl<S: ListStore> Stage<S> {
         }
     }
 
-    /// Strikes all that the round has to strike.
+    /// Strikes what is filed at the value before and has a dominator.
     pub(crate) fn strike_all(&mut self)
-        requires { IsStriking self.old self.old.strikes }
+        requires round { 0 < self.old.value }
+        requires striking { IsStriking self.old (due_now self.old) }
+        ensures struck { IsStriking self.new [] }
+        ensures kept { IsKept self.old self.new }
+    {
+        self.take_bucket();
+        self.strike_taken();
+    }
+
+    /// Takes what is filed at the value before out of the store.
+    fn take_bucket(&mut self)
+        requires { 0 < self.old.value }
+        ensures { self.new ≡ taken self.old }
+    {
+        self.strikes.clear();
+        self.buckets.append_list(self.value - 1, &mut self.strikes);
+    }
+
+    /// Strikes those of the ranks that were taken which have a dominator.
+    fn strike_taken(&mut self)
+        requires ranks { (rank : ℕ) → 0 < times rank self.old.strikes → rank < configurations self.old.board }
+        requires striking { IsStriking self.old (filter (dominated (arena_of self.old.board)) self.old.strikes) }
         ensures struck { IsStriking self.new [] }
         ensures kept { IsKept self.old self.new }
     {
         for place in 0..self.strikes.len() {
             let rank = self.strikes[place];
-            self.strike(rank);
+            if self.dominators[rank as usize] != NO_PEBBLE {
+                self.strike(rank);
+            }
         }
     }
 
@@ -129,19 +145,14 @@ impl<S: ListStore> Stage<S> {
     pub(crate) fn filed(&self) -> u32
         ensures { result ≡ length (filed_at self.now self.now.value) }
     {
-        self.filed
+        self.buckets.len(self.value)
     }
 
-    /// Goes on to the next value, and answers how many are filed at the one before.
-    pub(crate) fn turn(&mut self) -> u32
-        requires value { self.old.value < configurations self.old.board }
-        requires none_later { filed_at self.old (suc self.old.value) ≡ [] }
-        ensures filed { result ≡ length (filed_at self.old self.old.value) }
-        ensures turned { self.new ≡ turned self.old }
+    /// Goes on to the next value.
+    pub(crate) fn turn(&mut self)
+        requires { self.old.value < configurations self.old.board }
+        ensures { self.new ≡ turned self.old }
     {
-        mem::swap(&mut self.strikes, &mut self.next);
-        self.next.clear();
         self.value += 1;
-        mem::replace(&mut self.filed, 0)
     }
 }

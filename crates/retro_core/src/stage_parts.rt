@@ -1,18 +1,22 @@
 //! What is read of a stage.
 
-ghost use Rattle.std.specs.Prelude.{◌≡◌, ℕ, ◌+◌, ◌-◌, ◌<◌, ◌≤◌, Some, None, slice_index, slice_get};
+ghost use Rattle.std.specs.Prelude.{◌≡◌, ℕ, ◌+◌, ◌-◌, ◌<◌, ◌≤◌, Some, None, slice_index, slice_get, filter, IfOk};
+ghost use Rattle.index_lists.specs.Lists.{times};
 ghost use Rattle.board_text.specs.PlainBoard.{places};
 ghost use Rattle.positions.specs.Ranks.{configurations, configuration_at};
 ghost use Rattle.positions.specs.Gaps.{gaps, IsDominator};
 ghost use Rattle.positions.specs.Counts.{IsSmallest};
+ghost use Rattle.retro_core.specs.Inside.Arena.{dominated};
 ghost use Rattle.retro_core.specs.Inside.BoardArena.{arena_of};
 ghost use Rattle.retro_core.specs.Inside.Tables.{is_open, members_from, open_members};
-ghost use Rattle.retro_core.specs.Inside.Stage.{filed_at};
+ghost use Rattle.retro_core.specs.Inside.Stage.{filed_at, due_now};
 
 use crate::source_walk::SourceWalk;
 use crate::stage::{NO_PEBBLE, OPEN, Stage};
+use board_text::Memory;
 use index_lists::ListStore;
 use positions::Space;
+use std::alloc::Global;
 
 impl<S: ListStore> Stage<S> {
     /// The space of the board.
@@ -58,11 +62,29 @@ impl<S: ListStore> Stage<S> {
         }
     }
 
-    /// What the round strikes.
-    pub(crate) fn strikes(&self) -> &[u32]
-        ensures { result.now ≡ self.now.strikes }
+    /// What a round strikes: what is filed at the value before and has a dominator.
+    pub(crate) fn due(&self, alloc: Global) -> Result<Vec<u32>, Memory>
+        requires { 0 < self.now.value }
+        ensures { IfOk result (λ ranks. ranks.items ≡ due_now self.now) }
     {
-        &self.strikes
+        let bucket = self.value - 1;
+        let mut filed = Vec::with_capacity(alloc, self.buckets.len(bucket) as usize)?;
+        self.buckets.append_list(bucket, &mut filed);
+        self.with_dominator(alloc, &filed)
+    }
+
+    /// Those of the ranks that have a dominator.
+    fn with_dominator(&self, alloc: Global, ranks: &[u32]) -> Result<Vec<u32>, Memory>
+        requires { (rank : ℕ) → 0 < times rank ranks.now → rank < configurations self.now.board }
+        ensures { IfOk result (λ found. found.items ≡ filter (dominated (arena_of self.now.board)) ranks.now) }
+    {
+        let mut found = Vec::with_capacity(alloc, ranks.len())?;
+        for rank in ranks {
+            if self.dominators[*rank as usize] != NO_PEBBLE {
+                found.push_reserved(*rank);
+            }
+        }
+        Ok(found)
     }
 
     /// The first configuration that is filed at a value.

@@ -14,7 +14,7 @@ use Rattle.retro_core.specs.Inside.Stored.{IsSmall}
 use Rattle.retro_core.specs.Inside.Tables.{is_unstruck, struck_rounds, open_members, IsCounted, AreWords, AreFirstWords, GapIsClosed}
 
 -- a board, the value that configurations are filed at, a word for each configuration, a count for each gap,
--- the configurations filed at each value, and those that are struck in the round
+-- the configurations filed at each value, and those that a round took out of the store
 pub record PlainStage : Type 0 where
   pub board : PlainBoard
   pub value : ℕ
@@ -54,9 +54,17 @@ filed s rank = listed (record s { values = slice_set s.values rank s.value }) ra
 abbrev pub counting : PlainStage → List ℕ → PlainStage
 counting s counts = record s { counts = counts }
 
--- the stage at the next value: what was filed at the one before and has a dominator is to be struck
+-- the stage at the next value
 abbrev pub turned : PlainStage → PlainStage
-turned s = record s { value = s.value + 1; strikes = filter (dominated (arena_of s.board)) (filed_at s s.value) }
+turned s = record s { value = s.value + 1 }
+
+-- what a round strikes: what is filed at the value before and has a dominator
+abbrev pub due_now : PlainStage → List ℕ
+due_now s = filter (dominated (arena_of s.board)) (filed_at s (s.value - 1))
+
+-- the stage that has taken what is filed at the value before out of the store
+abbrev pub taken : PlainStage → PlainStage
+taken s = record s { strikes = filed_at s (s.value - 1) }
 
 -- the list of each value has the configurations of that word, each once
 pub record IsFiled (s : PlainStage) : Type 0 where
@@ -72,16 +80,16 @@ pub record IsStage (test : ℕ → Bool) (s : PlainStage) : Type 0 where
   pub words_are : AreWords (arena_of s.board) test s.values
   pub filed_are : IsFiled s
 
--- nothing is filed but at the value, and what is to be struck stays
+-- nothing is filed but at the value
 pub record IsKept (s s' : PlainStage) : Type 0 where
   pub board_is : s'.board ≡ s.board
   pub value_is : s'.value ≡ s.value
-  pub strikes_is : s'.strikes ≡ s.strikes
   pub others : (v : ℕ) → v ≢ s.value → filed_at s' v ≡ filed_at s v
 
 -- the open members of the gap are filed at the value, and nothing else changes
 pub record Closes (s : PlainStage) (gap : ℕ) (s' : PlainStage) : Type 0 where
   pub kept : IsKept s s'
+  pub strikes_is : s'.strikes ≡ s.strikes
   pub counts_is : s'.counts ≡ s.counts
   pub words : GapIsClosed (arena_of s.board) gap s.value s.values s'.values
   pub filed_are : IsFiled s'
@@ -147,7 +155,6 @@ pub record IsState (s : PlainStage) (round : ℕ) (is_done : Bool) : Type 0 wher
   pub bound : count_below (configurations s.board) (lasts (arena_of s.board) round) + round ≤ configurations s.board
   pub last : is_done ≡ true → IsLast (arena_of s.board) (suc round)
   pub ascending : AllPairs (λ first second. first < second) (filed_at s 0)
-  pub strikes_are : s.strikes ≡ filter (dominated (arena_of s.board)) (filed_at s round)
 
 -- a solver, as its callers see it
 abbrev pub as_solving : PlainStage → Bool → Solving

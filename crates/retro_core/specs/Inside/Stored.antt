@@ -1,13 +1,11 @@
 -- What a stage keeps of its board, its dominators and its lists, whatever it does.
-use Rattle.std.specs.Prelude.{◌≡◌, ℕ, ◌+◌, ◌<◌, ◌≤◌, ◌==◌, cond, List, length, filter, Option, Some, None, slice_index}
+use Rattle.std.specs.Prelude.{◌≡◌, ℕ, ◌+◌, ◌<◌, ◌≤◌, ◌==◌, cond, List, length, Option, Some, None, slice_index}
 use Rattle.index_lists.specs.Lists.{Lists, AreLists}
 use Rattle.board_text.specs.PlainBoard.{PlainBoard, IsBoard}
 use Rattle.positions.specs.Ranks.{configurations, configuration_at}
 use Rattle.positions.specs.Gaps.{gaps, IsDominator}
 use Rattle.positions.specs.Counts.{IsSmallest}
 use Rattle.positions.specs.declared.space.TheConstants.{MAX_CONFIGURATIONS}
-use Rattle.retro_core.specs.Inside.Arena.{dominated}
-use Rattle.retro_core.specs.Inside.BoardArena.{arena_of}
 use Rattle.retro_core.specs.declared.stage.TheConstants.{NO_PEBBLE}
 
 -- a board with few configurations, and a value that one of them may have
@@ -32,17 +30,7 @@ pub record AreStored (board : PlainBoard) (s : Lists) : Type 0 where
   pub lists_is : s.lists ≡ configurations board + 1
   pub are_lists : AreLists s
 
--- those of a bucket that have a dominator, and how many stand in it
-pub record AreNext (board : PlainBoard) (bucket next : List ℕ) (filed : ℕ) : Type 0 where
-  pub next_are : next ≡ filter (dominated (arena_of board)) bucket
-  pub filed_is : filed ≡ length bucket
-
 -- a word for each configuration and for each gap
 pub record AreWide (board : PlainBoard) (values counts : List ℕ) : Type 0 where
   pub values_length : length values ≡ configurations board
   pub counts_length : length counts ≡ gaps board
-
--- room for all configurations in both lists
-pub record HasRoom (board : PlainBoard) (strikes next : ℕ) : Type 0 where
-  pub for_strikes : configurations board ≤ strikes
-  pub for_next : configurations board ≤ next

@@ -16,47 +16,49 @@ pub overflow_mul-most : goal.overflow_mul-most
 overflow_mul-most g c =
     let s = c.args.solver.now in
     let k : Key = record { solving = s; width = c.args.width } in
-    let sol = c.to_strike-ranks.ensures.kept in
-    let all = ranks_due s c.to_strike-ranks.result.now sol c.to_strike-ranks.ensures.ranks in
+    let sol = c.to_strike.ensures.kept in
+    let all = ranks_due s c.in_ok-ranks.ranks.items sol c.in_ok-ranks.ensures.ranks in
     let most_is : c.places-most.result ≡ most k = c.places-most.ensures.value ∙ ap places c.space.ensures in
-    let m : most k * length c.to_strike-ranks.result.now ≤ most k * size k = mul-le-mul_left (most k) all.few in
+    let m : most k * length c.in_ok-ranks.ranks.items ≤ most k * size k = mul-le-mul_left (most k) all.few in
     let n = narrow k sol in
-    let e : c.places-most.result * length c.to_strike-ranks.result.now ≡ most k * length c.to_strike-ranks.result.now = ap (λ p. p * length c.to_strike-ranks.result.now) most_is in
+    let long : c.len.result ≡ length c.in_ok-ranks.ranks.items = c.len.ensures ∙ c.in_ok-ranks.ranks.ok.0 in
+    let e : c.places-most.result * c.len.result ≡ most k * length c.in_ok-ranks.ranks.items =
+    ap (λ (p : ℕ × ℕ). p.0 * p.1) (λ j. (most_is j, long j)) in
     omega arith
 
 pub of_words-requires : goal.of_words-requires
 of_words-requires g c =
     let s = c.args.solver.now in
-    opened s c.args.width c.as_slice.result.now c.to_strike-ranks.result.now c.to_strike-ranks.ensures.kept c.requires.some_width
-    (subst (λ (l : List ℕ). AreOpeningWords s l (configurations s.board)) (sym c.as_slice.ensures.value) c.in_ok-words.ensures) c.to_strike-ranks.ensures.ranks
+    opened s c.args.width c.as_slice.result.now c.in_ok-ranks.ranks.items c.to_strike.ensures.kept c.requires.some_width
+    (subst (λ (l : List ℕ). AreOpeningWords s l (configurations s.board)) (sym c.as_slice.ensures.value) c.in_ok-words.ensures) c.in_ok-ranks.ensures.ranks
 
 pub invariant_of-seat : goal.invariant_of-seat
 invariant_of-seat g c =
     let s = c.args.solver.now in
     let k : Key = record { solving = s; width = c.args.width } in
-    let sol = c.to_strike-ranks.ensures.kept in
+    let sol = c.to_strike.ensures.kept in
     let e = c.in_ok-table.ensures in
-    let todo_is : c.from_vec-todo.result.items ≡ c.to_strike-ranks.result.now = c.from_vec-todo.ensures.items ∙ c.in_ok-from_slice.ensures.items in
+    let todo_is : c.from_vec-todo.result.items ≡ c.in_ok-ranks.ranks.items = c.from_vec-todo.ensures.items in
     let most_is : c.places-most.result ≡ most k = c.places-most.ensures.value ∙ ap places c.space.ensures in
-    let len : length c.to_strike-ranks.result.now ≡ length c.from_vec-todo.result.items = sym (ap length todo_is) in
-    let product : c.places-most.result * length c.to_strike-ranks.result.now ≡ most k * length c.from_vec-todo.result.items = ap (λ (p : ℕ × ℕ). p.0 * p.1) (λ j. (most_is j, len j)) in
+    let len : c.len.result ≡ length c.from_vec-todo.result.items = c.len.ensures ∙ c.in_ok-ranks.ranks.ok.0 ∙ sym (ap length todo_is) in
+    let product : c.places-most.result * c.len.result ≡ most k * length c.from_vec-todo.result.items = ap (λ (p : ℕ × ℕ). p.0 * p.1) (λ j. (most_is j, len j)) in
     let room : c.places-most.result ≤ deque_capacity c.in_ok-owed.owed = c.in_ok-owed.ensures.capacity in
     let full : c.places_for.result ≤ vec_capacity c.in_ok-won.won = search rules in
-    first_seat _ k sol (ap (λ m. m.0) e.4) (ap (λ m. m.1) e.4) (subst (AreToStrike s) (sym todo_is) c.to_strike-ranks.ensures.ranks) c.in_ok-owed.ensures.items (omega arith)
+    first_seat _ k sol (ap (λ m. m.0) e.4) (ap (λ m. m.1) e.4) (subst (AreToStrike s) (sym todo_is) c.in_ok-ranks.ensures.ranks) c.in_ok-owed.ensures.items (omega arith)
     c.in_ok-won.ensures.items (⊎_elim (λ a. inl (omega arith)) (λ b. inr (omega arith)) c.places_for.ensures) refl
 
 pub returns : goal.returns
 returns g c =
     let s = c.args.solver.now in
     let k : Key = record { solving = s; width = c.args.width } in
-    let sol = c.to_strike-ranks.ensures.kept in
+    let sol = c.to_strike.ensures.kept in
     let e = c.in_ok-table.ensures in
     let view : c.in_ok-table.seat.me.0 ≡ opening_view k = ap (λ m. m.0) e.4 in
     record {
       key_is = e.5;
       table_is = e.2;
       seat_key = ap (λ (v : View). v.key) view;
-      to_strike = subst (AreToStrike s) ((ranks_due s c.to_strike-ranks.result.now sol c.to_strike-ranks.ensures.ranks).is ∙ sym (ap (λ (v : View). v.has.todo) view)) c.to_strike-ranks.ensures.ranks;
+      to_strike = subst (AreToStrike s) ((ranks_due s c.in_ok-ranks.ranks.items sol c.in_ok-ranks.ensures.ranks).is ∙ sym (ap (λ (v : View). v.has.todo) view)) c.in_ok-ranks.ensures.ranks;
       no_owed = ap (λ (v : View). v.has.owed) view;
       no_won = ap (λ (v : View). v.has.won) view;
       wide = ap (λ (v : View). v.has.width) view;

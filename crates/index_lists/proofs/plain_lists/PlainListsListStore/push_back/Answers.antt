@@ -1,71 +1,86 @@
-use Rattle.std.proofs.Common.{◌≡◌, ◌<◌, ◌+◌, ℕ, ◌∙◌, ◌==◌, ◌++◌, ◌∷◌, [], if◌then◌else◌, ap, sym, subst, arith, length}
-use Rattle.std.proofs.lemmas.List.{length_push}
-use Rattle.index_lists.specs.Lists.{times}
-use Rattle.index_lists.specs.Pairs.{ListedPairs}
-use Rattle.index_lists.specs.Inside.Pairs.{nodes_of}
-use Rattle.index_lists.specs.Inside.Runs.{entries_of}
-use Rattle.index_lists.proofs.Entries.{plain-are, plain-room, plain-push, nodes-push}
-use Rattle.index_lists.proofs.RunPlaces.{entries-length, entries-push}
+use Rattle.std.proofs.Common.{◌≡◌, ◌+◌, ◌-◌, ◌++◌, ◌∷◌, [], ◌<◌, ◌==◌, if◌then◌else◌, length, drop, replicate, sym, subst, ap, ◌∙◌, arith}
+use Rattle.std.specs.Prelude.{sum}
+use Rattle.std.specs.List.{insert}
+use Rattle.std.proofs.lemmas.List.{append-nil, drop_all}
+use Rattle.std.proofs.lemmas.List.Edits.{insert_end}
+use Rattle.index_lists.specs.Lists.{IsFree}
+use Rattle.index_lists.specs.Parts.{PlainParts}
+use Rattle.index_lists.specs.Inside.Parts.{laid, part, parts_of}
+use Rattle.index_lists.proofs.Parts.{plain-are, list-room, list-small, pushed-cut, pushed-plain, pushed-list}
 use Rattle.index_lists.proofs.plain_lists.PlainListsListStore.push_back.Goals as goal
-use Rattle.index_lists.proofs.plain_lists.PlainListsListStore.push_back.Goals.{After-add_place-arg-1, After-push_reserved}
+use Rattle.index_lists.proofs.plain_lists.PlainListsListStore.push_back.Goals.{After-index_mut, After-push_reserved}
 
--- before the push
-module _ (c : After-add_place-arg-1) where
+module _ (c : After-index_mut) where
+  to-in : c.args.to < c.self.inside.list_count
+  to-in = rw (ap (λ (p : PlainParts). p.lists) c.self.view_is) c.requires.to_in
+
   node-in : c.args.node < c.self.inside.node_count
-  node-in = rw (ap (λ (p : ListedPairs). p.nodes) c.self.view_is) c.requires.node_in
+  node-in = rw (ap (λ (p : PlainParts). p.nodes) c.self.view_is) c.requires.node_in
 
-  free : (l : ℕ) → times c.args.node (nodes_of (entries_of c.self.inside.runs.items c.self.inside.nodes.items) l) ≡ 0
-  free = subst (λ (p : ListedPairs). (l : ℕ) → times c.args.node (nodes_of p.entries l) ≡ 0) (sym c.self.view_is) c.requires.free.free
+  free : IsFree (laid (record {
+    nodes = c.self.inside.node_count;
+    lists = c.self.inside.list_count;
+    parts = parts_of c.self.inside.lens.items c.self.inside.nodes.items;
+  })) c.args.node
+  free = subst (λ (p : PlainParts). IsFree (laid p) c.args.node) (sym c.self.view_is) c.requires.free
 
-  room : length c.self.inside.nodes.items < c.self.inside.node_count
-  room =
-      let few = plain-room _ c.self.invariant.0 c.args.to c.args.node node-in free in
-      let size = entries-length c.self.inside.runs.items c.self.inside.nodes.items c.self.invariant.1.fits in
-      omega arith
+  last : length c.self.inside.lens.items ≡ c.args.to + 1
+  last = omega (arith, c.if-len-to.true, c.len.ensures, c.self.inside.lens.ok.0)
 
-pub add_place-requires-clause-few : goal.add_place-requires-clause-few
-add_place-requires-clause-few c = let room = room (goal.at.add_place-requires-clause-few c).After-add_place-arg-1 in omega
-    (arith, room, c.self.invariant.1.fits, c.self.ranges)
+  -- the list has a length already
+  begun : c.self.inside.lens.items ≡ c.self.inside.lens.items ++ replicate (c.args.to + 1 - length c.self.inside.lens.items) 0
+  begun =
+      let none : c.args.to + 1 - length c.self.inside.lens.items ≡ 0 = let e = last in omega (arith, e) in
+      rw none (sym (append-nil c.self.inside.lens.items))
 
-pub add_place-requires-clause-room : goal.add_place-requires-clause-room
-add_place-requires-clause-room c =
-    let room = room (goal.at.add_place-requires-clause-room c).After-add_place-arg-1 in omega
-    (arith, room, c.self.invariant.1.fits, c.self.invariant.1.for_runs)
+  -- it ends where all do
+  ends : length c.self.inside.nodes.items + sum (drop (c.args.to + 1) c.self.inside.lens.items) ≡ length c.self.inside.nodes.items
+  ends = ap (λ ns. length c.self.inside.nodes.items + sum ns)
+      (drop_all (c.args.to + 1) c.self.inside.lens.items (let e = last in omega (arith, e))) ∙ omega arith
+
+put : (c : After-push_reserved) → c.push_reserved.new.self.items
+    ≡ insert c.self.inside.nodes.items (length c.self.inside.nodes.items) c.args.node
+put c = c.push_reserved.ensures.items ∙ sym (insert_end c.self.inside.nodes.items c.args.node)
+
+pub overflow_add-index_mut : goal.overflow_add-index_mut
+overflow_add-index_mut c =
+    let b = (goal.at.overflow_add-index_mut c).After-index_mut in
+    let small = list-small _ _ c.self.invariant.0 c.self.invariant.1 c.args.to c.args.node (to-in b) (node-in b) (free b) _ (begun b)
+    c.index_mut.result.now c.index_mut.result.now c.index_mut.ensures.value in
+    omega (arith, small, c.self.invariant.0.few)
 
 pub push_reserved-requires : goal.push_reserved-requires
-push_reserved-requires c = let room = room (goal.at.push_reserved-requires c).After-add_place-arg-1 in omega
-    (arith, room, c.self.invariant.1.for_nodes)
-
-entries-are : (c : After-push_reserved) → entries_of c.add_place.new.runs.items c.push_reserved.new.self.items
-    ≡ entries_of c.self.inside.runs.items c.self.inside.nodes.items ++ (c.args.to, c.args.node) ∷ []
-entries-are c = ap (entries_of c.add_place.new.runs.items) c.push_reserved.ensures.items
-    ∙ entries-push c.self.inside.runs.items c.add_place.new.runs.items c.self.inside.nodes.items c.args.to c.args.node
-    c.self.invariant.1.fits c.add_place.ensures.places
+push_reserved-requires c =
+    let b = (goal.at.push_reserved-requires c).After-index_mut in
+    let room = list-room _ _ c.self.invariant.0 c.self.invariant.1 c.args.to c.args.node (to-in b) (node-in b) (free b) _ (begun b) in
+    omega (arith, room, c.self.invariant.1.for_nodes, c.self.inside.nodes.ok.0)
 
 pub invariant_of-self : goal.invariant_of-self
 invariant_of-self c =
-    let before = (goal.at.invariant_of-self c).After-add_place-arg-1 in
-    let to_in : c.args.to < c.self.inside.list_count = rw (ap (λ (p : ListedPairs). p.lists) c.self.view_is) c.requires.to_in in
-    let runs = c.self.invariant.1 in (
-      rw (entries-are (goal.at.invariant_of-self c).After-push_reserved)
-          (plain-push _ c.self.invariant.0 c.args.to c.args.node to_in (node-in before) (free before)),
-      record {
-        filled = c.add_place.ensures.filled;
-        fits = ap length c.add_place.ensures.places ∙ length_push _ c.args.to ∙ ap (λ n. n + 1) runs.fits
-            ∙ sym (ap length c.push_reserved.ensures.items ∙ length_push _ c.args.node);
-        for_runs = rw c.add_place.ensures.capacity runs.for_runs;
-        for_nodes = rw c.push_reserved.ensures.capacity runs.for_nodes;
-      },
+    let b = (goal.at.invariant_of-self c).After-index_mut in
+    let more = put (goal.at.invariant_of-self c).After-push_reserved in
+    let n = c.self.inside.node_count in
+    let l = c.self.inside.list_count in (
+      pushed-plain n l c.self.invariant.0 c.self.invariant.1 c.args.to c.args.node (to-in b) (node-in b) (free b) _ (begun b) _
+          c.index_mut.result.now _ (ends b) c.index_mut.ensures.value more,
+      pushed-cut n l c.self.invariant.0 c.self.invariant.1 c.args.to c.args.node (to-in b) (node-in b) (free b) _ (begun b) _
+          c.index_mut.result.now _ (ends b) c.index_mut.ensures.value more _ _
+          (omega (arith, c.self.invariant.1.for_nodes, c.push_reserved.ensures.capacity)) c.self.invariant.1.for_lens,
     )
 
-pub returns-clause-pushed : goal.returns-clause-pushed
-returns-clause-pushed c = record {
-  same_nodes = ap (λ (p : ListedPairs). p.nodes) c.self.view_is;
-  same_lists = ap (λ (p : ListedPairs). p.lists) c.self.view_is;
-  same_list = λ l. ap (λ es. nodes_of es l) (entries-are (goal.at.returns-clause-pushed c).After-push_reserved)
-      ∙ nodes-push c.args.to c.args.node l _
-      ∙ ap (λ (p : ListedPairs). if l == c.args.to then nodes_of p.entries l ++ c.args.node ∷ [] else nodes_of p.entries l) c.self.view_is;
-}
+pub returns-then-len-to-clause-pushed : goal.returns-then-len-to-clause-pushed
+returns-then-len-to-clause-pushed c =
+    let b = (goal.at.returns-then-len-to-clause-pushed c).After-index_mut in
+    let more = put (goal.at.returns-then-len-to-clause-pushed c).After-push_reserved in
+    let n = c.self.inside.node_count in
+    let l = c.self.inside.list_count in
+    record {
+      same_nodes = ap (λ (p : PlainParts). p.nodes) c.self.view_is;
+      same_lists = ap (λ (p : PlainParts). p.lists) c.self.view_is;
+      same_list = λ m. pushed-list n l c.self.invariant.0 c.self.invariant.1 c.args.to c.args.node (to-in b) (node-in b) (free b) _ (begun b) _
+          c.index_mut.result.now _ (ends b) c.index_mut.ensures.value more m
+          ∙ ap (λ (p : PlainParts). if m == c.args.to then part p.parts m ++ c.args.node ∷ [] else part p.parts m) c.self.view_is;
+    }
 
-pub returns-clause-kept : goal.returns-clause-kept
-returns-clause-kept c = plain-are _ (invariant_of-self c).0
+pub returns-then-len-to-clause-kept : goal.returns-then-len-to-clause-kept
+returns-then-len-to-clause-kept c = plain-are _ (invariant_of-self c).0

@@ -22,8 +22,8 @@ opened-state s b same is few opened =
 first-round : (s : PlainStage) → s.value ≡ 0 → 0 ≡ s.value + 1 - 1
 first-round s is = omega arith
 
-pub turn-requires-clause-value : goal.turn-requires-clause-value
-turn-requires-clause-value g c =
+pub turn-requires : goal.turn-requires
+turn-requires g c =
     let e = c.in_ok-stage.ensures in
     let some = some-configurations c.args.space c.configurations.ensures.is_board in
     let size = ap configurations (e.board ∙ sym c.requires) in
@@ -43,10 +43,10 @@ invariant_of-result g c =
     let w = c.in_ok-sizes.ensures in
     let size = ap configurations (e.board ∙ sym c.requires) in
     let next = first-round s e.opened.value_is in
-    rw c.turn.ensures.turned (
+    rw c.turn.ensures (
       subst (λ n. IsState (turned s) n false) next (opened-state s c.args.space (e.board ∙ sym c.requires) c.configurations.ensures.is_board c.configurations.ensures.few e.opened),
       subst (λ n. AreSizes (turned s) n (vec_capacity c.push_reserved.new.self) c.push_reserved.new.self.items) next
-          (sizes-start s (vec_capacity c.push_reserved.new.self) c.turn.result c.push_reserved.new.self.items (c.push_reserved.ensures.items ∙ ap (λ (l : List ℕ). l ++ c.turn.result ∷ []) w.items) e.opened.value_is c.turn.ensures.filed (omega (arith, size, w.capacity, c.push_reserved.ensures.capacity, c.configurations.ensures.value))),
+          (sizes-start s (vec_capacity c.push_reserved.new.self) c.filed.result c.push_reserved.new.self.items (c.push_reserved.ensures.items ∙ ap (λ (l : List ℕ). l ++ c.filed.result ∷ []) w.items) e.opened.value_is c.filed.ensures (omega (arith, size, w.capacity, c.push_reserved.ensures.capacity, c.configurations.ensures.value))),
     )
 
 pub returns-clause-kept : goal.returns-clause-kept
@@ -54,5 +54,5 @@ returns-clause-kept g c =
     let s : PlainStage = c.in_ok-stage.stage in
     let e = c.in_ok-stage.ensures in
     let next = first-round s e.opened.value_is in
-    rw c.turn.ensures.turned (solving_of (turned s) _ false
+    rw c.turn.ensures (solving_of (turned s) _ false
     (subst (λ n. IsState (turned s) n false) next (opened-state s c.args.space (e.board ∙ sym c.requires) c.configurations.ensures.is_board c.configurations.ensures.few e.opened)))
