@@ -1,0 +1,10 @@
+mod DominatedLists
+mod Following
+mod Heights
+mod LastingProducts
+mod LowestLabels
+mod MinimaxEquation
+mod NeededCycles
+mod ProductBoards
+mod TwoPebbles
+mod Withdrawals

@@ -1,0 +1,9 @@
+pub mod Agreement
+pub mod Cycles
+pub mod Dominated
+pub mod Follows
+pub mod Lowest
+pub mod Minimax
+pub mod Orders
+pub mod Products
+pub mod Withdrawal

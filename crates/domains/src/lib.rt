@@ -1,0 +1,16 @@
+//! Laws of label domains: what follows from the rule of a domain and from others that are known.
+#![tactic(auto)]
+
+mod laws_of_answers;
+mod laws_of_followers;
+mod laws_of_products;
+mod laws_of_starts;
+mod laws_of_values;
+
+pub use laws_of_answers::{answers_depend_on_others, no_label_is_a_lowest_label};
+pub use laws_of_followers::{followers_last, freed_labels_last, withdrawals_change_nothing};
+pub use laws_of_products::{products_last, products_last_as_their_factors};
+pub use laws_of_starts::{
+    chains_have_their_value, dominated_boards_last, orders_end, two_pebbles_last_on_cycles,
+};
+pub use laws_of_values::values_solve_one_equation;
