@@ -7,9 +7,9 @@ use Rattle.std.proofs.lemmas.List.Elements.{All-set, All-get_or}
 use Rattle.std.proofs.lemmas.List.Elements.{All-replicate}
 use Rattle.board_text.specs.PlainBoard.{PlainBoard}
 use Rattle.positions.specs.Game.{LabellerTree, moved}
-use Rattle.positions.specs.Value.{HasValue}
-use Rattle.positions.specs.declared.value.Value.TheVariants.{Finite}
-use Rattle.positions.proofs.Cited.{some_tree}
+use Rattle.positions.specs.Value.{HasValue, HasValueAtMost}
+use Rattle.positions.specs.declared.value.Value.TheVariants.{Finite, Forever}
+use Rattle.positions.proofs.Cited.{at_most_from_tree, not_both_trees, some_tree}
 use Rattle.domains.specs.Orders.{HasHeights, IsChain}
 
 -- a pebble other than this one, where there are two
@@ -36,6 +36,29 @@ orders_end board height count (suc depth) configuration pebble heights two long 
     (subst (λ n. n < board.labels) (sym same) answer.1.is_label) answer.2 in
     let there = subst (λ n. depth + height n < count) same rest in
     omega (arith, there, higher)
+
+pub orders_have_at_most : (board : PlainBoard) (height : ℕ → ℕ) (count : ℕ) (configuration : List ℕ)
+    → HasHeights board height count → 2 ≤ board.pebbles → length configuration ≡ board.pebbles
+    → HasValueAtMost board configuration count
+orders_have_at_most board height count configuration heights two long =
+    elim (some_tree board (suc count) configuration) [
+      | inr tree ↦ at_most_from_tree board count configuration tree
+      | inl tree ↦
+          let answer = tree 0 (omega (arith, two)) in
+          let there : get_or (set configuration 0 answer.0) 0 0 ≡ answer.0
+          = get_or-set_same configuration 0 answer.0 0 (omega (arith, long, two)) in
+          let bound = orders_end board height count count (moved configuration 0 answer.0) 0 heights two
+          (length-set configuration 0 answer.0 ∙ long) (omega (arith, two))
+          (subst (λ n. n < board.labels) (sym there) answer.1.is_label) answer.2 in
+          let no : ⊥ = omega (arith, bound) in absurd no
+    ]
+
+pub orders_do_not_last : (board : PlainBoard) (height : ℕ → ℕ) (count : ℕ) (configuration : List ℕ)
+    → HasHeights board height count → 2 ≤ board.pebbles → length configuration ≡ board.pebbles
+    → HasValue board configuration Forever → ⊥
+orders_do_not_last board height count configuration heights two long lasts =
+    let bound = orders_have_at_most board height count configuration heights two long in
+    not_both_trees board (suc bound.0) configuration (lasts (suc bound.0)) bound.2.1
 
 -- ---- chains
 
@@ -67,7 +90,7 @@ climbs board (suc depth) most configuration chain long below room =
 pub chain_has : (board : PlainBoard) (more : ℕ) → IsChain board → board.labels ≡ suc more → 2 ≤ board.pebbles
     → HasValue board (replicate board.pebbles 0) (Finite more)
 chain_has board more chain labels two =
-    let configuration = replicate board.pebbles 0 in
+    let configuration : List ℕ = replicate board.pebbles 0 in
     let long : length configuration ≡ board.pebbles = length-replicate {A = ℕ} board.pebbles 0 in
     let held : get_or configuration 0 0 ≡ 0 = get_or-replicate board.pebbles 0 0 0 (omega (arith, two)) in (
       climbs board more 0 configuration chain long (All-replicate (λ label. label ≤ 0) board.pebbles 0 (omega arith))

@@ -1,4 +1,9 @@
+mod Choices
+mod ComparedValues
 mod DominatedLists
+mod EachValue
+mod Embedded
+mod Exchanges
 mod Following
 mod Heights
 mod LastingProducts

@@ -7,13 +7,14 @@ use Rattle.positions.specs.Value.{HasValue}
 use Rattle.positions.specs.declared.value.Value.{Value}
 use Rattle.positions.specs.declared.value.Value.TheVariants.{Finite, Forever}
 use Rattle.positions.proofs.Cited.{lasts_at_most, not_both_trees, some_tree, moved_is_configuration}
-use Rattle.domains.specs.Minimax.{IsBelow, IsMinimax}
+use Rattle.strategies.specs.Best.{IsLess}
+use Rattle.domains.specs.Minimax.{IsMinimax}
 
 -- ---- a value says at which depths an adversary has a tree
 
 tree_above : (board : PlainBoard) (configuration : List ℕ) (value : Value) (bound : ℕ)
     → HasValue board configuration value
-    → IsBelow value bound → AdversaryTree board bound configuration
+    → IsLess value (Finite bound) → AdversaryTree board bound configuration
 tree_above board configuration (Finite number) bound is below =
     elim (some_tree board bound configuration) [
       | inr tree ↦ tree
@@ -24,7 +25,7 @@ tree_above board configuration Forever bound is below = absurd below
 
 below_tree : (board : PlainBoard) (configuration : List ℕ) (value : Value) (bound : ℕ)
     → HasValue board configuration value
-    → AdversaryTree board bound configuration → IsBelow value bound
+    → AdversaryTree board bound configuration → IsLess value (Finite bound)
 below_tree board configuration (Finite number) bound is tree =
     elim (cases_lt number bound) [
       | inl below ↦ below
@@ -34,7 +35,7 @@ below_tree board configuration (Finite number) bound is tree =
 below_tree board configuration Forever bound is tree = not_both_trees board bound configuration (is bound) tree
 
 value_from_trees : (board : PlainBoard) (configuration : List ℕ) (value : Value)
-    → ((bound : ℕ) → IsBelow value bound ↔ AdversaryTree board bound configuration)
+    → ((bound : ℕ) → IsLess value (Finite bound) ↔ AdversaryTree board bound configuration)
     → HasValue board configuration value
 value_from_trees board configuration (Finite number) trees = (
   elim (some_tree board number configuration) [
@@ -80,11 +81,11 @@ values_solve board value each = λ configuration is bound. (
 
 trees_of : (board : PlainBoard) (value : List ℕ → Value) → IsMinimax board value
     → (bound : ℕ) (configuration : List ℕ)
-    → IsConfiguration board configuration → IsBelow (value configuration) bound
+    → IsConfiguration board configuration → IsLess (value configuration) (Finite bound)
     ↔ AdversaryTree board bound configuration
 trees_of board value solves zero configuration is = (none (value configuration), λ tree. absurd tree)
   where
-    none : (value : Value) → IsBelow value zero → ⊥
+    none : (value : Value) → IsLess value (Finite zero) → ⊥
     none (Finite number) below = omega (arith, below)
     none Forever below = below
 trees_of board value solves (suc bound) configuration is = (

@@ -1,16 +1,20 @@
 -- Two pebbles last only where domination has a cycle.
-use Rattle.std.proofs.Common.{◌≡◌, ◌≢◌, ℕ, zero, suc, ◌+◌, ◌-◌, ◌==◌, ◌<◌, ◌≤◌, List, [], ◌∷◌, length}
-use Rattle.std.proofs.Common.{get_or, set, refl, sym, ◌∙◌, ap, subst, arith, inl, inr, cond}
+use Rattle.std.proofs.Common.{◌≡◌, ◌↔◌, ◌≢◌, ℕ, zero, suc, ◌+◌, ◌-◌, ◌==◌, ◌<◌, ◌≤◌, List, [], ◌∷◌, length}
+use Rattle.std.proofs.Common.{get_or, set, replicate, refl, sym, ◌∙◌, ap, subst, arith, inl, inr, cond}
 use Rattle.std.specs.Prelude.{All, Contains}
 use Rattle.std.proofs.lemmas.Bool.{cases_eq, eq-eqb, ne_eqb}
-use Rattle.std.proofs.lemmas.List.{length-set}
+use Rattle.std.proofs.lemmas.List.{length-replicate, length-set}
 use Rattle.std.proofs.lemmas.Grind.{get_or-set_at}
-use Rattle.std.proofs.lemmas.List.Elements.{All-cons, All-nil}
+use Rattle.std.proofs.lemmas.List.Elements.{All-contains, All-get_or, All-replicate, All-cons, All-nil}
 use Rattle.board_text.specs.PlainBoard.{PlainBoard, Beats}
 use Rattle.positions.specs.Game.{LabellerTree, moved}
 use Rattle.nested_cycles.proofs.Cited.{contains_none, contains_here, contains_later, contains_cases}
 use Rattle.positions.proofs.Cited.{each_or_some}
+use Rattle.positions.specs.Value.{HasValue}
+use Rattle.positions.specs.declared.value.Value.TheVariants.{Forever}
 use Rattle.domains.specs.Cycles.{AreBeaten}
+use Rattle.domains.specs.Dominated.{IsHeld}
+use Rattle.domains.proofs.TwoPebbles.{beaten_last}
 
 -- ---- more numbers than there are values: one comes twice
 
@@ -187,3 +191,31 @@ on_a_cycle board configuration two long held tree =
     some : (at : ℕ → ℕ) (first count : ℕ) → 0 < count → 0 < length (row at first count)
     some at first zero more = absurd (omega (arith, more))
     some at first (suc count) more = omega arith
+
+-- ---- exactly
+
+first_of : (labels : List ℕ) → 0 < length labels → (label : ℕ) × Contains labels label
+first_of [] some = absurd (omega (arith, some))
+first_of (label ∷ labels) some = (label, contains_here label labels)
+
+pub exactly_on_cycles : (board : PlainBoard) → board.pebbles ≡ 2
+    → ((configuration : List ℕ) × IsHeld board configuration × HasValue board configuration Forever)
+    ↔ ((labels : List ℕ) × (0 < length labels) × AreBeaten board labels)
+exactly_on_cycles board two = (
+  λ start.
+      let held = All-get_or (λ place. place < board.labels) start.0 1 0 (omega (arith, start.1.0, two)) start.1.1 in
+      on_a_cycle board start.0 two (start.1.0 ∙ two) held (start.2 board.labels),
+  λ cycle.
+      let first = first_of cycle.0 cycle.1 in
+      let is_label = All-contains (λ label. label < board.labels) cycle.0 first.0 cycle.2.are_labels first.1 in (
+        replicate 2 first.0,
+        (
+          length-replicate {A = ℕ} 2 first.0
+              ∙ sym two,
+          All-replicate (λ place. place < board.labels) 2 first.0 is_label,
+        ),
+        λ depth. beaten_last board cycle.0 depth (replicate 2 first.0) cycle.2 two
+            (length-replicate {A = ℕ} 2 first.0)
+            (All-replicate (Contains cycle.0) 2 first.0 first.1),
+      ),
+)

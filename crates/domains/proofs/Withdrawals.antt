@@ -1,28 +1,27 @@
 -- Labels that are given up, and processes that withdraw.
-use Rattle.std.proofs.Common.{◌≡◌, ℕ, zero, suc, List, length, refl, ◌∙◌, inl, ◌↔◌}
+use Rattle.std.proofs.Common.{◌≡◌, ◌↔◌, ℕ, zero, suc, ◌≤◌, List, length, get_or, refl, sym, ◌∙◌, subst, inl, inr}
+use Rattle.std.proofs.lemmas.Bool.{cases_lt}
 use Rattle.std.proofs.lemmas.List.{length-set}
 use Rattle.board_text.specs.PlainBoard.{PlainBoard}
 use Rattle.positions.specs.Game.{LabellerTree, moved}
-use Rattle.domains.specs.Follows.{Follows}
 use Rattle.domains.specs.Withdrawal.{IsFreed, WithdrawalTree}
-use Rattle.domains.proofs.Following.{led_lasts}
-
--- a board follows itself
-itself : (board : PlainBoard) → Follows board board (λ label. label) (λ pebble. pebble)
-itself board = record {
-  labels = λ label low. low;
-  beats = λ x y x_low y_low beats. beats;
-  none = λ place high. high;
-  leaders = λ pebble below. below;
-  apart = λ pebble other below other_below one. one;
-}
+use Rattle.domains.proofs.Following.{itself, led_lasts}
 
 pub freed_lasts : (board : PlainBoard) (depth : ℕ) (held freed : List ℕ) → length held ≡ board.pebbles
-    → IsFreed board held freed
-    → LabellerTree board depth held → LabellerTree board depth freed
+    → IsFreed board held freed → LabellerTree board depth held → LabellerTree board depth freed
 freed_lasts board depth held freed long is tree =
-    led_lasts board board (λ label. label) (λ pebble. pebble) depth held freed (itself board)
-    (record { long = long; led_long = is.same_length ∙ long; each = λ pebble below. is.each pebble }) tree
+    led_lasts board board (λ label. label) (λ pebble. pebble) (itself board board refl refl refl) depth held freed
+    (record {
+      long = long;
+      led_long = is.same_length ∙ long;
+      each = λ pebble below. elim (is.each pebble) [
+        | inr none ↦ inr none
+        | inl same ↦ elim (cases_lt (get_or held pebble 0) board.labels) [
+          | inl low ↦ inl (low, same)
+          | inr none ↦ inr (subst (λ n. board.labels ≤ n) (sym same) none)
+        ]
+      ];
+    }) tree
 
 lasts_withdrawals : (board : PlainBoard) (depth : ℕ) (configuration : List ℕ) → length configuration ≡ board.pebbles
     → LabellerTree board depth configuration → WithdrawalTree board depth configuration
