@@ -14,7 +14,7 @@ use Rattle.positions.specs.Game.{Legal, LabellerTree, moved}
 use Rattle.positions.proofs.Cited.{each_or_some, lasts_at_most}
 use Rattle.domains.specs.Dominated.{IsHeld}
 use Rattle.domains.specs.Products.{IsProduct}
-use Rattle.domains.proofs.ProductBoards.{label_in}
+use Rattle.domains.proofs.ProductBoards.{between, label_in, within}
 
 -- ---- a function with another value at one number
 
@@ -189,9 +189,9 @@ reply outer inner board copy piece product is_copy is_piece =
       is_label = is_label;
       in_copy = in_copy;
       in_part = in_part;
-      between = λ other is_other beats. product.between label other is_label is_other
+      between = λ other is_other beats. between outer inner board product label other is_label is_other
           (subst (λ c. Beats outer c (other / inner.labels)) (sym in_copy) beats);
-      within = λ other is_other same beats. product.within label other is_label is_other (in_copy ∙ sym same)
+      within = λ other is_other same beats. within outer inner board product label other is_label is_other (in_copy ∙ sym same)
           (subst (λ n. Beats inner n (other % inner.labels)) (sym in_part) beats);
     }
 

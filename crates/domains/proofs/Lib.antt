@@ -1,4 +1,5 @@
 mod Choices
+mod Circles
 mod ComparedValues
 mod DominatedLists
 mod EachValue
@@ -10,6 +11,10 @@ mod LastingProducts
 mod LowestLabels
 mod MinimaxEquation
 mod NeededCycles
+mod PairLists
 mod ProductBoards
+mod ProductData
+mod ProductValues
+mod SeveralProducts
 mod TwoPebbles
 mod Withdrawals

@@ -53,6 +53,16 @@ dominated_few board count labels dominated some few all =
           (Contains-append_left labels more other has),
     )
 
+-- ---- the two ways to beat
+
+pub between : (outer inner board : PlainBoard) → IsProduct outer inner board → (x y : ℕ) → x < board.labels → y < board.labels
+    → Beats outer (x / inner.labels) (y / inner.labels) → Beats board x y
+between outer inner board product x y x_low y_low beats = (product.beats x y x_low y_low).1 (inl beats)
+
+pub within : (outer inner board : PlainBoard) → IsProduct outer inner board → (x y : ℕ) → x < board.labels → y < board.labels
+    → x / inner.labels ≡ y / inner.labels → Beats inner (x % inner.labels) (y % inner.labels) → Beats board x y
+within outer inner board product x y x_low y_low same beats = (product.beats x y x_low y_low).1 (inr (same, beats))
+
 -- ---- one request
 
 -- a label that beats the labels of all other pebbles, and the copy below which all are then
@@ -112,7 +122,7 @@ from_another outer inner board count copy others product dominated is_copy all c
       label = label;
       is_label = is_label;
       in_copy = in_copy;
-      beats = λ other has. product.between label other is_label
+      beats = λ other has. between outer inner board product label other is_label
           (All-contains (λ n. n < board.labels) others other all has)
           (subst (λ c. Beats outer c (other / inner.labels)) (sym in_copy) (copy_below other has));
       below = λ place d inside. inr (copy_below (get_or others place d) (Contains-get_or others place d inside));
@@ -143,11 +153,11 @@ from_within outer inner board count copy others product dominated is_copy all be
       beats = λ other has.
           let is_other = All-contains (λ n. n < board.labels) others other all has in
           elim (cases_eq (other / inner.labels) copy) [
-            | inl same ↦ product.within label other is_label is_other (in_copy ∙ sym same)
+            | inl same ↦ within outer inner board product label other is_label is_other (in_copy ∙ sym same)
                 (subst (λ n. Beats inner n (other % inner.labels)) (sym part) (found.2 (other % inner.labels)
                 (contains_map (λ label. label % inner.labels) inside other
                 (kept (in_it inner copy) others other has (eq-eqb (other / inner.labels) copy same)))))
-            | inr differs ↦ product.between label other is_label is_other
+            | inr differs ↦ between outer inner board product label other is_label is_other
                 (subst (λ c. Beats outer c (other / inner.labels)) (sym in_copy)
                 (elim (All-contains (λ n. (n / inner.labels ≡ copy)
                 ⊎ Beats outer copy (n / inner.labels)) others other below has) [

@@ -1,4 +1,5 @@
 pub mod Agreement
+pub mod Circles
 pub mod Cycles
 pub mod Dominated
 pub mod Embedding
