@@ -8,9 +8,11 @@ mod Exchanges
 mod Following
 mod Heights
 mod LastingProducts
+mod LastingTables
 mod LowestLabels
 mod MinimaxEquation
 mod NeededCycles
+mod OthersAlone
 mod PairLists
 mod ProductBoards
 mod ProductData

@@ -1,11 +1,14 @@
 //! Laws of values, each the contract of a function without a body.
 
-ghost use Rattle.std.specs.Prelude.{◌≡◌, ◌↔◌, List, ℕ, length};
+ghost use Rattle.std.specs.Prelude.{◌≡◌, ◌↔◌, ◌<◌, List, ℕ, length};
 ghost use Rattle.board_text.specs.PlainBoard.{PlainBoard, IsConfiguration};
 ghost use Rattle.positions.specs.Game.{LabellerTree};
 ghost use Rattle.positions.specs.Laws.{HasOneValue};
+ghost use Rattle.positions.specs.Ranks.{configurations};
+ghost use Rattle.positions.specs.Table.{AnswerRow, IsClosed, IsListed};
 ghost use Rattle.positions.specs.Value.{HasValue};
 ghost use Rattle.positions.specs.declared.value.Value.{Value as Worth};
+ghost use Rattle.positions.specs.declared.value.Value.TheVariants.{Finite, Forever};
 ghost use Rattle.domains.specs.Minimax.{IsMinimax};
 ghost use Rattle.domains.specs.ValueOrder.{IsWorthAtMost};
 
@@ -28,4 +31,15 @@ pub fn values_compare_as_trees()
         ↔ ((depth : ℕ) → LabellerTree first depth configuration → LabellerTree second depth other) }
     ensures one { (board : PlainBoard) → (configuration : List ℕ)
         → length configuration ≡ board.pebbles → HasOneValue board configuration }
+{}
+
+/// A configuration has the value forever exactly where some closed table lists it: one strategy for
+/// any number of requests. A finite value is below the number of configurations.
+pub fn for_ever_is_a_closed_table()
+    ensures table { (board : PlainBoard) → (configuration : List ℕ)
+        → IsConfiguration board configuration → HasValue board configuration Forever
+        ↔ ((table : List AnswerRow) × IsClosed board table × IsListed table configuration) }
+    ensures finite { (board : PlainBoard) → (configuration : List ℕ)
+        → IsConfiguration board configuration → (number : ℕ)
+        → HasValue board configuration (Finite number) → number < configurations board }
 {}

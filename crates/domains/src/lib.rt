@@ -7,7 +7,9 @@ mod laws_of_products;
 mod laws_of_starts;
 mod laws_of_values;
 
-pub use laws_of_answers::{answers_depend_on_others, no_label_is_a_lowest_label};
+pub use laws_of_answers::{
+    answers_depend_on_others, dominators_are_not_asked, no_label_is_a_lowest_label,
+};
 pub use laws_of_followers::{
     exchanged_labels_keep_values, fewer_pebbles_last, followers_last, freed_labels_last,
     renamed_labels_keep_values, wider_domains_last, withdrawals_change_nothing,
@@ -18,4 +20,6 @@ pub use laws_of_products::{
 pub use laws_of_starts::{
     chains_have_their_value, dominated_boards_last, orders_end, two_pebbles_last_on_cycles,
 };
-pub use laws_of_values::{values_compare_as_trees, values_solve_one_equation};
+pub use laws_of_values::{
+    for_ever_is_a_closed_table, values_compare_as_trees, values_solve_one_equation,
+};
