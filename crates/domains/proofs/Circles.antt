@@ -1,11 +1,11 @@
 -- The three-cycle and the residues modulo seven: each short list of labels is dominated.
-use Rattle.std.proofs.Common.{◌≡◌, ℕ, zero, suc, ◌+◌, ◌-◌, ◌%◌, ◌<◌, ◌≤◌, ◌⊎◌, List, [], ◌∷◌, length, refl, sym, ◌∙◌, subst, arith, inl, inr}
-use Rattle.std.specs.Prelude.{All, Contains}
-use Rattle.std.proofs.lemmas.List.Elements.{All-cons, All-head, All-nil, All-tail}
+use Rattle.std.proofs.Common.{◌≡◌, ◌+◌, ◌-◌, ◌%◌, ◌<◌, [], ◌∷◌, subst, arith}
+use Rattle.std.specs.Prelude.{Contains}
+use Rattle.std.proofs.lemmas.List.Elements.{All-cons, All-head, All-nil}
 use Rattle.board_text.specs.PlainBoard.{PlainBoard, Beats}
 use Rattle.domains.specs.Circles.{IsCircle}
 use Rattle.domains.specs.Dominated.{AreDominated}
-use Rattle.nested_cycles.proofs.Cited.{contains_here, contains_later}
+use Rattle.nested_cycles.proofs.Cited.{contains_here}
 
 pub cycle_dominated : (board : PlainBoard) → IsCircle 3 (1 ∷ []) board → AreDominated board 1
 cycle_dominated board circle [] long all = absurd (omega (arith, long))

@@ -191,7 +191,8 @@ reply outer inner board copy piece product is_copy is_piece =
       in_part = in_part;
       between = λ other is_other beats. between outer inner board product label other is_label is_other
           (subst (λ c. Beats outer c (other / inner.labels)) (sym in_copy) beats);
-      within = λ other is_other same beats. within outer inner board product label other is_label is_other (in_copy ∙ sym same)
+      within = λ other is_other same beats. within outer inner board product label other is_label is_other
+          (in_copy ∙ sym same)
           (subst (λ n. Beats inner n (other % inner.labels)) (sym in_part) beats);
     }
 

@@ -1,20 +1,17 @@
 -- A configuration lasts for ever exactly where a closed table lists it, and finite values are below their number.
-use Rattle.std.proofs.Common.{◌≡◌, ◌↔◌, ℕ, suc, ◌<◌, ◌≤◌, List, [], length, get_or, refl, ◌∙◌, ap, subst, arith, inl, inr}
+use Rattle.std.proofs.Common.{◌≡◌, ℕ, suc, ◌<◌, List, [], get_or, refl, ◌∙◌, ap, subst, arith, inl, inr}
 use Rattle.std.proofs.lemmas.Bool.{cases_lt}
-use Rattle.board_text.specs.PlainBoard.{PlainBoard, plain_board, IsConfiguration, places}
+use Rattle.board_text.specs.PlainBoard.{PlainBoard, plain_board, IsConfiguration}
 use Rattle.board_text.proofs.Cited.{start_from_numbers, labels_and_places}
-use Rattle.positions.specs.Game.{Legal, LabellerTree}
 use Rattle.positions.specs.Value.{HasValue}
-use Rattle.positions.specs.Table.{AnswerRow, AnswersLegally, IsClosed, IsListed}
+use Rattle.positions.specs.Table.{AnswerRow, IsClosed, IsListed}
 use Rattle.positions.specs.Claim.{Shows}
 use Rattle.positions.specs.Ranks.{configurations}
-use Rattle.positions.specs.declared.claim.Claim.{Claim}
 use Rattle.positions.specs.declared.claim.Claim.TheVariants as claims
 use Rattle.positions.specs.declared.value.Value.TheVariants.{Finite, Forever}
 use Rattle.positions.proofs.Cited.{claim_holds, forever_from_count, lasts_at_most, not_both_trees, same_value}
-use Rattle.strategies.specs.Document.{IsDocumentOf, claim_of}
+use Rattle.strategies.specs.Document.{claim_of}
 use Rattle.strategies.proofs.Cited.{document_exists, shows_claim}
-use Rattle.domains.specs.Follows.{IsLed}
 use Rattle.domains.proofs.ComparedValues.{LastsAsLong}
 use Rattle.domains.proofs.Following.{itself, led_lasts}
 
@@ -30,7 +27,8 @@ module _ (board : PlainBoard) (configuration : List ℕ) (is : IsConfiguration b
   )
 
   same_game : (first second : PlainBoard) → first.labels ≡ second.labels → first.pairs ≡ second.pairs
-      → first.pebbles ≡ second.pebbles → first.pebbles ≡ board.pebbles → LastsAsLong second configuration first configuration
+      → first.pebbles ≡ second.pebbles → first.pebbles ≡ board.pebbles
+      → LastsAsLong second configuration first configuration
   same_game first second labels pairs pebbles as_board depth =
       led_lasts first second (λ label. label) (λ pebble. pebble) (itself first second labels pairs pebbles)
       depth configuration configuration
@@ -48,8 +46,10 @@ module _ (board : PlainBoard) (configuration : List ℕ) (is : IsConfiguration b
   table_from_forever lasts =
       let start = from board configuration in
       let found = document_exists start is_start in
-      let there : HasValue start configuration Forever = λ depth. same_game start board refl refl refl refl depth (lasts depth) in
-      let value : found.1.value ≡ Forever = same_value start configuration found.1.value Forever found.1.has_value there in
+      let there : HasValue start configuration Forever = λ depth. same_game start board refl refl refl refl depth
+      (lasts depth) in
+      let value : found.1.value ≡ Forever = same_value start configuration found.1.value Forever found.1.has_value
+      there in
       let claim : found.0.claim ≡ claims.Forever = found.1.claim ∙ ap claim_of value in
       let shown : Shows start found.0.labeller found.0.adversary claims.Forever
       = subst (Shows start found.0.labeller found.0.adversary) claim (shows_claim start found.0 is_start found.1) in (

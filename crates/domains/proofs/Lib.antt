@@ -18,5 +18,6 @@ mod ProductBoards
 mod ProductData
 mod ProductValues
 mod SeveralProducts
+mod ShownDocuments
 mod TwoPebbles
 mod Withdrawals

@@ -1,14 +1,13 @@
 -- Best answers depend on the other pebbles alone, and a dominating pebble is never the best request.
-use Rattle.std.proofs.Common.{◌≡◌, ◌≢◌, ℕ, ◌<◌, ◌≤◌, List, length, get_or, set, sym, ◌∙◌, subst, arith, inl, inr}
+use Rattle.std.proofs.Common.{◌≡◌, ℕ, ◌<◌, List, length, get_or, set, sym, ◌∙◌, subst, arith, inl, inr}
 use Rattle.std.proofs.lemmas.Bool.{cases_eq}
 use Rattle.std.proofs.lemmas.List.{ext_get_or, get_or-set_other, get_or-set_same, length-set, set-get_or}
 use Rattle.board_text.specs.PlainBoard.{PlainBoard}
-use Rattle.positions.specs.Game.{Legal, moved}
+use Rattle.positions.specs.Game.{moved}
 use Rattle.positions.specs.Gaps.{IsDominator}
-use Rattle.positions.specs.declared.value.Value.{Value}
-use Rattle.positions.specs.Value.{HasValue}
 use Rattle.positions.proofs.Cited.{same_value}
-use Rattle.strategies.specs.Best.{IsLess, HasSmallerValue, HasNoGreaterValue, HasGreatestResult, IsBestAnswer, LowersValue, IsBestRequest}
+use Rattle.strategies.specs.Best.{IsLess, HasSmallerValue, HasNoGreaterValue, HasGreatestResult, IsBestAnswer}
+use Rattle.strategies.specs.Best.{IsBestRequest}
 use Rattle.strategies.proofs.Cited.{IsLess-irrefl}
 use Rattle.domains.specs.Agreement.{AgreeBut}
 use Rattle.domains.proofs.LowestLabels.{legal_elsewhere}
@@ -42,18 +41,21 @@ greatest_elsewhere board first second pebble label agree has = record {
   greatest = λ other legal.
       subst (λ c. HasNoGreaterValue board c (moved second pebble label)) (one_result pebble other first second agree)
       (subst (HasNoGreaterValue board (moved first pebble other)) (one_result pebble label first second agree)
-      (has.greatest other (legal_elsewhere board second first pebble other (agree_back pebble first second agree) legal)));
+      (has.greatest other (legal_elsewhere board second first pebble other
+      (agree_back pebble first second agree) legal)));
 }
 
 pub best_elsewhere : (board : PlainBoard) (first second : List ℕ) (pebble label : ℕ) → AgreeBut pebble first second
     → IsBestAnswer board first pebble label → IsBestAnswer board second pebble label
 best_elsewhere board first second pebble label agree best = (
   greatest_elsewhere board first second pebble label agree best.0,
-  λ other has. best.1 other (greatest_elsewhere board second first pebble other (agree_back pebble first second agree) has),
+  λ other has. best.1 other (greatest_elsewhere board second first pebble other
+      (agree_back pebble first second agree) has),
 )
 
 -- a dominating pebble may stay, and then nothing is lowered
-pub dominator_not_best : (board : PlainBoard) (configuration : List ℕ) (pebble : ℕ) → IsDominator board configuration pebble
+pub dominator_not_best : (board : PlainBoard) (configuration : List ℕ) (pebble : ℕ)
+    → IsDominator board configuration pebble
     → IsBestRequest board configuration pebble → ⊥
 dominator_not_best board configuration pebble is best =
     let label = get_or configuration pebble 0 in

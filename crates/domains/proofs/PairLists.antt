@@ -1,5 +1,6 @@
 -- Each rule on labels that can be decided has its ascending list of pairs.
-use Rattle.std.proofs.Common.{◌≡◌, ℕ, zero, suc, ◌+◌, ◌*◌, ◌/◌, ◌%◌, ◌<◌, ◌≤◌, ◌⊎◌, List, [], ◌∷◌, ◌++◌, get_or, refl, ap, subst, arith, inl, inr}
+use Rattle.std.proofs.Common.{◌≡◌, ℕ, zero, suc, ◌+◌, ◌*◌, ◌/◌, ◌%◌, ◌<◌, ◌≤◌, ◌⊎◌, List, [], ◌∷◌, ◌++◌, get_or, refl}
+use Rattle.std.proofs.Common.{ap, subst, arith, inl, inr}
 use Rattle.std.specs.Prelude.{All, AllPairs, Contains}
 use Rattle.std.proofs.lemmas.Bool.{cases_lt, cases_order}
 use Rattle.std.proofs.lemmas.List.Elements.{All-nil, All-push, All-weaker, Contains-append_left, Contains-push}
@@ -8,7 +9,8 @@ use Rattle.std.proofs.lemmas.Nat.{row_fits, same_from_place}
 use Rattle.board_text.specs.PlainBoard.{AreLabels, Precedes}
 use Rattle.nested_cycles.proofs.Cited.{pair_at}
 
-precedes_from_place : (labels : ℕ) (p q : ℕ × ℕ) → q.1 < labels → p.0 * labels + p.1 < q.0 * labels + q.1 → Precedes p q
+precedes_from_place : (labels : ℕ) (p q : ℕ × ℕ) → q.1 < labels → p.0 * labels + p.1 < q.0 * labels + q.1
+    → Precedes p q
 precedes_from_place labels p q small lt =
     elim (cases_order p.0 q.0) [
       | inl same ↦ inr (same, omega (arith, lt, ap (λ (a : ℕ). a * labels) same))
@@ -26,9 +28,11 @@ pub record AreRulePairs (labels : ℕ) (Rule : ℕ → ℕ → Type 0) (places :
   pub all : (x y : ℕ) → AreLabels labels (x, y) → x * labels + y < places → Rule x y → Contains pairs (x, y)
 
 module _ (labels : ℕ) (Rule : ℕ → ℕ → Type 0) where
-  still : (places : ℕ) (pairs : List (ℕ × ℕ)) → All (Obeys labels Rule places) pairs → All (Obeys labels Rule (suc places)) pairs
+  still : (places : ℕ) (pairs : List (ℕ × ℕ)) → All (Obeys labels Rule places) pairs
+      → All (Obeys labels Rule (suc places)) pairs
   still places pairs only =
-      All-weaker (Obeys labels Rule places) (Obeys labels Rule (suc places)) (λ pair h. (h.0, omega (arith, h.1), h.2)) pairs only
+      All-weaker (Obeys labels Rule places) (Obeys labels Rule (suc places))
+      (λ pair h. (h.0, omega (arith, h.1), h.2)) pairs only
 
   skips : (places x y : ℕ) (pairs : List (ℕ × ℕ)) → AreRulePairs labels Rule places pairs → AreLabels labels (x, y)
       → x * labels + y ≡ places → (Rule x y → ⊥) → AreRulePairs labels Rule (suc places) pairs
@@ -47,7 +51,8 @@ module _ (labels : ℕ) (Rule : ℕ → ℕ → Type 0) where
       → x * labels + y ≡ places → Rule x y → AreRulePairs labels Rule (suc places) (pairs ++ (x, y) ∷ [])
   takes places x y pairs are are_labels here rule = record {
     ascending = all_pairs_push Precedes pairs (x, y) are.ascending
-        (λ k d lt. precedes_from_place labels (get_or pairs k d) (x, y) are_labels.1 (omega (arith, (are.only k d lt).1, here)));
+        (λ k d lt. precedes_from_place labels (get_or pairs k d) (x, y) are_labels.1
+        (omega (arith, (are.only k d lt).1, here)));
     only = All-push (Obeys labels Rule (suc places)) pairs (x, y) (still places pairs are.only)
         (are_labels, omega (arith, here), rule);
     all = λ v w both among obeys. elim (cases_lt (v * labels + w) places) [
@@ -59,7 +64,8 @@ module _ (labels : ℕ) (Rule : ℕ → ℕ → Type 0) where
     ];
   }
 
-  pub rule_pairs : ((x y : ℕ) → AreLabels labels (x, y) → Rule x y ⊎ (Rule x y → ⊥)) → (places : ℕ) → places ≤ labels * labels
+  pub rule_pairs : ((x y : ℕ) → AreLabels labels (x, y) → Rule x y ⊎ (Rule x y → ⊥)) → (places : ℕ)
+      → places ≤ labels * labels
       → (pairs : List (ℕ × ℕ)) × AreRulePairs labels Rule places pairs
   rule_pairs decided zero few = (
     [],

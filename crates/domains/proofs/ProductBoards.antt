@@ -55,11 +55,13 @@ dominated_few board count labels dominated some few all =
 
 -- ---- the two ways to beat
 
-pub between : (outer inner board : PlainBoard) → IsProduct outer inner board → (x y : ℕ) → x < board.labels → y < board.labels
+pub between : (outer inner board : PlainBoard) → IsProduct outer inner board → (x y : ℕ) → x < board.labels
+    → y < board.labels
     → Beats outer (x / inner.labels) (y / inner.labels) → Beats board x y
 between outer inner board product x y x_low y_low beats = (product.beats x y x_low y_low).1 (inl beats)
 
-pub within : (outer inner board : PlainBoard) → IsProduct outer inner board → (x y : ℕ) → x < board.labels → y < board.labels
+pub within : (outer inner board : PlainBoard) → IsProduct outer inner board → (x y : ℕ) → x < board.labels
+    → y < board.labels
     → x / inner.labels ≡ y / inner.labels → Beats inner (x % inner.labels) (y % inner.labels) → Beats board x y
 within outer inner board product x y x_low y_low same beats = (product.beats x y x_low y_low).1 (inr (same, beats))
 

@@ -1,18 +1,18 @@
 -- The board of a product, as plain data.
-use Rattle.std.proofs.Common.{◌≡◌, ℕ, suc, ◌+◌, ◌*◌, ◌/◌, ◌%◌, ◌<◌, ◌≤◌, ◌⊎◌, List, refl, subst, arith, inl, inr, ◌↔◌}
-use Rattle.std.specs.Prelude.{All, Contains}
+use Rattle.std.proofs.Common.{◌≡◌, ℕ, ◌+◌, ◌*◌, ◌/◌, ◌%◌, ◌<◌, ◌⊎◌, List, refl, subst, arith, inl, inr, ◌↔◌}
 use Rattle.std.proofs.lemmas.Bool.{cases_eq}
 use Rattle.std.proofs.lemmas.List.Elements.{All-contains, All-weaker}
 use Rattle.std.proofs.lemmas.Nat.{row_fits}
 use Rattle.board_text.specs.PlainBoard.{PlainBoard, plain_board, AreLabels, ArePairs, Beats, IsAntisymmetric}
 use Rattle.positions.proofs.Cited.{beats_or_not}
 use Rattle.domains.specs.Products.{IsProduct}
-use Rattle.domains.proofs.PairLists.{Obeys, AreRulePairs, rule_pairs}
+use Rattle.domains.proofs.PairLists.{Obeys, rule_pairs}
 
 -- ---- a board of a rule
 
 -- the labels, the pebbles and the start, with exactly the pairs of the rule
-pub record HasRule (labels : ℕ) (Rule : ℕ → ℕ → Type 0) (pebbles : ℕ) (start : List ℕ) (board : PlainBoard) : Type 0 where
+pub record HasRule (labels : ℕ) (Rule : ℕ → ℕ → Type 0) (pebbles : ℕ) (start : List ℕ)
+    (board : PlainBoard) : Type 0 where
   pub labels_are : board.labels ≡ labels
   pub pebbles_are : board.pebbles ≡ pebbles
   pub start_is : board.start ≡ start
@@ -38,9 +38,11 @@ rule_board labels Rule pebbles start decided =
           λ rule. found.1.all x y (x_low, y_low) (all_places labels (x, y) (x_low, y_low)) rule,
         );
         pairs = λ one_way. record {
-          of_labels = All-weaker (Obeys labels Rule (labels * labels)) (AreLabels labels) (λ pair h. h.0) found.0 found.1.only;
+          of_labels = All-weaker (Obeys labels Rule (labels * labels)) (AreLabels labels)
+              (λ pair h. h.0) found.0 found.1.only;
           ascending = found.1.ascending;
-          one_way = λ x y there back. one_way x y (rules (x, y) found.1.only there).2 (rules (y, x) found.1.only back).2;
+          one_way = λ x y there back. one_way x y (rules (x, y) found.1.only there).2
+              (rules (y, x) found.1.only back).2;
         };
       },
     )
@@ -98,7 +100,8 @@ product_exists outer inner pebbles start some outer_one inner_one =
       found.1.start_is,
     )
 
-pub products_agree : (outer inner first second : PlainBoard) → IsProduct outer inner first → IsProduct outer inner second
+pub products_agree : (outer inner first second : PlainBoard) → IsProduct outer inner first
+    → IsProduct outer inner second
     → (first.labels ≡ second.labels)
     × ((x y : ℕ) → x < first.labels → y < first.labels → Beats first x y ↔ Beats second x y)
 products_agree outer inner first second one other =

@@ -1,5 +1,5 @@
 -- Values of products.
-use Rattle.std.proofs.Common.{◌≡◌, ℕ, suc, ◌+◌, ◌*◌, ◌<◌, ◌≤◌, ◌⊎◌, List, length, replicate, subst, arith, inl, inr}
+use Rattle.std.proofs.Common.{◌≡◌, ℕ, suc, ◌+◌, ◌*◌, ◌<◌, ◌⊎◌, List, replicate, arith, inl, inr}
 use Rattle.std.proofs.lemmas.Bool.{cases_lt}
 use Rattle.std.proofs.lemmas.List.{length-replicate}
 use Rattle.board_text.specs.PlainBoard.{PlainBoard}
@@ -15,7 +15,8 @@ use Rattle.domains.proofs.LastingProducts.{factors_last}
 use Rattle.domains.proofs.Withdrawals.{freed_lasts}
 
 -- a value that isn't at most a finite one has a tree of one more depth
-higher : (board : PlainBoard) (configuration : List ℕ) (value : Value) (number : ℕ) → HasValue board configuration value
+higher : (board : PlainBoard) (configuration : List ℕ) (value : Value) (number : ℕ)
+    → HasValue board configuration value
     → IsAtMost value (Finite number) ⊎ LabellerTree board (suc number) configuration
 higher board configuration Forever number has = inr (has (suc number))
 higher board configuration (Finite value) number has =
@@ -24,8 +25,10 @@ higher board configuration (Finite value) number has =
       | inr most ↦ inl (λ less. let no : ⊥ = omega (arith, less, most) in no)
     ]
 
-module _ (outer inner board : PlainBoard) (copy piece : ℕ) (configuration : List ℕ) (product : IsProduct outer inner board)
-    (fewer : suc board.pebbles ≡ outer.pebbles + inner.pebbles) (outer_some : 0 < outer.pebbles) (some : 0 < inner.pebbles)
+module _ (outer inner board : PlainBoard) (copy piece : ℕ) (configuration : List ℕ)
+    (product : IsProduct outer inner board)
+    (fewer : suc board.pebbles ≡ outer.pebbles + inner.pebbles) (outer_some : 0 < outer.pebbles)
+    (some : 0 < inner.pebbles)
     (is_copy : copy < outer.labels) (is_piece : piece < inner.labels)
     (freed : IsFreed board (replicate board.pebbles (copy * inner.labels + piece)) configuration) where
   pub product_worth : (of_outer of_inner value : Value) → HasValue outer (replicate outer.pebbles copy) of_outer

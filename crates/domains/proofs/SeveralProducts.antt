@@ -1,11 +1,10 @@
 -- Products of a list of domains.
-use Rattle.std.proofs.Common.{◌≡◌, ℕ, zero, suc, ◌+◌, ◌*◌, ◌<◌, ◌≤◌, List, [], ◌∷◌, replicate, sym, ◌∙◌, ap, subst, arith, inl, inr}
+use Rattle.std.proofs.Common.{◌≡◌, ℕ, zero, suc, ◌+◌, ◌*◌, ◌<◌, List, [], ◌∷◌, replicate, subst, arith}
 use Rattle.std.specs.Prelude.{All}
-use Rattle.std.proofs.lemmas.Bool.{cases_lt}
 use Rattle.std.proofs.lemmas.List.Elements.{All-head, All-tail}
 use Rattle.board_text.specs.PlainBoard.{PlainBoard}
 use Rattle.positions.specs.Game.{LabellerTree, moved}
-use Rattle.domains.specs.Products.{IsProduct, IsProductOf}
+use Rattle.domains.specs.Products.{IsProductOf}
 use Rattle.domains.proofs.LastingProducts.{factors_last}
 
 -- one pebble is answered with the label that there is

@@ -2,14 +2,17 @@
 #![tactic(auto)]
 
 mod laws_of_answers;
+mod laws_of_claims;
 mod laws_of_followers;
 mod laws_of_products;
 mod laws_of_starts;
 mod laws_of_values;
+mod solving;
 
 pub use laws_of_answers::{
     answers_depend_on_others, dominators_are_not_asked, no_label_is_a_lowest_label,
 };
+pub use laws_of_claims::claims_hold_where_documents_show_them;
 pub use laws_of_followers::{
     exchanged_labels_keep_values, fewer_pebbles_last, followers_last, freed_labels_last,
     renamed_labels_keep_values, wider_domains_last, withdrawals_change_nothing,
@@ -23,3 +26,4 @@ pub use laws_of_starts::{
 pub use laws_of_values::{
     for_ever_is_a_closed_table, values_compare_as_trees, values_solve_one_equation,
 };
+pub use solving::{Solved, solve_board};

@@ -1,6 +1,5 @@
-use Rattle.std.proofs.Common.{ℕ, ◌<◌, replicate}
+use Rattle.std.proofs.Common.{◌<◌, replicate}
 use Rattle.std.proofs.lemmas.List.Elements.{All-weaker}
-use Rattle.board_text.specs.PlainBoard.{PlainBoard}
 use Rattle.positions.specs.Value.{HasValue}
 use Rattle.positions.specs.declared.value.Value.TheVariants.{Forever}
 use Rattle.domains.proofs.SeveralProducts.{LastsFromZero, several_last}
