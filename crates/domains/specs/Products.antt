@@ -13,8 +13,8 @@ pub record IsProduct (outer inner board : PlainBoard) : Type 0 where
       ⊎ ((x / inner.labels ≡ y / inner.labels)
       × Beats inner (x % inner.labels) (y % inner.labels)))
 
--- the product of a list of domains, the first of them the outermost, with the pebbles of all of them
--- together, less one for each; the product of none has one label and one pebble
+-- the product of a list of domains, the first of them the outermost: with each factor its pebbles
+-- are added, less one; the product of none has one label and one pebble
 abbrev pub IsProductOf : List PlainBoard → PlainBoard → Type 0
 IsProductOf [] board = (board.labels ≡ 1) × (board.pebbles ≡ 1)
 IsProductOf (factor ∷ factors) board =

@@ -25,8 +25,8 @@ pub fn products_last()
 {}
 
 /// A product lasts as long as the factor that lasts shorter, with as many pebbles as both together,
-/// less one: from all pebbles on one label, or on none, if the outer factor lasts that long from all
-/// on its copy, and the inner one from all on its part of the copy.
+/// less one: from all pebbles on one label, or on none, if the outer factor lasts that long from
+/// all on its copy, and the inner one from all on its part of the copy.
 pub fn products_last_as_their_factors()
     ensures trees { (outer : PlainBoard) → (inner : PlainBoard) → (board : PlainBoard)
         → (depth : ℕ) → (copy : ℕ) → (piece : ℕ) → IsProduct outer inner board
@@ -60,8 +60,8 @@ pub fn several_products_last()
         → HasValue board (replicate board.pebbles 0) Forever }
 {}
 
-/// Two domains have a product as a board, with any number of pebbles and any start; and two products
-/// of the same domains have the same labels, of which one beats another on both or on neither.
+/// Two domains have a product as a board, with any number of pebbles and any start; and two
+/// products of the same domains have the same labels, of which one beats another on both or on neither.
 pub fn products_exist()
     ensures exist { (outer : PlainBoard) → (inner : PlainBoard) → (pebbles : ℕ) → (start : List ℕ)
         → 0 < inner.labels → IsAntisymmetric outer → IsAntisymmetric inner

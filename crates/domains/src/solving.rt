@@ -27,8 +27,8 @@ pub struct Solved {
 /// The value of the board's start, and the document that shows it: it claims the value, its tables
 /// show the claim, it breaks no rule of checking, and there is no other document of the board.
 ///
-/// It works on this thread. It answers `TooLarge` for a board of more than 1,048,576 configurations,
-/// and `Memory` where a growth of memory was refused.
+/// It works on this thread. It answers `TooLarge` for a board of more than 1,048,576
+/// configurations, and `Memory` where a growth of memory was refused.
 pub fn solve_board(alloc: Global, board: &Board) -> Result<Solved, SolveFault>
     ensures value { IfOk result (λ solved. HasValue board.now board.now.start solved.value) }
     ensures claim { IfOk result (λ solved. solved.document.claim ≡ claim_of solved.value) }
