@@ -12,10 +12,12 @@ mod LastingTables
 mod LowestLabels
 mod MinimaxEquation
 mod NeededCycles
+mod NestedProducts
 mod OthersAlone
 mod PairLists
 mod ProductBoards
 mod ProductData
+mod ProductExamples
 mod ProductValues
 mod SeveralProducts
 mod ShownDocuments

@@ -81,11 +81,10 @@ one_way outer inner outer_one inner_one x y (inr there) (inl back) =
 one_way outer inner outer_one inner_one x y (inr there) (inr back) =
     inner_one (x % inner.labels) (y % inner.labels) there.1 back.1
 
-pub product_exists : (outer inner : PlainBoard) (pebbles : ℕ) (start : List ℕ) → 0 < inner.labels
-    → IsAntisymmetric outer → IsAntisymmetric inner
-    → (board : PlainBoard) × IsProduct outer inner board × ArePairs board.labels board.pairs
-    × (board.pebbles ≡ pebbles) × (board.start ≡ start)
-product_exists outer inner pebbles start some outer_one inner_one =
+pub product_board : (outer inner : PlainBoard) (pebbles : ℕ) (start : List ℕ) → 0 < inner.labels
+    → (board : PlainBoard) × IsProduct outer inner board × (board.pebbles ≡ pebbles) × (board.start ≡ start)
+    × ((IsAntisymmetric outer → IsAntisymmetric inner → ArePairs board.labels board.pairs))
+product_board outer inner pebbles start some =
     let labels = outer.labels * inner.labels in
     let found = rule_board labels (Wins outer inner) pebbles start (λ x y _. wins_or_not outer inner x y) in (
       found.0,
@@ -95,10 +94,18 @@ product_exists outer inner pebbles start some outer_one inner_one =
         beats = λ x y x_low y_low. found.1.beats x y (subst (λ n. x < n) found.1.labels_are x_low)
             (subst (λ n. y < n) found.1.labels_are y_low);
       },
-      found.1.pairs (one_way outer inner outer_one inner_one),
       found.1.pebbles_are,
       found.1.start_is,
+      λ outer_one inner_one. found.1.pairs (one_way outer inner outer_one inner_one),
     )
+
+pub product_exists : (outer inner : PlainBoard) (pebbles : ℕ) (start : List ℕ) → 0 < inner.labels
+    → IsAntisymmetric outer → IsAntisymmetric inner
+    → (board : PlainBoard) × IsProduct outer inner board × ArePairs board.labels board.pairs
+    × (board.pebbles ≡ pebbles) × (board.start ≡ start)
+product_exists outer inner pebbles start some outer_one inner_one =
+    let found = product_board outer inner pebbles start some in
+    (found.0, found.1, found.4 outer_one inner_one, found.2, found.3)
 
 pub products_agree : (outer inner first second : PlainBoard) → IsProduct outer inner first
     → IsProduct outer inner second

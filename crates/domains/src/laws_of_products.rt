@@ -1,12 +1,16 @@
 //! Laws of products of domains, each the contract of a function without a body.
 
-ghost use Rattle.std.specs.Prelude.{◌≡◌, ◌↔◌, ◌⊎◌, ◌+◌, ◌*◌, ◌<◌, ℕ, suc, All, List, replicate};
+ghost use Rattle.std.specs.Prelude.{◌≡◌, ◌↔◌, ◌⊎◌, ◌+◌, ◌*◌, ◌<◌, ℕ, suc};
+ghost use Rattle.std.specs.Prelude.{All, List, [], ◌∷◌, replicate};
 ghost use Rattle.board_text.specs.PlainBoard.{PlainBoard, ArePairs, Beats, IsAntisymmetric};
 ghost use Rattle.positions.specs.Game.{LabellerTree};
 ghost use Rattle.positions.specs.Value.{HasValue};
 ghost use Rattle.positions.specs.declared.value.Value.{Value as Worth};
 ghost use Rattle.positions.specs.declared.value.Value.TheVariants.{Forever};
+ghost use Rattle.player.specs.NestedPlay.{IsNestedPlay};
+ghost use Rattle.domains.specs.Circles.{IsCircle};
 ghost use Rattle.domains.specs.Dominated.{AreDominated, IsHeld};
+ghost use Rattle.domains.specs.Orders.{IsChain};
 ghost use Rattle.domains.specs.Products.{IsProduct, IsProductOf, IsBelowCopy};
 ghost use Rattle.domains.specs.ValueOrder.{IsAtMost};
 ghost use Rattle.domains.specs.Withdrawal.{IsFreed};
@@ -73,4 +77,34 @@ pub fn products_exist()
         → (first.labels ≡ second.labels)
         × ((x : ℕ) → (y : ℕ) → x < first.labels → y < first.labels
         → Beats first x y ↔ Beats second x y) }
+{}
+
+/// The nested board of a level from two on is the product of the three-cycle and the nested board of
+/// one level less.
+pub fn nested_boards_are_products()
+    ensures { (count : ℕ) → (cycle : PlainBoard) → (inner : PlainBoard) → (board : PlainBoard)
+        → IsCircle 3 (1 ∷ []) cycle → IsNestedPlay (suc count) inner
+        → IsNestedPlay (suc (suc count)) board → IsProduct cycle inner board }
+{}
+
+/// The product of the three-cycle twice and the residues modulo seven carries five processes for
+/// ever on 63 labels; and that of a chain of 200 labels and these residues lasts 199 requests or
+/// more with four processes. No run could look at their configurations.
+pub fn products_beyond_any_run()
+    ensures for_ever { (cycle : PlainBoard) → (residues : PlainBoard) → (board : PlainBoard)
+        → IsCircle 3 (1 ∷ []) cycle → cycle.pebbles ≡ 2
+        → IsCircle 7 (1 ∷ 2 ∷ 4 ∷ []) residues → residues.pebbles ≡ 3
+        → IsProductOf (cycle ∷ cycle ∷ residues ∷ []) board
+        → (board.labels ≡ 63) × (board.pebbles ≡ 5)
+        × HasValue board (replicate board.pebbles 0) Forever }
+    ensures exist { (cycle : PlainBoard) × (residues : PlainBoard) × (board : PlainBoard)
+        × IsCircle 3 (1 ∷ []) cycle × (cycle.pebbles ≡ 2)
+        × IsCircle 7 (1 ∷ 2 ∷ 4 ∷ []) residues × (residues.pebbles ≡ 3)
+        × IsProductOf (cycle ∷ cycle ∷ residues ∷ []) board }
+    ensures finite { (chain : PlainBoard) → (residues : PlainBoard) → (board : PlainBoard)
+        → IsChain chain → chain.labels ≡ 200 → chain.pebbles ≡ 2
+        → IsCircle 7 (1 ∷ 2 ∷ 4 ∷ []) residues → residues.pebbles ≡ 3
+        → IsProductOf (chain ∷ residues ∷ []) board
+        → (board.labels ≡ 1400) × (board.pebbles ≡ 4)
+        × LabellerTree board 199 (replicate board.pebbles 0) }
 {}

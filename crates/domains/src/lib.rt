@@ -18,7 +18,8 @@ pub use laws_of_followers::{
     renamed_labels_keep_values, wider_domains_last, withdrawals_change_nothing,
 };
 pub use laws_of_products::{
-    products_exist, products_last, products_last_as_their_factors, several_products_last,
+    nested_boards_are_products, products_beyond_any_run, products_exist, products_last,
+    products_last_as_their_factors, several_products_last,
 };
 pub use laws_of_starts::{
     chains_have_their_value, dominated_boards_last, orders_end, two_pebbles_last_on_cycles,
