@@ -65,7 +65,8 @@ pub fn several_products_last()
 {}
 
 /// Two domains have a product as a board, with any number of pebbles and any start; and two
-/// products of the same domains have the same labels, of which one beats another on both or on neither.
+/// products of the same domains have the same labels, of which one beats another on both or on
+/// neither.
 pub fn products_exist()
     ensures exist { (outer : PlainBoard) → (inner : PlainBoard) → (pebbles : ℕ) → (start : List ℕ)
         → 0 < inner.labels → IsAntisymmetric outer → IsAntisymmetric inner
@@ -79,8 +80,8 @@ pub fn products_exist()
         → Beats first x y ↔ Beats second x y) }
 {}
 
-/// The nested board of a level from two on is the product of the three-cycle and the nested board of
-/// one level less.
+/// The nested board of a level from two on is the product of the three-cycle and the nested board
+/// of one level less.
 pub fn nested_boards_are_products()
     ensures { (count : ℕ) → (cycle : PlainBoard) → (inner : PlainBoard) → (board : PlainBoard)
         → IsCircle 3 (1 ∷ []) cycle → IsNestedPlay (suc count) inner

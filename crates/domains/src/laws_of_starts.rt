@@ -25,8 +25,8 @@ pub fn dominated_boards_last()
 {}
 
 /// No order carries two processes for ever. On a board whose labels have heights, so that what
-/// beats a label is higher, a value is at most the number of heights, also if no label is held; and no
-/// more requests are answered than there are heights above a label that is held.
+/// beats a label is higher, a value is at most the number of heights, also if no label is held; and
+/// no more requests are answered than there are heights above a label that is held.
 pub fn orders_end()
     ensures end { (board : PlainBoard) → (height : ℕ → ℕ) → (count : ℕ) → (depth : ℕ)
         → (configuration : List ℕ) → (pebble : ℕ) → HasHeights board height count

@@ -1,6 +1,8 @@
 //! Laws of label domains: what follows from the rule of a domain and from others that are known.
 #![tactic(auto)]
 
+#[cfg(test)]
+mod examples;
 mod laws_of_answers;
 mod laws_of_claims;
 mod laws_of_followers;
