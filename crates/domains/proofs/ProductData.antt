@@ -1,9 +1,11 @@
 -- The board of a product, as plain data.
 use Rattle.std.proofs.Common.{◌≡◌, ℕ, ◌+◌, ◌*◌, ◌/◌, ◌%◌, ◌<◌, ◌⊎◌, List, refl, subst, arith, inl, inr, ◌↔◌}
+use Rattle.std.specs.Prelude.{Contains}
 use Rattle.std.proofs.lemmas.Bool.{cases_eq}
 use Rattle.std.proofs.lemmas.List.Elements.{All-contains, All-weaker}
 use Rattle.std.proofs.lemmas.Nat.{row_fits}
 use Rattle.board_text.specs.PlainBoard.{PlainBoard, plain_board, AreLabels, ArePairs, Beats, IsAntisymmetric}
+use Rattle.nested_cycles.proofs.Cited.{same_pairs}
 use Rattle.positions.proofs.Cited.{beats_or_not}
 use Rattle.domains.specs.Products.{IsProduct}
 use Rattle.domains.proofs.PairLists.{Obeys, rule_pairs}
@@ -121,3 +123,19 @@ products_agree outer inner first second one other =
             λ beats. (one.beats x y x_low y_low).1 ((other.beats x y x_there y_there).0 beats),
           ),
     )
+
+-- with the same pebbles and start they are one board
+among_too : (outer inner first second : PlainBoard) → IsProduct outer inner first → IsProduct outer inner second
+    → ArePairs first.labels first.pairs → (pair : ℕ × ℕ) → Contains first.pairs pair → Contains second.pairs pair
+among_too outer inner first second one other are pair has =
+    let both = All-contains (AreLabels first.labels) first.pairs pair are.of_labels has in
+    ((products_agree outer inner first second one other).1 pair.0 pair.1 both.0 both.1).0 has
+
+pub one_product : (outer inner first second : PlainBoard) → IsProduct outer inner first → IsProduct outer inner second
+    → ArePairs first.labels first.pairs → ArePairs second.labels second.pairs → first.pebbles ≡ second.pebbles
+    → first.start ≡ second.start → first ≡ second
+one_product outer inner first second one other are are_second pebbles start =
+    let labels = (products_agree outer inner first second one other).0 in
+    let pairs : first.pairs ≡ second.pairs = same_pairs first.pairs second.pairs are.ascending are_second.ascending
+    (among_too outer inner first second one other are) (among_too outer inner second first other one are_second) in
+    λ i. record { labels = labels i; pebbles = pebbles i; start = start i; pairs = pairs i }

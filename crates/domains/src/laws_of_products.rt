@@ -66,7 +66,7 @@ pub fn several_products_last()
 
 /// Two domains have a product as a board, with any number of pebbles and any start; and two
 /// products of the same domains have the same labels, of which one beats another on both or on
-/// neither.
+/// neither, and with the same pebbles and start they are one board.
 pub fn products_exist()
     ensures exist { (outer : PlainBoard) → (inner : PlainBoard) → (pebbles : ℕ) → (start : List ℕ)
         → 0 < inner.labels → IsAntisymmetric outer → IsAntisymmetric inner
@@ -78,6 +78,11 @@ pub fn products_exist()
         → (first.labels ≡ second.labels)
         × ((x : ℕ) → (y : ℕ) → x < first.labels → y < first.labels
         → Beats first x y ↔ Beats second x y) }
+    ensures one { (outer : PlainBoard) → (inner : PlainBoard)
+        → (first : PlainBoard) → (second : PlainBoard)
+        → IsProduct outer inner first → IsProduct outer inner second
+        → ArePairs first.labels first.pairs → ArePairs second.labels second.pairs
+        → first.pebbles ≡ second.pebbles → first.start ≡ second.start → first ≡ second }
 {}
 
 /// The nested board of a level from two on is the product of the three-cycle and the nested board
