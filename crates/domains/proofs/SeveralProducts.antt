@@ -8,7 +8,7 @@ use Rattle.domains.specs.Products.{IsProductOf}
 use Rattle.domains.proofs.LastingProducts.{factors_last}
 
 -- one pebble is answered with the label that there is
-lone_lasts : (board : PlainBoard) (depth : ℕ) (configuration : List ℕ) → board.labels ≡ 1 → board.pebbles ≡ 1
+pub lone_lasts : (board : PlainBoard) (depth : ℕ) (configuration : List ℕ) → board.labels ≡ 1 → board.pebbles ≡ 1
     → LabellerTree board depth configuration
 lone_lasts board zero configuration labels pebbles = tt
 lone_lasts board (suc depth) configuration labels pebbles =
