@@ -28,9 +28,7 @@ use Rattle.nested_cycles.proofs.Cited.{contains_map, each_of}
 use Rattle.strategies.specs.Document.{claim_of}
 use Rattle.strategies.proofs.Cited.{breaks_no_rule, document_exists, is_formed}
 
-abbrev pub MakesClaim : PlainBoard → Claim → PlainProof → Type 0
-MakesClaim board claim proof = IsProof board proof × BreaksNoRule board proof × (proof.claim ≡ claim)
-
+-- a document of the format that breaks no rule and makes the claim
 abbrev HasDocument : PlainBoard → Claim → Type 0
 HasDocument board claim = (proof : PlainProof) × IsProof board proof × BreaksNoRule board proof
     × (proof.claim ≡ claim)

@@ -88,7 +88,8 @@ pub fn products_exist()
 /// The nested board of a level from two on is the product of the three-cycle and the nested board
 /// of one level less; so by the law of products each level carries as many pebbles for ever.
 pub fn nested_boards_are_products()
-    ensures product { (count : ℕ) → (cycle : PlainBoard) → (inner : PlainBoard) → (board : PlainBoard)
+    ensures product { (count : ℕ)
+        → (cycle : PlainBoard) → (inner : PlainBoard) → (board : PlainBoard)
         → IsCircle 3 (1 ∷ []) cycle → IsNestedPlay (suc count) inner
         → IsNestedPlay (suc (suc count)) board → IsProduct cycle inner board }
     ensures carries { (count : ℕ) → (board : PlainBoard) → IsNestedPlay (suc count) board
