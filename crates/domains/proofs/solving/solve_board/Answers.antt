@@ -1,4 +1,4 @@
-use Rattle.std.proofs.Common.{◌∙◌, ap}
+use Rattle.std.proofs.Common.{rules, ◌∙◌, ap}
 use Rattle.positions.specs.Value.{HasValue}
 use Rattle.positions.proofs.Cited.{same_value}
 use Rattle.strategies.proofs.Cited.{start_value}
@@ -23,3 +23,6 @@ returns-in-Ok-clause-claim c =
     (rw (c.space-space.ensures.value, values, c.start.ensures.value) at c.rank.ensures.rank)
     (rw values at c.of-value.ensures) in
     is.claim ∙ ap claim_of (same_value b b.start is.value c.of-value.result is.has_value has)
+
+pub returns-clause-too_large : goal.returns-clause-too_large
+returns-clause-too_large c = search rules
