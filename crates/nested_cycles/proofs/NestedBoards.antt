@@ -106,7 +106,7 @@ rest_in p ps qs ascending among r has =
       | inr later ↦ later
     ]
 
-same_pairs : (ps qs : List (ℕ × ℕ)) → AllPairs Precedes ps → AllPairs Precedes qs → ((r : ℕ × ℕ) → Contains ps r → Contains qs r) → ((r : ℕ × ℕ) → Contains qs r → Contains ps r) → ps ≡ qs
+pub same_pairs : (ps qs : List (ℕ × ℕ)) → AllPairs Precedes ps → AllPairs Precedes qs → ((r : ℕ × ℕ) → Contains ps r → Contains qs r) → ((r : ℕ × ℕ) → Contains qs r → Contains ps r) → ps ≡ qs
 same_pairs [] [] up other_up among back = refl
 same_pairs [] (q ∷ qs) up other_up among back = let h = back q (0, omega arith, refl) in absurd (omega (arith, h.1))
 same_pairs (p ∷ ps) [] up other_up among back = let h = among p (0, omega arith, refl) in absurd (omega (arith, h.1))

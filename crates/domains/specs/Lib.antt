@@ -1,0 +1,12 @@
+pub mod Agreement
+pub mod Circles
+pub mod Cycles
+pub mod Dominated
+pub mod Embedding
+pub mod Follows
+pub mod Lowest
+pub mod Minimax
+pub mod Orders
+pub mod Products
+pub mod ValueOrder
+pub mod Withdrawal

@@ -1,0 +1,79 @@
+//! The laws on small boards: values that a law or a count on paper gives, and the solver finds.
+//!
+//! A run of the tests may refuse one growth of memory, whichever. So a call that was refused one is
+//! made once more.
+
+use crate::solving::solve_board;
+use board_text::parse;
+use fakes::boards::{
+    CHAIN_OF_THREE, CYCLE_WITH_A_WAY_IN, ONE_PAIR, PAIR_WITHOUT_LABELS, SHARED_LABEL, THREE_CYCLE,
+    THREE_PEBBLES,
+};
+use positions::Value;
+use std::alloc::Global;
+use std::process::Abort;
+
+/// The chain of three with its lowest label last, and both pebbles on that.
+const PAIR_AND_A_LOWEST: &str = "board 1\nlabels 3\npebbles 2\nstart 2 2\n\
+    beats 0 2\nbeats 1 0\nbeats 1 2\nend\n";
+
+/// The chain of three under other names, 1 above 2 above 0, from the lowest.
+const RENAMED_CHAIN: &str = "board 1\nlabels 3\npebbles 2\nstart 0 0\n\
+    beats 1 0\nbeats 1 2\nbeats 2 0\nend\n";
+
+/// The chain of four with three pebbles: the product of one pair and one pair.
+const PAIR_OF_PAIRS: &str = "board 1\nlabels 4\npebbles 3\nstart 0 0 0\n\
+    beats 1 0\nbeats 2 0\nbeats 2 1\nbeats 3 0\nbeats 3 1\nbeats 3 2\nend\n";
+
+/// The cycle with a way in, where the two pebbles exchange their labels.
+const EXCHANGED_ON_THE_WAY_IN: &str = "board 1\nlabels 5\npebbles 2\nstart 0 3\n\
+    beats 0 2\nbeats 1 0\nbeats 2 1\nbeats 4 3\nend\n";
+
+/// The product of the three-cycle and the three-cycle, with three pebbles.
+const CYCLE_OF_CYCLES: &str = "board 1\nlabels 9\npebbles 3\nstart 0 0 0\n\
+    beats 0 2\nbeats 0 6\nbeats 0 7\nbeats 0 8\nbeats 1 0\nbeats 1 6\nbeats 1 7\nbeats 1 8\n\
+    beats 2 1\nbeats 2 6\nbeats 2 7\nbeats 2 8\nbeats 3 0\nbeats 3 1\nbeats 3 2\nbeats 3 5\n\
+    beats 4 0\nbeats 4 1\nbeats 4 2\nbeats 4 3\nbeats 5 0\nbeats 5 1\nbeats 5 2\nbeats 5 4\n\
+    beats 6 3\nbeats 6 4\nbeats 6 5\nbeats 6 8\nbeats 7 3\nbeats 7 4\nbeats 7 5\nbeats 7 6\n\
+    beats 8 3\nbeats 8 4\nbeats 8 5\nbeats 8 7\nend\n";
+
+/// Asserts that the start of the board with this text has the value.
+fn assert_value(rt: &impl Abort, alloc: Global, text: &str, value: Value) {
+    let board = parse(alloc, text.as_bytes()).or_else(|_| parse(alloc, text.as_bytes()));
+    let board = board.expect(rt, "the text of a board");
+    let solved = solve_board(alloc, &board).or_else(|_| solve_board(alloc, &board));
+    let solved = solved.expect(rt, "a board that isn't too large");
+    assert_eq!(rt; solved.value, value, "{text}");
+}
+
+#[test]
+fn chains_and_cycles(rt: HostRuntime) {
+    for (text, value) in [
+        (SHARED_LABEL, Value::Finite(0)),
+        (ONE_PAIR, Value::Finite(1)),
+        (CHAIN_OF_THREE, Value::Finite(2)),
+        (THREE_CYCLE, Value::Forever),
+    ] {
+        assert_value(&rt, rt.alloc(), text, value);
+    }
+}
+
+#[test]
+fn other_names_places_and_processes(rt: HostRuntime) {
+    for (text, value) in [
+        (RENAMED_CHAIN, Value::Finite(2)),
+        (PAIR_WITHOUT_LABELS, Value::Finite(2)),
+        (PAIR_AND_A_LOWEST, Value::Finite(2)),
+        (CYCLE_WITH_A_WAY_IN, Value::Finite(1)),
+        (EXCHANGED_ON_THE_WAY_IN, Value::Finite(1)),
+        (THREE_PEBBLES, Value::Finite(1)),
+    ] {
+        assert_value(&rt, rt.alloc(), text, value);
+    }
+}
+
+#[test]
+fn products(rt: HostRuntime) {
+    assert_value(&rt, rt.alloc(), PAIR_OF_PAIRS, Value::Finite(3));
+    assert_value(&rt, rt.alloc(), CYCLE_OF_CYCLES, Value::Forever);
+}

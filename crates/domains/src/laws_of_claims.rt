@@ -1,0 +1,20 @@
+//! The law of claims and documents, the contract of a function without a body.
+
+ghost use Rattle.std.specs.Prelude.{◌≡◌, ◌↔◌, ◌≤◌};
+ghost use Rattle.board_text.specs.PlainBoard.{PlainBoard, IsConfiguration};
+ghost use Rattle.positions.specs.Claim.{Holds};
+ghost use Rattle.positions.specs.Ranks.{configurations};
+ghost use Rattle.positions.specs.declared.claim.Claim.{Claim as Assertion};
+ghost use Rattle.proof_text.specs.Proof.{PlainProof, IsClaim, IsProof};
+ghost use Rattle.proof_text.specs.Rules.{BreaksNoRule};
+
+use positions::MAX_CONFIGURATIONS;
+
+/// The rules of checking are sound and complete: on a board of at most 1,048,576 configurations a
+/// claim holds of the start exactly where some document of the format breaks no rule and makes it.
+pub fn claims_hold_where_documents_show_them()
+    ensures { (board : PlainBoard) → (claim : Assertion) → IsConfiguration board board.start
+        → configurations board ≤ MAX_CONFIGURATIONS → IsClaim claim → Holds board claim
+        ↔ ((proof : PlainProof) × IsProof board proof × BreaksNoRule board proof
+        × (proof.claim ≡ claim)) }
+{}

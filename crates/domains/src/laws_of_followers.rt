@@ -1,0 +1,75 @@
+//! Laws of domains that follow one another, each the contract of a function without a body.
+
+ghost use Rattle.std.specs.Prelude.{◌≡◌, ◌↔◌, ◌<◌, ℕ, List, length};
+ghost use Rattle.std.specs.List.{remove};
+ghost use Rattle.std.specs.List.Sorted.{IsPermutation};
+ghost use Rattle.board_text.specs.PlainBoard.{PlainBoard};
+ghost use Rattle.positions.specs.Game.{LabellerTree};
+ghost use Rattle.domains.specs.Embedding.{IsWithin, IsOnBoth, HasOnePebbleFewer};
+ghost use Rattle.domains.specs.Embedding.{IsRenaming, IsRenamed};
+ghost use Rattle.domains.specs.Follows.{Follows, IsLed};
+ghost use Rattle.domains.specs.ValueOrder.{IsWorthAtMost, AreWorthTheSame};
+ghost use Rattle.domains.specs.Withdrawal.{IsFreed, WithdrawalTree};
+
+/// A board whose pebbles each follow a pebble of another board, on the images of its labels or on
+/// none, lasts as long as that board.
+pub fn followers_last()
+    ensures trees { (board : PlainBoard) → (leading : PlainBoard)
+        → (image : ℕ → ℕ) → (leader : ℕ → ℕ) → (depth : ℕ) → (configuration : List ℕ)
+        → (led : List ℕ) → Follows board leading image leader
+        → IsLed board leading image leader configuration led
+        → LabellerTree leading depth configuration → LabellerTree board depth led }
+    ensures values { (board : PlainBoard) → (leading : PlainBoard)
+        → (image : ℕ → ℕ) → (leader : ℕ → ℕ) → (configuration : List ℕ) → (led : List ℕ)
+        → Follows board leading image leader
+        → IsLed board leading image leader configuration led
+        → IsWorthAtMost leading configuration board led }
+{}
+
+/// More labels and more pairs never lower the value of a configuration that both boards have.
+pub fn wider_domains_last()
+    ensures { (board : PlainBoard) → (wider : PlainBoard) → (configuration : List ℕ)
+        → IsWithin board wider → IsOnBoth board wider configuration
+        → IsWorthAtMost board configuration wider configuration }
+{}
+
+/// Other names for the labels keep each value.
+pub fn renamed_labels_keep_values()
+    ensures { (board : PlainBoard) → (renamed : PlainBoard) → (to : ℕ → ℕ) → (back : ℕ → ℕ)
+        → (configuration : List ℕ) → (other : List ℕ) → IsRenaming board renamed to back
+        → IsRenamed board to configuration other
+        → AreWorthTheSame board configuration renamed other }
+{}
+
+/// Processes that exchange their labels, in any way, keep the value.
+pub fn exchanged_labels_keep_values()
+    ensures { (board : PlainBoard) → (configuration : List ℕ) → (other : List ℕ)
+        → length configuration ≡ board.pebbles → IsPermutation configuration other
+        → AreWorthTheSame board configuration board other }
+{}
+
+/// One process fewer never lowers the value.
+pub fn fewer_pebbles_last()
+    ensures { (board : PlainBoard) → (fewer : PlainBoard) → (configuration : List ℕ) → (pebble : ℕ)
+        → HasOnePebbleFewer board fewer → length configuration ≡ board.pebbles
+        → pebble < board.pebbles
+        → IsWorthAtMost board configuration fewer (remove configuration pebble) }
+{}
+
+/// A configuration lasts as long when some of its pebbles give up their labels.
+pub fn freed_labels_last()
+    ensures trees { (board : PlainBoard) → (depth : ℕ) → (held : List ℕ) → (freed : List ℕ)
+        → length held ≡ board.pebbles → IsFreed board held freed
+        → LabellerTree board depth held → LabellerTree board depth freed }
+    ensures values { (board : PlainBoard) → (held : List ℕ) → (freed : List ℕ)
+        → length held ≡ board.pebbles → IsFreed board held freed
+        → IsWorthAtMost board held board freed }
+{}
+
+/// Processes that withdraw change no value: a labeller answers as many requests when labels may be
+/// taken away before each of them.
+pub fn withdrawals_change_nothing()
+    ensures { (board : PlainBoard) → (depth : ℕ) → (configuration : List ℕ)
+        → length configuration ≡ board.pebbles
+        → LabellerTree board depth configuration ↔ WithdrawalTree board depth configuration }
+{}

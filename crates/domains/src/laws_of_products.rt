@@ -1,0 +1,119 @@
+//! Laws of products of domains, each the contract of a function without a body.
+
+ghost use Rattle.std.specs.Prelude.{◌≡◌, ◌↔◌, ◌⊎◌, ◌+◌, ◌*◌, ◌<◌, ℕ, suc};
+ghost use Rattle.std.specs.Prelude.{All, List, [], ◌∷◌, replicate};
+ghost use Rattle.board_text.specs.PlainBoard.{PlainBoard, ArePairs, Beats, IsAntisymmetric};
+ghost use Rattle.positions.specs.Game.{LabellerTree};
+ghost use Rattle.positions.specs.Value.{HasValue};
+ghost use Rattle.positions.specs.declared.value.Value.{Value as Worth};
+ghost use Rattle.positions.specs.declared.value.Value.TheVariants.{Forever};
+ghost use Rattle.player.specs.NestedPlay.{IsNestedPlay};
+ghost use Rattle.domains.specs.Circles.{IsCircle};
+ghost use Rattle.domains.specs.Dominated.{AreDominated, IsHeld};
+ghost use Rattle.domains.specs.Orders.{IsChain};
+ghost use Rattle.domains.specs.Products.{IsProduct, IsProductOf, IsBelowCopy};
+ghost use Rattle.domains.specs.ValueOrder.{IsAtMost};
+ghost use Rattle.domains.specs.Withdrawal.{IsFreed};
+
+/// A product lasts for ever with as many pebbles as its factors together, less one, if each factor
+/// has each list of one label fewer than it has pebbles dominated: from each start whose labels are
+/// in one copy and in copies that it beats, so from all pebbles on one label.
+pub fn products_last()
+    ensures { (outer : PlainBoard) → (inner : PlainBoard) → (board : PlainBoard)
+        → (outer_count : ℕ) → (inner_count : ℕ) → (copy : ℕ) → (configuration : List ℕ)
+        → IsProduct outer inner board
+        → AreDominated outer outer_count → AreDominated inner inner_count
+        → board.pebbles ≡ suc (outer_count + inner_count) → IsHeld board configuration
+        → copy < outer.labels → IsBelowCopy outer inner copy configuration
+        → HasValue board configuration Forever }
+{}
+
+/// A product lasts as long as the factor that lasts shorter, with as many pebbles as both together,
+/// less one: from all pebbles on one label, or on none, if the outer factor lasts that long from
+/// all on its copy, and the inner one from all on its part of the copy.
+pub fn products_last_as_their_factors()
+    ensures trees { (outer : PlainBoard) → (inner : PlainBoard) → (board : PlainBoard)
+        → (depth : ℕ) → (copy : ℕ) → (piece : ℕ) → IsProduct outer inner board
+        → suc board.pebbles ≡ outer.pebbles + inner.pebbles → 0 < outer.pebbles → 0 < inner.pebbles
+        → copy < outer.labels → piece < inner.labels
+        → LabellerTree outer depth (replicate outer.pebbles copy)
+        → LabellerTree inner depth (replicate inner.pebbles piece)
+        → LabellerTree board depth (replicate board.pebbles (copy * inner.labels + piece)) }
+    ensures values { (outer : PlainBoard) → (inner : PlainBoard) → (board : PlainBoard)
+        → (copy : ℕ) → (piece : ℕ) → (configuration : List ℕ)
+        → (of_outer : Worth) → (of_inner : Worth) → (value : Worth) → IsProduct outer inner board
+        → suc board.pebbles ≡ outer.pebbles + inner.pebbles → 0 < outer.pebbles → 0 < inner.pebbles
+        → copy < outer.labels → piece < inner.labels
+        → IsFreed board (replicate board.pebbles (copy * inner.labels + piece)) configuration
+        → HasValue outer (replicate outer.pebbles copy) of_outer
+        → HasValue inner (replicate inner.pebbles piece) of_inner
+        → HasValue board configuration value → IsAtMost of_outer value ⊎ IsAtMost of_inner value }
+{}
+
+/// A product of several domains lasts as long as the one that lasts shortest, from all pebbles on
+/// the label 0.
+pub fn several_products_last()
+    ensures trees { (factors : List PlainBoard) → (board : PlainBoard) → (depth : ℕ)
+        → IsProductOf factors board
+        → All (λ factor. (0 < factor.pebbles)
+        × LabellerTree factor depth (replicate factor.pebbles 0)) factors
+        → LabellerTree board depth (replicate board.pebbles 0) }
+    ensures forever { (factors : List PlainBoard) → (board : PlainBoard) → IsProductOf factors board
+        → All (λ factor. (0 < factor.pebbles)
+        × HasValue factor (replicate factor.pebbles 0) Forever) factors
+        → HasValue board (replicate board.pebbles 0) Forever }
+{}
+
+/// Two domains have a product as a board, with any number of pebbles and any start; and two
+/// products of the same domains have the same labels, of which one beats another on both or on
+/// neither, and with the same pebbles and start they are one board.
+pub fn products_exist()
+    ensures exist { (outer : PlainBoard) → (inner : PlainBoard) → (pebbles : ℕ) → (start : List ℕ)
+        → 0 < inner.labels → IsAntisymmetric outer → IsAntisymmetric inner
+        → (board : PlainBoard) × IsProduct outer inner board × ArePairs board.labels board.pairs
+        × (board.pebbles ≡ pebbles) × (board.start ≡ start) }
+    ensures agree { (outer : PlainBoard) → (inner : PlainBoard)
+        → (first : PlainBoard) → (second : PlainBoard)
+        → IsProduct outer inner first → IsProduct outer inner second
+        → (first.labels ≡ second.labels)
+        × ((x : ℕ) → (y : ℕ) → x < first.labels → y < first.labels
+        → Beats first x y ↔ Beats second x y) }
+    ensures one { (outer : PlainBoard) → (inner : PlainBoard)
+        → (first : PlainBoard) → (second : PlainBoard)
+        → IsProduct outer inner first → IsProduct outer inner second
+        → ArePairs first.labels first.pairs → ArePairs second.labels second.pairs
+        → first.pebbles ≡ second.pebbles → first.start ≡ second.start → first ≡ second }
+{}
+
+/// The nested board of a level from two on is the product of the three-cycle and the nested board
+/// of one level less; so by the law of products each level carries as many pebbles for ever.
+pub fn nested_boards_are_products()
+    ensures product { (count : ℕ)
+        → (cycle : PlainBoard) → (inner : PlainBoard) → (board : PlainBoard)
+        → IsCircle 3 (1 ∷ []) cycle → IsNestedPlay (suc count) inner
+        → IsNestedPlay (suc (suc count)) board → IsProduct cycle inner board }
+    ensures carries { (count : ℕ) → (board : PlainBoard) → IsNestedPlay (suc count) board
+        → board.pebbles ≡ suc count → HasValue board (replicate board.pebbles 0) Forever }
+{}
+
+/// The product of the three-cycle twice and the residues modulo seven carries five processes for
+/// ever on 63 labels; and that of a chain of 200 labels and these residues lasts 199 requests or
+/// more with four processes. No run could look at their configurations.
+pub fn products_beyond_any_run()
+    ensures for_ever { (cycle : PlainBoard) → (residues : PlainBoard) → (board : PlainBoard)
+        → IsCircle 3 (1 ∷ []) cycle → cycle.pebbles ≡ 2
+        → IsCircle 7 (1 ∷ 2 ∷ 4 ∷ []) residues → residues.pebbles ≡ 3
+        → IsProductOf (cycle ∷ cycle ∷ residues ∷ []) board
+        → (board.labels ≡ 63) × (board.pebbles ≡ 5)
+        × HasValue board (replicate board.pebbles 0) Forever }
+    ensures exist { (cycle : PlainBoard) × (residues : PlainBoard) × (board : PlainBoard)
+        × IsCircle 3 (1 ∷ []) cycle × (cycle.pebbles ≡ 2)
+        × IsCircle 7 (1 ∷ 2 ∷ 4 ∷ []) residues × (residues.pebbles ≡ 3)
+        × IsProductOf (cycle ∷ cycle ∷ residues ∷ []) board }
+    ensures finite { (chain : PlainBoard) → (residues : PlainBoard) → (board : PlainBoard)
+        → IsChain chain → chain.labels ≡ 200 → chain.pebbles ≡ 2
+        → IsCircle 7 (1 ∷ 2 ∷ 4 ∷ []) residues → residues.pebbles ≡ 3
+        → IsProductOf (chain ∷ residues ∷ []) board
+        → (board.labels ≡ 1400) × (board.pebbles ≡ 4)
+        × LabellerTree board 199 (replicate board.pebbles 0) }
+{}

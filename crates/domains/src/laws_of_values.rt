@@ -1,0 +1,45 @@
+//! Laws of values, each the contract of a function without a body.
+
+ghost use Rattle.std.specs.Prelude.{◌≡◌, ◌↔◌, ◌<◌, List, ℕ, length};
+ghost use Rattle.board_text.specs.PlainBoard.{PlainBoard, IsConfiguration};
+ghost use Rattle.positions.specs.Game.{LabellerTree};
+ghost use Rattle.positions.specs.Laws.{HasOneValue};
+ghost use Rattle.positions.specs.Ranks.{configurations};
+ghost use Rattle.positions.specs.Table.{AnswerRow, IsClosed, IsListed};
+ghost use Rattle.positions.specs.Value.{HasValue};
+ghost use Rattle.positions.specs.declared.value.Value.{Value as Worth};
+ghost use Rattle.positions.specs.declared.value.Value.TheVariants.{Finite, Forever};
+ghost use Rattle.domains.specs.Minimax.{IsMinimax};
+ghost use Rattle.domains.specs.ValueOrder.{IsWorthAtMost};
+
+/// A function gives each configuration of a board its value exactly where it solves the minimax
+/// equation: each value is the least over the pebbles of the greatest over the legal labels of one
+/// more than the value after the move.
+pub fn values_solve_one_equation()
+    ensures { (board : PlainBoard) → (value : List ℕ → Worth)
+        → ((configuration : List ℕ) → IsConfiguration board configuration
+        → HasValue board configuration (value configuration)) ↔ IsMinimax board value }
+{}
+
+/// A value is at most another one exactly where a labeller who answers any number of requests from
+/// the first configuration answers as many from the second. Each list with a place for each pebble
+/// has one value, also with places that hold no label on a board whose start has none of these.
+pub fn values_compare_as_trees()
+    ensures order { (first : PlainBoard) → (second : PlainBoard)
+        → (configuration : List ℕ) → (other : List ℕ) → length configuration ≡ first.pebbles
+        → length other ≡ second.pebbles → IsWorthAtMost first configuration second other
+        ↔ ((depth : ℕ) → LabellerTree first depth configuration → LabellerTree second depth other) }
+    ensures one { (board : PlainBoard) → (configuration : List ℕ)
+        → length configuration ≡ board.pebbles → HasOneValue board configuration }
+{}
+
+/// A configuration has the value forever exactly where some closed table lists it: one strategy for
+/// any number of requests. A finite value is below the number of configurations.
+pub fn for_ever_is_a_closed_table()
+    ensures table { (board : PlainBoard) → (configuration : List ℕ)
+        → IsConfiguration board configuration → HasValue board configuration Forever
+        ↔ ((table : List AnswerRow) × IsClosed board table × IsListed table configuration) }
+    ensures finite { (board : PlainBoard) → (configuration : List ℕ)
+        → IsConfiguration board configuration → (number : ℕ)
+        → HasValue board configuration (Finite number) → number < configurations board }
+{}

@@ -1,0 +1,32 @@
+//! Laws of label domains: what follows from the rule of a domain and from others that are known.
+#![tactic(auto)]
+
+#[cfg(test)]
+mod examples;
+mod laws_of_answers;
+mod laws_of_claims;
+mod laws_of_followers;
+mod laws_of_products;
+mod laws_of_starts;
+mod laws_of_values;
+mod solving;
+
+pub use laws_of_answers::{
+    answers_depend_on_others, dominators_are_not_asked, no_label_is_a_lowest_label,
+};
+pub use laws_of_claims::claims_hold_where_documents_show_them;
+pub use laws_of_followers::{
+    exchanged_labels_keep_values, fewer_pebbles_last, followers_last, freed_labels_last,
+    renamed_labels_keep_values, wider_domains_last, withdrawals_change_nothing,
+};
+pub use laws_of_products::{
+    nested_boards_are_products, products_beyond_any_run, products_exist, products_last,
+    products_last_as_their_factors, several_products_last,
+};
+pub use laws_of_starts::{
+    chains_have_their_value, dominated_boards_last, orders_end, two_pebbles_last_on_cycles,
+};
+pub use laws_of_values::{
+    for_ever_is_a_closed_table, values_compare_as_trees, values_solve_one_equation,
+};
+pub use solving::{Solved, solve_board};

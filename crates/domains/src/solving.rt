@@ -1,0 +1,72 @@
+//! Solving a board as plain data: the value of its start and its document, with no text between.
+
+ghost use Rattle.std.specs.Prelude.{◌≡◌, ◌↔◌, ◌<◌, Err, IfOk};
+ghost use Rattle.positions.specs.Claim.{Shows};
+ghost use Rattle.positions.specs.Ranks.{configurations};
+ghost use Rattle.positions.specs.Value.{HasValue};
+ghost use Rattle.proof_text.specs.Proof.{IsDocument, plain_proof, answer_rows, request_rows};
+ghost use Rattle.proof_text.specs.Rules.{BreaksNoRule};
+ghost use Rattle.retro_core.specs.declared.fault.SolveFault.TheVariants as SolveFault;
+ghost use Rattle.strategies.specs.Document.{IsDocumentOf, claim_of};
+
+use board_text::{Board, Memory};
+use index_lists::PlainLists;
+use positions::{MAX_CONFIGURATIONS, Value};
+use proof_text::Proof;
+use retro_core::{SolveFault, Solver, Values};
+use std::alloc::Global;
+use strategies::document;
+
+/// The value of a board's start, and the board's document.
+#[derive(Drop)]
+pub struct Solved {
+    pub value: Value,
+    pub document: Proof,
+}
+
+/// The value of the board's start, and the document that shows it: it claims the value, its tables
+/// show the claim, it breaks no rule of checking, and there is no other document of the board.
+///
+/// It works on this thread. It answers `TooLarge` for a board of more than 1,048,576
+/// configurations, and `Memory` where a growth of memory was refused.
+pub fn solve_board(alloc: Global, board: &Board) -> Result<Solved, SolveFault>
+    ensures value { IfOk result (λ solved. HasValue board.now board.now.start solved.value) }
+    ensures claim { IfOk result (λ solved. solved.document.claim ≡ claim_of solved.value) }
+    ensures shows { IfOk result (λ solved. Shows board.now
+        (answer_rows board.now solved.document.labeller.items)
+        (request_rows board.now solved.document.adversary.items) solved.document.claim) }
+    ensures rules { IfOk result (λ solved.
+        BreaksNoRule board.now (plain_proof board.now solved.document)) }
+    ensures form { IfOk result (λ solved. IsDocument board.now solved.document) }
+    ensures document { IfOk result (λ solved.
+        IsDocumentOf board.now (plain_proof board.now solved.document)) }
+    ensures too_large { (result ≡ Err SolveFault.TooLarge)
+        ↔ (MAX_CONFIGURATIONS < configurations board.now) }
+    ensures no_worker { result ≡ Err SolveFault.Worker → ⊥ }
+{
+    let values = values_of(alloc, board)?;
+    let space = values.space();
+    let value = values.of(space.rank(board.start()));
+    match document(alloc, board, &values) {
+        Ok(document) => Ok(Solved { value, document }),
+        Err(Memory) => Err(SolveFault::Memory),
+    }
+}
+
+/// The values of a board, by as many rounds as it takes.
+fn values_of(alloc: Global, board: &Board) -> Result<Values, SolveFault>
+    ensures values { IfOk result (λ values. values ≡ board.now) }
+    ensures few { IfOk result (λ _. (MAX_CONFIGURATIONS < configurations board.now) → ⊥) }
+    ensures too_large { (result ≡ Err SolveFault.TooLarge)
+        ↔ (MAX_CONFIGURATIONS < configurations board.now) }
+    ensures no_worker { result ≡ Err SolveFault.Worker → ⊥ }
+{
+    let mut solver = Solver::<PlainLists>::open(alloc, board)?;
+    loop {
+        match solver.finish() {
+            Ok(values) => return Ok(values),
+            Err(unfinished) => solver = unfinished.solver,
+        }
+        solver.round();
+    }
+}
