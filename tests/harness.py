@@ -31,7 +31,7 @@ def newest():
     for crate in os.listdir(CRATES):
         for part in ('src', 'specs', 'proofs'):
             for folder, _, names in os.walk(os.path.join(CRATES, crate, part)):
-                files += [folder, *(os.path.join(folder, name) for name in names)]
+                files += [os.path.join(folder, name) for name in names]
     return max(os.stat(file).st_mtime for file in files)
 
 
