@@ -53,7 +53,7 @@ pub fn solve_board(alloc: Global, board: &Board) -> Result<Solved, SolveFault>
     }
 }
 
-/// The values of a board, by as many rounds as it takes.
+/// The values of a board.
 fn values_of(alloc: Global, board: &Board) -> Result<Values, SolveFault>
     ensures values { IfOk result (λ values. values ≡ board.now) }
     ensures few { IfOk result (λ _. (MAX_CONFIGURATIONS < configurations board.now) → ⊥) }
@@ -61,12 +61,5 @@ fn values_of(alloc: Global, board: &Board) -> Result<Values, SolveFault>
         ↔ (MAX_CONFIGURATIONS < configurations board.now) }
     ensures no_worker { result ≡ Err SolveFault.Worker → ⊥ }
 {
-    let mut solver = Solver::<PlainLists>::open(alloc, board)?;
-    loop {
-        match solver.finish() {
-            Ok(values) => return Ok(values),
-            Err(unfinished) => solver = unfinished.solver,
-        }
-        solver.round();
-    }
+    Ok(Solver::<PlainLists>::open(alloc, board)?.solve())
 }
