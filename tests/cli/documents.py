@@ -37,6 +37,15 @@ CLAIMS = {
     'product-of-four-cycle-and-cycle': 'forever',
     'product-of-cycle-and-residues-modulo-seven': 'forever',
 }
+# stored boards that are products, each with its outer and its inner factor
+PRODUCTS = {
+    'nested-of-level-three': ('three-cycle', 'three-cycle'),
+    'four-pebbles-on-level-three': ('three-cycle', 'three-cycle'),
+    'product-of-cycle-and-pair': ('three-cycle', 'one-pair'),
+    'product-of-pair-and-cycle': ('one-pair', 'three-cycle'),
+    'product-of-four-cycle-and-cycle': ('four-cycle', 'three-cycle'),
+    'product-of-cycle-and-residues-modulo-seven': ('three-cycle', 'residues-modulo-seven'),
+}
 # the digest of the nested board of level 6 with six pebbles, whose text was made by other means
 NESTED_SIX = '99e3d4fd93bc36598f8d3ffb62b223fb984699a8e9c5a4f0f51b5b23fbf76a55'
 EMPTY_REPORT = b'report 1\nlabels 32\npebbles 4\nconfigurations 1048576\nstart value 0\nvalue 0: 1048576\nforever: 0\nend\n'
@@ -113,9 +122,31 @@ def are_made(work):
     return None if not others else f'others are made: {sorted(others)}'
 
 
+def domain_of(text):
+    """The number of labels of a board's text, and its pairs."""
+    lines = [line.split() for line in text.decode().splitlines()]
+    pairs = {(int(line[1]), int(line[2])) for line in lines if line[0] == 'beats'}
+    return next(int(line[1]) for line in lines if line[0] == 'labels'), pairs
+
+
+def is_product(whole, outer, inner):
+    """None if the whole board is the product of the two, said of each two of its labels by quotient and remainder."""
+    (labels, pairs), (copies, over), (size, under) = (domain_of(text_of(board(name))) for name in (whole, outer, inner))
+    if labels != copies * size:
+        return f'{labels} labels, and {copies} times {size} are wanted'
+    for x in range(labels):
+        for y in range(labels):
+            beats = (x // size, y // size) in over or x // size == y // size and (x % size, y % size) in under
+            if ((x, y) in pairs) != beats:
+                return f'{x} beats {y}: {(x, y) in pairs}, and {beats} is wanted'
+    return None
+
+
 def stored_boards(work):
-    """The claims and counts of stored boards."""
+    """The claims and counts of stored boards, and which of them are products."""
     yield Check('the stored boards are made', partial(are_made, work))
+    for name, (outer, inner) in PRODUCTS.items():
+        yield Check(f'{name} is the product of {outer} and {inner}', partial(is_product, name, outer, inner))
     for name, claim in CLAIMS.items():
         yield from solved(work, name, board(name), claim)
     for name in stored('.board'):

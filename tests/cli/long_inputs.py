@@ -29,8 +29,9 @@ def long_boards(work):
     yield check('a board that is too long', TOO_LONG, ['check', too_long, longest])
     yield fed('the longest document', fault(1, 'proof fault line 1 Version'), zeros(LONGEST_INPUT), ['check', PAIR, '/dev/stdin'])
     yield fed('a document that is too long', TOO_LONG, zeros(LONGEST_INPUT + 1), ['check', PAIR, '/dev/stdin'])
-    for command in ('solve', 'report'):
-        yield check(f'{command} of a board that is too long', TOO_LONG, [command, too_long])
+    for name, words in (('solve', ['solve']), ('report', ['report']), ('play', ['play', '--side', 'labeller'])):
+        yield check(f'{name} of the longest board', NO_VERSION, words + [longest])
+        yield check(f'{name} of a board that is too long', TOO_LONG, words + [too_long])
     yield fed('a board of two thousand million bytes', TOO_LONG, zeros(2000000000), ['solve', '/dev/stdin'])
 
 

@@ -1,6 +1,7 @@
 //! What the words of command lines ask for.
 
-use command_line::{Job, JobFault, Player, job};
+use command_line::{Job, JobFault, job};
+use positions::Side;
 use std::alloc::Global;
 use std::process::Abort;
 
@@ -113,15 +114,15 @@ fn plays(rt: HostRuntime) {
     for (words, side) in [
         (
             ["pebbles", "play", "--side", "labeller", "a"].as_slice(),
-            Player::Labeller,
+            Side::Labeller,
         ),
         (
             ["pebbles", "play", "--side=adversary", "a"].as_slice(),
-            Player::Adversary,
+            Side::Adversary,
         ),
         (
             ["pebbles", "play", "a", "--side", "adversary"].as_slice(),
-            Player::Adversary,
+            Side::Adversary,
         ),
     ] {
         assert_asks(&rt, rt.alloc(), words, Job::Play { side, board: "a" });

@@ -30,9 +30,19 @@ mod nested_play;
 #[cfg(test)]
 mod plays;
 #[cfg(test)]
+mod plays_in_memory;
+#[cfg(test)]
 mod printing;
 #[cfg(test)]
 mod rounds;
+#[cfg(test)]
+mod runs_of_checks;
+#[cfg(test)]
+mod runs_of_plays;
+#[cfg(test)]
+mod runs_of_solving;
+#[cfg(test)]
+mod served_words;
 #[cfg(test)]
 mod shared_rounds;
 #[cfg(test)]

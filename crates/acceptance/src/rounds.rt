@@ -304,6 +304,16 @@ fn sizes_of(round: &RoundState<'_, LinkLists>, seat: usize) -> Option<(u32, usiz
     Some((share.width, share.todo.len()))
 }
 
+/// The first five ranks that a seat has to strike.
+fn five_of(round: &RoundState<'_, LinkLists>, seat: usize) -> Option<[u32; 5]> {
+    match share_of(round, seat)?.todo {
+        [first, second, third, fourth, fifth] => {
+            Some([*first, *second, *third, *fourth, *fifth])
+        }
+        _ => None,
+    }
+}
+
 #[test]
 fn seats_of_three_pebbles(rt: HostRuntime) {
     let board = board_of(&rt, rt.alloc(), THREE_PEBBLES);
@@ -316,12 +326,15 @@ fn seats_of_three_pebbles(rt: HostRuntime) {
         &[(Step::Split(0), Ok(Seen::Parted { seat: 1 }))],
     );
     assert_same(&rt, "first", sizes_of(&round, 0), Some((2, 5)));
+    let five = five_of(&round, 0);
+    assert!(&rt; five.is_some());
     assert_same(&rt, "second", sizes_of(&round, 1), Some((1, 4)));
     assert_steps(&rt, &mut round, &SEATS[..2]);
     assert_same(&rt, "first again", sizes_of(&round, 0), Some((1, 3)));
     assert_same(&rt, "third", sizes_of(&round, 2), Some((1, 2)));
     assert_steps(&rt, &mut round, &SEATS[2..4]);
     assert_same(&rt, "joined", sizes_of(&round, 0), Some((2, 5)));
+    assert_same(&rt, "the same five", five_of(&round, 0), five);
     assert_steps(&rt, &mut round, &SEATS[4..]);
 }
 

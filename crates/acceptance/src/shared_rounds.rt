@@ -4,15 +4,16 @@
 
 ghost use Rattle.std.specs.Prelude.{◌≡◌, ◌<◌, ◌≤◌, false};
 ghost use Rattle.claim_round.specs.Shared.{IsOf};
+ghost use Rattle.retro_core.specs.Ending.{IsRoundEnd};
 
 use crate::assertions::assert_same;
 use crate::rounds::{NINE, Tally, has_each, opened};
 use crate::texts::board_of;
 use board_text::Memory;
-use claim_round::{NotClosed, RoundSeat, SharedRound, Why};
+use claim_round::{Closed, NotClosed, RoundSeat, SharedRound, Why};
 use fakes::boards::{CHAIN_OF_THREE, THREE_PEBBLES};
 use index_lists::{LinkLists, ListStore};
-use retro_core::{Seen, Solver};
+use retro_core::{Progress, Seen, Solver};
 use std::alloc::Global;
 use std::process::Abort;
 
@@ -26,6 +27,7 @@ pub(crate) fn open_round<'a>(
     requires going { solver.now.is_done ≡ false }
     requires width { 0 < width }
     ensures mine { IsOf result.0 result.1 }
+    ensures solver { result.0.key.solving ≡ solver.now }
     ensures width { result.1.view.has.width ≡ width }
 {
     match SharedRound::open(alloc, solver, width) {
@@ -249,8 +251,34 @@ fn two_seats_of_three_pebbles(rt: HostRuntime) {
     assert_won(&rt, round, seat, &[0, 13, 26]);
 }
 
+/// The end of a round of a solver, which two seats worked off.
+fn closed_round(rt: &impl Abort, alloc: Global, solver: &Solver<LinkLists>) -> Closed
+    requires { solver.now.is_done ≡ false }
+    ensures { IsRoundEnd solver.now result.won result.counts }
+{
+    let (round, seat) = open_round(rt, alloc, solver, 2);
+    let (mut first, mut second) = split(rt, &round, seat);
+    let mut tally = Tally::none();
+    work(&round, &mut second, &mut tally);
+    work(&round, &mut first, &mut tally);
+    let seat = join(rt, &round, first, second);
+    match round.close(seat) {
+        Ok(closed) => closed,
+        Err(_) => panic!(rt; "a round that is done was not closed"),
+    }
+}
+
+#[test]
+fn a_closed_round_is_filed(rt: HostRuntime) {
+    let board = board_of(&rt, rt.alloc(), CHAIN_OF_THREE);
+    let mut solver = opened(&rt, rt.alloc(), &board);
+    let closed = closed_round(&rt, rt.alloc(), &solver);
+    let filed = solver.file_round(&closed);
+    assert_same(&rt, "value 1", filed, Progress::Filed(3));
+}
+
 /// What each of sixteen seats has to strike, of three pebbles on the cycle at value 0.
-const SIXTEEN: [u32; 16] = [1, 1, 1, 0, 1, 0, 1, 0, 1, 0, 1, 0, 1, 0, 1, 0];
+pub(crate) const SIXTEEN: [u32; 16] = [1, 1, 1, 0, 1, 0, 1, 0, 1, 0, 1, 0, 1, 0, 1, 0];
 
 /// Works a seat by so many seats of width 1, of which the first has this number: split left to right, worked, and joined again.
 fn work_apart(

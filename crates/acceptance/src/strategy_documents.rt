@@ -5,7 +5,7 @@
 ghost use Rattle.std.specs.Prelude.{◌≡◌, ◌≤◌, IfOk, IfSome};
 ghost use Rattle.positions.specs.Ranks.{configurations};
 ghost use Rattle.proof_text.specs.Proof.{IsDocument};
-ghost use Rattle.retro_core.specs.Solving.{IsSolving};
+ghost use Rattle.solver.specs.Solving.{IsSolving};
 
 use crate::assertions::assert_same;
 use crate::documents::{check_document, print_document};

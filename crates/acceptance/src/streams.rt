@@ -2,7 +2,7 @@
 //!
 //! Where a growth of memory may be refused, a call that was refused one is made once more.
 
-ghost use Rattle.std.specs.Prelude.{◌≡◌, ◌<◌, false};
+ghost use Rattle.std.specs.Prelude.{◌≡◌, ◌<◌, false, IfErr};
 
 use crate::assertions::assert_same;
 use board_text::{Failed, ReadFault, Sink, Source, Through, read_all, write_all};
@@ -23,7 +23,9 @@ fn is_read<S: Source>(
     text: &[u8],
 ) -> Result<bool, ReadFault>
     requires unfailed { S.has_failed reader.old ≡ false }
+    requires unended { S.has_ended reader.old ≡ false }
     requires limit { limit < usize.MAX }
+    ensures unended { IfErr result (λ _. S.has_ended reader.new ≡ false) }
 {
     let bytes = read_all(alloc, reader, limit)?;
     Ok(bytes.as_slice() == text)

@@ -6,6 +6,7 @@
 ghost use Rattle.std.specs.Prelude.{◌≡◌, ◌≤◌, IfSome};
 
 use crate::assertions::assert_same;
+use crate::shared_rounds::SIXTEEN;
 use crate::solving::{solve, value};
 use crate::solving_shapes::chain;
 use crate::strategy_documents::assert_text;
@@ -289,6 +290,25 @@ fn two_workers_on_three_pebbles(rt: HostRuntime) {
     assert_same(&rt, "shares", (first.todo, second.todo), (5, 4));
     assert_same(&rt, "left", (first.left, second.left), (1, 1));
     assert_same(&rt, "won", first.won.checked_add(second.won), Some(3));
+}
+
+#[test]
+fn sixteen_workers_on_three_pebbles(rt: HostRuntime) {
+    let board = board_of(&rt, rt.alloc(), THREE_PEBBLES);
+    let watch = watched(&rt, rt.alloc(), &board, 16, Waits::Never);
+    for worker in 0..WORKERS {
+        let found = watch.seen(worker, 0).map(|seen| seen.todo);
+        let wanted = SIXTEEN.get(worker as usize).copied().map(u64::from);
+        assert_same(&rt, worker, found, wanted);
+    }
+}
+
+// `tests/refused/run` asks that no start of a thread is there to be refused.
+#[test]
+fn one_worker_by_itself(rt: HostRuntime) {
+    let board = board_of(&rt, rt.alloc(), THREE_PEBBLES);
+    let values = values_by(&rt, rt.alloc(), &board, 1);
+    assert_values(&rt, rt.alloc(), &board, &values);
 }
 
 /// What all workers had to strike in a round, and the least and the most that one had.

@@ -8,6 +8,8 @@ ghost use Rattle.board_text.specs.Readings.{IsBoardText, IsFaulty};
 ghost use Rattle.board_text.specs.declared.fault.BoardKind.{BoardKind as Kind};
 ghost use Rattle.board_text.specs.declared.fault.BoardKind.TheVariants.{Memory as OutOfMemory};
 
+use crate::board::{MAX_LABELS, MAX_PEBBLES};
+
 /// A text is that of one board at most.
 pub fn one_board()
     ensures { (first : PlainBoard) → (second : PlainBoard) → IsBoard first → IsBoard second → board_text first ≡ board_text second
@@ -25,4 +27,10 @@ pub fn one_fault()
 pub fn board_or_fault()
     ensures either { (text : List ℕ) → IsBoardText text ⊎ IsFaulty text }
     ensures not_both { (text : List ℕ) → IsBoardText text → IsFaulty text → ⊥ }
+{}
+
+/// A board has at most 256 labels and 6 pebbles.
+pub fn limits()
+    ensures labels { MAX_LABELS ≡ 256 }
+    ensures pebbles { MAX_PEBBLES ≡ 6 }
 {}

@@ -20,7 +20,7 @@ mod writing;
 pub use board::{Board, MAX_LABELS, MAX_PEBBLES};
 pub use domination::{Domination, ROW_WORDS};
 pub use fault::{BoardFault, BoardKind};
-pub use laws::{board_or_fault, one_board, one_fault};
+pub use laws::{board_or_fault, limits, one_board, one_fault};
 pub use memory::Memory;
 pub use parsing::parse;
 pub use printing::print;

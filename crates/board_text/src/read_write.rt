@@ -1,6 +1,7 @@
 //! Reading all that there is, and writing all that there is to write.
 
-ghost use Rattle.std.specs.Prelude.{◌≡◌, ◌+◌, ◌<◌, ◌≤◌, length, take, drop, true, false, IfOk, IfErr, OnOk, OnErr};
+ghost use Rattle.std.specs.Prelude.{◌≡◌, ◌+◌, ◌<◌, ◌≤◌, length, take, drop, true, false};
+ghost use Rattle.std.specs.Prelude.{IfOk, IfErr, OnOk, OnErr, MatchResult};
 ghost use Rattle.std.specs.Io.KnownBytes.{Appends, Consumes, IsAtEnd, Keeps};
 ghost use Rattle.board_text.specs.Streams.{GaveAll, AppendsFront, ReadFails};
 ghost use Rattle.board_text.specs.ReadFaults.{ReadAllFails};
@@ -22,17 +23,21 @@ pub enum ReadFault {
 
 const FIRST_READ: usize = 8192;
 
-/// Reads all that is left, at most `limit` bytes. The source must not have failed before.
+/// Reads all that is left, at most `limit` bytes. The source must not have failed before, nor told
+/// its end.
 pub fn read_all<A: Allocator, S: Source>(
     alloc: A,
     source: &mut S,
     limit: usize,
 ) -> Result<Vec<u8, A>, ReadFault>
     requires ready { S.has_failed source.old ≡ false }
+    requires unended { S.has_ended source.old ≡ false }
     requires countable { limit < usize.MAX }
     ensures ok { IfOk result (λ bytes. GaveAll (S.remaining source.old) (S.remaining source.new) bytes.items) }
     ensures within { IfOk result (λ bytes. length bytes.items ≤ limit) }
     ensures unfailed { OnOk result (S.has_failed source.new ≡ false) }
+    ensures ended { MatchResult result (λ _. S.has_ended source.new ≡ true)
+        (λ _. S.has_ended source.new ≡ false) }
     ensures fault { IfErr result (ReadAllFails (S.remaining source.old) (S.remaining source.new) (S.has_failed source.new) limit) }
 {
     let mut bytes = Vec::new(alloc);
@@ -77,13 +82,18 @@ fn make_room<A: Allocator>(
 
 /// One read into `bytes` from `at` on.
 fn read_at<S: Source>(source: &mut S, bytes: &mut [u8], at: usize) -> Result<usize, Failed>
-    requires { at < length bytes.old }
+    requires inside { at < length bytes.old }
+    requires unfailed { S.has_failed source.old ≡ false }
+    requires unended { S.has_ended source.old ≡ false }
     ensures front { take at bytes.new ≡ take at bytes.old }
     ensures fits { IfOk result (λ n. at + n ≤ length bytes.new) }
     ensures given { IfOk result (λ n. Consumes (S.remaining source.old) (S.remaining source.new) (take n (drop at bytes.new))) }
     ensures end { IfOk result (λ n. n ≡ 0 → IsAtEnd (S.remaining source.new)) }
     ensures kept { OnErr result (Keeps (S.remaining source.old) (S.remaining source.new)) }
     ensures failed { ReadFails (S.has_failed source.old) (S.has_failed source.new) result }
+    ensures ended { MatchResult result
+        (λ n. (n ≡ 0 → S.has_ended source.new ≡ true) × (0 < n → S.has_ended source.new ≡ false))
+        (λ _. S.has_ended source.new ≡ false) }
 {
     source.read(&mut bytes[at..])
 }

@@ -1,5 +1,5 @@
 -- When one seat has the whole width and nothing left to do, the round is finished.
-use Rattle.std.proofs.Common.{◌≡◌, ◌≢◌, ◌⊎◌, ℕ, zero, suc, ◌+◌, ◌^◌, ◌<◌, ◌≤◌, ◌↔◌, List, [], ◌∷◌, map, length, take, drop, get_or, true, false, refl, sym, ap, ◌∙◌, subst, inl, inr, arith, Some, None}
+use Rattle.std.proofs.Common.{◌≡◌, ◌≢◌, ℕ, zero, suc, ◌+◌, ◌^◌, ◌<◌, ◌≤◌, ◌↔◌, List, [], ◌∷◌, map, length, take, drop, get_or, true, false, refl, sym, ap, ◌∙◌, subst, inl, inr, arith, Some, None}
 use Rattle.std.specs.Prelude.{slice_index}
 use Rattle.board_text.specs.declared.board.TheConstants.{MAX_LABELS}
 use Rattle.std.proofs.lemmas.Bool.{cases_lt}
@@ -20,14 +20,15 @@ use Rattle.positions.specs.Gaps.{gaps, member_of, IsAnswer}
 use Rattle.positions.specs.Counts.{HasSize}
 use Rattle.positions.specs.declared.space.TheConstants.{MAX_CONFIGURATIONS}
 use Rattle.positions.proofs.Cited.{same_size, size_zero, size_at_most}
-use Rattle.retro_core.specs.Solving.{Solving, IsSolving, AnswerLasts}
+use Rattle.solver.specs.Solving.{Solving, IsSolving, AnswerLasts}
 use Rattle.retro_core.specs.Round.{PlainSeat, Round, IsLawful, IsWorkedOff, spent as spent_seat, seat_at, all_todo}
 use Rattle.retro_core.specs.Round.{all_won}
 use Rattle.retro_core.specs.declared.step.Seen.{Seen as Answer}
 use Rattle.retro_core.specs.declared.step.Seen.TheVariants as seen
 use Rattle.retro_core.specs.History.{answer_at}
-use Rattle.retro_core.specs.Ending.{IsRoundEnd}
-use Rattle.retro_core.proofs.Cited.{closed-always, closed-gone, closed-once, lost-opened, won-told, same_or_not, times-together, worked-off}
+use Rattle.solver.specs.Ending.{IsRoundEnd}
+use Rattle.solver.proofs.Cited.{same_or_not}
+use Rattle.retro_core.proofs.Cited.{closed-always, closed-gone, closed-once, lost-opened, won-told, times-together, worked-off}
 use Rattle.claim_round.specs.Shared.{Key, View, Ended, Finishes}
 use Rattle.claim_round.specs.History.{IsHistory, HasHistory, AreTold, LostWereWon, TellsClosedGaps, places_of, calls_of, calls_at, seats_of}
 use Rattle.claim_round.specs.Rule.{Unit0, Kept, KnowsRound}
@@ -35,7 +36,8 @@ use Rattle.claim_round.specs.Inside.Seats.{IsSeated}
 use Rattle.claim_round.specs.Inside.Rounds.{IsRound}
 use Rattle.claim_round.specs.declared.seat.RoundSeat.TheInside.{Inside}
 use Rattle.claim_round.specs.declared.words.TheConstants.{OPEN}
-use Rattle.claim_round.specs.Words.{value_of_word, round_of_words}
+use Rattle.solver.specs.Words.{value_of_word}
+use Rattle.claim_round.specs.Words.{round_of_words}
 use Rattle.claim_round.proofs.Histories.{history-lawful, told-there, told_of, IsToldBy}
 use Rattle.claim_round.proofs.Totals.{seat_read, two_widths, view_at, width_at}
 use Rattle.claim_round.proofs.TableSteps.{words_length}
@@ -257,15 +259,15 @@ small_counts s e sol done g i =
 
 pub small_value : (s : Solving) (words : List ℕ) (counts won : List ℕ) → s.rounds < configurations s.board → configurations s.board ≤ MAX_CONFIGURATIONS
     → Finishes s (record { counts = counts; values = map value_of_word words; won = won }) → (rank : ℕ) → rank < length words
-    → (slice_index words rank ≡ OPEN) ⊎ (slice_index words rank < 2 ^ 32)
+    → slice_index words rank < 2 ^ 32
 small_value s words counts won below few done rank i =
     let word : ℕ = slice_index words rank in
     let long = length-map words value_of_word in
     let wide = done.wide in
     elim (same_or_not word OPEN) [
-      | inl same ↦ inl same
+      | inl same ↦ omega arith
       | inr other ↦ (
           let read : get_or (map value_of_word words) rank None ≡ Some word = get_or-map value_of_word words rank 0 None i ∙ cond_other word OPEN None (Some word) other in
           let top = ((done.values rank word (omega arith)).0 read).0 in
-          inr (omega arith))
+          omega arith)
     ]

@@ -3,7 +3,7 @@ use Rattle.std.proofs.Common.{◌≡◌, ℕ, ◌+◌, ◌<◌, List, [], ◌∷
 use Rattle.atomic_table.specs.Seated.{TableId}
 use Rattle.board_text.specs.PlainBoard.{PlainBoard}
 use Rattle.positions.specs.Gaps.{gaps}
-use Rattle.retro_core.specs.Solving.{Solving}
+use Rattle.solver.specs.Solving.{Solving}
 use Rattle.retro_core.specs.Round.{IsDue, first_of}
 use Rattle.claim_round.specs.Shared.{Key, IsOf, RoundId, Place}
 use Rattle.claim_round.specs.Rule.{size}

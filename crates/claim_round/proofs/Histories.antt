@@ -8,13 +8,14 @@ use Rattle.std.proofs.lemmas.List.{map_push}
 use Rattle.std.proofs.lemmas.List.Elements.{All-push, All-set, All-append}
 use Rattle.index_lists.specs.Lists.{times}
 use Rattle.index_lists.proofs.Cited.{times-append, times-later}
-use Rattle.retro_core.specs.Solving.{IsSolving}
+use Rattle.solver.specs.Solving.{IsSolving}
 use Rattle.retro_core.specs.Round.{IsLawful}
 use Rattle.retro_core.specs.declared.step.Step.{Step}
 use Rattle.retro_core.specs.declared.step.Seen.{Seen}
 use Rattle.retro_core.specs.Stepping.{Does}
 use Rattle.retro_core.specs.History.{answer_at}
-use Rattle.retro_core.proofs.Cited.{answer-before, answer-last, lead-more, same_or_not, steps-lawful, times_here}
+use Rattle.solver.proofs.Cited.{same_or_not}
+use Rattle.retro_core.proofs.Cited.{answer-before, answer-last, lead-more, steps-lawful, times_here}
 use Rattle.claim_round.specs.Shared.{Key, View}
 use Rattle.claim_round.specs.History.{IsHistory, AreTold, places_of, calls_of, calls_at, seats_of}
 use Rattle.claim_round.specs.Words.{round_of_words}

@@ -7,7 +7,7 @@ use denote.Param.Send.{IsSend, IsSync, struct_sync, view_sync, recorded_sync, sh
 use Rattle.std.proofs.Crossing.{crosses, send, sync, frees}
 use Rattle.atomic_table.proofs.owned.Table.TheSendSync.{the_field_sync}
 use Rattle.index_lists.specs.declared.store.ListStore.{Ghosts}
-use Rattle.retro_core.specs.contracts.solver.Solver as solver
+use Rattle.solver.specs.contracts.solver.Solver as solver
 use Rattle.claim_round.specs.contracts.round.SharedRound as round
 use Rattle.claim_round.specs.contracts.round.SharedRound.TheInside as inside
 

@@ -10,8 +10,9 @@ use Rattle.index_lists.proofs.Cited.{cond_same, cond_other, times-without_same, 
 use Rattle.positions.specs.Ranks.{configurations, rank_of}
 use Rattle.positions.specs.Gaps.{gaps, member_of}
 use Rattle.positions.specs.declared.space.TheConstants.{MAX_CONFIGURATIONS}
-use Rattle.retro_core.specs.Solving.{Solving, IsSolving, source}
-use Rattle.retro_core.proofs.Cited.{same_or_not, source-once}
+use Rattle.solver.specs.Solving.{Solving, IsSolving, source}
+use Rattle.solver.proofs.Cited.{same_or_not}
+use Rattle.retro_core.proofs.Cited.{source-once}
 use Rattle.claim_round.specs.Shared.{Key, View, kept_part, new_part, view_joined}
 use Rattle.claim_round.specs.Rule.{most, size, load}
 use Rattle.claim_round.specs.Plays.{view_struck, claimed}

@@ -1,7 +1,7 @@
 -- A word of a closed table.
 use Rattle.std.proofs.Common.{◌≡◌, ℕ, zero, suc, ◌+◌, ◌<◌, List, [], ◌∷◌, length, map, drop, get_or, get_or-drop, sym, ap, ◌∙◌, arith, None}
 use Rattle.std.proofs.lemmas.List.{get_or-map, length-map}
-use Rattle.claim_round.specs.Words.{value_of_word}
+use Rattle.solver.specs.Words.{value_of_word}
 use mathlib.Core.Option.{some, some-ne-none, some-injective}
 use lib.ListN.{get_elem?}
 

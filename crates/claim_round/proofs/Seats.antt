@@ -7,8 +7,8 @@ use native.Mathlib.Decide.{ℕ_discrete}
 use Rattle.index_lists.specs.Lists.{times}
 use Rattle.index_lists.proofs.Cited.{cond_same, cond_other, times-append}
 use Rattle.positions.specs.Gaps.{gaps}
-use Rattle.retro_core.specs.Solving.{Solving, IsSolving, source}
-use Rattle.retro_core.specs.Round.{AreToStrike, IsDue, first_of}
+use Rattle.solver.specs.Solving.{Solving, IsSolving, source, AreToStrike}
+use Rattle.retro_core.specs.Round.{IsDue, first_of}
 use Rattle.retro_core.proofs.Cited.{times-cut, times_here, split_first, source-rank}
 use Rattle.claim_round.specs.Shared.{Key, View, kept_part, new_part, view_joined}
 use Rattle.claim_round.specs.Rule.{most, size, load}

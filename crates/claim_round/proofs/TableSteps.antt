@@ -13,19 +13,20 @@ use Rattle.index_lists.specs.Lists.{times}
 use Rattle.index_lists.proofs.Cited.{distinct-length, same_is, differ_is}
 use Rattle.positions.specs.Ranks.{configuration_at, configurations}
 use Rattle.positions.specs.Gaps.{gaps, gap_of, IsDominator}
-use Rattle.retro_core.specs.Solving.{Solving, source}
+use Rattle.solver.specs.Solving.{Solving, source}
 use Rattle.retro_core.specs.Round.{PlainSeat, IsLawful, spent as spent_seat, first_of, seat_struck, seat_tried, seat_kept, seat_new}
 use Rattle.retro_core.specs.Round.{seat_joined}
 use Rattle.retro_core.specs.declared.step.Step.TheVariants as steps
 use Rattle.retro_core.specs.declared.step.Seen.TheVariants as seen
 use Rattle.retro_core.specs.Stepping.{Does}
-use Rattle.retro_core.proofs.Cited.{same_or_not}
+use Rattle.solver.proofs.Cited.{same_or_not}
 use Rattle.claim_round.specs.Shared.{Key, View, kept_part, new_part, view_joined}
 use Rattle.claim_round.specs.History.{IsHistory, seats_of}
 use Rattle.claim_round.specs.Rule.{Unit0, Kept, KnowsRound, most, size, load, spent_view}
 use Rattle.claim_round.specs.Plays.{TableStrikes, Claims, Looks, IsBounded, view_struck, claimed}
 use Rattle.claim_round.specs.declared.words.TheConstants.{OPEN}
-use Rattle.claim_round.specs.Words.{value_of_word, round_of_words}
+use Rattle.solver.specs.Words.{value_of_word}
+use Rattle.claim_round.specs.Words.{round_of_words}
 use Rattle.claim_round.proofs.Histories.{history-lawful, history-call, history-split, history-join, IsToldBy}
 use Rattle.claim_round.proofs.WordSteps.{word-strike, word-try}
 use Rattle.claim_round.proofs.Loads.{few_members, load_struck, load_claimed, load_cut, load_glue}

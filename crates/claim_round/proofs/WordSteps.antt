@@ -6,12 +6,14 @@ use Rattle.std.proofs.Math.Seq.{take-set-lt}
 use Rattle.index_lists.proofs.Cited.{cond_same, cond_other}
 use Rattle.positions.specs.Ranks.{configuration_at}
 use Rattle.positions.specs.Gaps.{gaps, gap_of, IsDominator}
-use Rattle.retro_core.specs.Solving.{Solving, IsSolving}
+use Rattle.solver.specs.Solving.{Solving, IsSolving}
 use Rattle.retro_core.specs.Round.{PlainSeat, Round, spent, IsLawful, first_of, seat_struck, seat_tried, struck, tried, first_is_open, round_of}
 use Rattle.retro_core.specs.Stepping.{Strikes, Tries}
-use Rattle.retro_core.proofs.Cited.{same_or_not, strike-lawful, try-lawful}
+use Rattle.solver.proofs.Cited.{same_or_not}
+use Rattle.retro_core.proofs.Cited.{strike-lawful, try-lawful}
 use Rattle.claim_round.specs.declared.words.TheConstants.{OPEN}
-use Rattle.claim_round.specs.Words.{value_of_word, round_of_words}
+use Rattle.solver.specs.Words.{value_of_word}
+use Rattle.claim_round.specs.Words.{round_of_words}
 
 -- a lawful round on words, and a seat of it
 module _ (s : Solving) (w : ℕ) (words : List ℕ) (seats : List PlainSeat) (sol : IsSolving s) (law : IsLawful (round_of_words s w words seats)) (id : ℕ) (v : PlainSeat) (read : get_or seats id spent ≡ v) where

@@ -2,10 +2,10 @@
 use Rattle.std.specs.Prelude.{◌≡◌, ℕ, suc, ◌<◌, ◌≤◌, ◌==◌, Bool, cond, [], ◌∷◌, ◌++◌, Option, Some, None}
 use Rattle.positions.specs.Ranks.{configuration_at}
 use Rattle.positions.specs.Gaps.{gap_of, IsDominator}
-use Rattle.retro_core.specs.Solving.{Solving}
+use Rattle.solver.specs.Solving.{Solving, AreToStrike}
 use Rattle.retro_core.specs.declared.step.Seen.{Seen}
 use Rattle.retro_core.specs.declared.step.Seen.TheVariants as seen
-use Rattle.retro_core.specs.Round.{AreToStrike, first_of, seat_struck, seat_tried}
+use Rattle.retro_core.specs.Round.{first_of, seat_struck, seat_tried}
 use Rattle.claim_round.specs.Shared.{View, RoundId, Place}
 
 -- the round is of this solver and width, and its first seat has the whole width and all to strike

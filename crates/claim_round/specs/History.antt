@@ -6,8 +6,9 @@ use Rattle.retro_core.specs.declared.step.Step.{Step}
 use Rattle.retro_core.specs.declared.step.Seen.{Seen}
 use Rattle.retro_core.specs.declared.step.Seen.TheVariants as seen
 use Rattle.positions.specs.Gaps.{gaps}
-use Rattle.retro_core.specs.Solving.{Solving, AnswerLasts}
-use Rattle.retro_core.specs.Round.{PlainSeat, Round, IsOpening, AreFirstCounts, IsWorkedOff, all_won}
+use Rattle.solver.specs.Solving.{Solving, AnswerLasts}
+use Rattle.solver.specs.Words.{AreFirstCounts}
+use Rattle.retro_core.specs.Round.{PlainSeat, Round, IsOpening, IsWorkedOff, all_won}
 use Rattle.retro_core.specs.Stepping.{LeadTo}
 use Rattle.retro_core.specs.History.{answer_at}
 use Rattle.claim_round.specs.Shared.{Key, View, Ended}

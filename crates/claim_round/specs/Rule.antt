@@ -4,7 +4,7 @@ use Rattle.std.specs.List.{All, sum_by}
 use Rattle.atomic_table.specs.Table.{State}
 use Rattle.board_text.specs.PlainBoard.{places}
 use Rattle.positions.specs.Ranks.{configurations}
-use Rattle.retro_core.specs.Solving.{IsSolving}
+use Rattle.solver.specs.Solving.{IsSolving}
 use Rattle.retro_core.specs.Round.{spent as spent_seat}
 use Rattle.claim_round.specs.Shared.{Key, View}
 use Rattle.claim_round.specs.History.{IsHistory}
@@ -45,6 +45,7 @@ no_key = record {
     is_done = Bool.false;
     buckets = [];
     sources = [];
+    due = [];
   };
   width = 0;
 }

@@ -5,11 +5,11 @@ use Rattle.atomic_table.specs.Seated.{TableId}
 use Rattle.positions.specs.declared.value.Value.TheVariants.{Finite}
 use Rattle.positions.specs.Value.{HasValue}
 use Rattle.positions.specs.Ranks.{configurations, configuration_at}
-use Rattle.retro_core.specs.Solving.{Solving}
+use Rattle.solver.specs.Solving.{Solving}
 use Rattle.retro_core.specs.Round.{PlainSeat}
 use Rattle.retro_core.specs.Round.{seat_kept, seat_new, seat_joined}
 use Rattle.retro_core.specs.declared.step.Seen.{Seen}
-use Rattle.retro_core.specs.Ending.{IsRoundEnd}
+use Rattle.solver.specs.Ending.{IsRoundEnd}
 
 -- what a table is told: the solver whose round it is, and the round's width
 pub record Key : Type 0 where

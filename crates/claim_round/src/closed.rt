@@ -2,9 +2,8 @@
 
 ghost use Rattle.std.specs.Prelude.{◌≡◌, ◌<◌, length, slice_index, slice_index_or, None};
 
-use crate::words::OPEN;
 use atomic_table::Closed as Rows;
-use retro_core::RoundEnd;
+use solver::{RoundEnd, value_of};
 use std::alloc::Global;
 use std::marker::Model;
 
@@ -48,12 +47,7 @@ impl Closed {
         requires { rank < length self.now.values }
         ensures { result ≡ slice_index_or self.now.values rank None }
     {
-        let word = self.rows.word(self.gaps + rank as usize);
-        if word == OPEN {
-            None
-        } else {
-            Some(word as u32)
-        }
+        value_of(self.rows.word(self.gaps + rank as usize) as u32)
     }
 }
 

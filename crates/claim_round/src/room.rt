@@ -4,10 +4,10 @@ ghost use Rattle.std.specs.VecDeque.{deque_capacity};
 ghost use Rattle.std.specs.Prelude.{◌≡◌, ◌<◌, ◌≤◌, ◌++◌, ◌+◌, ◌⊎◌, length, vec_capacity, MatchBool, IsTrue};
 ghost use Rattle.positions.specs.Ranks.{configurations};
 ghost use Rattle.positions.specs.Gaps.{gaps};
-ghost use Rattle.retro_core.specs.Solving.{source};
+ghost use Rattle.solver.specs.Solving.{source};
 
 use index_lists::ListStore;
-use retro_core::Solver;
+use solver::Solver;
 use std::collections::VecDeque;
 
 /// How many places a list needs of what is won, where so many entries may be owed yet. No more are won than there are configurations.

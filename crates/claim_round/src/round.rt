@@ -15,7 +15,7 @@ use crate::words::{OPEN, first_words};
 use atomic_table::Table;
 use board_text::Memory;
 use index_lists::ListStore;
-use retro_core::Solver;
+use solver::Solver;
 use std::alloc::Global;
 use std::collections::VecDeque;
 use std::marker::Model;

@@ -2,7 +2,7 @@
 
 use atomic_table::{Join, Play, Split, TableRule};
 use index_lists::ListStore;
-use retro_core::Solver;
+use solver::Solver;
 use std::marker::Model;
 
 /// What a seat knows. No value of it is made.

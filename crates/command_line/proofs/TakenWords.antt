@@ -1,137 +1,206 @@
 -- Where `clap` takes the words, the job can be read from its matches.
-use Rattle.std.proofs.Common.{◌≡◌, ◌∙◌, ◌&&◌, ◌||◌, not, Bool, ℕ, List, [], ◌∷◌, Option, Some, None, is_some, true, false, true≢false, refl, sym, inl, inr, cond, codes, drop, arith}
-use Rattle.std.specs.Prelude.{⊤, fold, map, option_map}
+use Rattle.std.proofs.Common.{◌≡◌, ◌∙◌, ◌<◌, ◌⊎◌, ◌++◌, ◌&&◌, ◌||◌, not, Bool, ℕ, List, [], ◌∷◌, length, Option, Some, None}
+use Rattle.std.proofs.Common.{is_some, true, false, true≢false, refl, sym, ap, subst, inl, inr, cond, codes, drop, arith}
+use Rattle.std.specs.Prelude.{⊤, find, fold, map, option_map, pos, unwrap_or}
 use Rattle.std.specs.Borrow.{Bor}
 use Rattle.std.specs.List.{list_all, list_any}
 use Rattle.std.specs.Option.{option_map_or}
 use Rattle.std.specs.Str.{bytes_eq}
+use Rattle.std.proofs.lemmas.Bool.{eqb-true}
 use Rattle.std.proofs.lemmas.Slice.Eq.{bytes_eq-Decides}
-use Rattle.clap.specs.Walk.{Held, Names, Rule, Step, Text, Waiting, Walk, after_step, answers_to, arg_by_index, finished, long_or_other, next, nothing_held, rows_after, settled, subcommand, subcommand_met, subcommand_or_other, to_positional, trailing, value, walk, walk_from, walked, walked_from, word_met}
+use Rattle.clap.specs.Facts.{parser_of_value}
+use Rattle.clap.specs.Values.{reading_of}
+use Rattle.clap.specs.ValueTests.{accepts}
+use Rattle.clap.specs.Walk.{Held, Names, Row, Rule, Step, Text, Waiting, Walk, action_of, after_step, answers_to, arg_by_id}
+use Rattle.clap.specs.Walk.{arg_by_index, finished, is_empty, long_or_other, next, nothing_held, rows_after, settled, subcommand}
+use Rattle.clap.specs.Walk.{subcommand_met, subcommand_or_other, to_positional, trailing, value, walk, walk_from, walked}
+use Rattle.clap.specs.Walk.{walked_from, with_default, word_met}
 use Rattle.clap.specs.Lexer.{long_of}
-use Rattle.clap.specs.Simple.{Shape, built, built_leaf, entered, filled, with_index, help_shape, inherited, is_simple, label_of, names_of, rows_at, subcommand_of}
+use Rattle.clap.specs.Simple.{Shape, built, built_leaf, default_of, entered, filled, filled_from, help_rule, help_shape}
+use Rattle.clap.specs.Simple.{index_after, inherited, is_simple, label_of, names_of, parser_for, rows_at, subcommand_of}
+use Rattle.clap.specs.Simple.{with_action, with_index}
 use Rattle.clap.specs.Faults.{is_simple_and_free}
-use Rattle.clap.specs.Takes.{built_takes, default_passes, entered_passes, is_given, is_valid, level_passes, other_passes, settle_passes, step_passes, takes, turn_passes, walk_passes, word_passes}
+use Rattle.clap.specs.Takes.{built_takes, default_passes, entered_passes, is_given, is_valid, level_passes, other_passes}
+use Rattle.clap.specs.Takes.{settle_passes, step_passes, takes, turn_passes, walk_passes, word_passes}
+use Rattle.clap.specs.declared.builder.value_parser.ValueParser.{ValueParser}
+use Rattle.clap.specs.declared.builder.value_parser.ValueParser.TheVariants as vp
 use Rattle.board_text.specs.declared.board.TheConstants.{MAX_PEBBLES}
 use Rattle.nested_cycles.specs.declared.nested_boards.TheConstants.{MAX_BOARD_LEVELS}
 use Rattle.nested_cycles.specs.declared.game.TheConstants.{MAX_LEVELS}
 use Rattle.command_line.specs.declared.asked.TheConstants.{MAX_WORKERS}
 use Rattle.clap.proofs.OnLiterals.{clap_on_literals}
 use Rattle.clap.proofs.WalkLemmas.{both}
-use Rattle.command_line.specs.Commands.{check, climb, nested, play_among, program, program_among, side_words, solving, somewhere, workers}
-use Rattle.command_line.specs.Inside.Reading.{can_solve, is_read}
-use Rattle.command_line.proofs.RowFacts.{either}
-use Rattle.command_line.proofs.Defaults.{default_row, given_row}
+use Rattle.command_line.specs.Commands as rows
+use Rattle.command_line.specs.Commands.{command, commands, program, program_among, side_words, sides}
+use Rattle.command_line.specs.Inside.Reading.{has_value, has_values, is_among, is_read}
+use Rattle.command_line.proofs.ReadingLemmas.{false_if}
+use Rattle.command_line.proofs.RowFacts.{Each, Fits, GoodRule, either}
+use Rattle.command_line.proofs.Defaults.{HasRow, default_row, given_row}
+use Rattle.command_line.proofs.SameProgram.{below}
 use Rattle.command_line.proofs.WalkFits.{Good, IsNoCommand, long_no_command}
 use Rattle.command_line.proofs.LevelFits.{choice_there, level_fits, number_there, text_there}
 
-pub simple : (sides : Bor (List (Bor Text))) → is_simple (program_among sides) ≡ true
+pub simple : (words : Bor (List (Bor Text))) → is_simple (program_among words) ≡ true
 unfolding clap_on_literals
-simple sides = refl
+simple words = refl
 
-pub simple_and_free : (sides : Bor (List (Bor Text))) → is_simple_and_free (program_among sides) ≡ true
+pub simple_and_free : (words : Bor (List (Bor Text))) → is_simple_and_free (program_among words) ≡ true
 unfolding clap_on_literals
-simple_and_free sides = refl
+simple_and_free words = refl
 
--- ---- each command
+-- ---- any command
 
-abbrev built_check : Shape
-built_check = built_leaf (inherited program.top check)
+-- it has to be there or has a default, any case of its letters counts, and it is a number up to a limit, one of some words, or any word
+abbrev IsKind : Option ValueParser → Type 0
+IsKind parser = (parser ≡ None) ⊎ ((most : ℕ) × (parser ≡ Some (vp.Signed (pos 1) (pos most))))
+    ⊎ (parser ≡ Some (vp.Names sides))
 
-abbrev built_solving : Text → Shape
-built_solving name = built_leaf (inherited program.top (solving name))
+abbrev IsArgument : Rule → Type 0
+IsArgument a = ((a.required ≡ true) ⊎ (0 < length a.defaults)) × (a.ignore_case ≡ false) × IsKind a.parser
 
-abbrev built_workers : Rule
-built_workers = with_index 1 (filled workers)
+-- the rules that clap makes of a command's
+abbrev made_from : ℕ → List Rule → List Rule
+made_from i rules = filled_from i (rules ++ help_rule ∷ [])
 
-abbrev built_play : Shape
-built_play = built_leaf (inherited program.top (play_among (somewhere (map somewhere side_words))))
+-- a command of which each argument can be read where clap takes the words
+pub record IsCommand (s : Shape) : Type 0 where
+  pub plain : s ≡ command s.name s.rules
+  pub good : Good (made_from 1 s.rules)
+  pub arguments : Each IsArgument s.rules
 
-abbrev built_nested : Shape
-built_nested = built_leaf (inherited program.top nested)
+defaults_stay : (i : ℕ) (a : Rule) → 0 < length a.defaults → (with_index i (filled a)).defaults ≡ a.defaults
+defaults_stay i a some =
+    ap (λ (b : Bool). cond b (default_of (action_of (with_action a))) a.defaults)
+    (false_if (is_empty a.defaults) (λ none. let empty = eqb-true _ _ none in omega (arith, empty, some)))
 
-abbrev built_climb : Shape
-built_climb = built_leaf (inherited program.top climb)
+one_has_row : (a : Rule) (i : ℕ) (rest : List Rule) (rows end : List Row) → fold with_default rows (with_index i (filled a) ∷ rest) ≡ end
+    → IsArgument a → (not a.required || is_given a.id end) ≡ true → HasRow a.id end
+one_has_row a i rest rows end is argument given =
+    elim argument.0 [
+      | inl required ↦ given_row a.id end (rw required at given)
+      | inr some ↦ subst (HasRow a.id) is
+          (default_row (with_index i (filled a)) rest rows (subst (λ (d : List Text). 0 < length d) (sym (defaults_stay i a some)) some))
+    ]
 
-check_good : Good built_check.rules
-check_good = ((refl, inl (refl, omega arith)), ((refl, inl (refl, omega arith)), ((refl, inr refl), tt)))
+have_rows : (rules : List Rule) (i : ℕ) (rows end : List Row) → fold with_default rows (made_from i rules) ≡ end
+    → Each IsArgument rules → list_all (λ a. not a.required || is_given a.id end) (made_from i rules) ≡ true
+    → Each (λ a. HasRow a.id end) rules
+have_rows [] i rows end is arguments given = tt
+have_rows (a ∷ rules) i rows end is arguments given =
+    let rest = made_from (index_after i a) rules in
+    let parts = both (not a.required || is_given a.id end) (list_all (λ a. not a.required || is_given a.id end) rest) given in (
+      one_has_row a i rest rows end is arguments.0 parts.0,
+      have_rows rules (index_after i a) (with_default rows (with_index i (filled a))) end is arguments.1 parts.1,
+    )
 
-nested_good : Good built_nested.rules
-nested_good = ((refl, inl (refl, omega arith)), ((refl, inl (refl, omega arith)), ((refl, inr refl), tt)))
+kind_there : (c : List Rule) (a : Rule) (i : ℕ) (rows : List Row) → Each (Fits c) rows
+    → arg_by_id c a.id ≡ Some (with_index i (filled a)) → a.ignore_case ≡ false → IsKind a.parser → HasRow a.id rows
+    → has_value rows a.id a.parser ≡ true
+kind_there c a i rows each known exact kind there =
+    let made = with_index i (filled a) in
+    elim kind [
+      | inl any ↦ rw any (text_there c made a.id rows each known there)
+      | inr (inl (most, number)) ↦
+          let parser : made.parser ≡ Some (vp.Signed (pos 1) (pos most))
+          = ap (λ (o : Option ValueParser). Some (unwrap_or o (parser_for (action_of (with_action a))))) number in
+          rw number (number_there c made a.id most rows each known (ap (λ (o : Option ValueParser). reading_of (parser_of_value o)) parser)
+          (λ t e. subst (λ (o : Option ValueParser). accepts false (parser_of_value o) t ≡ true) parser
+          (subst (λ (b : Bool). accepts b (parser_of_value made.parser) t ≡ true) exact e)) there)
+      | inr (inr words) ↦
+          let parser : made.parser ≡ Some (vp.Names sides)
+          = ap (λ (o : Option ValueParser). Some (unwrap_or o (parser_for (action_of (with_action a))))) words in
+          rw words (choice_there c made a.id (λ t. list_any (λ word. bytes_eq word t) side_words) rows each known
+          (λ t e. subst (λ (o : Option ValueParser). accepts false (parser_of_value o) t ≡ true) parser
+          (subst (λ (b : Bool). accepts b (parser_of_value made.parser) t ≡ true) exact e)) there)
+    ]
 
-solving_good : (name : Text) → Good (built_solving name).rules
-solving_good name = ((refl, inl (refl, omega arith)), ((refl, inl (refl, omega arith)), ((refl, inr refl), tt)))
+kinds_there : (c : List Rule) (rules : List Rule) (i : ℕ) (rows : List Row) → Each (Fits c) rows
+    → Each (GoodRule c) (made_from i rules) → Each IsArgument rules → Each (λ a. HasRow a.id rows) rules
+    → list_all (λ a. has_value rows a.id a.parser) rules ≡ true
+kinds_there c [] i rows each good arguments there = refl
+kinds_there c (a ∷ rules) i rows each good arguments there =
+    let first = kind_there c a i rows each good.0.0 arguments.0.1 arguments.0.2 there.0 in
+    rw first (kinds_there c rules (index_after i a) rows each good.1 arguments.1 there.1)
 
-can_read : (name : Text) (words : List Text) → level_passes (built_solving name) [] nothing_held words false ≡ true
-    → can_solve (rows_after (built_solving name).rules [] words) ≡ true
-can_read name words pass =
-    let rules = (built_solving name).rules in
-    let rows = rows_after rules [] words in
-    let level = level_fits (built_solving name) words (solving_good name) pass in
-    let workers = default_row built_workers (drop 1 rules) (settled rules (walk rules [] nothing_held words).held).rows (omega arith) in
-    let board = (both (is_given (codes "board") rows) true level.1).0 in
-    let has_workers = number_there rules _ (codes "workers") MAX_WORKERS rows level.0 refl refl (λ t e. e) workers in
-    let has_board = text_there rules _ (codes "board") rows level.0 refl (given_row (codes "board") rows board) in
-    rw (has_workers, has_board) refl
+-- a command as clap builds it below the program
+abbrev built_below : Shape → Shape
+built_below s = built_leaf (inherited program.top s)
 
-solve_read : (words : List Text) → level_passes (built_solving (codes "solve")) [] nothing_held words false ≡ true
-    → is_read (Some (rows_at (built_solving (codes "solve")) words)) ≡ true
-solve_read words pass = rw (can_read (codes "solve") words pass) refl
+plain_read : (name : Text) (rules : List Rule) (words : List Text) → Good (made_from 1 rules) → Each IsArgument rules
+    → level_passes (built_below (command name rules)) [] nothing_held words false ≡ true
+    → has_values (rows_after (made_from 1 rules) [] words) (command name rules) ≡ true
+plain_read name rules words good arguments pass =
+    let s = built_below (command name rules) in
+    let rows = rows_after (made_from 1 rules) [] words in
+    let level = level_fits s words good pass in
+    let given = (both (list_all (λ a. a.is_free) (made_from 1 rules)) (list_all (λ a. not a.required || is_given a.id rows) (made_from 1 rules)) level.1).1 in
+    let there = have_rows rules 1 (settled (made_from 1 rules) (walk (made_from 1 rules) [] nothing_held words).held).rows rows refl arguments given in
+    kinds_there (made_from 1 rules) rules 1 rows level.0 good arguments there
 
-report_read : (words : List Text) → level_passes (built_solving (codes "report")) [] nothing_held words false ≡ true
-    → is_read (Some (rows_at (built_solving (codes "report")) words)) ≡ true
-report_read words pass = rw (can_read (codes "report") words pass) refl
+command_read : (s : Shape) (words : List Text) → IsCommand s → level_passes (built_below s) [] nothing_held words false ≡ true
+    → has_values (rows_at (built_below s) words).1 s ≡ true
+command_read s words is pass =
+    subst (λ (t : Shape). has_values (rows_at (built_below t) words).1 t ≡ true) (sym is.plain)
+    (plain_read s.name s.rules words is.good is.arguments
+    (subst (λ (t : Shape). level_passes (built_below t) [] nothing_held words false ≡ true) is.plain pass))
 
-check_read : (words : List Text) → level_passes built_check [] nothing_held words false ≡ true
-    → is_read (Some (rows_at built_check words)) ≡ true
-check_read words pass =
-    let rows = rows_after built_check.rules [] words in
-    let level = level_fits built_check words check_good pass in
-    let parts = both (is_given (codes "board") rows) (is_given (codes "proof") rows && true) level.1 in
-    let board = parts.0 in
-    let proof = (both (is_given (codes "proof") rows) true parts.1).0 in
-    let has_board = text_there built_check.rules _ (codes "board") rows level.0 refl (given_row (codes "board") rows board) in
-    let has_proof = text_there built_check.rules _ (codes "proof") rows level.0 refl (given_row (codes "proof") rows proof) in
-    rw (has_board, has_proof) refl
+-- ---- the commands, a row each
 
-nested_read : (words : List Text) → level_passes built_nested [] nothing_held words false ≡ true
-    → is_read (Some (rows_at built_nested words)) ≡ true
-nested_read words pass =
-    let rows = rows_after built_nested.rules [] words in
-    let level = level_fits built_nested words nested_good pass in
-    let parts = both (is_given (codes "levels") rows) (is_given (codes "pebbles") rows && true) level.1 in
-    let levels = parts.0 in
-    let pebbles = (both (is_given (codes "pebbles") rows) true parts.1).0 in
-    let has_levels = number_there built_nested.rules _ (codes "levels") MAX_BOARD_LEVELS rows level.0 refl refl (λ t e. e) (given_row (codes "levels") rows levels) in
-    let has_pebbles = number_there built_nested.rules _ (codes "pebbles") MAX_PEBBLES rows level.0 refl refl (λ t e. e) (given_row (codes "pebbles") rows pebbles) in
-    rw (has_levels, has_pebbles) refl
+solving_row : (name : Text) → IsCommand (rows.solving name)
+solving_row name = record {
+  plain = refl;
+  good = ((refl, inl (refl, omega arith)), ((refl, inl (refl, omega arith)), ((refl, inr refl), tt)));
+  arguments = ((inr (omega arith), refl, inr (inl (MAX_WORKERS, refl))), ((inl refl, refl, inl refl), tt));
+}
 
-play_good : Good built_play.rules
-play_good = ((refl, inl (refl, omega arith)), ((refl, inl (refl, omega arith)), ((refl, inr refl), tt)))
+check_row : IsCommand rows.check
+check_row = record {
+  plain = refl;
+  good = ((refl, inl (refl, omega arith)), ((refl, inl (refl, omega arith)), ((refl, inr refl), tt)));
+  arguments = ((inl refl, refl, inl refl), ((inl refl, refl, inl refl), tt));
+}
 
-play_read : (words : List Text) → level_passes built_play [] nothing_held words false ≡ true
-    → is_read (Some (rows_at built_play words)) ≡ true
-play_read words pass =
-    let rows = rows_after built_play.rules [] words in
-    let level = level_fits built_play words play_good pass in
-    let parts = both (is_given (codes "side") rows) (is_given (codes "board") rows && true) level.1 in
-    let side = parts.0 in
-    let board = (both (is_given (codes "board") rows) true parts.1).0 in
-    let has_a_side = choice_there built_play.rules _ (codes "side") (λ t. list_any (λ word. bytes_eq word t) side_words) rows level.0 refl (λ t e. e)
-    (given_row (codes "side") rows side) in
-    let has_board = text_there built_play.rules _ (codes "board") rows level.0 refl (given_row (codes "board") rows board) in
-    rw (has_a_side, has_board) refl
+nested_row : IsCommand rows.nested
+nested_row = record {
+  plain = refl;
+  good = ((refl, inl (refl, omega arith)), ((refl, inl (refl, omega arith)), ((refl, inr refl), tt)));
+  arguments = ((inl refl, refl, inr (inl (MAX_BOARD_LEVELS, refl))), ((inl refl, refl, inr (inl (MAX_PEBBLES, refl))), tt));
+}
 
-climb_good : Good built_climb.rules
-climb_good = ((refl, inl (refl, omega arith)), ((refl, inr refl), tt))
+play_row : IsCommand (rows.play_among sides)
+play_row = record {
+  plain = refl;
+  good = ((refl, inl (refl, omega arith)), ((refl, inl (refl, omega arith)), ((refl, inr refl), tt)));
+  arguments = ((inl refl, refl, inr (inr refl)), ((inl refl, refl, inl refl), tt));
+}
 
-climb_read : (words : List Text) → level_passes built_climb [] nothing_held words false ≡ true
-    → is_read (Some (rows_at built_climb words)) ≡ true
-climb_read words pass =
-    let rows = rows_after built_climb.rules [] words in
-    let level = level_fits built_climb words climb_good pass in
-    let levels = (both (is_given (codes "levels") rows) true level.1).0 in
-    let has_levels = number_there built_climb.rules _ (codes "levels") MAX_LEVELS rows level.0 refl refl (λ t e. e) (given_row (codes "levels") rows levels) in
-    rw has_levels refl
+climb_row : IsCommand rows.climb
+climb_row = record {
+  plain = refl;
+  good = ((refl, inl (refl, omega arith)), ((refl, inr refl), tt));
+  arguments = ((inl refl, refl, inr (inl (MAX_LEVELS, refl))), tt);
+}
+
+are_commands : Each IsCommand commands
+are_commands = (
+  solving_row (codes "solve"),
+  (
+    check_row,
+    (
+      solving_row (codes "report"),
+      (
+        nested_row,
+        (
+          play_row,
+          (
+            climb_row,
+            tt,
+          ),
+        ),
+      ),
+    ),
+  ),
+)
 
 -- ---- a walk that passes stops at no `help`
 
@@ -201,38 +270,57 @@ walk_past s names w (word ∷ rest) off none pass =
 
 -- ---- the whole command line
 
-stop_read : (stop : Option (Text × List Text)) → IsNoHelp stop → entered_passes (built program) stop ≡ true
-    → is_some (entered (built program) stop) ≡ true → is_read (entered (built program) stop) ≡ true
-stop_read None fine pass some = absurd (true≢false (sym some))
-stop_read (Some p) fine pass some =
-    go (answers_to p.0 (label_of (built_solving (codes "solve")))) (answers_to p.0 (label_of built_check)) (answers_to p.0 (label_of (built_solving (codes "report"))))
-    (answers_to p.0 (label_of built_nested)) (answers_to p.0 (label_of built_play)) (answers_to p.0 (label_of built_climb)) (answers_to p.0 (codes "help", [])) refl pass some
+or_later : (a b : Bool) → b ≡ true → (a || b) ≡ true
+or_later true b e = refl
+or_later false b e = e
+
+first_there : (a b c : Bool) → a ≡ true → b ≡ true → ((a && b) || c) ≡ true
+first_there a b c e f = rw (e, f) refl
+
+-- the command that a walk stopped at can be read, if it is not the one for help
+named_read : (shapes : List Shape) (name : Text) (words : List Text) → Each IsCommand shapes → bytes_eq name (codes "help") ≡ false
+    → option_map_or (λ s. level_passes s [] nothing_held words false) (find (λ s. answers_to name (label_of s)) (below shapes)) true ≡ true
+    → is_some (option_map (λ s. rows_at s words) (find (λ s. answers_to name (label_of s)) (below shapes))) ≡ true
+    → is_among shapes (option_map (λ s. rows_at s words) (find (λ s. answers_to name (label_of s)) (below shapes))) ≡ true
+named_read [] name words are fine pass some = go (answers_to name (codes "help", [])) refl some
   where
-    help : Shape
-    help = built_leaf help_shape
-
-    shape : Bool → Bool → Bool → Bool → Bool → Bool → Bool → Option Shape
-    shape s c r n l m h = cond s (Some (built_solving (codes "solve"))) (cond c (Some built_check) (cond r (Some (built_solving (codes "report"))) (cond n (Some built_nested) (cond l (Some built_play) (cond m (Some built_climb) (cond h (Some help) None))))))
-
-    go : (s c r n l m h : Bool) → answers_to p.0 (codes "help", []) ≡ h
-        → option_map_or (λ s. level_passes s [] nothing_held p.1 false) (shape s c r n l m h) true ≡ true
-        → is_some (option_map (λ s. rows_at s p.1) (shape s c r n l m h)) ≡ true
-        → is_read (option_map (λ s. rows_at s p.1) (shape s c r n l m h)) ≡ true
-    go true c r n l m h e pass some = solve_read p.1 pass
-    go false true r n l m h e pass some = check_read p.1 pass
-    go false false true n l m h e pass some = report_read p.1 pass
-    go false false false true l m h e pass some = nested_read p.1 pass
-    go false false false false true m h e pass some = play_read p.1 pass
-    go false false false false false true h e pass some = climb_read p.1 pass
-    go false false false false false false true e pass some =
-        elim (either (bytes_eq (codes "help") p.0) false e) [
+    go : (b : Bool) → answers_to name (codes "help", []) ≡ b
+        → is_some (option_map (λ s. rows_at s words) (cond b (Some (built_leaf help_shape)) None)) ≡ true
+        → is_among [] (option_map (λ s. rows_at s words) (cond b (Some (built_leaf help_shape)) None)) ≡ true
+    go false e some = absurd (true≢false (sym some))
+    go true e some =
+        elim (either (bytes_eq (codes "help") name) false e) [
           | inl same ↦
-              let is : codes "help" ≡ p.0 = (bytes_eq-Decides (codes "help") p.0).0 same in
-              let again : bytes_eq p.0 (codes "help") ≡ true = (bytes_eq-Decides p.0 (codes "help")).1 (sym is) in
+              let is : codes "help" ≡ name = (bytes_eq-Decides (codes "help") name).0 same in
+              let again : bytes_eq name (codes "help") ≡ true = (bytes_eq-Decides name (codes "help")).1 (sym is) in
               absurd (true≢false (sym again ∙ fine))
           | inr bad ↦ absurd (true≢false (sym bad))
         ]
-    go false false false false false false false e pass some = absurd (true≢false (sym some))
+named_read (s ∷ shapes) name words are fine pass some =
+    go (answers_to name (label_of (built_below s))) (named_read shapes name words are.1 fine) pass some
+  where
+    found : Option Shape
+    found = find (λ s. answers_to name (label_of s)) (below shapes)
+
+    later : (o : Option (Text × List Row)) → is_among shapes o ≡ true → is_among (s ∷ shapes) o ≡ true
+    later None e = e
+    later (Some p) e = or_later (bytes_eq p.0 s.name && has_values p.1 s) _ e
+
+    go : (b : Bool)
+        → (option_map_or (λ s. level_passes s [] nothing_held words false) found true ≡ true
+        → is_some (option_map (λ s. rows_at s words) found) ≡ true → is_among shapes (option_map (λ s. rows_at s words) found) ≡ true)
+        → option_map_or (λ s. level_passes s [] nothing_held words false) (cond b (Some (built_below s)) found) true ≡ true
+        → is_some (option_map (λ s. rows_at s words) (cond b (Some (built_below s)) found)) ≡ true
+        → is_among (s ∷ shapes) (option_map (λ s. rows_at s words) (cond b (Some (built_below s)) found)) ≡ true
+    go true more pass some =
+        let named : s.name ≡ (built_below s).name = subst (λ (t : Shape). t.name ≡ (built_below t).name) (sym are.0.plain) refl in
+        first_there (bytes_eq (built_below s).name s.name) _ _ ((bytes_eq-Decides (built_below s).name s.name).1 (sym named)) (command_read s words are.0 pass)
+    go false more pass some = later _ (more pass some)
+
+stop_read : (stop : Option (Text × List Text)) → IsNoHelp stop → entered_passes (built program) stop ≡ true
+    → is_some (entered (built program) stop) ≡ true → is_read (entered (built program) stop) ≡ true
+stop_read None fine pass some = absurd (true≢false (sym some))
+stop_read (Some p) fine pass some = named_read commands p.0 p.1 are_commands fine pass some
 
 pub taken : (words : List Text) → takes program words ≡ true → is_read (subcommand_of program words) ≡ true
 taken words e =

@@ -67,16 +67,36 @@ play_among words = command (codes "play") (side_among words ∷ path (codes "boa
 abbrev pub climb : Shape
 climb = command (codes "climb") (number (codes "levels") MAX_LEVELS ∷ [])
 
--- the program: one of its commands has to be named
-abbrev pub program_among : Bor (List (Bor Text)) → App
-program_among words = record {
-  top = record (new_shape (codes "pebbles")) { is_leaf = false; subcommand_required = true };
-  subs = solve ∷ check ∷ report ∷ nested ∷ play_among words ∷ climb ∷ [];
+-- all commands, a row each, with these words for the sides of a play
+abbrev pub commands_among : Bor (List (Bor Text)) → List Shape
+commands_among words =
+    solve
+    ∷ check
+    ∷ report
+    ∷ nested
+    ∷ play_among words
+    ∷ climb
+    ∷ []
+
+-- the program with these commands, one of which has to be named
+abbrev pub program_of : List Shape → App
+program_of commands = record {
+  top = record (new_shape (codes "pebbles")) { is_leaf = false; has_version = true; subcommand_required = true };
+  subs = commands;
 }
+
+abbrev pub program_among : Bor (List (Bor Text)) → App
+program_among words = program_of (commands_among words)
 
 -- a value behind a reference; what `clap` reads doesn't depend on where it lies
 abbrev pub somewhere : {X : Type 0} → X → Bor X
 somewhere x = record { ref_ptr = (0, 0); now = x }
 
+abbrev pub sides : Bor (List (Bor Text))
+sides = somewhere (map somewhere side_words)
+
+abbrev pub commands : List Shape
+commands = commands_among sides
+
 abbrev pub program : App
-program = program_among (somewhere (map somewhere side_words))
+program = program_of commands

@@ -3,6 +3,7 @@
 ghost use Rattle.std.specs.Prelude.{◌≡◌};
 ghost use Rattle.command_line.specs.declared.asked.JobFault.TheVariants as fault;
 
+use positions::Side;
 use std::alloc::AllocError;
 
 /// How many workers may be asked for at most.
@@ -11,7 +12,7 @@ pub const MAX_WORKERS: u8 = 16;
 /// What the program is asked to do.
 #[derive(Clone, Copy, Debug, PartialEq, Eq)]
 pub enum Job<'a> {
-    /// Check the strategy document that stands behind a board on standard input.
+    /// Check the strategy document that follows a board on standard input.
     Joined,
     /// Check the strategy document for the board. Both are paths.
     Check { board: &'a str, proof: &'a str },
@@ -22,24 +23,15 @@ pub enum Job<'a> {
     /// Solve the board, a path, with 1 to 16 workers, and write how many configurations have each value.
     Report { workers: u8, board: &'a str },
     /// Play on the board, a path. The person plays this side, by lines of standard input, and the program the other one.
-    Play { side: Player, board: &'a str },
+    Play { side: Side, board: &'a str },
     /// Play on the nested board with so many levels, 1 to 24, and as many pebbles. The person is the adversary, by lines of standard input.
     Climb { levels: u8 },
-}
-
-/// One of the two that play.
-#[derive(Clone, Copy, Debug, PartialEq, Eq)]
-pub enum Player {
-    /// It answers a request with a label.
-    Labeller,
-    /// It names the pebble of a request.
-    Adversary,
 }
 
 /// Why the words ask for nothing that can be done.
 #[derive(Debug, Drop)]
 pub enum JobFault {
-    /// Help was asked for.
+    /// Help, or the version, was asked for.
     Help { text: String },
     /// The words are none of the program's.
     Usage { text: String },

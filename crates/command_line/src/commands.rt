@@ -11,20 +11,79 @@ use clap::{Arg, Command, value_parser};
 use nested_cycles::{MAX_BOARD_LEVELS, MAX_LEVELS};
 use std::alloc::{AllocError, Global};
 
+/// The program's version, and the first lines of the texts that it reads and writes.
+const VERSION: &str =
+    "1.0.0\nreads `board 1`, `board 2` and `proof 1`, writes these and `report 1`";
+
+/// The command may be left out.
+const USAGE: &str = "pebbles [COMMAND]";
+
 /// What the program is for.
 const ABOUT: &str =
     "Finds and checks strategies for the pebble game, whose boards are bounded timestamp systems.\n\n\
-    Without a command it reads a board and behind it a strategy document from standard input, and writes what `check` writes.";
+    Without a command it reads a board and after it a strategy document from standard input, and \
+    writes what `check` writes.";
 
 /// What the statuses mean, with an example.
 const AFTER_HELP: &str = "Exit statuses:\n  \
-    0  done, or help was asked for\n  \
+    0  done, or help or the version was asked for\n  \
     1  a fault in the text of a board or a document, or a board that is too large\n  \
     2  wrong words on the command line\n  \
     3  the document was refused\n  \
-    4  no memory, or a worker that was not started\n  \
+    4  out of memory, or a worker that was not started\n  \
     5  a failed read or write, or an input that is too long\n\n\
-    Example:\n  pebbles nested 2 2 > cycle.board\n  pebbles solve cycle.board > cycle.proof\n  pebbles check cycle.board cycle.proof";
+    Example:\n  \
+    pebbles nested 2 2 > cycle.board\n  \
+    pebbles solve cycle.board > cycle.proof\n  \
+    pebbles check cycle.board cycle.proof";
+
+/// The help of `solve`.
+const ABOUT_SOLVING: &str =
+    "Writes the strategy document of the board, which `check` accepts. It is the same for every \
+    number of workers.\n\n\
+    Common faults:\n  \
+    board fault line 1 Version  not a board: Windows line ends, or a strategy document\n  \
+    board fault line 4 Start    as many labels as pebbles are wanted, each below the number of labels\n  \
+    board fault line N Beats    line N is not `beats` and two labels, with one space between them\n  \
+    board fault line N Order    the pairs are not sorted as numbers, or one is there twice\n  \
+    board too large             more than 1048576 configurations: labels to the power of pebbles\n\n\
+    Example:\n  \
+    pebbles solve chain.board > chain.proof";
+
+/// The help of `check`.
+const ABOUT_CHECKING: &str =
+    "Writes one line: `accepted` and the claim, or `refused` and the first fault.\n\n\
+    Common faults:\n  \
+    board fault line 1 Version  BOARD is not a board; perhaps the two paths are exchanged\n  \
+    proof fault line 1 Version  PROOF is not a strategy document\n  \
+    proof fault line N Section  a section has more rows than its first line says\n  \
+    proof fault line N Row      a section has fewer rows, or a row is not of this board\n  \
+    proof fault line N Order    the rows of a section are not sorted by their configurations\n\n\
+    Example:\n  \
+    pebbles check chain.board chain.proof";
+
+/// The help of `play`.
+const ABOUT_PLAYING: &str =
+    "The program writes the value of the start, then `at` and the labels of the pebbles, and again \
+    after each answer. You type one of these on a line:\n  \
+    the number of a pebble, from 0  as the adversary; the program answers `pebble p takes v`\n  \
+    a label                         as the labeller, for the pebble of `ask p`\n  \
+    quit                            ends the play, as the end of input does\n\n\
+    To anything else it answers `not a request` or `not an answer`, and the play goes on. It also \
+    ends if no label is legal. As the labeller on a board that lasts for ever you read `no \
+    strategy`: the adversary has none.\n\n\
+    Example:\n  \
+    pebbles play --side adversary chain.board";
+
+/// The help of `climb`.
+const ABOUT_CLIMBING: &str =
+    "The board has as many pebbles as levels, and is never built. A label is written as its word, a \
+    digit for each level but the first. You type one of these on a line:\n  \
+    the number of a pebble, from 0  the program answers `pebble p takes` and a word\n  \
+    quit                            ends the play, as the end of input does\n\n\
+    To anything else it answers `not a request`, and the play goes on.\n\n\
+    Example:\n  \
+    pebbles climb 3";
 
 /// The words for the two sides of a play.
 static SIDES: [&str; 2] = ["labeller", "adversary"];
@@ -47,16 +106,19 @@ pub(crate) fn program<'a>(alloc: Global) -> Result<Command<'a>, AllocError>
 fn program_among<'a>(alloc: Global, sides: &'a [&'a str]) -> Result<Command<'a>, AllocError>
     ensures { IfOk result (λ c. app_of c ≡ commands.program_among sides.entry) }
 {
-    Command::new(alloc, "pebbles")
+    let command = Command::new(alloc, "pebbles")
+        .version(VERSION)
         .about(ABOUT)
+        .override_usage(USAGE)
         .after_help(AFTER_HELP)
-        .subcommand_required(true)
-        .subcommand(solve(alloc)?)?
-        .subcommand(check(alloc)?)?
-        .subcommand(report(alloc)?)?
-        .subcommand(nested(alloc)?)?
-        .subcommand(play(alloc, sides)?)?
-        .subcommand(climb(alloc)?)
+        .subcommand_required(true);
+    let command = command.subcommand(solve(alloc)?)?;
+    let command = command.subcommand(check(alloc)?)?;
+    let command = command.subcommand(report(alloc)?)?;
+    let command = command.subcommand(nested(alloc)?)?;
+    let command = command.subcommand(play(alloc, sides)?)?;
+    let command = command.subcommand(climb(alloc)?)?;
+    Ok(command)
 }
 
 fn solve<'a>(alloc: Global) -> Result<Command<'a>, AllocError>
@@ -66,10 +128,7 @@ fn solve<'a>(alloc: Global) -> Result<Command<'a>, AllocError>
     let board = path(alloc, "board", "BOARD", "The path of a board");
     Command::new(alloc, "solve")
         .about("Reads a board, and writes its value and the strategies that show it")
-        .after_help(
-            "Writes the strategy document of the board, which `check` accepts. It is the same for every number of workers.\n\n\
-            Example:\n  pebbles solve --workers 4 chain.board > chain.proof",
-        )
+        .after_help(ABOUT_SOLVING)
         .arg(workers(alloc))?
         .arg(board)
 }
@@ -89,10 +148,7 @@ fn check<'a>(alloc: Global) -> Result<Command<'a>, AllocError>
         .about(
             "Reads a board and a strategy document for it, and writes whether the document shows its claim",
         )
-        .after_help(
-            "Writes one line: `accepted` and the claim, or `refused` and the first fault.\n\n\
-            Example:\n  pebbles check chain.board chain.proof",
-        )
+        .after_help(ABOUT_CHECKING)
         .arg(board)?
         .arg(proof)
 }
@@ -147,11 +203,7 @@ fn play<'a>(alloc: Global, sides: &'a [&'a str]) -> Result<Command<'a>, AllocErr
     let board = path(alloc, "board", "BOARD", "The path of a board");
     Command::new(alloc, "play")
         .about("Plays against you on a board, with best requests or best answers")
-        .after_help(
-            "Lines come from standard input. The adversary writes the number of a pebble, the labeller a label for the pebble \
-            that is asked; `quit` ends the play.\n\n\
-            Example:\n  pebbles play --side adversary chain.board",
-        )
+        .after_help(ABOUT_PLAYING)
         .arg(side(alloc, sides))?
         .arg(board)
 }
@@ -169,11 +221,7 @@ fn climb<'a>(alloc: Global) -> Result<Command<'a>, AllocError>
     );
     Command::new(alloc, "climb")
         .about("Answers your requests on a nested board, for ever and without a search")
-        .after_help(
-            "The board has as many pebbles as levels, and is never built. Lines come from standard input: \
-            the number of a pebble, or `quit`. A label is written as its word, a digit for each level but the first.\n\n\
-            Example:\n  pebbles climb 3",
-        )
+        .after_help(ABOUT_CLIMBING)
         .arg(levels)
 }
 
@@ -223,5 +271,5 @@ fn workers<'a>(alloc: Global) -> Arg<'a>
         .value_name("N")
         .default_value("1")
         .value_parser(value_parser!(u8).range(1..=MAX_WORKERS as i64))
-        .help("How many workers solve the board, 1 to 16")
+        .help("How many workers solve the board, 1 to 16; one is fastest on every board measured")
 }

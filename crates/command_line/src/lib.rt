@@ -3,7 +3,9 @@
 
 mod asked;
 mod commands;
+mod laws;
 mod words;
 
-pub use asked::{Job, JobFault, MAX_WORKERS, Player};
+pub use asked::{Job, JobFault, MAX_WORKERS};
+pub use laws::limits;
 pub use words::job;

@@ -5,21 +5,23 @@ ghost use Rattle.std.specs.Prelude.{length, codes, option_map};
 ghost use Rattle.clap.specs.Words.{fault_of, first_of, found_of, kind_of, rows_of, subcommand_of, subcommand_rows_of, takes};
 ghost use Rattle.clap.specs.Walk.{texts};
 ghost use Rattle.command_line.specs.Commands as commands;
-ghost use Rattle.command_line.specs.Reading.{AsksFor, HasNumber, IsInRange, IsReadAs, player_word};
-ghost use Rattle.command_line.specs.Inside.Reading.{asks, has_number, has_side, is_read};
+ghost use Rattle.command_line.specs.Reading.{HasNumber, IsInRange, IsReadAs, Shows, ShowsKind, side_word};
+ghost use Rattle.command_line.specs.Inside.Reading.{Reads, has_number, has_side, is_read};
 
-use crate::asked::{Job, JobFault, MAX_WORKERS, Player};
+use crate::asked::{Job, JobFault, MAX_WORKERS};
 use crate::commands::program;
 use board_text::MAX_PEBBLES;
 use clap::error::ErrorKind;
 use clap::{ArgMatches, Error};
 use nested_cycles::{MAX_BOARD_LEVELS, MAX_LEVELS};
+use positions::Side;
 use std::alloc::Global;
 
 /// The job that the words ask for, the program's name first.
 ///
-/// Without a word behind the name it is `Job::Joined`. All other words are read by `clap`, exactly: there is a job only where it
-/// finds no fault in them, and what it takes is refused for want of memory alone.
+/// Without a word after the name it is `Job::Joined`. All other words are read by `clap`, exactly: there is a job only if it
+/// finds no fault in them, and words that it takes are refused only if memory runs out. `--help`, `help` and `--version` are
+/// answered with the text that they ask for.
 pub fn job<'a, 'w>(alloc: Global, words: &'a [&'w str]) -> Result<Job<'a>, JobFault>
     ensures joined { (result ≡ Ok Job.Joined) ↔ (length words.now ≤ 1) }
     ensures job { IfOk result (λ j. (j ≡ Job.Joined)
@@ -29,6 +31,7 @@ pub fn job<'a, 'w>(alloc: Global, words: &'a [&'w str]) -> Result<Job<'a>, JobFa
     ensures numbers { IfOk result IsInRange }
     ensures takes { takes commands.program (texts words.now) ≡ true
         → IfErr result (λ f. f ≡ JobFault.Memory) }
+    ensures shows { IfErr result (Shows (fault_of commands.program (texts words.now))) }
 {
     if words.len() <= 1 {
         return Ok(Job::Joined);
@@ -43,6 +46,7 @@ fn named_job<'a, 'w>(alloc: Global, words: &'a [&'w str]) -> Result<Job<'a>, Job
     ensures numbers { IfOk result IsInRange }
     ensures takes { takes commands.program (texts words.now) ≡ true
         → IfErr result (λ f. f ≡ JobFault.Memory) }
+    ensures shows { IfErr result (Shows (fault_of commands.program (texts words.now))) }
 {
     let mut command = program(alloc)?;
     let matches = match command.try_get_matches_from_mut(words) {
@@ -61,6 +65,7 @@ fn named_job<'a, 'w>(alloc: Global, words: &'a [&'w str]) -> Result<Job<'a>, Job
 /// The fault with the text of the error, for the reader of help or of the usage.
 fn fault(alloc: Global, error: &Error) -> JobFault
     ensures memory { kind_of error.now ≡ ErrorKind.OutOfMemory → result ≡ JobFault.Memory }
+    ensures shows { ShowsKind (kind_of error.now) result }
 {
     if matches!(error.kind(), ErrorKind::OutOfMemory) {
         return JobFault::Memory;
@@ -99,8 +104,7 @@ fn named<'m, 'a>(matches: &'m ArgMatches<'a>) -> Option<(&'a str, &'m ArgMatches
 }
 
 fn solve_job<'a>(values: &ArgMatches<'a>) -> Option<Job<'a>>
-    ensures asked { MatchOption result (asks (codes "solve") (rows_of (found_of values.now)) ≡ false)
-        (AsksFor (codes "solve") (rows_of (found_of values.now))) }
+    ensures asked { Reads commands.solve (rows_of (found_of values.now)) result }
     ensures numbers { IfSome result IsInRange }
 {
     let workers = number(values, "workers", MAX_WORKERS)?;
@@ -109,8 +113,7 @@ fn solve_job<'a>(values: &ArgMatches<'a>) -> Option<Job<'a>>
 }
 
 fn check_job<'a>(values: &ArgMatches<'a>) -> Option<Job<'a>>
-    ensures asked { MatchOption result (asks (codes "check") (rows_of (found_of values.now)) ≡ false)
-        (AsksFor (codes "check") (rows_of (found_of values.now))) }
+    ensures asked { Reads commands.check (rows_of (found_of values.now)) result }
     ensures numbers { IfSome result IsInRange }
 {
     let board = text(values, "board")?;
@@ -119,8 +122,7 @@ fn check_job<'a>(values: &ArgMatches<'a>) -> Option<Job<'a>>
 }
 
 fn report_job<'a>(values: &ArgMatches<'a>) -> Option<Job<'a>>
-    ensures asked { MatchOption result (asks (codes "report") (rows_of (found_of values.now)) ≡ false)
-        (AsksFor (codes "report") (rows_of (found_of values.now))) }
+    ensures asked { Reads commands.report (rows_of (found_of values.now)) result }
     ensures numbers { IfSome result IsInRange }
 {
     let workers = number(values, "workers", MAX_WORKERS)?;
@@ -129,8 +131,7 @@ fn report_job<'a>(values: &ArgMatches<'a>) -> Option<Job<'a>>
 }
 
 fn nested_job<'a>(values: &ArgMatches<'a>) -> Option<Job<'a>>
-    ensures asked { MatchOption result (asks (codes "nested") (rows_of (found_of values.now)) ≡ false)
-        (AsksFor (codes "nested") (rows_of (found_of values.now))) }
+    ensures asked { Reads commands.nested (rows_of (found_of values.now)) result }
     ensures numbers { IfSome result IsInRange }
 {
     let levels = number(values, "levels", MAX_BOARD_LEVELS)?;
@@ -139,8 +140,7 @@ fn nested_job<'a>(values: &ArgMatches<'a>) -> Option<Job<'a>>
 }
 
 fn play_job<'a>(values: &ArgMatches<'a>) -> Option<Job<'a>>
-    ensures asked { MatchOption result (asks (codes "play") (rows_of (found_of values.now)) ≡ false)
-        (AsksFor (codes "play") (rows_of (found_of values.now))) }
+    ensures asked { Reads (commands.play_among commands.sides) (rows_of (found_of values.now)) result }
     ensures numbers { IfSome result IsInRange }
 {
     let side = side(values)?;
@@ -149,21 +149,20 @@ fn play_job<'a>(values: &ArgMatches<'a>) -> Option<Job<'a>>
 }
 
 fn climb_job<'a>(values: &ArgMatches<'a>) -> Option<Job<'a>>
-    ensures asked { MatchOption result (asks (codes "climb") (rows_of (found_of values.now)) ≡ false)
-        (AsksFor (codes "climb") (rows_of (found_of values.now))) }
+    ensures asked { Reads commands.climb (rows_of (found_of values.now)) result }
     ensures numbers { IfSome result IsInRange }
 {
     let levels = number(values, "levels", MAX_LEVELS as u8)?;
     Some(Job::Climb { levels })
 }
 
-fn side(matches: &ArgMatches<'_>) -> Option<Player>
-    ensures { MatchOption result (has_side (rows_of (found_of matches.now)) ≡ false)
-        (λ side. first_of (codes "side") (rows_of (found_of matches.now)) ≡ Some (player_word side)) }
+fn side(matches: &ArgMatches<'_>) -> Option<Side>
+    ensures { MatchOption result (has_side (rows_of (found_of matches.now)) (codes "side") ≡ false)
+        (λ side. first_of (codes "side") (rows_of (found_of matches.now)) ≡ Some (side_word side)) }
 {
     match text(matches, "side")? {
-        "labeller" => Some(Player::Labeller),
-        "adversary" => Some(Player::Adversary),
+        "labeller" => Some(Side::Labeller),
+        "adversary" => Some(Side::Adversary),
         _ => None,
     }
 }

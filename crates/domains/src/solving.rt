@@ -6,14 +6,15 @@ ghost use Rattle.positions.specs.Ranks.{configurations};
 ghost use Rattle.positions.specs.Value.{HasValue};
 ghost use Rattle.proof_text.specs.Proof.{IsDocument, plain_proof, answer_rows, request_rows};
 ghost use Rattle.proof_text.specs.Rules.{BreaksNoRule};
-ghost use Rattle.retro_core.specs.declared.fault.SolveFault.TheVariants as SolveFault;
+ghost use Rattle.solver.specs.declared.fault.SolveFault.TheVariants as SolveFault;
 ghost use Rattle.strategies.specs.Document.{IsDocumentOf, claim_of};
+ghost use Rattle.strategies.specs.Meaning.{Means};
 
 use board_text::{Board, Memory};
 use index_lists::PlainLists;
 use positions::{MAX_CONFIGURATIONS, Value};
 use proof_text::Proof;
-use retro_core::{SolveFault, Solver, Values};
+use solver::{SolveFault, Solver, Values};
 use std::alloc::Global;
 use strategies::document;
 
@@ -24,13 +25,15 @@ pub struct Solved {
     pub document: Proof,
 }
 
-/// The value of the board's start, and the document that shows it: it claims the value, its tables
+/// The value of the board's start, and the document that means it: it claims the value, its tables
 /// show the claim, it breaks no rule of checking, and there is no other document of the board.
 ///
 /// It works on this thread. It answers `TooLarge` for a board of more than 1,048,576
 /// configurations, and `Memory` where a growth of memory was refused.
 pub fn solve_board(alloc: Global, board: &Board) -> Result<Solved, SolveFault>
     ensures value { IfOk result (λ solved. HasValue board.now board.now.start solved.value) }
+    ensures means { IfOk result (λ solved.
+        Means board.now (plain_proof board.now solved.document) solved.value) }
     ensures claim { IfOk result (λ solved. solved.document.claim ≡ claim_of solved.value) }
     ensures shows { IfOk result (λ solved. Shows board.now
         (answer_rows board.now solved.document.labeller.items)

@@ -11,16 +11,23 @@ pub struct Drip<'a> {
     rest: &'a [u8],
     good_calls: usize,
     has_failed: bool,
+    has_ended: bool,
 }
 
 impl<'a> Drip<'a> {
     pub fn new(rest: &'a [u8], good_calls: usize) -> Drip<'a>
-        ensures { result ≡ record { rest = rest.entry; good_calls = good_calls; has_failed = false } }
+        ensures { result ≡ record {
+          rest = rest.entry;
+          good_calls = good_calls;
+          has_failed = false;
+          has_ended = false;
+        } }
     {
         Drip {
             rest,
             good_calls,
             has_failed: false,
+            has_ended: false,
         }
     }
 
@@ -35,13 +42,19 @@ impl Source for Drip<'_> {
 
     ghost has_failed = { λ s. s.has_failed };
 
+    ghost has_ended = { λ s. s.has_ended };
+
     fn read(&mut self, into: &mut [u8]) -> Result<usize, Failed> {
         if self.good_calls == 0 {
             self.has_failed = true;
             return Err(Failed);
         }
         self.good_calls -= 1;
-        if into.is_empty() || self.rest.is_empty() {
+        if into.is_empty() {
+            return Ok(0);
+        }
+        if self.rest.is_empty() {
+            self.has_ended = true;
             return Ok(0);
         }
         into[0] = self.rest[0];

@@ -1,4 +1,5 @@
-//! Lists linked both ways by index.
+//! Lists linked both ways by index: the store for callers that take nodes out. No command does, so runs use `PlainLists`, and
+//! this one is a library store, over which tests run solvers.
 
 ghost use Rattle.std.specs.Prelude.{◌≡◌, ◌<◌, ◌≤◌, length, slice_index};
 ghost use Rattle.index_lists.specs.Inside.Links.{chained, unless_none, next_pointed, prev_pointed, placed, loosened, appended, shortened};
@@ -8,7 +9,7 @@ use board_text::Memory;
 use std::alloc::Global;
 use std::marker::Model;
 
-/// Lists linked both ways by index, in flat vectors. No call but `new` takes memory, and none has a loop.
+/// Lists linked both ways by index, in flat vectors. No call but `new` takes memory, and none but `append_list` has a loop.
 #[derive(Drop)]
 pub struct LinkLists {
     /// How many nodes there are; as a node it stands for none.

@@ -7,6 +7,9 @@ ghost use Rattle.nested_cycles.specs.Domination.{WordDominates, labels_of, Neste
 ghost use Rattle.nested_cycles.specs.NestedBoard.{IsNestedBoard};
 ghost use Rattle.nested_cycles.specs.Reply.{IsReply, NestedReply};
 
+use crate::game::MAX_LEVELS;
+use crate::nested_boards::MAX_BOARD_LEVELS;
+
 /// Words and numbers belong to each other, one to one.
 pub fn words_and_numbers()
     ensures number { (count : ℕ) → (number : ℕ) → number < 3 ^ count → word_number (word_of count number) ≡ number }
@@ -57,4 +60,10 @@ pub fn one_reply()
         → IsReply count others reply → IsReply count others second → reply ≡ second }
     ensures labels { (levels : ℕ) → (others : List ℕ) → (reply : ℕ) → (second : ℕ) → reply < labels_of levels → second < labels_of levels
         → NestedReply levels others reply → NestedReply levels others second → reply ≡ second }
+{}
+
+/// Nested boards are built up to level 6, and requests on them are answered up to level 24.
+pub fn limits()
+    ensures boards { MAX_BOARD_LEVELS ≡ 6 }
+    ensures games { MAX_LEVELS ≡ 24 }
 {}

@@ -10,3 +10,5 @@ pub mod PlayLengths
 pub mod OneTranscript
 pub mod NestedTrees
 pub mod NestedTexts
+pub mod SomeTranscript
+pub mod MemoryPlays

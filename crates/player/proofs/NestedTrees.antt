@@ -78,7 +78,7 @@ lasts levels board (suc depth) configuration nested good =
 
 -- ---- boards
 
-zeros_are_good : (levels : ℕ) (board : PlainBoard) (pebbles : ℕ) → board.pebbles ≡ pebbles → IsGoodConfiguration levels board (replicate pebbles 0)
+pub zeros_are_good : (levels : ℕ) (board : PlainBoard) (pebbles : ℕ) → board.pebbles ≡ pebbles → IsGoodConfiguration levels board (replicate pebbles 0)
 zeros_are_good levels board pebbles same = record {
   are_labels = (length-replicate pebbles 0 ∙ sym same, All-replicate (λ n. n < labels_of levels) pebbles 0 (one-le-pow (levels - 1) 3 (omega arith)));
   good = same_words_are_good (levels - 1) 0 pebbles;

@@ -23,7 +23,7 @@ module _ (game : Game) (opening : List ℕ) (first : Standing) (opens : BeginsPl
   ends : (left : Option (List ℕ)) (lines : List (List ℕ)) (rest more : List ℕ) (end : PlayEnd) → Ends (BringInTurn game first) left lines rest more end
       → Ends (IsPlayed game) left lines rest (opening ++ more) end
   ends left lines rest more end (inl over) = inl (played lines more (Over end) over)
-  ends left lines rest more end (inr stopped) = inr (stops lines more end stopped.0, stopped.1, stopped.2)
+  ends left lines rest more end (inr stopped) = inr (stops lines more end stopped.0, stopped.1, stopped.2, stopped.3)
 
   goes_on_or_ends_too : (left : Option (List ℕ)) (lines : List (List ℕ)) (rest more : List ℕ) → GoesOnOrEnds (BringInTurn game first) left lines rest more
       → GoesOnOrEnds (IsPlayed game) left lines rest (opening ++ more)

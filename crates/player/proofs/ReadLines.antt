@@ -1,5 +1,5 @@
 -- The lines that came so far, and what is left of what was read.
-use Rattle.std.proofs.Common.{◌≡◌, ℕ, ◌≤◌, true, false, List, [], ◌∷◌, ◌++◌, length, All, inl, inr, refl, sym, ap, ◌∙◌, subst, arith, append-nil, append_assoc}
+use Rattle.std.proofs.Common.{◌≡◌, ℕ, ◌<◌, ◌≤◌, true, false, List, [], ◌∷◌, ◌++◌, length, All, inl, inr, refl, sym, ap, ◌∙◌, subst, arith, append-nil, append_assoc}
 use Rattle.std.specs.Prelude.{Option, None, Some, ◌⊎◌}
 use Rattle.std.specs.List.{flat_map}
 use Rattle.std.specs.Io.KnownBytes.{Consumes, IsAtEnd}
@@ -7,11 +7,9 @@ use Rattle.std.proofs.lemmas.List.{flat_map_more}
 use Rattle.std.proofs.lemmas.List.Elements.{All-push}
 use Rattle.board_text.specs.LineForms.{closed}
 use Rattle.board_text.proofs.Cited.{Consumes-trans}
-use Rattle.player.specs.Words.{IsLine, BeginsTooLong}
+use Rattle.player.specs.Words.{IsLine}
 use Rattle.player.specs.Inside.Words.{Spells}
-use Rattle.player.specs.declared.lines.LineFault.{LineFault}
-use Rattle.player.specs.declared.lines.LineFault.TheVariants.{Read, Limit}
-use Rattle.player.specs.Inside.LineInput.{Unread, IsEmptyAtEnd, GivesLine, GivesNoLine}
+use Rattle.player.specs.Inside.LineInput.{Unread, GivesLine}
 use Rattle.player.specs.Play.{Came, CameClosed, CameWhole}
 use Rattle.player.specs.declared.word.Word.{Word}
 use Rattle.player.specs.declared.play.TheConstants.{MOST_LINES}
@@ -115,8 +113,8 @@ both_empty [] ys e = (refl, e)
 both_empty (x ∷ xs) ys e = absurd (omega (arith, ap length e))
 
 -- no more lines came
-pub all_came : (left_old left_now left_new : Option (List ℕ)) (lines : List (List ℕ)) (old new : Unread) → length lines ≤ MOST_LINES → HasCome left_old left_now lines old
-    → GivesLine old new left_now left_new None → Came left_old left_new lines [] × IsAtEnd left_new
+pub all_came : (left_old left_now left_new : Option (List ℕ)) (lines : List (List ℕ)) (old new : Unread) → length lines < MOST_LINES → HasCome left_old left_now lines old
+    → GivesLine old new left_now left_new None → Came left_old left_new lines [] × IsAtEnd left_new × (length lines < MOST_LINES)
 all_came left_old left_now left_new lines old new few come gives =
     let parts = both_empty old.bytes gives.more gives.taken in
     let none = parts.1 in
@@ -137,7 +135,8 @@ all_came left_old left_now left_new lines old new few come gives =
           )
         ];
         each = come.each;
-        few = few;
+        few = omega (arith, few);
       },
       gives.read.1,
+      few,
     )

@@ -54,14 +54,14 @@ front_kept a b c front tail written kept = front_taken a c (front ++ tail) front
 module _ (game : Game) (from : Standing) (left_old left_new taken_old taken_now taken_new : Option (List ℕ)) (lines : List (List ℕ)) (text at : List ℕ) (requests : ℕ)
     (brought : BringInTurn game from lines text (Going at requests)) (written : Appends taken_old taken_now text) where
   -- the input ended, and that was written
-  pub stopped : (result : Result PlayEnd PlayFault) → Came left_old left_new lines [] × IsAtEnd left_new → IfOk result (λ end. end ≡ Stopped requests)
+  pub stopped : (result : Result PlayEnd PlayFault) → Came left_old left_new lines [] × IsAtEnd left_new × (length lines < MOST_LINES) → IfOk result (λ end. end ≡ Stopped requests)
       → OnOk result (Appends taken_now taken_new (stopped_line requests)) → IfOk result (HasEnded (BringInTurn game from) left_old left_new taken_old taken_new)
   stopped (Ok end) came stops last =
-      (lines, [], text ++ stopped_line requests, came.0, inr ((at, text, requests, brought, refl, stops), came.1, refl), Appends-trans taken_old taken_now taken_new text (stopped_line requests) written last)
+      (lines, [], text ++ stopped_line requests, came.0, inr ((at, text, requests, brought, refl, stops), came.1, refl, came.2), Appends-trans taken_old taken_now taken_new text (stopped_line requests) written last)
   stopped (Err fault) came stops last = tt
 
   -- or it wasn't written whole
-  pub not_stopped : (result : Result PlayEnd PlayFault) → Came left_old left_new lines [] × IsAtEnd left_new
+  pub not_stopped : (result : Result PlayEnd PlayFault) → Came left_old left_new lines [] × IsAtEnd left_new × (length lines < MOST_LINES)
       → IfErr result (FailsToWrite taken_now taken_new (λ said. said ≡ stopped_line requests)) → IfErr result (BreaksOff (BringInTurn game from) left_old left_new taken_old taken_new)
   not_stopped (Ok end) came fails = tt
   not_stopped (Err Write) came fails = (
@@ -69,7 +69,7 @@ module _ (game : Game) (from : Standing) (left_old left_new taken_old taken_now 
     [],
     text ++ stopped_line requests,
     came.0,
-    inr (Stopped requests, inr ((at, text, requests, brought, refl, refl), came.1, refl)),
+    inr (Stopped requests, inr ((at, text, requests, brought, refl, refl), came.1, refl, came.2)),
     subst (AppendsFront taken_old taken_new) (ap (λ l. text ++ l) fails.2) (front_behind taken_old taken_now taken_new text fails.0 written fails.1),
   )
   not_stopped (Err Memory) came fails = (
@@ -77,7 +77,7 @@ module _ (game : Game) (from : Standing) (left_old left_new taken_old taken_now 
     [],
     text ++ stopped_line requests,
     came.0,
-    inr (Stopped requests, inr ((at, text, requests, brought, refl, refl), came.1, refl)),
+    inr (Stopped requests, inr ((at, text, requests, brought, refl, refl), came.1, refl, came.2)),
     front_kept taken_old taken_now taken_new text (stopped_line requests) written fails,
   )
   not_stopped (Err Read) came fails = absurd fails

@@ -4,3 +4,4 @@ pub mod PlayState
 pub mod Transcript
 pub mod Steps
 pub mod Words
+pub mod Faults

@@ -1,11 +1,12 @@
 -- What a play reads and writes.
-use Rattle.std.specs.Prelude.{◌≡◌, ◌≢◌, ℕ, ◌≤◌, ◌⊎◌, List, [], ◌∷◌, ◌++◌, length, All, Option}
+use Rattle.std.specs.Prelude.{◌≡◌, ◌≢◌, ℕ, ◌<◌, ◌≤◌, ◌⊎◌, List, [], ◌∷◌, ◌++◌, length, All}
+use Rattle.std.specs.Prelude.{Option, Some}
 use Rattle.std.specs.List.{flat_map}
 use Rattle.std.specs.Io.KnownBytes.{Appends, Consumes, IsAtEnd}
 use Rattle.board_text.specs.Streams.{GaveAll, AppendsFront}
 use Rattle.board_text.specs.LineForms.{closed}
 use Rattle.player.specs.Words.{IsLine, BeginsTooLong}
-use Rattle.player.specs.Transcript.{Standing, Going, Over, Stops}
+use Rattle.player.specs.Transcript.{Game, Standing, Going, Over, Stops, IsPlayed}
 use Rattle.player.specs.declared.end.PlayEnd.{PlayEnd}
 use Rattle.player.specs.declared.end.PlayFault.{PlayFault}
 use Rattle.player.specs.declared.end.PlayFault.TheVariants.{Read, Write, Memory, Limit}
@@ -29,9 +30,11 @@ pub record Came (left_old left_new : Option (List ℕ)) (lines : List (List ℕ)
   pub each : All IsLine lines
   pub few : length lines ≤ MOST_LINES
 
--- the lines end the play, or the end of the input does
+-- the lines end the play, or the end of the input does, which is asked for only after fewer lines
+-- than may be read
 abbrev pub Ends : (List (List ℕ) → List ℕ → Standing → Type 0) → Option (List ℕ) → List (List ℕ) → List ℕ → List ℕ → PlayEnd → Type 0
-Ends Played left_new lines rest text end = Played lines text (Over end) ⊎ (Stops Played lines text end × IsAtEnd left_new × (rest ≡ []))
+Ends Played left_new lines rest text end = Played lines text (Over end)
+    ⊎ (Stops Played lines text end × IsAtEnd left_new × (rest ≡ []) × (length lines < MOST_LINES))
 
 -- the lines leave the play going, or it ends
 abbrev pub GoesOnOrEnds : (List (List ℕ) → List ℕ → Standing → Type 0) → Option (List ℕ) → List (List ℕ) → List ℕ → List ℕ → Type 0
@@ -56,7 +59,18 @@ module _ (Played : List (List ℕ) → List ℕ → Standing → Type 0) (left_o
 
   -- when each fault comes, and what was written before it
   abbrev pub BreaksOff : PlayFault → Type 0
-  BreaksOff Read = HasWritten (λ lines rest. IsLine rest)
+  BreaksOff Read = HasWritten (λ lines rest. IsLine rest × (length lines < MOST_LINES))
   BreaksOff Limit = HasWritten (λ lines rest. (length lines ≡ MOST_LINES) ⊎ BeginsTooLong rest)
   BreaksOff Write = HasBegun
   BreaksOff Memory = HasBegun
+
+-- the bytes in memory are a person's lines, or begin with lines that end the play, and the text is
+-- their transcript, which tells this end
+abbrev pub PlaysBytes : Game → List ℕ → List ℕ → PlayEnd → Type 0
+PlaysBytes game bytes text end =
+    (left : List ℕ) × HasEnded (IsPlayed game) (Some bytes) (Some left) (Some []) (Some text) end
+
+-- a play over bytes in memory is broken off by this fault
+abbrev pub BreaksOffBytes : Game → List ℕ → PlayFault → Type 0
+BreaksOffBytes game bytes fault = (left text : List ℕ)
+    × BreaksOff (IsPlayed game) (Some bytes) (Some left) (Some []) (Some text) fault

@@ -16,14 +16,15 @@ use crate::text_buffer::flush;
 use crate::word::Word;
 use crate::writing::{refused, stopped, write_opening, write_reply, write_stuck};
 use board_text::{Board, Sink, Source};
-use retro_core::Values;
+use solver::Values;
 use std::alloc::{AllocError, Global};
 use std::marker::Model;
 use strategies::best_answer;
 
 /// Plays with a person who is the adversary: each line names a pebble, which is put on the label of the best answer.
 ///
-/// The values are those of the board. The reader and the writer must not have failed before.
+/// The values are those of the board. The reader and the writer must not have failed before, nor
+/// the reader have told its end.
 /// The play ends where no label is legal for a pebble, with a line `quit`, or at the end of the input.
 /// A line of any other kind is answered and changes nothing.
 /// Each answer is written before the next line is read.
@@ -36,6 +37,7 @@ pub fn play_adversary_side<R: Source, W: Sink>(
 ) -> Result<PlayEnd, PlayFault>
     requires same_board { values.now ≡ board.now }
     requires reader_ready { R.has_failed reader.old ≡ false }
+    requires reader_unended { R.has_ended reader.old ≡ false }
     requires writer_ready { W.has_failed writer.old ≡ false }
     ensures ok { IfOk result (HasEnded (IsPlayed (PersonAsks board.now)) (R.remaining reader.old) (R.remaining reader.new)
         (W.contents writer.old) (W.contents writer.new)) }

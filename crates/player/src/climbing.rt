@@ -23,7 +23,7 @@ use std::alloc::{AllocError, Global};
 /// Plays on the nested board of a level, 1 to 24, with as many pebbles as levels: each line of the person names a pebble,
 /// which is put on the word of the nested reply.
 ///
-/// The reader and the writer must not have failed before.
+/// The reader and the writer must not have failed before, nor the reader have told its end.
 /// The play ends with a line `quit`, or at the end of the input: some label is always legal.
 /// A line of any other kind is answered and changes nothing.
 /// Each answer is written before the next line is read.
@@ -35,6 +35,7 @@ pub fn play_nested<R: Source, W: Sink>(
 ) -> Result<PlayEnd, PlayFault>
     requires level { InRange 1 MAX_LEVELS levels }
     requires reader_ready { R.has_failed reader.old ≡ false }
+    requires reader_unended { R.has_ended reader.old ≡ false }
     requires writer_ready { W.has_failed writer.old ≡ false }
     ensures ok { IfOk result (HasEnded (IsPlayed (PersonClimbs levels)) (R.remaining reader.old) (R.remaining reader.new)
         (W.contents writer.old) (W.contents writer.new)) }

@@ -21,7 +21,7 @@ use crate::word::Word;
 use crate::writing::{stopped, write_at, write_opening, write_stuck};
 use board_text::{Board, Sink, Source};
 use positions::Value;
-use retro_core::Values;
+use solver::Values;
 use std::alloc::{AllocError, Global};
 use std::fmt::Write;
 use std::marker::Model;
@@ -29,7 +29,8 @@ use strategies::{best_answer, best_request};
 
 /// Plays with a person who is the labeller: best requests are made, and each line answers one with a label.
 ///
-/// The values are those of the board. The reader and the writer must not have failed before.
+/// The values are those of the board. The reader and the writer must not have failed before, nor
+/// the reader have told its end.
 /// The play ends where no label is legal for the pebble that is asked for, with a line `quit`, or at the end of the input.
 /// Where the value is forever it ends before a line is read.
 /// A line of any other kind is answered, and the same request stands.
@@ -43,6 +44,7 @@ pub fn play_labeller_side<R: Source, W: Sink>(
 ) -> Result<PlayEnd, PlayFault>
     requires same_board { values.now ≡ board.now }
     requires reader_ready { R.has_failed reader.old ≡ false }
+    requires reader_unended { R.has_ended reader.old ≡ false }
     requires writer_ready { W.has_failed writer.old ≡ false }
     ensures ok { IfOk result (HasEnded (IsPlayed (PersonAnswers board.now)) (R.remaining reader.old) (R.remaining reader.new)
         (W.contents writer.old) (W.contents writer.new)) }

@@ -8,6 +8,9 @@ ghost use Rattle.player.specs.Laws.{IsGame, IsWithin, IsNoSooner, IsNoLater, IsS
 ghost use Rattle.player.specs.Transcript.{Game, Going, PersonAsks, PersonAnswers, PersonClimbs, IsPlayed, IsTranscript};
 ghost use Rattle.player.specs.declared.end.PlayEnd.{PlayEnd as End};
 
+use crate::lines::MOST_BYTES;
+use crate::play::MOST_LINES;
+
 /// Against a person who is the adversary the labeller's side is stuck only after as many answered requests as the start's value,
 /// and never where that is forever. A person who is the labeller answers at most that many,
 /// and there is no strategy against the person exactly where the value is forever. On a nested board no one is ever stuck.
@@ -22,9 +25,13 @@ pub fn plays_last_by_the_value()
         → IsTranscript (PersonClimbs levels) lines text end → IsStopped end }
 {}
 
-/// Lines have one transcript at most, which tells one end.
+/// Any lines have one transcript, which tells one end, in each play on a board and on a nested
+/// board.
 pub fn one_transcript()
-    ensures { (game : Game) → (lines : List (List ℕ)) → (first : List ℕ) → (second : List ℕ) → (end : End) → (other : End) → IsGame game
+    ensures some { (game : Game) → (lines : List (List ℕ)) → IsGame game
+        → (text : List ℕ) × (end : End) × IsTranscript game lines text end }
+    ensures one { (game : Game) → (lines : List (List ℕ)) → (first : List ℕ) → (second : List ℕ)
+        → (end : End) → (other : End) → IsGame game
         → IsTranscript game lines first end → IsTranscript game lines second other → (first ≡ second) × (end ≡ other) }
 {}
 
@@ -34,4 +41,10 @@ pub fn best_play_ends_by_the_value()
         → HasValue board configuration (Finite number) → EndsBestPlay board configuration number }
     ensures exactly { (board : PlainBoard) → (configuration : List ℕ) → (number : ℕ) → (other : ℕ)
         → HasValue board configuration (Finite number) → EndsBestPlay board configuration other → other ≡ number }
+{}
+
+/// A play reads at most 1,000,000 lines, each of at most 64 bytes before its line feed.
+pub fn limits()
+    ensures lines { MOST_LINES ≡ 1000000 }
+    ensures bytes { MOST_BYTES ≡ 64 }
 {}

@@ -4,6 +4,7 @@
 mod adversary_side;
 mod climbing;
 mod end;
+mod in_memory;
 mod labeller_side;
 mod laws;
 mod lines;
@@ -17,6 +18,7 @@ mod writing;
 pub use adversary_side::play_adversary_side;
 pub use climbing::play_nested;
 pub use end::{PlayEnd, PlayFault};
+pub use in_memory::{Played, play_adversary_bytes, play_labeller_bytes, play_nested_bytes};
 pub use labeller_side::play_labeller_side;
-pub use laws::{best_play_ends_by_the_value, one_transcript, plays_last_by_the_value};
+pub use laws::{best_play_ends_by_the_value, limits, one_transcript, plays_last_by_the_value};
 pub use nested_laws::nested_boards_last_for_ever;

@@ -13,7 +13,7 @@ use board_text::{Failed, Source};
 use std::marker::Model;
 
 /// How many bytes a line has at most, without its line feed.
-const MOST_BYTES: usize = 64;
+pub(crate) const MOST_BYTES: usize = 64;
 
 /// How many bytes are read at a time.
 const SIZE: usize = 4096;
@@ -65,9 +65,11 @@ impl Lines {
     /// What the next line says, if there is one. The reader is asked only where no whole line is left.
     pub(crate) fn next<R: Source>(&mut self, reader: &mut R) -> Result<Option<Word>, LineFault>
         requires ready { R.has_failed reader.old ≡ false }
+        requires ended { R.has_ended reader.old ≡ self.old.has_ended }
         requires end { IsEmptyAtEnd self.old (R.remaining reader.old) }
         ensures line { IfOk result (GivesLine self.old self.new (R.remaining reader.old) (R.remaining reader.new)) }
         ensures unfailed { OnOk result (R.has_failed reader.new ≡ false) }
+        ensures ended { OnOk result (R.has_ended reader.new ≡ self.new.has_ended) }
         ensures fault { IfErr result (GivesNoLine self.old (R.remaining reader.old) (R.remaining reader.new)) }
         ensures read { (R.has_failed reader.new ≡ true) ↔ (result ≡ Err Read) }
     {
@@ -127,8 +129,11 @@ impl Lines {
     fn fill<R: Source>(&mut self, reader: &mut R) -> Result<bool, LineFault>
         requires short { length self.old.bytes ≤ MOST_BYTES }
         requires goes_on { self.old.has_ended ≡ false }
+        requires unfailed { R.has_failed reader.old ≡ false }
+        requires unended { R.has_ended reader.old ≡ false }
         ensures filled { IfOk result (IsFilled self.old self.new (R.remaining reader.old) (R.remaining reader.new)) }
-        ensures unfailed { OnOk result (R.has_failed reader.new ≡ R.has_failed reader.old) }
+        ensures unfailed { OnOk result (R.has_failed reader.new ≡ false) }
+        ensures ended { OnOk result (R.has_ended reader.new ≡ self.new.has_ended) }
         ensures kept { OnErr result (Keeps (R.remaining reader.old) (R.remaining reader.new)) }
         ensures read { IfErr result (λ fault. (fault ≡ Read) × (R.has_failed reader.new ≡ true)) }
     {

@@ -18,7 +18,7 @@ use board_text::{Sink, Source};
 use std::alloc::AllocError;
 
 /// How many lines are read at most.
-const MOST_LINES: u32 = 1_000_000;
+pub(crate) const MOST_LINES: u32 = 1_000_000;
 
 /// A play that goes on, which answers what a person says.
 pub(crate) trait Play {
@@ -55,6 +55,7 @@ pub(crate) fn play_on<P: Play, R: Source, W: Sink>(
     requires fresh { P.requests play.old ≡ 0 }
     requires empty { string_bytes text.old ≡ [] }
     requires reader_ready { R.has_failed reader.old ≡ false }
+    requires reader_unended { R.has_ended reader.old ≡ false }
     requires writer_ready { W.has_failed writer.old ≡ false }
     ensures ok { IfOk result (HasEnded (BringInTurn (P.game play.old) (Going (P.at play.old) 0))
         (R.remaining reader.old) (R.remaining reader.new) (W.contents writer.old) (W.contents writer.new)) }

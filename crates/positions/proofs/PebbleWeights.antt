@@ -1,11 +1,11 @@
 -- How the weights of the pebbles are found, from the last pebble to the first.
 use Rattle.std.proofs.Common.{◌≡◌, ℕ, suc, ◌+◌, ◌-◌, ◌*◌, ◌^◌, ◌<◌, ◌≤◌, List, length, get_or, set, sym, ap, ◌∙◌, inl, inr, arith}
-use Rattle.std.proofs.Math.Nat.{pow-suc, pow-le-pow_right}
+use Rattle.std.proofs.Math.Nat.{pow-suc, pow-le-pow_left, pow-le-pow_right}
 use Rattle.std.proofs.lemmas.Bool.{cases_eq}
 use Rattle.std.proofs.lemmas.List.{length-set, get_or-set_same, get_or-set_other}
 use Rattle.board_text.specs.PlainBoard.{PlainBoard, IsBoard, places}
-use Rattle.board_text.specs.declared.board.TheConstants.{MAX_PEBBLES}
-use Rattle.board_text.proofs.Cited.{some_places}
+use Rattle.board_text.specs.declared.board.TheConstants.{MAX_LABELS, MAX_PEBBLES}
+use Rattle.board_text.proofs.Cited.{few_places, some_places}
 use Rattle.positions.specs.Ranks.{configurations}
 use Rattle.positions.specs.Inside.Weights.{weight_of}
 use Rattle.positions.specs.declared.space.TheConstants.{MAX_CONFIGURATIONS}
@@ -41,10 +41,20 @@ weighed_more board weights pebble next is inside few weighed =
       ];
     }
 
--- a power that is too large is one of a board that is too large
-pub too_large : (board : PlainBoard) (weights : List ℕ) (pebble next : ℕ) → IsBoard board → pebble < board.pebbles → MAX_CONFIGURATIONS < next * places board
-    → IsWeighed board weights (pebble + 1) next → MAX_CONFIGURATIONS < configurations board
-too_large board weights pebble next is inside large weighed =
+-- each power is one of a board with few configurations
+pub weighed_few : (board : PlainBoard) (weights : List ℕ) (pebble next : ℕ) → IsBoard board
+    → configurations board ≤ MAX_CONFIGURATIONS → pebble < board.pebbles → IsWeighed board weights (pebble + 1) next
+    → next * places board ≤ MAX_CONFIGURATIONS
+weighed_few board weights pebble next is few inside weighed =
     let power : next * places board ≡ places board ^ (board.pebbles - pebble) = next_power board pebble next inside weighed.power in
     let most : places board ^ (board.pebbles - pebble) ≤ configurations board = pow-le-pow_right (some_places board is) (omega arith) in
+    omega arith
+
+-- the number of configurations of any board has eight bytes
+pub fits_power : (board : PlainBoard) → IsBoard board → configurations board < 2 ^ 64
+fits_power board is =
+    let base : places board ^ board.pebbles ≤ (MAX_LABELS + 1) ^ board.pebbles =
+    pow-le-pow_left (few_places board is) board.pebbles in
+    let top : (MAX_LABELS + 1) ^ board.pebbles ≤ (MAX_LABELS + 1) ^ MAX_PEBBLES =
+    pow-le-pow_right (omega arith) is.pebbles.1 in
     omega arith

@@ -11,6 +11,8 @@ ghost use Rattle.positions.specs.declared.claim.Claim.{Claim as Assertion};
 ghost use Rattle.positions.specs.Claim.{Shows, Holds};
 ghost use Rattle.positions.specs.Laws.{HasOneTree, HasOneValue, LastsLess, HasRequestTo, Occurs};
 
+use crate::space::MAX_CONFIGURATIONS;
+
 /// At each depth either the labeller or the adversary has a tree, and not both.
 pub fn one_has_a_tree()
     ensures { (board : PlainBoard) → (depth : ℕ) → (configuration : List ℕ) → HasOneTree board depth configuration }
@@ -62,4 +64,9 @@ pub fn one_dominator()
 pub fn shown_claims_hold()
     ensures { (board : PlainBoard) → (labeller : List AnswerRow) → (adversary : List RequestRow) → (claim : Assertion)
         → IsConfiguration board board.start → Shows board labeller adversary claim → Holds board claim }
+{}
+
+/// A small board has at most 1,048,576 configurations.
+pub fn limits()
+    ensures { MAX_CONFIGURATIONS ≡ 1048576 }
 {}

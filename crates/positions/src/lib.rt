@@ -12,6 +12,7 @@ mod laws_of_gaps;
 mod laws_of_ranks;
 mod members;
 mod moves;
+mod side;
 mod slow;
 mod space;
 mod too_large;
@@ -24,13 +25,14 @@ pub use answer_set::AnswerSet;
 pub use claim::Claim;
 pub use label_walk::LabelWalk;
 pub use laws::{
-    lasts_less, one_dominator, one_has_a_tree, one_value_at_most, shown_claims_hold,
+    lasts_less, limits, one_dominator, one_has_a_tree, one_value_at_most, shown_claims_hold,
     tables_give_trees, values_by_requests, values_occur,
 };
 pub use laws_of_gaps::{answers_of_gaps, gaps_of_configurations, members_of_gaps};
 pub use laws_of_ranks::{ranks_and_configurations, ranks_are_in_order};
 pub use members::Members;
 pub use moves::Moves;
+pub use side::Side;
 pub use slow::{is_legal, labeller_lasts, value_of};
 pub use space::{MAX_CONFIGURATIONS, Space};
 pub use too_large::TooLarge;

@@ -10,7 +10,7 @@ use Rattle.positions.specs.declared.claim.Claim.TheVariants.{Exactly, AtLeast, A
 use Rattle.proof_text.specs.Proof.{PlainProof}
 use Rattle.proof_text.specs.Rules.{IsListedFor, Serves, IsWanted, one_less, MeetsRequest, MeetsRequests, LabellerObeys, IsListedBelow}
 use Rattle.proof_text.specs.Rules.{MeetsAnswer, MeetsAnswers, wanted_of, StartIsBelow}
-use Rattle.proof_check.specs.declared.fault.Side.TheVariants.{Labeller, Adversary}
+use Rattle.positions.specs.declared.side.Side.TheVariants.{Labeller, Adversary}
 use Rattle.proof_check.specs.declared.fault.CheckFault.{CheckFault}
 use Rattle.proof_check.specs.declared.fault.CheckFault.TheVariants as faults
 

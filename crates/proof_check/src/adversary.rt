@@ -10,7 +10,8 @@ ghost use Rattle.proof_check.specs.Inside.Checker.{IsRequesting, AtRank, IsUnser
 
 use crate::checked_row::CheckedRow;
 use crate::checker::Checker;
-use crate::fault::{CheckFault, Side};
+use crate::fault::CheckFault;
+use positions::Side;
 use proof_text::{AdversaryRow, Claim};
 
 impl CheckedRow for AdversaryRow {

@@ -48,9 +48,7 @@ impl<'a> Checker<'a> {
         ensures board { IfOk result (λ checker. checker.board ≡ board.now) }
         ensures proof { IfOk result (λ checker. checker.proof ≡ plain_proof board.now proof.now) }
     {
-        let Ok(space) = Space::of(board) else {
-            unreachable!();
-        };
+        let space = Space::new(board);
         let size = space.configurations();
         Ok(Checker {
             board,

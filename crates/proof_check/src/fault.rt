@@ -1,13 +1,6 @@
 //! Why a document is refused.
 
-/// One of the two players.
-#[derive(Clone, Copy, Debug, PartialEq, Eq)]
-pub enum Side {
-    /// Answers requests.
-    Labeller,
-    /// Makes requests.
-    Adversary,
-}
+use positions::Side;
 
 /// The first fault of a document. Positions are given by their ranks.
 #[derive(Clone, Copy, Debug, PartialEq, Eq)]

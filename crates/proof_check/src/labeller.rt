@@ -10,8 +10,8 @@ ghost use Rattle.proof_check.specs.Inside.Checker.{IsAnswering, AtRank, IsUnserv
 
 use crate::checked_row::CheckedRow;
 use crate::checker::Checker;
-use crate::fault::{CheckFault, Side};
-use positions::{Moves, Turns};
+use crate::fault::CheckFault;
+use positions::{Moves, Side, Turns};
 use proof_text::{Claim, LabellerRow};
 
 /// Whether so many turns are enough where these are wanted.

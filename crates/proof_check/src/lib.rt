@@ -11,5 +11,6 @@ mod laws;
 mod row_index;
 
 pub use checking::{Shown, check};
-pub use fault::{CheckFault, Side};
+pub use fault::CheckFault;
 pub use laws::{one_check_fault, rules_show, unbroken_rules_leave_no_fault};
+pub use positions::Side;

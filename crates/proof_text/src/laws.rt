@@ -11,6 +11,8 @@ ghost use Rattle.proof_text.specs.declared.fault.ProofKind.TheVariants.{Memory a
 ghost use Rattle.proof_text.specs.declared.proof.LabellerRow.{LabellerRow as RankedAnswers};
 ghost use Rattle.proof_text.specs.declared.proof.AdversaryRow.{AdversaryRow as RankedRequest};
 
+use crate::proof::MOST_TURNS;
+
 /// For one board a text is that of one document at most. So the text that is printed for a document is read back as that document.
 pub fn one_document()
     ensures { (board : PlainBoard) → (first : PlainProof) → (second : PlainProof) → IsBoard board → IsProof board first
@@ -42,4 +44,9 @@ pub fn one_row_of_a_rank()
     ensures adversary { (board : PlainBoard) → (first : RankedRequest) → (second : RankedRequest)
         → first.at < configurations board → second.at < configurations board
         → request_row board first ≡ request_row board second → first ≡ second }
+{}
+
+/// A number of a document is at most 1,000,000,000.
+pub fn limits()
+    ensures { MOST_TURNS ≡ 1000000000 }
 {}

@@ -13,7 +13,7 @@ mod sections;
 
 pub use claims::write_claim;
 pub use fault::{ProofFault, ProofKind};
-pub use laws::{documents_have_no_fault, one_document, one_fault, one_row_of_a_rank};
+pub use laws::{documents_have_no_fault, limits, one_document, one_fault, one_row_of_a_rank};
 pub use parsing::parse;
 pub use positions::{Claim, Turns};
 pub use printing::print;

@@ -3,7 +3,7 @@ use Rattle.std.proofs.Common.{◌≡◌, ◌≢◌, ◌⊎◌, ℕ, zero, suc, �
 use Rattle.std.proofs.lemmas.Option.{none-some, same_Some}
 use Rattle.index_lists.specs.Lists.{times}
 use Rattle.index_lists.proofs.Cited.{cond_same, cond_other, times-append, times-here, times-later}
-use Rattle.retro_core.specs.Solving.{Solving, IsSolving}
+use Rattle.solver.specs.Solving.{Solving, IsSolving}
 use Rattle.retro_core.specs.Round.{PlainSeat, Round, spent, seat_at, all_won, IsLawful, IsOpening, first_of, seat_struck, seat_tried, first_is_open}
 use Rattle.retro_core.specs.Round.{seat_kept, seat_new, seat_joined}
 use Rattle.retro_core.specs.declared.step.Step.{Step}
@@ -12,7 +12,7 @@ use Rattle.retro_core.specs.declared.step.Seen.{Seen}
 use Rattle.retro_core.specs.declared.step.Seen.TheVariants as seen
 use Rattle.retro_core.specs.Stepping.{Does, LeadTo}
 use Rattle.retro_core.specs.History.{answer_at, IsClosedAt}
-use Rattle.retro_core.proofs.LastingRanks.{same_or_not}
+use Rattle.solver.proofs.Cited.{same_or_not}
 use Rattle.retro_core.proofs.SeatSums.{total-set, total-cut, total-glue, times-together}
 use Rattle.retro_core.proofs.RoundLaws.{seat-there}
 use Rattle.retro_core.proofs.RoundSteps.{stepped, try-lawful}

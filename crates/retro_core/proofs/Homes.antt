@@ -1,15 +1,11 @@
 -- The gap in which a configuration is struck, and how many answers of a gap lead to a list of configurations.
 use Rattle.std.proofs.Common.{◌≡◌, ◌≢◌, ◌⊎◌, ℕ, zero, suc, ◌+◌, ◌<◌, ◌≤◌, ◌==◌, ◌&&◌, not, Bool, true, false, cond, List, [], ◌∷◌, refl, sym, ap, ◌∙◌, inl, inr, subst, arith}
 use Rattle.std.specs.List.{filter}
-use Rattle.std.proofs.lemmas.Bool.{cases_lt}
 use Rattle.index_lists.specs.Lists.{times}
-use Rattle.index_lists.proofs.Cited.{times-here, times-later, cond_same, cond_other}
-use Rattle.retro_core.specs.Inside.Arena.{Arena, count_below, live, Dominant}
-use Rattle.retro_core.proofs.Arenas.{IsArena, without}
+use Rattle.index_lists.proofs.Cited.{times-here, times-later, cond_same, cond_other, same_is, differ_is}
+use Rattle.solver.specs.Inside.Arena.{Arena, count_below, live, Dominant}
+use Rattle.solver.proofs.Cited.{IsArena, without, count_below-none, strike-home, strike-other, strike-none, stands, stands-true, stands-false, live-same, true_or_false, true_not_false, same_or_not}
 use Rattle.retro_core.proofs.Rules.{tally, home_among}
-use Rattle.retro_core.proofs.Counts.{count_below-none}
-use Rattle.retro_core.proofs.LastingRanks.{live-same, true_or_false, true_not_false, same_or_not, same_is, differ_is, zero_is, positive_is}
-use Rattle.retro_core.proofs.Strikes.{strike-home, strike-other, strike-none}
 
 -- ---- homes
 
@@ -56,22 +52,6 @@ home-of a is rank p i dominant = elim (home-cases a rank a.pebbles) [
 ]
 
 -- ---- answers that lead to a list
-
--- whether it stands in the list
-abbrev pub stands : List ℕ → ℕ → Bool
-stands ranks x = not (times x ranks == 0)
-
-pub stands-true : (ranks : List ℕ) (x : ℕ) → 0 < times x ranks → stands ranks x ≡ true
-stands-true ranks x h = ap not (positive_is (times x ranks) h)
-
-pub stands-false : (ranks : List ℕ) (x : ℕ) → times x ranks ≡ 0 → stands ranks x ≡ false
-stands-false ranks x e = ap not (zero_is (times x ranks) e)
-
-pub stands-some : (ranks : List ℕ) (x : ℕ) → stands ranks x ≡ true → 0 < times x ranks
-stands-some ranks x e = elim (cases_lt 0 (times x ranks)) [
-  | inl some ↦ some
-  | inr none ↦ absurd (true_not_false (stands ranks x) e (stands-false ranks x (omega arith)))
-]
 
 and_false : (b : Bool) → b && false ≡ false
 and_false true = refl
@@ -142,28 +122,6 @@ live-sum a is f g h gap i each =
     (λ v j. answer-sum (a.is_answer gap v) (f (a.member gap v)) (g (a.member gap v)) (h (a.member gap v)) (each (a.member gap v) (is.member_in gap v i j)))
 
 -- ---- a list without what fails a test
-
-pub times-filter-true : (test : ℕ → Bool) (x : ℕ) (ranks : List ℕ) → 0 < times x (filter test ranks) → test x ≡ true
-times-filter-true test x [] h = absurd (omega arith)
-times-filter-true test x (y ∷ ranks) h = elim (true_or_false (test y)) [
-  | inr fails ↦ times-filter-true test x ranks (subst (λ (b : Bool). 0 < times x (cond b (y ∷ filter test ranks) (filter test ranks))) fails h)
-  | inl passes ↦ elim (same_or_not y x) [
-    | inl e ↦ ap test (sym e) ∙ passes
-    | inr d ↦ times-filter-true test x ranks (
-        let kept : 0 < times x (y ∷ filter test ranks) = subst (λ (b : Bool). 0 < times x (cond b (y ∷ filter test ranks) (filter test ranks))) passes h in
-        let later = times-later y x (filter test ranks) d in omega arith)
-  ]
-]
-
-pub times-filter-le : (test : ℕ → Bool) (x : ℕ) (ranks : List ℕ) → times x (filter test ranks) ≤ times x ranks
-times-filter-le test x [] = omega arith
-times-filter-le test x (y ∷ ranks) =
-    let rest = times-filter-le test x ranks in
-    by (test y) rest
-  where
-    by : (b : Bool) → times x (filter test ranks) ≤ times x ranks → times x (cond b (y ∷ filter test ranks) (filter test ranks)) ≤ times x (y ∷ ranks)
-    by true rest = omega arith
-    by false rest = omega arith
 
 pub tally-filter : (home : ℕ → ℕ) (test : ℕ → Bool) (g : ℕ) (ranks : List ℕ) → ((x : ℕ) → 0 < times x ranks → test x ≡ false → home x ≢ g) → tally home g (filter test ranks) ≡ tally home g ranks
 tally-filter home test g [] fails = refl

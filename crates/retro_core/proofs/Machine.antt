@@ -1,12 +1,15 @@
 -- The steps as the machine makes them: what its code reads and writes is the step, and the round after it is lawful.
-use Rattle.std.proofs.Common.{◌≡◌, ◌≢◌, ℕ, zero, suc, ◌+◌, ◌-◌, ◌<◌, ◌≤◌, ◌==◌, Bool, true, false, not, cond, List, [], ◌∷◌, ◌++◌, length, set, refl, sym, ap, ◌∙◌, subst, arith, Option, Some, None, get_or, get_or-set_other}
-use Rattle.std.specs.Option.{is_none, is_some}
+use Rattle.std.proofs.Common.{◌≡◌, ◌≢◌, ℕ, zero, suc, ◌+◌, ◌-◌, ◌<◌, ◌≤◌, ◌==◌, Bool, true, false, cond, List, [], ◌∷◌, ◌++◌, length, map, set, refl, sym, ap, ◌∙◌, subst, arith, Option, Some, None, get_or, get_or-set_other}
+use Rattle.std.specs.Option.{is_none}
 use Rattle.std.proofs.lemmas.Bool.Decides.{nat_tests}
-use Rattle.std.proofs.lemmas.List.{get_or_default, set_comm, set-set, set-append_left, set-get_or}
+use Rattle.std.proofs.Math.ListN.{get_or-map}
+use Rattle.std.proofs.lemmas.List.{get_or_default, length-map, map-set, set_comm, set-set, set-append_left, set-get_or}
 use Rattle.positions.specs.Ranks.{configuration_at}
 use Rattle.positions.specs.Gaps.{gap_of, IsDominator}
 use Rattle.positions.specs.Counts.{IsSmallest}
-use Rattle.retro_core.specs.Solving.{Solving, IsSolving}
+use Rattle.solver.specs.declared.word.TheConstants.{OPEN}
+use Rattle.solver.specs.Solving.{Solving, IsSolving}
+use Rattle.solver.specs.Words.{value_of_word}
 use Rattle.retro_core.specs.Round.{PlainSeat, Round, spent, seat_at, IsDue, IsLawful, first_of, seat_struck, seat_tried, seat_kept, round_of}
 use Rattle.retro_core.specs.Round.{seat_new, seat_joined, struck, first_is_open, tried}
 use Rattle.retro_core.specs.declared.step.Step.TheVariants as steps
@@ -119,16 +122,6 @@ module _ (s : Solving) (w : ℕ) (counts : List ℕ) (values : List (Option ℕ)
       let long = law.values_length in
       omega arith
 
-  -- where a try takes memory, the first that is owed is open
-  pub winning : (v : PlainSeat) (ranks : List ℕ) (word : Option ℕ) (won : Bool) → v ≡ get_or seats id v → ranks ≡ v.owed → 0 < length ranks
-      → word ≡ get_or values (get_or ranks 0 0) word → won ≡ is_none word → won ≡ true → Refuses old (steps.Try id) faults.Memory
-  winning v ranks word won v_is e some word_is won_is is_won =
-      let owed : ranks ≡ (get_or seats id spent).owed = read-list (λ u. u.owed) v ranks v_is e in
-      subst (λ r. (0 < length (seat_at r id).owed) × (first_is_open r id ≡ true)) is (
-        subst (λ (l : List ℕ). 0 < length l) owed some,
-        sym (won_is ∙ ap is_none (word_is ∙ get_or_default values (get_or ranks 0 0) word None (owed-read v ranks v_is e some) ∙ ap (λ (l : List ℕ). get_or values (get_or l 0 0) None) owed)) ∙ is_won,
-      )
-
   pub record IsTrying (ranks : List ℕ) (won : Bool) (values' : List (Option ℕ)) (after : PlainSeat) : Type 0 where
     pub lawful : IsLawful (round_of s w counts values' (set seats id after))
     pub tries : Tries old id (get_or ranks 0 0) won (round_of s w counts values' (set seats id after))
@@ -234,6 +227,55 @@ module _ (s : Solving) (w : ℕ) (counts : List ℕ) (values : List (Option ℕ)
     pub allowed : ((id ≡ from → ⊥) × (0 < (seat_at old id).width) × (0 < (seat_at old from).width))
     allowed = subst (λ r. (id ≡ from → ⊥) × (0 < (seat_at r id).width) × (0 < (seat_at r from).width)) is (differ, wide, from_wide)
 
+-- ---- values as words
+
+-- a word is open exactly if it stands for no value
+pub open-word : (word : ℕ) → (word == OPEN) ≡ is_none (value_of_word word)
+open-word word = by (word == OPEN)
+  where
+    by : (none : Bool) → none ≡ is_none (cond none None (Some word))
+    by true = refl
+    by false = refl
+
+-- the values after a configuration has won the next one
+pub values-won : (words : List ℕ) (rank next : ℕ) → next < OPEN → map value_of_word (set words rank next) ≡ set (map value_of_word words) rank (Some next)
+values-won words rank next small =
+    map-set value_of_word words rank next
+    ∙ ap (set (map value_of_word words) rank) (cond_other next OPEN None (Some next) (λ e. omega arith))
+
+-- a try as the machine makes it: the word of the first that is owed is read, and the next value is written there if it is open
+module _ (s : Solving) (w : ℕ) (counts words : List ℕ) (seats : List PlainSeat) (old : Round) (is : round_of s w counts (map value_of_word words) seats ≡ old)
+    (sol : IsSolving s) (law : IsLawful (round_of s w counts (map value_of_word words) seats)) (id : ℕ) (has_width : 0 < (seat_at old id).width) where
+  pub owed-word : (v : PlainSeat) (ranks : List ℕ) → v ≡ get_or seats id v → ranks ≡ v.owed → 0 < length ranks → get_or ranks 0 0 < length words
+  owed-word v ranks v_is e some =
+      let low = owed-read s w counts (map value_of_word words) seats old is sol law id has_width v ranks v_is e some in
+      let same = length-map words value_of_word in
+      omega arith
+
+  word-read : (rank word : ℕ) → word ≡ get_or words rank word → value_of_word word ≡ get_or (map value_of_word words) rank (value_of_word word)
+  word-read rank word word_is = ap value_of_word word_is ∙ sym (get_or-map value_of_word words rank word)
+
+  pub settling : (v : PlainSeat) (ranks : List ℕ) (word round : ℕ) (words' : List ℕ) (v' after : PlainSeat) → v ≡ get_or seats id v → ranks ≡ v.owed → 0 < length ranks
+      → word ≡ get_or words (get_or ranks 0 0) word → round ≡ s.rounds → words' ≡ cond (word == OPEN) (set words (get_or ranks 0 0) (round + 1)) words
+      → v' ≡ get_or seats id v' → after ≡ seat_tried (word == OPEN) v'
+      → IsTrying s w counts (map value_of_word words) seats old is sol law id has_width ranks (word == OPEN) (map value_of_word words') after
+  settling v ranks word round words' v' after v_is e some word_is round_is words_are v'_is after_is =
+      trying s w counts values seats old is sol law id has_width v ranks (value_of_word word) (word == OPEN) (map value_of_word words') v' after v_is e some
+      (word-read rank word word_is) (open-word word) (ap (map value_of_word) words_are ∙ by (word == OPEN)) v'_is after_is
+    where
+      values : List (Option ℕ)
+      values = map value_of_word words
+
+      rank : ℕ
+      rank = get_or ranks 0 0
+
+      small : round + 1 < OPEN
+      small = let low = sol.below in let few = sol.few in omega arith
+
+      by : (won : Bool) → map value_of_word (cond won (set words rank (round + 1)) words) ≡ cond won (set values rank (Some (suc s.rounds))) values
+      by true = values-won words rank (round + 1) small ∙ (let next : round + 1 ≡ suc s.rounds = omega arith in ap (λ (n : ℕ). set values rank (Some n)) next)
+      by false = refl
+
 -- ---- what a branch answers
 
 pub count-then : (count gap : ℕ) (closed : Option ℕ) → count ≡ 1 → closed ≡ Some gap → closed ≡ cond (count == 1) (Some gap) None
@@ -241,10 +283,3 @@ count-then count gap closed one e = e ∙ ap (λ (n : ℕ). cond (n == 1) (Some 
 
 pub count-else : (count gap : ℕ) (closed : Option ℕ) → count ≢ 1 → closed ≡ None → closed ≡ cond (count == 1) (Some gap) None
 count-else count gap closed other e = e ∙ sym (cond_other count 1 (Some gap) None other)
-
-pub none-of : (word : Option ℕ) (flag : Bool) → is_some word ≡ not flag → flag ≡ is_none word
-none-of word flag e = twice flag ∙ ap not (sym e)
-  where
-    twice : (b : Bool) → b ≡ not (not b)
-    twice true = refl
-    twice false = refl

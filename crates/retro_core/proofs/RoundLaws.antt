@@ -11,15 +11,13 @@ use Rattle.positions.specs.Ranks.{configurations, rank_of, configuration_at}
 use Rattle.positions.specs.Gaps.{gaps, member_of, IsAnswer}
 use Rattle.positions.specs.Counts.{HasSize}
 use Rattle.positions.proofs.Cited.{same_size, same_value}
-use Rattle.retro_core.specs.Inside.Arena.{live, lasts}
-use Rattle.retro_core.specs.Inside.BoardArena.{arena_of}
-use Rattle.retro_core.specs.Solving.{Solving, IsSolving, AnswerLasts, source}
-use Rattle.retro_core.specs.Round.{PlainSeat, Round, spent, all_todo, all_owed, all_won, IsWorth, IsDue, IsLawful}
+use Rattle.solver.specs.Inside.Arena.{live, lasts}
+use Rattle.solver.specs.Inside.BoardArena.{arena_of}
+use Rattle.solver.specs.Solving.{Solving, IsSolving, AnswerLasts, source, IsWorth}
+use Rattle.retro_core.specs.Round.{PlainSeat, Round, spent, all_todo, all_owed, all_won, IsDue, IsLawful}
 use Rattle.retro_core.proofs.Rules.{Fits, tally, home_among, value_before, rules_of, held_in, AreKept}
-use Rattle.retro_core.proofs.LastingRanks.{same_or_not, some_same}
-use Rattle.retro_core.proofs.BoardArenas.{arena_is}
-use Rattle.retro_core.proofs.EnteredAnswers.{live-size, above-size}
-use Rattle.retro_core.proofs.Homes.{stands, stands-true, stands-some, live-tally}
+use Rattle.solver.proofs.Cited.{same_or_not, some_same, arena_is, live-size, above-size, stands, stands-true, stands-some}
+use Rattle.retro_core.proofs.Homes.{live-tally}
 use Rattle.retro_core.proofs.SeatSums.{total-sum, times-together, tally-together}
 use Rattle.retro_core.proofs.SeatSteps.{word_none, word_some}
 use Rattle.retro_core.proofs.RoundStart.{same-word, base-is, to-win-is, struck-in-is}

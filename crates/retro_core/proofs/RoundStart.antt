@@ -11,17 +11,13 @@ use Rattle.positions.specs.Ranks.{configurations, rank_of, configuration_at}
 use Rattle.positions.specs.Gaps.{gaps, gap_of, member_of, IsDominator}
 use Rattle.positions.specs.Counts.{HasSize}
 use Rattle.positions.proofs.Cited.{same_size}
-use Rattle.retro_core.specs.Inside.Arena.{Arena, count_below, live, lasts, dominated}
-use Rattle.retro_core.specs.Inside.BoardArena.{arena_of}
-use Rattle.retro_core.specs.Solving.{Solving, IsSolving, AnswerLasts, bucket, source}
-use Rattle.retro_core.specs.Round.{IsWorth, IsDue, AreToStrike}
-use Rattle.retro_core.proofs.Arenas.{IsArena}
+use Rattle.solver.specs.Inside.Arena.{Arena, count_below, live, lasts, dominated}
+use Rattle.solver.specs.Inside.BoardArena.{arena_of}
+use Rattle.solver.specs.Solving.{Solving, IsSolving, AnswerLasts, bucket, source, IsWorth, AreToStrike}
+use Rattle.retro_core.specs.Round.{IsDue}
+use Rattle.solver.proofs.Cited.{IsArena, none_some, some_same, true_or_false, true_not_false, lasts-less, lasts-at-most, next-gives, next-closed, next-fails, arena_is, at_member, tree_of_lasts, lasts_of_tree, value_of_lasts, lasts_of_value, dominant_is, dominated-by, dominated-tells, above-size, stands, stands-true, stands-false, times-filter-true, times-filter-le}
 use Rattle.retro_core.proofs.Rules.{tally, home_among, value_before, rules_of, IsStruckIn, IsToWin, AreSound, AreReadyLists}
-use Rattle.retro_core.proofs.LastingRanks.{none_some, some_same, true_or_false, true_not_false, lasts-less, lasts-at-most, next-gives, next-closed, next-fails}
-use Rattle.retro_core.proofs.BoardArenas.{arena_is, at_member, tree_of_lasts, lasts_of_tree, value_of_lasts, lasts_of_value, dominant_is}
-use Rattle.retro_core.proofs.DominatedRanks.{dominated-by, dominated-tells}
-use Rattle.retro_core.proofs.EnteredAnswers.{above-size}
-use Rattle.retro_core.proofs.Homes.{home-cases, home-of, stands, stands-true, stands-false, live-tally, live-sum, times-filter-true, times-filter-le, tally-filter}
+use Rattle.retro_core.proofs.Homes.{home-cases, home-of, live-tally, live-sum, tally-filter}
 
 -- ---- the value before a round
 

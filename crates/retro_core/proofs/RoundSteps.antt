@@ -1,6 +1,7 @@
 -- Each step leads from a lawful round to a lawful one; the opening is lawful; and at the end all of the next value is won.
-use Rattle.std.proofs.Common.{drop, ◌≡◌, ◌≢◌, ◌⊎◌, ℕ, suc, ◌-◌, ◌<◌, ◌≤◌, Bool, true, false, cond, List, [], ◌∷◌, length, set, refl, sym, ap, ◌∙◌, inl, inr, subst, arith, Option, Some, None, get_or, slice_index, length-set, get_or-set_same, get_or-set_other}
+use Rattle.std.proofs.Common.{drop, ◌≡◌, ◌≢◌, ◌⊎◌, ℕ, suc, ◌-◌, ◌<◌, ◌≤◌, Bool, true, false, cond, List, [], ◌∷◌, length, map, set, refl, sym, ap, ◌∙◌, inl, inr, subst, arith, Option, Some, None, get_or, slice_index, length-set, get_or-set_same, get_or-set_other}
 use Rattle.std.specs.Option.{is_none}
+use Rattle.std.proofs.lemmas.List.{length-map}
 use Rattle.std.proofs.lemmas.Bool.{cases_lt}
 use Rattle.std.specs.List.{flat_map, sum_by}
 use Rattle.std.proofs.lemmas.List.Sums.{sum_by-cons}
@@ -10,11 +11,12 @@ use Rattle.positions.specs.Game.{LabellerTree}
 use Rattle.positions.specs.Ranks.{configurations, rank_of, configuration_at}
 use Rattle.positions.specs.Gaps.{gaps, gap_of, member_of, IsAnswer, IsDominator}
 use Rattle.positions.proofs.Cited.{same_size, size_zero, configuration_at_is, gap_below}
-use Rattle.retro_core.specs.Inside.Arena.{live, lasts}
-use Rattle.retro_core.specs.Inside.BoardArena.{arena_of}
-use Rattle.retro_core.specs.Solving.{Solving, IsSolving, AnswerLasts}
-use Rattle.retro_core.specs.Round.{PlainSeat, Round, spent, seat_at, all_todo, all_owed, all_won, IsDue, IsLawful, AreToStrike, round_of}
-use Rattle.retro_core.specs.Round.{AreFirstCounts, AreFirstValues, opening, IsOpening, IsWorkedOff, HasWonAll, first_of}
+use Rattle.solver.specs.Inside.Arena.{live, lasts}
+use Rattle.solver.specs.Inside.BoardArena.{arena_of}
+use Rattle.solver.specs.Solving.{Solving, IsSolving, AnswerLasts, AreToStrike}
+use Rattle.solver.specs.Words.{value_of_word, AreFirstCounts, AreFirstValues}
+use Rattle.retro_core.specs.Round.{PlainSeat, Round, spent, seat_at, all_todo, all_owed, all_won, IsDue, IsLawful, round_of}
+use Rattle.retro_core.specs.Round.{opening, IsOpening, IsWorkedOff, HasWonAll, first_of}
 use Rattle.retro_core.specs.Round.{seat_tried, struck, first_is_open, tried, split, joined}
 use Rattle.retro_core.specs.declared.step.Step.{Step}
 use Rattle.retro_core.specs.declared.step.Step.TheVariants as steps
@@ -22,9 +24,7 @@ use Rattle.retro_core.specs.declared.step.Seen.{Seen}
 use Rattle.retro_core.specs.declared.step.Seen.TheVariants as seen
 use Rattle.retro_core.specs.Stepping.{Does, LeadTo}
 use Rattle.retro_core.proofs.Rules.{rules_of}
-use Rattle.retro_core.proofs.EnteredAnswers.{above-size}
-use Rattle.retro_core.proofs.LastingRanks.{next-fails}
-use Rattle.retro_core.proofs.BoardArenas.{arena_is, at_member, tree_of_lasts, lasts_of_value}
+use Rattle.solver.proofs.Cited.{above-size, next-fails, arena_is, at_member, tree_of_lasts, lasts_of_value}
 use Rattle.retro_core.proofs.SeatSums.{total-at, times-together}
 use Rattle.retro_core.proofs.SeatSteps.{strikes, tries, first-known, splits, joins, opens, split_first, times_here}
 use Rattle.retro_core.proofs.RoundStart.{home-is, sound-is, ready-is}
@@ -259,11 +259,14 @@ opened-and-worked-off s width first made last sol opens lead off =
     let same : last.solving ≡ s = rest.1 ∙ from in
     (same, worked-off last (subst IsSolving (sym same) sol).is_board rest.0 off)
 
--- ---- the opening as the machine has it
+-- ---- the opening as the machine has it, with copies of its solver's words
 
-pub opening-state : (s : Solving) → IsSolving s → (width : ℕ) (counts : List ℕ) (values : List (Option ℕ)) (seats : List PlainSeat) (todo : List ℕ) → 0 < width
-    → length counts ≡ gaps s.board → length values ≡ configurations s.board → AreFirstCounts s counts → AreFirstValues s values → AreToStrike s todo
-    → seats ≡ record { width = width; todo = todo; owed = []; won = [] } ∷ [] → IsOpening s width (round_of s width counts values seats)
-opening-state s sol width counts values seats todo some counts_length values_length counts_are values_are to_strike e =
-    subst (λ (l : List PlainSeat). IsOpening s width (round_of s width counts values l)) (sym e)
-    (opening-lawful s sol width counts values todo some counts_length values_length counts_are values_are to_strike)
+pub opening-state : (s : Solving) → IsSolving s → (width : ℕ) (counts words lent_counts lent_words : List ℕ) (seats : List PlainSeat) (todo : List ℕ) → 0 < width
+    → length lent_counts ≡ gaps s.board → length lent_words ≡ configurations s.board
+    → AreFirstCounts s lent_counts → AreFirstValues s (map value_of_word lent_words) → AreToStrike s todo
+    → counts ≡ lent_counts → words ≡ lent_words → seats ≡ record { width = width; todo = todo; owed = []; won = [] } ∷ []
+    → IsOpening s width (round_of s width counts (map value_of_word words) seats)
+opening-state s sol width counts words lent_counts lent_words seats todo some counts_length words_length counts_are values_are to_strike counts_same words_same seats_are =
+    subst (λ (l : List PlainSeat). IsOpening s width (round_of s width counts (map value_of_word words) l)) (sym seats_are)
+    (subst (λ (p : List ℕ × List ℕ). IsOpening s width (opening s width p.0 (map value_of_word p.1) todo)) (λ i. (sym counts_same i, sym words_same i))
+    (opening-lawful s sol width lent_counts (map value_of_word lent_words) todo some counts_length (length-map lent_words value_of_word ∙ words_length) counts_are values_are to_strike))

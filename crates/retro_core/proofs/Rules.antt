@@ -4,9 +4,9 @@ use Rattle.std.specs.List.{All, sum_by}
 use Rattle.index_lists.specs.Lists.{times}
 use Rattle.positions.specs.Ranks.{configurations}
 use Rattle.positions.specs.Gaps.{gaps}
-use Rattle.retro_core.specs.Inside.Arena.{Arena, count_below, live, lasts}
-use Rattle.retro_core.specs.Inside.BoardArena.{arena_of}
-use Rattle.retro_core.specs.Solving.{Solving, source}
+use Rattle.solver.specs.Inside.Arena.{Arena, count_below, live, lasts}
+use Rattle.solver.specs.Inside.BoardArena.{arena_of}
+use Rattle.solver.specs.Solving.{Solving, source}
 use Rattle.retro_core.specs.Round.{PlainSeat, spent}
 
 -- the value and the width of a round, the numbers of gaps and of configurations; how many answers of a gap lead above the value,

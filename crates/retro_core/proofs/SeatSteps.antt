@@ -7,7 +7,7 @@ use Rattle.index_lists.specs.Lists.{times}
 use Rattle.index_lists.proofs.Cited.{cond_same, cond_other, times-append}
 use Rattle.retro_core.specs.Round.{PlainSeat, spent, first_of, seat_tried, seat_kept, seat_new, seat_joined}
 use Rattle.retro_core.proofs.Rules.{Fits, Rules, tally, IsStruckIn, IsToWin, value_word, held_in, AreSound, AreReadyLists, AreKept}
-use Rattle.retro_core.proofs.LastingRanks.{same_or_not}
+use Rattle.solver.proofs.Cited.{same_or_not}
 use Rattle.retro_core.proofs.SeatSums.{total-set, total-at, total-cut, total-glue, times-cut, tally-append, tally-cut}
 
 one_if : (x y : ℕ) → x ≡ y → ◌≡◌ {A = ℕ} (cond (x == y) 1 0) 1

@@ -1,6 +1,6 @@
 -- A round at the value of a solver: its words and seats, when they are lawful, how it begins, and what its steps do.
-use Rattle.std.specs.Prelude.{◌≡◌, ℕ, suc, ◌+◌, ◌-◌, ◌/◌, ◌<◌, ◌≤◌, ◌↔◌, ◌⊎◌, ◌==◌, Bool, true, cond, List, [], ◌∷◌, ◌++◌, length, take}
-use Rattle.std.specs.Prelude.{drop, filter, slice_index, slice_index_or, slice_set, Option, Some, None}
+use Rattle.std.specs.Prelude.{◌≡◌, ℕ, suc, ◌+◌, ◌-◌, ◌/◌, ◌<◌, ◌≤◌, ◌↔◌, ◌⊎◌, ◌==◌, Bool, cond, List, [], ◌∷◌, ◌++◌, length, take}
+use Rattle.std.specs.Prelude.{drop, slice_index, slice_index_or, slice_set, Option, Some, None}
 use Rattle.std.specs.Option.{is_none}
 use Rattle.std.specs.List.{flat_map, sum_by}
 use Rattle.index_lists.specs.Lists.{times}
@@ -11,7 +11,7 @@ use Rattle.positions.specs.Value.{HasValue}
 use Rattle.positions.specs.Ranks.{configurations, rank_of, configuration_at}
 use Rattle.positions.specs.Gaps.{gaps, member_of, IsAnswer, IsDominator}
 use Rattle.positions.specs.Counts.{HasSize}
-use Rattle.retro_core.specs.Solving.{Solving, AnswerLasts, bucket, source}
+use Rattle.solver.specs.Solving.{Solving, AnswerLasts, IsWorth, source, AreToStrike}
 
 -- a seat's width, and the configurations that it has to strike, that it owes, and that it has won
 pub record PlainSeat : Type 0 where
@@ -31,6 +31,20 @@ pub record Round : Type 0 where
 -- the round of these parts
 abbrev pub round_of : Solving → ℕ → List ℕ → List (Option ℕ) → List PlainSeat → Round
 round_of s width counts values seats = record { solving = s; width = width; counts = counts; values = values; seats = seats }
+
+-- the board of a round, the value that the round is at, and the value that it gives
+abbrev pub board_of : Round → PlainBoard
+board_of round = round.solving.board
+
+abbrev pub value_of : Round → ℕ
+value_of round = round.solving.rounds
+
+abbrev pub next_value : Round → ℕ
+next_value round = suc (value_of round)
+
+-- the rank of a gap's member with this place for its pebble
+abbrev pub member_rank : Round → ℕ → ℕ → ℕ
+member_rank round gap place = rank_of (board_of round) (member_of (board_of round) gap place)
 
 -- a seat that was joined into another
 abbrev pub spent : PlainSeat
@@ -52,11 +66,6 @@ all_owed round = flat_map (λ seat. seat.owed) round.seats
 abbrev pub all_won : Round → List ℕ
 all_won round = flat_map (λ seat. seat.won) round.seats
 
--- the rank is that of a configuration of this finite value
-pub record IsWorth (board : PlainBoard) (rank value : ℕ) : Type 0 where
-  pub is_rank : rank < configurations board
-  pub has_value : HasValue board (configuration_at board rank) (Finite value)
-
 -- the configurations of a value that have a dominating pebble are to be struck in a round at that value
 pub record IsDue (board : PlainBoard) (rank value : ℕ) : Type 0 where
   pub worth : IsWorth board rank value
@@ -67,52 +76,33 @@ pub record IsDue (board : PlainBoard) (rank value : ℕ) : Type 0 where
 pub record IsCount (round : Round) (gap count : ℕ) : Type 0 where
   pub above : ℕ
   pub waiting : ℕ
-  pub are_above : HasSize (AnswerLasts round.solving.board gap (suc round.solving.rounds)) above
-  pub are_waiting : HasSize (λ label. IsAnswer round.solving.board gap label
-      × (0 < times (rank_of round.solving.board (member_of round.solving.board gap label)) (all_todo round))) waiting
+  pub are_above : HasSize (AnswerLasts (board_of round) gap (next_value round)) above
+  pub are_waiting : HasSize (λ label. IsAnswer (board_of round) gap label
+      × (0 < times (member_rank round gap label) (all_todo round))) waiting
   pub sum : count ≡ above + waiting
 
 -- the words and the seats fit the values of the game
 pub record IsLawful (round : Round) : Type 0 where
-  pub counts_length : length round.counts ≡ gaps round.solving.board
-  pub values_length : length round.values ≡ configurations round.solving.board
+  pub counts_length : length round.counts ≡ gaps (board_of round)
+  pub values_length : length round.values ≡ configurations (board_of round)
   -- a value is written where it is at most the round's, or where it is the next one and stands in a won list
-  pub values : (rank value : ℕ) → rank < configurations round.solving.board
+  pub values : (rank value : ℕ) → rank < configurations (board_of round)
       → (slice_index_or round.values rank None ≡ Some value)
-      ↔ (((value ≤ round.solving.rounds) × HasValue round.solving.board (configuration_at round.solving.board rank) (Finite value))
-      ⊎ ((value ≡ suc round.solving.rounds) × (0 < times rank (all_won round))))
-  pub due : (rank : ℕ) → 0 < times rank (all_todo round) → IsDue round.solving.board rank round.solving.rounds
+      ↔ (((value ≤ value_of round) × HasValue (board_of round) (configuration_at (board_of round) rank) (Finite value))
+      ⊎ ((value ≡ next_value round) × (0 < times rank (all_won round))))
+  pub due : (rank : ℕ) → 0 < times rank (all_todo round) → IsDue (board_of round) rank (value_of round)
   pub due_once : (rank : ℕ) → times rank (all_todo round) ≤ 1
-  pub counts : (gap : ℕ) → gap < gaps round.solving.board → IsCount round gap (slice_index round.counts gap)
-  pub owed : (rank : ℕ) → 0 < times rank (all_owed round) → IsWorth round.solving.board rank (suc round.solving.rounds)
-  pub won : (rank : ℕ) → 0 < times rank (all_won round) → IsWorth round.solving.board rank (suc round.solving.rounds)
+  pub counts : (gap : ℕ) → gap < gaps (board_of round) → IsCount round gap (slice_index round.counts gap)
+  pub owed : (rank : ℕ) → 0 < times rank (all_owed round) → IsWorth (board_of round) rank (next_value round)
+  pub won : (rank : ℕ) → 0 < times rank (all_won round) → IsWorth (board_of round) rank (next_value round)
   pub won_once : (rank : ℕ) → times rank (all_won round) ≤ 1
   -- the members of a closed gap that have no value of at most the round's are owed or won
-  pub closed : (gap label : ℕ) → gap < gaps round.solving.board → slice_index round.counts gap ≡ 0 → label < places round.solving.board
-      → LabellerTree round.solving.board (suc round.solving.rounds) (member_of round.solving.board gap label)
-      → (0 < times (rank_of round.solving.board (member_of round.solving.board gap label)) (all_owed round))
-      ⊎ (0 < times (rank_of round.solving.board (member_of round.solving.board gap label)) (all_won round))
+  pub closed : (gap label : ℕ) → gap < gaps (board_of round) → slice_index round.counts gap ≡ 0 → label < places (board_of round)
+      → LabellerTree (board_of round) (next_value round) (member_of (board_of round) gap label)
+      → (0 < times (member_rank round gap label) (all_owed round))
+      ⊎ (0 < times (member_rank round gap label) (all_won round))
   pub widths : sum_by (λ seat. seat.width) round.seats ≡ round.width
   pub spent_seats : (seat : ℕ) → (seat_at round seat).width ≡ 0 → seat_at round seat ≡ spent
-
--- the test tells which configurations have a dominating pebble
-abbrev pub TellsDominated : PlainBoard → (ℕ → Bool) → Type 0
-TellsDominated board test = (rank : ℕ) → rank < configurations board
-    → (test rank ≡ true) ↔ ((pebble : ℕ) × IsDominator board (configuration_at board rank) pebble)
-
--- what is to be struck at the opening: what is filed at the round's value and has a dominating pebble, in order of filing
-abbrev pub AreToStrike : Solving → List ℕ → Type 0
-AreToStrike s ranks = (test : ℕ → Bool) → TellsDominated s.board test → ranks ≡ filter test (bucket s s.rounds)
-
--- each number is that of a gap's answers that last as long as the round's value
-abbrev pub AreFirstCounts : Solving → List ℕ → Type 0
-AreFirstCounts s counts = (gap : ℕ) → gap < gaps s.board → HasSize (AnswerLasts s.board gap s.rounds) (slice_index counts gap)
-
--- each configuration has its value, where that is at most the round's
-abbrev pub AreFirstValues : Solving → List (Option ℕ) → Type 0
-AreFirstValues s values = (rank value : ℕ) → rank < configurations s.board
-    → (slice_index_or values rank None ≡ Some value)
-    ↔ ((value ≤ s.rounds) × HasValue s.board (configuration_at s.board rank) (Finite value))
 
 -- the round with one seat, which has the whole width and all to strike
 abbrev pub opening : Solving → ℕ → List ℕ → List (Option ℕ) → List ℕ → Round
@@ -133,7 +123,7 @@ pub record IsWorkedOff (round : Round) : Type 0 where
 -- what is won is exactly what has the value behind the round's, each configuration once
 abbrev pub HasWonAll : Round → Type 0
 HasWonAll round = (rank : ℕ) → (times rank (all_won round) ≤ 1)
-    × ((0 < times rank (all_won round)) ↔ IsWorth round.solving.board rank (suc round.solving.rounds))
+    × ((0 < times rank (all_won round)) ↔ IsWorth (board_of round) rank (next_value round))
 
 -- the first of a list
 abbrev pub first_of : List ℕ → ℕ
@@ -179,7 +169,7 @@ first_is_open round seat = is_none (slice_index_or round.values (first_of (seat_
 abbrev pub tried : Round → ℕ → Round
 tried round seat = record round {
   values = cond (first_is_open round seat)
-      (slice_set round.values (first_of (seat_at round seat).owed) (Some (suc round.solving.rounds))) round.values;
+      (slice_set round.values (first_of (seat_at round seat).owed) (Some (next_value round))) round.values;
   seats = slice_set round.seats seat (seat_tried (first_is_open round seat) (seat_at round seat));
 }
 

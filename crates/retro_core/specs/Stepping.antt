@@ -8,16 +8,16 @@ use Rattle.retro_core.specs.declared.step.Seen.{Seen}
 use Rattle.retro_core.specs.declared.step.Seen.TheVariants as seen
 use Rattle.retro_core.specs.declared.step.StepFault.{StepFault}
 use Rattle.retro_core.specs.declared.step.StepFault.TheVariants as faults
-use Rattle.retro_core.specs.Round.{Round, seat_at, first_of, struck, first_is_open, tried, split, joined}
+use Rattle.retro_core.specs.Round.{Round, board_of, seat_at, first_of, struck, first_is_open, tried, split, joined}
 
 -- the seat strikes the first that it has to strike in the gap of the pebble that dominates there
 pub record Strikes (round : Round) (seat config : ℕ) (closed : Option ℕ) (after : Round) : Type 0 where
   pub some_todo : 0 < length (seat_at round seat).todo
   pub first : config ≡ first_of (seat_at round seat).todo
   pub pebble : ℕ
-  pub dominates : IsDominator round.solving.board (configuration_at round.solving.board config) pebble
+  pub dominates : IsDominator (board_of round) (configuration_at (board_of round) config) pebble
   pub gap : ℕ
-  pub gap_is : gap ≡ gap_of round.solving.board (configuration_at round.solving.board config) pebble
+  pub gap_is : gap ≡ gap_of (board_of round) (configuration_at (board_of round) config) pebble
   pub closed_is : closed ≡ cond (slice_index round.counts gap == 1) (Some gap) None
   pub after_is : after ≡ struck round seat gap
 
@@ -71,9 +71,9 @@ IsAllowed round (steps.Join into from) = (into ≡ from → ⊥) × (0 < (seat_a
 -- the first that the seat has to strike is the last live answer of the gap that it is struck in
 pub record ClosesGap (round : Round) (seat : ℕ) : Type 0 where
   pub pebble : ℕ
-  pub dominates : IsDominator round.solving.board (configuration_at round.solving.board (first_of (seat_at round seat).todo)) pebble
+  pub dominates : IsDominator (board_of round) (configuration_at (board_of round) (first_of (seat_at round seat).todo)) pebble
   pub last : slice_index round.counts
-      (gap_of round.solving.board (configuration_at round.solving.board (first_of (seat_at round seat).todo)) pebble) ≡ 1
+      (gap_of (board_of round) (configuration_at (board_of round) (first_of (seat_at round seat).todo)) pebble) ≡ 1
 
 -- the step makes a list longer or makes a seat, for which memory is taken
 abbrev pub TakesMemory : Round → Step → Type 0

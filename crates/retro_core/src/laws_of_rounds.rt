@@ -1,11 +1,12 @@
-//! Laws of rounds, each the contract of a function without a body.
+//! Laws of the machine's rounds, each the contract of a function without a body.
 
 ghost use Rattle.std.specs.Prelude.{◌≡◌, ℕ, ◌<◌, List, Option, Some, true, false, length, slice_index};
 ghost use Rattle.index_lists.specs.Lists.{times};
 ghost use Rattle.positions.specs.Ranks.{configurations};
 ghost use Rattle.positions.specs.Gaps.{gaps};
-ghost use Rattle.retro_core.specs.Solving.{Solving, IsSolving};
-ghost use Rattle.retro_core.specs.Round.{Round, AreFirstCounts, AreFirstValues, AreToStrike, opening, IsOpening, IsLawful, IsWorkedOff, all_won};
+ghost use Rattle.solver.specs.Solving.{Solving, IsSolving, AreToStrike};
+ghost use Rattle.solver.specs.Words.{AreFirstCounts, AreFirstValues};
+ghost use Rattle.retro_core.specs.Round.{Round, opening, IsOpening, IsLawful, IsWorkedOff, all_won};
 ghost use Rattle.retro_core.specs.Round.{HasWonAll};
 ghost use Rattle.retro_core.specs.Stepping.{Does, LeadTo};
 ghost use Rattle.retro_core.specs.History.{answer_at, IsClosedAt};

@@ -1,34 +1,19 @@
-//! Values of configurations, found backwards in rounds.
+//! A round of retrograde analysis as a machine on plain data: seats make one step after the other, in any order.
+//!
+//! No command runs the machine. The history of a round that threads share is a run of it, and the laws of its steps
+//! are those of shared rounds. The names of the solver, whose rounds these are, are passed on from the crate below.
 #![tactic(auto)]
 
-mod end;
-mod ended_round;
-mod fault;
-mod gap_answers;
 mod laws_of_rounds;
-mod next_value;
-mod opening;
-mod progress;
-mod queue;
 mod round_state;
 mod seat;
-mod solver;
-mod source_walk;
-mod stage;
-mod stage_parts;
 mod step;
-mod values;
 
-pub use end::RoundEnd;
-pub use fault::SolveFault;
 pub use laws_of_rounds::{
     answers_have_a_cause, rounds_open_lawfully, steps_keep_rounds_lawful,
     worked_off_rounds_have_won_all,
 };
 pub use positions::Value;
-pub use progress::Progress;
 pub use round_state::RoundState;
-pub use solver::{Solver, Unfinished};
-pub use source_walk::SourceWalk;
+pub use solver::{Progress, RoundEnd, SolveFault, Solver, SourceWalk, Unfinished, Values};
 pub use step::{Seen, Step, StepFault};
-pub use values::Values;

@@ -1,18 +1,20 @@
-//! A round as a pure machine, one step after the other.
+//! A round as a machine on plain data, one step after the other.
+//!
+//! No command runs it. The history of a shared round is a run of this machine, and tests make its steps.
 
 ghost use Rattle.std.specs.Prelude.{◌≡◌, ◌+◌, ◌<◌, ◌↔◌, true, false, length, slice_index, slice_index_or};
 ghost use Rattle.std.specs.Prelude.{None, Some, IfOk, IfErr};
 ghost use Rattle.positions.specs.Ranks.{configurations};
 ghost use Rattle.positions.specs.Gaps.{gaps};
-ghost use Rattle.retro_core.specs.Solving.{IsSolving};
-ghost use Rattle.retro_core.specs.Round.{seat_at, spent, AreFirstCounts, AreFirstValues, IsOpening, IsLawful, round_of};
+ghost use Rattle.solver.specs.Solving.{IsSolving};
+ghost use Rattle.retro_core.specs.Round.{board_of, seat_at, spent, IsOpening, IsLawful, round_of};
 ghost use Rattle.retro_core.specs.Stepping.{Does, IsAllowed, LacksSeat, Refuses};
 
 use crate::seat::Seat;
-use crate::solver::Solver;
 use crate::step::{Seen, Step, StepFault};
 use board_text::Memory;
 use index_lists::ListStore;
+use solver::{OPEN, Solver, value_of};
 use std::alloc::Global;
 use std::marker::Model;
 use std::mem;
@@ -27,20 +29,23 @@ pub struct RoundState<'a, S: ListStore> {
     solver: &'a Solver<S>,
     width: u32,
     counts: Vec<u32>,
-    values: Vec<Option<u32>>,
+    /// The value of each configuration that has one, else `OPEN`.
+    words: Vec<u32>,
     seats: Vec<Seat>,
 }
 
 impl<'a, S: ListStore> Model for RoundState<'a, S> {
-    ghost use Rattle.retro_core.specs.Solving.{IsSolving};
+    ghost use Rattle.std.specs.Prelude.{map};
+    ghost use Rattle.solver.specs.Solving.{IsSolving};
+    ghost use Rattle.solver.specs.Words.{value_of_word};
     ghost use Rattle.retro_core.specs.Round.{Round, IsLawful, round_of};
 
     ghost Value = { Round };
 
-    ghost view = { λ s. round_of s.solver.now s.width s.counts.items s.values.items s.seats.items };
+    ghost view = { λ s. round_of s.solver.now s.width s.counts.items (map value_of_word s.words.items) s.seats.items };
 
     ghost invariant = { λ s. IsSolving s.solver.now
-        × IsLawful (round_of s.solver.now s.width s.counts.items s.values.items s.seats.items) };
+        × IsLawful (round_of s.solver.now s.width s.counts.items (map value_of_word s.words.items) s.seats.items) };
 }
 
 impl<'a, S: ListStore> RoundState<'a, S> {
@@ -54,8 +59,8 @@ impl<'a, S: ListStore> RoundState<'a, S> {
         requires some_width { 0 < width }
         ensures { IfOk result (λ round. IsOpening solver.now width round) }
     {
-        let counts = first_counts(alloc, solver)?;
-        let values = first_values(alloc, solver)?;
+        let counts = Vec::from_slice(alloc, solver.counts())?;
+        let words = Vec::from_slice(alloc, solver.words())?;
         let todo = solver.to_strike(alloc)?;
         let mut seats = Vec::with_capacity(alloc, 1)?;
         if seats.push(Seat::first(alloc, width, todo)).is_err() {
@@ -66,7 +71,7 @@ impl<'a, S: ListStore> RoundState<'a, S> {
             solver,
             width,
             counts,
-            values,
+            words,
             seats,
         })
     }
@@ -136,12 +141,12 @@ impl<'a, S: ListStore> RoundState<'a, S> {
             return Err(StepFault::NothingOwed);
         }
         let config = owed[0];
-        let won = self.values[config as usize].is_none();
+        let won = self.words[config as usize] == OPEN;
         if self.seats[seat].settle(won).is_err() {
             return Err(StepFault::Memory);
         }
         if won {
-            self.values[config as usize] = Some(next);
+            self.words[config as usize] = next;
         }
         Ok(Seen::Tried { config, won })
     }
@@ -234,7 +239,7 @@ impl<'a, S: ListStore> RoundState<'a, S> {
 
     /// How many answers of a gap lead above the round's value or to what is to be struck.
     pub fn count_of(&self, gap: u32) -> u32
-        requires { gap < gaps self.now.solving.board }
+        requires { gap < gaps (board_of self.now) }
         ensures { result ≡ slice_index self.now.counts gap }
     {
         self.counts[gap as usize]
@@ -242,38 +247,9 @@ impl<'a, S: ListStore> RoundState<'a, S> {
 
     /// The value of a configuration, if it has one of at most the round's or has won the next one.
     pub fn value_at(&self, rank: u32) -> Option<u32>
-        requires { rank < configurations self.now.solving.board }
+        requires { rank < configurations (board_of self.now) }
         ensures { result ≡ slice_index_or self.now.values rank None }
     {
-        self.values[rank as usize]
+        value_of(self.words[rank as usize])
     }
-}
-
-/// The count of each gap at the opening.
-fn first_counts<S: ListStore>(alloc: Global, solver: &Solver<S>) -> Result<Vec<u32>, Memory>
-    requires { solver.now.is_done ≡ false }
-    ensures size { IfOk result (λ counts. length counts.items ≡ gaps solver.now.board) }
-    ensures counted { IfOk result (λ counts. AreFirstCounts solver.now counts.items) }
-{
-    let mut counts = Vec::new(alloc);
-    for gap in 0..solver.space().gaps() {
-        if counts.push(solver.count_of(gap)).is_err() {
-            return Err(Memory);
-        }
-    }
-    Ok(counts)
-}
-
-/// The value of each configuration at the opening.
-fn first_values<S: ListStore>(alloc: Global, solver: &Solver<S>) -> Result<Vec<Option<u32>>, Memory>
-    ensures size { IfOk result (λ values. length values.items ≡ configurations solver.now.board) }
-    ensures values { IfOk result (λ values. AreFirstValues solver.now values.items) }
-{
-    let mut values = Vec::new(alloc);
-    for rank in 0..solver.space().configurations() {
-        if values.push(solver.value_at(rank)).is_err() {
-            return Err(Memory);
-        }
-    }
-    Ok(values)
 }

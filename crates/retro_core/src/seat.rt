@@ -1,23 +1,24 @@
-//! A seat of a round.
+//! A seat of the machine.
 
 ghost use Rattle.std.specs.Prelude.{◌≡◌, ◌+◌, ◌++◌, ◌^◌, ◌<◌, true, false, [], length, is_ok, if◌then◌else◌, IfOk};
 ghost use Rattle.positions.specs.Gaps.{gaps};
-ghost use Rattle.retro_core.specs.Solving.{source};
+ghost use Rattle.solver.specs.Solving.{source};
 ghost use Rattle.retro_core.specs.Round.{spent, seat_struck, seat_tried, seat_kept, seat_new, seat_joined};
 
-use crate::queue::Queue;
-use crate::solver::Solver;
 use board_text::Memory;
 use index_lists::ListStore;
+use solver::Solver;
 use std::alloc::Global;
 use std::marker::Model;
 
 /// A share of a round: a width, and what is to strike, owed and won.
+///
+/// Its lists are plain vectors, since callers read them as slices. Whoever takes the first of a list moves all others to the front.
 #[derive(Drop)]
 pub(crate) struct Seat {
     width: u32,
-    todo: Queue,
-    owed: Queue,
+    todo: Vec<u32>,
+    owed: Vec<u32>,
     won: Vec<u32>,
 }
 
@@ -26,7 +27,7 @@ impl Model for Seat {
 
     ghost Value = { PlainSeat };
 
-    ghost view = { λ s. record { width = s.width; todo = s.todo; owed = s.owed; won = s.won.items } };
+    ghost view = { λ s. record { width = s.width; todo = s.todo.items; owed = s.owed.items; won = s.won.items } };
 }
 
 impl Seat {
@@ -36,8 +37,8 @@ impl Seat {
     {
         Seat {
             width,
-            todo: Queue::of(todo),
-            owed: Queue::of(Vec::new(alloc)),
+            todo,
+            owed: Vec::new(alloc),
             won: Vec::new(alloc),
         }
     }
@@ -58,13 +59,13 @@ impl Seat {
     pub(crate) fn todo(&self) -> &[u32]
         ensures { result.now ≡ self.now.todo }
     {
-        self.todo.as_slice()
+        &self.todo
     }
 
     pub(crate) fn owed(&self) -> &[u32]
         ensures { result.now ≡ self.now.owed }
     {
-        self.owed.as_slice()
+        &self.owed
     }
 
     pub(crate) fn won(&self) -> &[u32]
@@ -88,7 +89,7 @@ impl Seat {
         if count == 1 {
             owe_members(&mut self.owed, solver, gap)?;
         }
-        self.todo.take_first();
+        self.todo.remove(0);
         Ok(())
     }
 
@@ -98,11 +99,11 @@ impl Seat {
         ensures seat { self.new ≡ (if is_ok result then seat_tried is_open self.old else self.old) }
         ensures memory { is_ok result ≡ false → is_open ≡ true }
     {
-        let first = self.owed.as_slice()[0];
+        let first = self.owed[0];
         if is_open && self.won.push(first).is_err() {
             return Err(Memory);
         }
-        self.owed.take_first();
+        self.owed.remove(0);
         Ok(())
     }
 
@@ -110,8 +111,8 @@ impl Seat {
     pub(crate) fn new_half(&self, alloc: Global) -> Result<Seat, Memory>
         ensures { IfOk result (λ seat. seat ≡ seat_new self.now) }
     {
-        let todo = self.todo.as_slice();
-        let half = Vec::from_slice(alloc, &todo[todo.len() - todo.len() / 2..])?;
+        let kept = self.todo.len() - self.todo.len() / 2;
+        let half = Vec::from_slice(alloc, &self.todo[kept..])?;
         Ok(Seat::first(alloc, self.width / 2, half))
     }
 
@@ -119,8 +120,8 @@ impl Seat {
     pub(crate) fn keep_half(&mut self)
         ensures { self.new ≡ seat_kept self.old }
     {
-        let count = self.todo.len();
-        self.todo.truncate(count - count / 2);
+        let kept = self.todo.len() - self.todo.len() / 2;
+        self.todo.truncate(kept);
         self.width -= self.width / 2;
     }
 
@@ -131,8 +132,10 @@ impl Seat {
     {
         let todo = self.todo.len();
         let owed = self.owed.len();
-        self.todo.append(other.todo.as_slice())?;
-        if self.owed.append(other.owed.as_slice()).is_err() {
+        if self.todo.extend_from_slice(&other.todo).is_err() {
+            return Err(Memory);
+        }
+        if self.owed.extend_from_slice(&other.owed).is_err() {
             self.todo.truncate(todo);
             return Err(Memory);
         }
@@ -147,9 +150,13 @@ impl Seat {
 }
 
 /// Appends the open members of a gap.
-fn owe_members<S: ListStore>(owed: &mut Queue, solver: &Solver<S>, gap: u32) -> Result<(), Memory>
+fn owe_members<S: ListStore>(
+    owed: &mut Vec<u32>,
+    solver: &Solver<S>,
+    gap: u32,
+) -> Result<(), Memory>
     requires { gap < gaps solver.now.board }
-    ensures { owed.new ≡ (if is_ok result then owed.old ++ source solver.now gap else owed.old) }
+    ensures { owed.new.items ≡ (if is_ok result then owed.old.items ++ source solver.now gap else owed.old.items) }
 {
     let before = owed.len();
     let mut members = solver.sources(gap);

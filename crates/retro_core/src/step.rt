@@ -1,4 +1,4 @@
-//! The steps of a round.
+//! The steps of the machine, and the answers and faults of steps.
 
 use thiserror::Error;
 

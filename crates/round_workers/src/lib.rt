@@ -3,10 +3,12 @@
 
 mod fault;
 mod gate;
+mod laws;
 mod shared_seats;
 mod solving;
 mod tree;
 mod worker;
 
 pub use gate::{Gate, NoGate};
+pub use laws::limits;
 pub use solving::{MAX_WORKERS, solve_values};

@@ -2,7 +2,7 @@
 
 ghost use Rattle.std.specs.Prelude.{◌≡◌, ◌<◌, ◌≤◌, ◌↔◌, false, Err, IfOk};
 ghost use Rattle.positions.specs.Ranks.{configurations};
-ghost use Rattle.retro_core.specs.Ending.{IsRoundEnd};
+ghost use Rattle.solver.specs.Ending.{IsRoundEnd};
 
 use crate::fault::WorkFault;
 use crate::gate::Gate;
@@ -11,7 +11,7 @@ use board_text::Board;
 use claim_round::{Closed, SharedRound};
 use index_lists::{ListStore, PlainLists};
 use positions::MAX_CONFIGURATIONS;
-use retro_core::{SolveFault, Solver, Values};
+use solver::{SolveFault, Solver, Values};
 use std::alloc::Global;
 use std::sync::Wait;
 use std::thread::Threads;

@@ -7,5 +7,6 @@ pub use Rattle.strategies.proofs.KeptRules.{breaks_no_rule}
 pub use Rattle.strategies.proofs.OneList.{one_document}
 pub use Rattle.strategies.proofs.BestRequests.{best_request, least, same_request}
 pub use Rattle.strategies.proofs.DocumentRows.{each_number}
+pub use Rattle.strategies.proofs.Meanings.{means_value}
 pub use Rattle.strategies.proofs.ShownClaims.{shows_claim}
 pub use Rattle.strategies.proofs.SpreadRanks.{start_value}

@@ -5,6 +5,7 @@ pub mod ReachedByMoves
 pub mod RowTurns
 pub mod DocumentRows
 pub mod KeptRules
+pub mod Meanings
 pub mod DocumentForm
 pub mod OneList
 pub mod SmallBoard

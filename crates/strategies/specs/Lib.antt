@@ -2,3 +2,4 @@ pub mod Best
 pub mod Document
 pub mod Example
 pub mod Inside
+pub mod Meaning

@@ -14,7 +14,7 @@ use crate::gap_best::{Best, best_of_gap, is_less};
 use crate::listed::Listed;
 use board_text::Board;
 use positions::{MAX_CONFIGURATIONS, Space, Value};
-use retro_core::Values;
+use solver::Values;
 use std::marker::Model;
 
 /// The best moves on a board. The best answers of the first gaps are listed, and those of all others are found when they are asked for.

@@ -10,7 +10,7 @@ ghost use Rattle.strategies.specs.Best.{HasGreatestResult, LowersValue};
 
 use crate::best_moves::BestMoves;
 use board_text::Board;
-use retro_core::Values;
+use solver::Values;
 
 /// The best answer to a request of a pebble at the configuration of a rank, if a label is legal:
 /// the smallest legal label whose result has the greatest value.

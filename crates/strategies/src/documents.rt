@@ -11,7 +11,7 @@ use crate::gap_best::best_of_gaps;
 use board_text::{Board, Memory};
 use positions::{Claim, Value};
 use proof_text::Proof;
-use retro_core::Values;
+use solver::Values;
 use std::alloc::Global;
 
 /// The document of a board: the value of its start, a strategy for the labeller, and one for the adversary where the value is finite.

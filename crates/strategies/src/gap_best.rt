@@ -9,7 +9,7 @@ ghost use Rattle.strategies.specs.Inside.GapBest.{IsBetter, IsGapBest, AreGapsBe
 use crate::listed::Listed;
 use board_text::{Board, MAX_LABELS, Memory};
 use positions::{AnswerSet, TupleAnswers, Value};
-use retro_core::Values;
+use solver::Values;
 use std::alloc::Global;
 
 /// The best answer to a request, and the value of the configuration after it.

@@ -5,10 +5,12 @@ ghost use Rattle.board_text.specs.PlainBoard.{PlainBoard, IsBoard, IsConfigurati
 ghost use Rattle.positions.specs.Ranks.{configurations};
 ghost use Rattle.positions.specs.Claim.{Shows, Holds};
 ghost use Rattle.positions.specs.Table.{AnswerRow, RequestRow};
+ghost use Rattle.positions.specs.Value.{HasValue};
 ghost use Rattle.positions.specs.declared.value.Value.{Value as Worth};
 ghost use Rattle.proof_text.specs.Proof.{PlainProof, IsProof};
 ghost use Rattle.proof_text.specs.Rules.{BreaksNoRule};
 ghost use Rattle.strategies.specs.Document.{IsLabellerRow, IsAdversaryRow, IsDocumentOf};
+ghost use Rattle.strategies.specs.Meaning.{Means};
 ghost use Rattle.strategies.specs.Example.{small_board, small_document, lone_board, lone_document};
 
 use positions::MAX_CONFIGURATIONS;
@@ -27,6 +29,13 @@ pub fn documents_claim_what_holds()
 pub fn documents_show_their_claim()
     ensures { (board : PlainBoard) → (proof : PlainProof) → IsConfiguration board board.start → IsDocumentOf board proof
         → Shows board proof.labeller proof.adversary proof.claim }
+{}
+
+/// The document of a board means the value of its start.
+pub fn documents_mean_their_value()
+    ensures { (board : PlainBoard) → (proof : PlainProof) → (value : Worth)
+        → IsConfiguration board board.start → IsDocumentOf board proof
+        → HasValue board board.start value → Means board proof value }
 {}
 
 /// The document of a board breaks no rule of checking.

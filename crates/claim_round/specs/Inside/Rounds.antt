@@ -3,7 +3,7 @@ use Rattle.std.specs.Prelude.{◌≡◌, ◌+◌, ◌^◌, ◌<◌}
 use Rattle.atomic_table.specs.Seated.{TableId}
 use Rattle.positions.specs.Ranks.{configurations}
 use Rattle.positions.specs.Gaps.{gaps}
-use Rattle.retro_core.specs.Solving.{IsSolving}
+use Rattle.solver.specs.Solving.{IsSolving}
 use Rattle.claim_round.specs.Shared.{Key, RoundId}
 
 -- the table's key is what the round was opened with, and the table has a word for each gap and each configuration

@@ -1,41 +1,47 @@
 -- What this crate's own functions say beside `Reading`.
-use Rattle.std.specs.Prelude.{ℕ, Bool, ◌&&◌, ◌||◌, false, List, Option, Some, None, is_some}
-use Rattle.std.specs.Prelude.{codes}
+use Rattle.std.specs.Prelude.{◌≡◌, MatchOption, ℕ, ℤ, pos, negsuc, Bool, ◌&&◌, false, List, Option, Some, None, is_some}
 use Rattle.std.specs.Str.{bytes_eq}
-use Rattle.std.specs.List.{list_any}
+use Rattle.std.specs.List.{list_all, list_any}
 use Rattle.std.specs.Option.{option_map_or}
+use Rattle.clap.specs.Simple.{Shape}
 use Rattle.clap.specs.ValueTests.{is_unsigned_in}
 use Rattle.clap.specs.Walk.{Row, Text, first_of, one_of}
-use Rattle.board_text.specs.declared.board.TheConstants.{MAX_PEBBLES}
-use Rattle.nested_cycles.specs.declared.nested_boards.TheConstants.{MAX_BOARD_LEVELS}
-use Rattle.nested_cycles.specs.declared.game.TheConstants.{MAX_LEVELS}
-use Rattle.command_line.specs.declared.asked.TheConstants.{MAX_WORKERS}
-use Rattle.command_line.specs.Commands.{side_words}
+use Rattle.clap.specs.declared.builder.value_parser.ValueParser.{ValueParser}
+use Rattle.clap.specs.declared.builder.value_parser.ValueParser.TheVariants as vp
+use Rattle.command_line.specs.declared.asked.Job.{Job}
+use Rattle.command_line.specs.Commands.{commands, side_words}
+use Rattle.command_line.specs.Reading.{AsksFor}
 
--- the same as a test, of some job
+-- the matches give a number for the id, from 1 to `most`
 abbrev pub has_number : List Row → Text → ℕ → Bool
 has_number rows id most = option_map_or (is_unsigned_in 1 most) (one_of id rows) false
 
--- there is a board, and a number of workers to solve it
-abbrev pub can_solve : List Row → Bool
-can_solve rows = has_number rows (codes "workers") MAX_WORKERS && is_some (first_of (codes "board") rows)
+abbrev pub has_side : List Row → Text → Bool
+has_side rows id = option_map_or (λ t. list_any (λ word. bytes_eq word t) side_words) (first_of id rows) false
 
-abbrev pub has_side : List Row → Bool
-has_side rows = option_map_or (λ t. list_any (λ word. bytes_eq word t) side_words)
-    (first_of (codes "side") rows) false
+abbrev pub most_of : ℤ → ℕ
+most_of (pos number) = number
+most_of (negsuc number) = 0
 
-abbrev pub asks : Text → List Row → Bool
-asks name rows =
-    (bytes_eq name (codes "check")
-    && (is_some (first_of (codes "board") rows) && is_some (first_of (codes "proof") rows)))
-    || ((bytes_eq name (codes "nested")
-    && (has_number rows (codes "levels") MAX_BOARD_LEVELS && has_number rows (codes "pebbles") MAX_PEBBLES))
-    || ((bytes_eq name (codes "solve") && can_solve rows)
-    || ((bytes_eq name (codes "report") && can_solve rows)
-    || ((bytes_eq name (codes "play")
-    && (has_side rows && is_some (first_of (codes "board") rows)))
-    || (bytes_eq name (codes "climb") && has_number rows (codes "levels") MAX_LEVELS)))))
+-- the matches give a value for the id, of the kind that an argument with this parser asks for
+abbrev pub has_value : List Row → Text → Option ValueParser → Bool
+has_value rows id (Some (vp.Signed low high)) = has_number rows id (most_of high)
+has_value rows id (Some (vp.Names names)) = has_side rows id
+has_value rows id _ = is_some (first_of id rows)
+
+-- the matches give a value for each argument of the command
+abbrev pub has_values : List Row → Shape → Bool
+has_values rows command = list_all (λ rule. has_value rows rule.id rule.parser) command.rules
+
+-- the job is what the command is asked for, and there is none where the matches lack a value of it
+abbrev pub Reads : Shape → List Row → Option Job → Type 0
+Reads command rows job = MatchOption job (has_values rows command ≡ false) (AsksFor command.name rows)
+
+-- the matches are of one of these commands, and have its values
+abbrev pub is_among : List Shape → Option (Text × List Row) → Bool
+is_among shapes None = false
+is_among shapes (Some found) =
+    list_any (λ command. bytes_eq found.0 command.name && has_values found.1 command) shapes
 
 abbrev pub is_read : Option (Text × List Row) → Bool
-is_read None = false
-is_read (Some found) = asks found.0 found.1
+is_read = is_among commands

@@ -13,6 +13,7 @@ loop-filled-preserved g c =
       given = filled_on _ _ _ c.loop-filled.bytes.items c.make_room.new.bytes.items c.read_at.new.bytes c.loop-filled.filled c.in-Ok.count
           c.make_room.ensures.front (rw c.as_mut_slice.ensures.value at c.in-Ok.ensures.front) i.given c.in-Ok.ensures.given;
       unfailed = search rules;
+      unended = c.in-Ok.ensures.ended.1 (omega (arith, c.in-Ok.count-test.1));
     })
 
 pub returns-in-Ok-eq0-clause-ok : goal.returns-in-Ok-eq0-clause-ok

@@ -8,6 +8,7 @@ invariant-loop-filled g l = record {
   room : length l.bytes.items ≤ l.limit + 1;
   given : Consumes (g.S.Source.remaining l.initial.source) (g.S.Source.remaining l.source) (take l.filled l.bytes.items);
   unfailed : g.S.Source.has_failed l.source ≡ false;
+  unended : g.S.Source.has_ended l.source ≡ false;
 }
 
 abbrev pub decreases-loop-filled : goal.decreases-loop-filled

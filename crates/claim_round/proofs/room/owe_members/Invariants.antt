@@ -1,6 +1,6 @@
 use Rattle.std.proofs.Common.{◌≡◌, length}
 use Rattle.std.specs.VecDeque.{deque_capacity}
-use Rattle.retro_core.specs.Solving.{source}
+use Rattle.solver.specs.Solving.{source}
 use Rattle.retro_core.proofs.Cited.{IsOwing}
 use Rattle.claim_round.proofs.room.owe_members.Given as goal
 

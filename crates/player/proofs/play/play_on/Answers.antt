@@ -17,6 +17,7 @@ loop-init g c = record {
   requests = omega (arith, c.requires.fresh);
   empty = c.requires.empty;
   reader = c.requires.reader_ready;
+  ended = rw c.new-lines.ensures c.requires.reader_unended;
   writer = c.requires.writer_ready;
 }
 
@@ -62,6 +63,7 @@ loop-preserved g c =
       requests = omega (arith, length_push i.said next.line, i.requests, c.in-Ok-None-turn.ensures.count);
       empty = c.in-Ok-None-turn.ensures.empty;
       reader = c.in-Ok-Some.ensures.unfailed;
+      ended = c.in-Ok-Some.ensures.ended;
       writer = c.in-Ok-None-turn.ensures.unfailed;
     }
 

@@ -17,5 +17,6 @@ invariant-loop g l = record {
   requests : g.P.Play.requests l.play ≤ length said;
   empty : string_bytes l.text ≡ [];
   reader : g.R.Source.has_failed l.reader ≡ false;
+  ended : g.R.Source.has_ended l.reader ≡ l.lines.has_ended;
   writer : g.W.Sink.has_failed l.writer ≡ false;
 }

@@ -3,6 +3,7 @@ use Rattle.std.specs.Prelude.{codes}
 use Rattle.board_text.proofs.Cited.{after}
 use Rattle.proof_text.proofs.SpelledRows.{number_of, pebble_of}
 use Rattle.proof_text.proofs.RowWords.{request_position, request_left, request_ask, request_taken}
+use Rattle.proof_text.specs.declared.proof.TheConstants.{MOST_TURNS}
 use Rattle.proof_text.proofs.row_words.request_words.Goals as goal
 
 pub returns-in_err-numeral : goal.returns-in_err-numeral
@@ -52,7 +53,7 @@ returns c =
       request_taken p.0 n.0 k.0 c.args.text.now c.position.new.text c.numeral.new.self c.take.new.self c.numeral-2.new.self c.take-2.new.self p.2 n.2 c.in_ok-take.ensures.taken k.2 c.in_ok-take-2.ensures.taken,
       record {
         places = p.3;
-        number = number_of 1000000000 c.within-left.result n.0 c.in_ok-numeral.field-0 (omega arith) n.4 c.within-left.ensures;
+        number = number_of MOST_TURNS c.within-left.result n.0 c.in_ok-numeral.field-0 (omega arith) n.4 c.within-left.ensures;
         pebble = pebble_of c.args.pebbles c.below-ask.result k.0 c.in_ok-numeral-2.field-0 (omega arith) k.4 c.below-ask.ensures;
       },
     )

@@ -1,4 +1,4 @@
-use Rattle.retro_core.proofs.Cited.{fewer_left}
+use Rattle.solver.proofs.Cited.{fewer_left}
 use Rattle.round_workers.proofs.solving.solve_values.Goals as goal
 
 pub loop-values-smaller : goal.loop-values-smaller

@@ -1,6 +1,6 @@
 use Rattle.std.proofs.Common.{◌≡◌}
-use Rattle.retro_core.specs.Solving.{IsSolving}
-use Rattle.retro_core.proofs.Cited.{rounds_left}
+use Rattle.solver.specs.Solving.{IsSolving}
+use Rattle.solver.proofs.Cited.{rounds_left}
 use Rattle.round_workers.proofs.solving.solve_values.Given as goal
 
 abbrev pub invariant-loop-values : goal.invariant-loop-values

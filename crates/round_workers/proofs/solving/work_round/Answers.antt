@@ -3,7 +3,7 @@ use denote.Param.{param}
 use denote.Ref.{NamedLft}
 use mir.Syntax.{named}
 use denote.Param.Send.{param_sync, arg_sync}
-use Rattle.retro_core.proofs.Cited.{solver_sync}
+use Rattle.solver.proofs.Cited.{solver_sync}
 use Rattle.claim_round.proofs.Cited.{round_sync}
 use Rattle.round_workers.proofs.solving.work_round.Goals as goal
 

@@ -25,11 +25,11 @@ invariant_of-seat g c =
     let items = c.in-Some.ensures.items in
     claimed_seat c.seat.inside _ c.compare_exchange-found.result e.0 c.seat.invariant (subst (λ p. 0 < length p.view.has.owed) (sym c.seat.view_is) c.requires.owed)
     e.2 e.3 refl (ap (drop 1) (sym items)) c.in-Some.ensures.capacity
-    (c.push_reserved.ensures.items ∙ ap (λ (xs : List ℕ). c.seat.inside.won.items ++ first_of xs ∷ []) (sym items) ∙ sym (cond_same _ _ _ _ c.if-found.true)) c.push_reserved.ensures.capacity refl
+    (c.push_reserved.ensures.items ∙ ap (λ (xs : List ℕ). c.seat.inside.won.items ++ first_of xs ∷ []) (sym items) ∙ sym (cond_same _ _ _ _ c.if-found-eq-OPEN.true)) c.push_reserved.ensures.capacity refl
 
-pub invariant_of-seat-else-found : goal.invariant_of-seat-else-found
-invariant_of-seat-else-found g c =
+pub invariant_of-seat-else-found-eq-OPEN : goal.invariant_of-seat-else-found-eq-OPEN
+invariant_of-seat-else-found-eq-OPEN g c =
     let e = c.compare_exchange-found.ensures.2 in
     let items = c.in-Some.ensures.items in
     claimed_seat c.seat.inside _ c.compare_exchange-found.result e.0 c.seat.invariant (subst (λ p. 0 < length p.view.has.owed) (sym c.seat.view_is) c.requires.owed)
-    e.2 e.3 refl (ap (drop 1) (sym items)) c.in-Some.ensures.capacity (sym (cond_other _ _ _ _ c.if-found.false)) refl refl
+    e.2 e.3 refl (ap (drop 1) (sym items)) c.in-Some.ensures.capacity (sym (cond_other _ _ _ _ c.if-found-eq-OPEN.false)) refl refl

@@ -1,14 +1,13 @@
-use Rattle.std.proofs.Common.{◌≡◌, ℕ, ◌^◌, ◌<◌, ◌+◌, ◌-◌, ◌⊎◌, List, map, length, take, drop, sym, ap, ◌∙◌, subst, arith, get_or-take, get_or-drop, length-drop}
+use Rattle.std.proofs.Common.{◌≡◌, ℕ, ◌^◌, ◌<◌, ◌+◌, ◌-◌, List, map, length, take, drop, sym, ap, ◌∙◌, subst, arith, get_or-take, get_or-drop, length-drop}
 use Rattle.std.specs.Prelude.{slice_index}
 use Rattle.std.specs.Slots.{slots_items, slots_len, slots_counts}
 use Rattle.positions.specs.Gaps.{gaps}
-use Rattle.retro_core.specs.Solving.{Solving}
+use Rattle.solver.specs.Solving.{Solving}
 use Rattle.retro_core.specs.declared.step.Seen.{Seen}
 use Rattle.claim_round.specs.Shared.{Key, View, RoundId, Place, Finishes}
 use Rattle.claim_round.specs.History.{HasHistory, LostWereWon, TellsClosedGaps}
 use Rattle.claim_round.specs.Inside.ClosedTable.{end_of}
-use Rattle.claim_round.specs.declared.words.TheConstants.{OPEN}
-use Rattle.claim_round.specs.Words.{value_of_word}
+use Rattle.solver.specs.Words.{value_of_word}
 use Rattle.claim_round.proofs.ClosedRounds.{closed_fields, small_counts, small_value}
 use Rattle.claim_round.proofs.round.SharedRound.close.Goals as goal
 
@@ -127,6 +126,6 @@ invariant_of-result g c =
       values = λ j low high.
           let e : G + (j - G) ≡ j = omega arith in
           let read : slice_index (drop G words) (j - G) ≡ slice_index words j = get_or-drop G words (j - G) 0 ∙ ap (slice_index words) e in
-          subst (λ n. (n ≡ OPEN) ⊎ (n < 2 ^ 32)) read
+          subst (λ n. n < 2 ^ 32) read
           (small_value k.solving (drop G words) (take G words) v.has.won c.self.invariant.sound.below c.self.invariant.sound.few end.0.finishes (j - G) (let d = length-drop G words in omega arith));
     }

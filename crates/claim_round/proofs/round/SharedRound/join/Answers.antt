@@ -3,7 +3,7 @@ use Rattle.std.specs.Prelude.{vec_capacity}
 use Rattle.atomic_table.specs.Table.{Me}
 use Rattle.board_text.specs.PlainBoard.{places}
 use Rattle.positions.specs.Ranks.{configurations}
-use Rattle.retro_core.specs.Solving.{Solving}
+use Rattle.solver.specs.Solving.{Solving}
 use Rattle.claim_round.specs.Shared.{Key, View}
 use Rattle.claim_round.specs.Plays.{IsBounded}
 use Rattle.claim_round.specs.Rule.{Unit0, most, size}

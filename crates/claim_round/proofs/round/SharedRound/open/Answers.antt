@@ -1,9 +1,8 @@
-use Rattle.std.proofs.Common.{◌≡◌, ℕ, ◌*◌, ◌≤◌, inl, inr, ⊎_elim, List, length, ap, sym, subst, refl, ◌∙◌, arith, rules, mul-le-mul_left}
+use Rattle.std.proofs.Common.{◌≡◌, ℕ, ◌*◌, ◌≤◌, inl, inr, ⊎_elim, length, ap, sym, subst, refl, ◌∙◌, arith, rules, mul-le-mul_left}
 use Rattle.std.specs.Prelude.{vec_capacity}
 use Rattle.std.specs.VecDeque.{deque_capacity}
 use Rattle.board_text.specs.PlainBoard.{places}
-use Rattle.positions.specs.Ranks.{configurations}
-use Rattle.retro_core.specs.Round.{AreToStrike}
+use Rattle.solver.specs.Solving.{AreToStrike}
 use Rattle.claim_round.specs.Shared.{Key, View}
 use Rattle.claim_round.specs.Rule.{most, size}
 use Rattle.claim_round.specs.Inside.Openings.{AreOpeningWords, opening_view}
@@ -29,8 +28,7 @@ overflow_mul-most g c =
 pub of_words-requires : goal.of_words-requires
 of_words-requires g c =
     let s = c.args.solver.now in
-    opened s c.args.width c.as_slice.result.now c.in_ok-ranks.ranks.items c.to_strike.ensures.kept c.requires.some_width
-    (subst (λ (l : List ℕ). AreOpeningWords s l (configurations s.board)) (sym c.as_slice.ensures.value) c.in_ok-words.ensures) c.in_ok-ranks.ensures.ranks
+    opened s c.args.width c.as_slice.result.now c.to_strike.ensures.kept c.requires.some_width (subst (AreOpeningWords s) (sym c.as_slice.ensures.value) c.in_ok-words.ensures)
 
 pub invariant_of-seat : goal.invariant_of-seat
 invariant_of-seat g c =

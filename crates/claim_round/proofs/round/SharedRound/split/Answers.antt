@@ -3,7 +3,7 @@ use Rattle.std.specs.Prelude.{vec_capacity}
 use Rattle.std.specs.VecDeque.{deque_capacity}
 use Rattle.board_text.specs.PlainBoard.{places}
 use Rattle.positions.specs.Ranks.{configurations}
-use Rattle.retro_core.specs.Solving.{Solving}
+use Rattle.solver.specs.Solving.{Solving}
 use Rattle.claim_round.specs.Shared.{Key, View, Place}
 use Rattle.claim_round.specs.Rule.{most, size}
 use Rattle.claim_round.proofs.FirstEntries.{of_round}

@@ -3,7 +3,7 @@ use Rattle.board_text.specs.PlainBoard.{PlainBoard}
 use Rattle.index_lists.proofs.Cited.{cond_same, cond_other}
 use Rattle.positions.specs.Ranks.{configurations, configuration_at}
 use Rattle.positions.specs.Gaps.{gap_of, IsDominator}
-use Rattle.retro_core.specs.Solving.{Solving, source}
+use Rattle.solver.specs.Solving.{Solving, source}
 use Rattle.retro_core.specs.Round.{first_of}
 use Rattle.claim_round.specs.Shared.{Key, View}
 use Rattle.claim_round.specs.Rule.{most}

@@ -9,6 +9,7 @@ invariant-loop-size g l = record {
   read : Consumes (g.R.Source.remaining l.initial.reader) (g.R.Source.remaining l.reader) more;
   goes_on : l.self.has_ended ≡ false;
   unfailed : g.R.Source.has_failed l.reader ≡ false;
+  ended : g.R.Source.has_ended l.reader ≡ l.self.has_ended;
 }
 
 abbrev pub decreases-loop-size : goal.decreases-loop-size

@@ -3,7 +3,7 @@ use Rattle.retro_core.specs.declared.step.Step.{Step as Doing}
 use Rattle.retro_core.specs.declared.step.Step.TheVariants as steps
 use Rattle.retro_core.specs.declared.step.Seen.{Seen as Answer}
 use Rattle.retro_core.specs.declared.step.StepFault.{StepFault}
-use Rattle.retro_core.specs.Solving.{IsSolving}
+use Rattle.solver.specs.Solving.{IsSolving}
 use Rattle.retro_core.specs.Round.{Round, IsLawful}
 use Rattle.retro_core.specs.Stepping.{Does, Refuses}
 use Rattle.retro_core.proofs.RoundSteps.{step-lawful}

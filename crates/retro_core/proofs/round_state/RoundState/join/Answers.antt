@@ -1,4 +1,5 @@
-use Rattle.std.proofs.Common.{◌≡◌, ap, sym, ◌∙◌, subst, arith, get_or, List, set}
+use Rattle.std.proofs.Common.{◌≡◌, ap, sym, ◌∙◌, subst, arith, get_or, List, map, set}
+use Rattle.solver.specs.Words.{value_of_word}
 use Rattle.retro_core.specs.Round.{PlainSeat, spent, IsLawful, round_of}
 use Rattle.retro_core.specs.Stepping.{Joins}
 use Rattle.retro_core.proofs.Machine.{seat-read, from_wide, into-read, widths-fit, put-back, joining, allowed}
@@ -49,7 +50,7 @@ invariant_of-self g c =
     let read = (goal.at.invariant_of-self g c).After-index_mut-2 in
     let unchanged : c.absorb.new.self ≡ c.index_mut-2.result.now = rw c.if-is_err.ensures.negation at c.absorb.ensures in
     let same = put-again g (goal.at.invariant_of-self g c).After-absorb (unchanged ∙ into-is g read) (from-is g read) (emptied g read) in
-    (c.self.invariant.0, subst (λ (l : List PlainSeat). IsLawful (round_of c.self.inside.solver.now c.self.inside.width c.self.inside.counts.items c.self.inside.values.items l)) (sym same) c.self.invariant.1)
+    (c.self.invariant.0, subst (λ (l : List PlainSeat). IsLawful (round_of c.self.inside.solver.now c.self.inside.width c.self.inside.counts.items (map value_of_word c.self.inside.words.items) l)) (sym same) c.self.invariant.1)
 
 pub returns-then-is_err-clause-refused : goal.returns-then-is_err-clause-refused
 returns-then-is_err-clause-refused g c =
@@ -61,7 +62,7 @@ returns-then-is_err-clause-refused g c =
         allowed _ _ _ _ _ _ c.self.view_is c.self.invariant.0 c.self.invariant.1 c.args.into c.requires.1 c.args.from c.requires.2 c.requires.0,
         tt,
       ),
-      ap (round_of c.self.inside.solver.now c.self.inside.width c.self.inside.counts.items c.self.inside.values.items) same ∙ c.self.view_is,
+      ap (round_of c.self.inside.solver.now c.self.inside.width c.self.inside.counts.items (map value_of_word c.self.inside.words.items)) same ∙ c.self.view_is,
     )
 
 pub invariant_of-self-else-is_err : goal.invariant_of-self-else-is_err
@@ -72,7 +73,7 @@ invariant_of-self-else-is_err g c =
     (rw c.if-is_err.ensures.negation at c.absorb.ensures) in (
       c.self.invariant.0,
       subst (λ (l : List PlainSeat). IsLawful (round_of c.self.inside.solver.now c.self.inside.width c.self.inside.counts.items
-          c.self.inside.values.items l))
+          (map value_of_word c.self.inside.words.items) l))
           (sym (ap (λ x. set (set c.self.inside.seats.items c.args.from x) c.args.into c.absorb.new.self) (emptied g read))) made.lawful,
     )
 
@@ -83,5 +84,5 @@ returns-clause-done g c =
     c.index_mut-2.result.now c.replace-other.result c.absorb.new.self (into-is g read) (from-is g read)
     (rw c.if-is_err.ensures.negation at c.absorb.ensures) in
     subst (λ (l : List PlainSeat). Joins c.args.self.now c.args.into c.args.from
-    (round_of c.self.inside.solver.now c.self.inside.width c.self.inside.counts.items c.self.inside.values.items l))
+    (round_of c.self.inside.solver.now c.self.inside.width c.self.inside.counts.items (map value_of_word c.self.inside.words.items) l))
     (sym (ap (λ x. set (set c.self.inside.seats.items c.args.from x) c.args.into c.absorb.new.self) (emptied g read))) made.joins

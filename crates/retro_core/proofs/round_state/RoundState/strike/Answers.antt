@@ -1,7 +1,8 @@
-use Rattle.std.proofs.Common.{◌≡◌, ℕ, ◌<◌, List, length, arith, ap, ◌∙◌, get_or, set, None}
+use Rattle.std.proofs.Common.{◌≡◌, ℕ, ◌<◌, List, length, map, arith, ap, ◌∙◌, get_or, set, None}
 use Rattle.std.proofs.lemmas.List.{get_or_read, set-get_or}
 use Rattle.positions.specs.Ranks.{configurations, configuration_at}
 use Rattle.positions.specs.Gaps.{gaps, gap_of}
+use Rattle.solver.specs.Words.{value_of_word}
 use Rattle.retro_core.specs.Round.{PlainSeat, round_of}
 use Rattle.retro_core.proofs.Machine.{some-of, due-read, dominated, striking, closing, count-then, count-else}
 use Rattle.retro_core.proofs.round_state.RoundState.strike.Goals.{then-count-eq1, else-count-eq1}
@@ -87,5 +88,5 @@ returns-then-is_err-clause-refused g c =
       closing _ _ _ _ _ _ c.self.view_is c.self.invariant.0 c.self.invariant.1 c.args.seat c.requires
           c.index.result.now c.todo-todo.result.now c.in-Some.pebble c.gap-gap.result c.index-count.result.now c.index.ensures c.todo-todo.ensures some
           c.in-Some.ensures.0 gap_is (get_or_read counts c.gap-gap.result c.index-count.result.now inside c.index-count.ensures 0) (c.strike.ensures.memory c.if-is_err.ensures.negation),
-      ap (round_of c.self.inside.solver.now c.self.inside.width counts c.self.inside.values.items) same ∙ c.self.view_is,
+      ap (round_of c.self.inside.solver.now c.self.inside.width counts (map value_of_word c.self.inside.words.items)) same ∙ c.self.view_is,
     )

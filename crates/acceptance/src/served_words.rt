@@ -1,0 +1,137 @@
+//! Words that are served over files in memory: the streams and the status of each end.
+
+ghost use Rattle.runs.specs.Folders.{Unknown};
+
+use board_text::Failed;
+use fakes::boards::CHAIN_OF_THREE;
+use fakes::documents::CHAIN_LEAST_TWO;
+use fakes::{Drip, Failing, Outcome, Trickle, comes_right};
+use runs::{Folder, Words, serve};
+use std::alloc::Global;
+use std::sync::Wait;
+use std::thread::Threads;
+
+const PLENTY: usize = 100_000;
+
+const ROOM: usize = 200;
+
+const OUT_OF_MEMORY: &str = "out of memory\n";
+
+/// Two files in memory, and no others.
+struct Shelf;
+
+impl Folder for Shelf {
+    type Reader = Drip<'static>;
+
+    ghost at = { λ _ _. Unknown };
+
+    fn open(&self, path: &str) -> Result<Drip<'static>, Failed> {
+        match path {
+            "chain.board" => Ok(Drip::new(CHAIN_OF_THREE.as_bytes(), PLENTY)),
+            "chain.proof" => Ok(Drip::new(CHAIN_LEAST_TWO.as_bytes(), PLENTY)),
+            _ => Err(Failed),
+        }
+    }
+}
+
+/// The status, and the texts on standard output and standard error.
+#[derive(Clone, Copy)]
+struct Served {
+    status: u8,
+    output: &'static str,
+    errors: &'static str,
+}
+
+/// What serving the words with this standard input comes to.
+fn outcome(
+    rt: &(impl Threads + Wait + Sync),
+    alloc: Global,
+    words: &Words<'_, '_>,
+    input: &str,
+    wanted: Served,
+) -> Outcome {
+    let mut input = Drip::new(input.as_bytes(), PLENTY);
+    let mut output = Trickle::<ROOM>::new(PLENTY, Failing::Refuses);
+    let mut errors = Trickle::<ROOM>::new(PLENTY, Failing::Refuses);
+    let status = serve(
+        rt,
+        alloc,
+        words,
+        &Shelf,
+        &mut input,
+        &mut output,
+        &mut errors,
+    );
+    let is_refused = status == 4 && errors.taken() == OUT_OF_MEMORY.as_bytes();
+    let is_right = status == wanted.status
+        && output.taken() == wanted.output.as_bytes()
+        && errors.taken() == wanted.errors.as_bytes();
+    Outcome::of(is_refused, is_refused || is_right)
+}
+
+/// Whether the words are served so.
+fn comes_to(
+    rt: &(impl Threads + Wait + Sync),
+    alloc: Global,
+    words: &[&str],
+    input: &str,
+    wanted: Served,
+) -> bool {
+    comes_right(|| outcome(rt, alloc, &Words::Given(words), input, wanted))
+}
+
+#[test]
+fn checks_of_files_in_memory(rt: HostRuntime) {
+    let alloc = rt.alloc();
+    let accepted = Served {
+        status: 0,
+        output: "accepted least 2\n",
+        errors: "",
+    };
+    let words = ["pebbles", "check", "chain.board", "chain.proof"];
+    assert!(rt; comes_to(&rt, alloc, words.as_slice(), "", accepted));
+    let exchanged = Served {
+        status: 1,
+        output: "",
+        errors: "board fault line 1 Version\n",
+    };
+    let words = ["pebbles", "check", "chain.proof", "chain.board"];
+    assert!(rt; comes_to(&rt, alloc, words.as_slice(), "", exchanged));
+    let missing = Served {
+        status: 5,
+        output: "",
+        errors: "read fault\n",
+    };
+    let words = ["pebbles", "check", "chain.board", "other.proof"];
+    assert!(rt; comes_to(&rt, alloc, words.as_slice(), "", missing));
+}
+
+#[test]
+fn a_play_on_a_file_in_memory(rt: HostRuntime) {
+    let alloc = rt.alloc();
+    let played = Served {
+        status: 0,
+        output: "value 2\nat 0 0\npebble 1 takes 1\nat 0 1\nstopped after 1 requests\n",
+        errors: "",
+    };
+    let words = ["pebbles", "play", "--side", "adversary", "chain.board"];
+    assert!(rt; comes_to(&rt, alloc, words.as_slice(), "1\nquit\n", played));
+}
+
+#[test]
+fn no_words(rt: HostRuntime) {
+    let alloc = rt.alloc();
+    let no_text = Served {
+        status: 2,
+        output: "",
+        errors: "error: a word on the command line is not text\n",
+    };
+    let comes = comes_right(|| outcome(&rt, alloc, &Words::NotText, "", no_text));
+    assert!(rt; comes);
+    let no_memory = Served {
+        status: 4,
+        output: "",
+        errors: OUT_OF_MEMORY,
+    };
+    assert!(rt; outcome(&rt, alloc, &Words::OutOfMemory, "", no_memory) == Outcome::Refused);
+}

@@ -1,0 +1,16 @@
+//! The numbers that the help names.
+
+ghost use Rattle.std.specs.Prelude.{◌≡◌};
+
+use crate::asked::MAX_WORKERS;
+use board_text::MAX_PEBBLES;
+use nested_cycles::{MAX_BOARD_LEVELS, MAX_LEVELS};
+
+/// The limits of numbers on the command line. The help names them in words: a limit that changes
+/// here changes there.
+pub fn limits()
+    ensures workers { MAX_WORKERS ≡ 16 }
+    ensures levels { MAX_BOARD_LEVELS ≡ 6 }
+    ensures pebbles { MAX_PEBBLES ≡ 6 }
+    ensures played_levels { MAX_LEVELS ≡ 24 }
+{}

@@ -1,5 +1,0 @@
-use Rattle.pebbles.proofs.EndLines.{front_len_unique}
-use Rattle.pebbles.proofs.joined.one_front.Goals as goal
-
-pub returns : goal.returns
-returns c = front_len_unique

@@ -1,5 +1,0 @@
-use Rattle.pebbles.proofs.AcceptedLines.{can_answer, claim_holds}
-use Rattle.pebbles.proofs.laws.accepted_claims_hold.Goals as goal
-
-pub returns : goal.returns
-returns c = record { least = can_answer; holds = claim_holds }

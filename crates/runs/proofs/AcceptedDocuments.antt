@@ -1,0 +1,112 @@
+-- A check accepts the document that was printed for a board.
+use Rattle.std.proofs.Common.{◌≡◌, ◌≤◌, ◌++◌, ◌∙◌, ℕ, List, [], Option, Some, None, append-nil, ap, arith, refl, subst, sym}
+use Rattle.board_text.specs.Streams.{GaveAll}
+use Rattle.board_text.specs.PlainBoard.{PlainBoard, IsBoard}
+use Rattle.board_text.specs.BoardText.{board_text}
+use Rattle.board_text.proofs.Cited.{one_board, no_fault as faultless_board}
+use Rattle.positions.specs.Ranks.{configurations}
+use Rattle.positions.specs.declared.value.Value.{Value}
+use Rattle.positions.specs.declared.space.TheConstants.{MAX_CONFIGURATIONS}
+use Rattle.positions.proofs.Cited.{same_value}
+use Rattle.proof_check.proofs.Cited.{only_memory}
+use Rattle.proof_text.specs.Proof.{PlainProof, IsProof}
+use Rattle.proof_text.specs.ProofText.{proof_text}
+use Rattle.proof_text.specs.Rules.{BreaksNoRule}
+use Rattle.proof_text.proofs.Cited.{one_document, no_fault as faultless_document}
+use Rattle.strategies.specs.Document.{claim_of}
+use Rattle.strategies.proofs.Cited.{is_formed, breaks_no_rule}
+use Rattle.runs.specs.CheckRun.{RanCheck}
+use Rattle.runs.specs.Verdicts.{IsChecked, IsVerdict}
+use Rattle.runs.specs.Run.{Bytes, Ran}
+use Rattle.runs.specs.SolveRun.{IsSolution, IsSolved}
+use Rattle.runs.specs.Texts.{BringsNoBoard, BringsNoProof, IsMemory, IsSmallBoard, IsWrongBoard}
+use Rattle.runs.specs.declared.fault.RunFault.{RunFault}
+use Rattle.runs.specs.declared.fault.RunFault.TheVariants.{Board, TooLarge, Proof, Memory, Worker, Read, Write, Limit}
+use Rattle.runs.specs.declared.verdicts.Verdict.{Verdict}
+use Rattle.runs.specs.declared.verdicts.Verdict.TheVariants.{Accepted, Refused}
+
+-- the verdict on a document that breaks no rule
+verdict_of : (board : PlainBoard) (proof : PlainProof) (value : Value) (verdict : Verdict) → BreaksNoRule board proof → proof.claim ≡ claim_of value → IsVerdict board proof verdict
+    → verdict ≡ Accepted (record { claim = claim_of value })
+verdict_of board proof value (Accepted shown) rules claim is = ap (λ c. Accepted (record { claim = c })) (is.0 ∙ claim)
+verdict_of board proof value (Refused fault) rules claim is = absurd (is.1 (only_memory board proof fault rules is.0))
+
+module _ (board : PlainBoard) (value : Value) (text : List ℕ) (is_board : IsBoard board) (few : configurations board ≤ MAX_CONFIGURATIONS) (solved : IsSolved board value text) where
+  pub accepts : (proof : PlainProof) (verdict : Verdict) → IsProof board proof → text ≡ proof_text board proof → IsVerdict board proof verdict
+      → verdict ≡ Accepted (record { claim = claim_of value })
+  accepts proof verdict is_proof spelled is =
+      let document = solved.document in
+      let found = solved.is_document in
+      let start = is_board.start in
+      let same : document ≡ proof = one_document board document proof is_board (is_formed board document start few found) is_proof (sym solved.text_is ∙ spelled) in
+      let rules : BreaksNoRule board proof = subst (BreaksNoRule board) same (breaks_no_rule board document start found) in
+      let same_worth : found.value ≡ value = same_value board board.start found.value value found.has_value solved.has_value in
+      let claim : proof.claim ≡ claim_of value = ap (λ (p : PlainProof). p.claim) (sym same) ∙ found.claim ∙ ap claim_of same_worth in
+      verdict_of board proof value verdict rules claim is
+
+-- the text of a small board isn't wrong
+pub not_wrong : (text : List ℕ) (board : PlainBoard) → IsSmallBoard text board → (fault : RunFault) → IsWrongBoard text fault → ⊥
+not_wrong text board small (Board fault) wrong =
+    wrong.1 (faultless_board text fault.line fault.kind board small.is_board small.spelled wrong.0)
+not_wrong text board small TooLarge (other, is, spelled, many) =
+    let same : board ≡ other = one_board board other small.is_board is (sym small.spelled ∙ spelled) in
+    let few : configurations other ≤ MAX_CONFIGURATIONS = subst (λ b. configurations b ≤ MAX_CONFIGURATIONS) same small.few in
+    absurd (omega (arith, few, many))
+not_wrong text board small Memory wrong = wrong
+not_wrong text board small (Proof fault) wrong = wrong
+not_wrong text board small Worker wrong = wrong
+not_wrong text board small Read wrong = wrong
+not_wrong text board small Write wrong = wrong
+not_wrong text board small Limit wrong = wrong
+
+module _ (text written : List ℕ) (value : Value) (solution : IsSolution text value written) where
+  -- the text is that of one board
+  same_board : (board : PlainBoard) → IsBoard board → text ≡ board_text board → solution.0 ≡ board
+  same_board board is spelled = one_board solution.0 board solution.1.is_board is (sym solution.1.spelled ∙ spelled)
+
+  pub no_fault_of_board : (fault : RunFault) → BringsNoBoard text fault → IsMemory fault
+  no_fault_of_board (Board fault) wrong = absurd (not_wrong text solution.0 solution.1 (Board fault) wrong)
+  no_fault_of_board TooLarge wrong = absurd (not_wrong text solution.0 solution.1 TooLarge wrong)
+  no_fault_of_board Memory wrong = refl
+  no_fault_of_board (Proof fault) wrong = absurd wrong
+  no_fault_of_board Worker wrong = absurd wrong
+  no_fault_of_board Read wrong = absurd wrong
+  no_fault_of_board Write wrong = absurd wrong
+  no_fault_of_board Limit wrong = absurd wrong
+
+  module _ (board : PlainBoard) (small : IsSmallBoard text board) where
+    solved : IsSolved board value written
+    solved = subst (λ b. IsSolved b value written) (same_board board small.is_board small.spelled) solution.2
+
+    pub accepts_text : (verdict : Verdict) (line : List ℕ) → IsChecked board written verdict line
+        → verdict ≡ Accepted (record { claim = claim_of value })
+    accepts_text verdict line is =
+        accepts board value written small.is_board small.few solved is.proof verdict is.is_proof is.text_is is.verdict_is
+
+    pub no_fault_of_document : (fault : RunFault) → BringsNoProof board written fault → IsMemory fault
+    no_fault_of_document (Proof fault) wrong =
+        absurd (wrong.1 (faultless_document board written fault.line fault.kind solved.document small.is_board
+        (is_formed board solved.document small.is_board.start small.few solved.is_document) solved.text_is wrong.0))
+    no_fault_of_document Memory wrong = refl
+    no_fault_of_document (Board fault) wrong = absurd wrong
+    no_fault_of_document TooLarge wrong = absurd wrong
+    no_fault_of_document Worker wrong = absurd wrong
+    no_fault_of_document Read wrong = absurd wrong
+    no_fault_of_document Write wrong = absurd wrong
+    no_fault_of_document Limit wrong = absurd wrong
+
+-- bytes that were all given are the text
+known_all : (bytes text : List ℕ) (left : Option (List ℕ)) → GaveAll (Some bytes) left text → bytes ≡ text
+known_all bytes text None gave = absurd gave.0
+known_all bytes text (Some rest) gave = gave.0 ∙ ap (λ r. text ++ r) gave.1 ∙ append-nil text
+
+pub runs_agree : (bytes text : List ℕ) (solve_left board_left proof_left : Option (List ℕ)) (written : Bytes) (value : Value) (verdict : Verdict)
+    → Ran IsSolution (record { old = Some bytes; new = solve_left }) (record { old = Some []; new = Some text }) value
+    → RanCheck (record { old = Some bytes; new = board_left }) (record { old = Some text; new = proof_left }) written verdict
+    → verdict ≡ Accepted (record { claim = claim_of value })
+runs_agree bytes text solve_left board_left proof_left written value verdict
+    (read, gave, (printed, solution, wrote)) (board, (other, gave_too, small), (read_proof, gave_proof, (line, checked, wrote_line))) =
+    let same : other ≡ read = sym (known_all bytes other board_left gave_too) ∙ known_all bytes read solve_left gave in
+    let spelled : read_proof ≡ printed = sym (known_all text read_proof proof_left gave_proof) ∙ wrote in
+    accepts_text read printed value solution board (subst (λ t. IsSmallBoard t board) same small) verdict line
+    (subst (λ t. IsChecked board t verdict line) spelled checked)

@@ -1,0 +1,161 @@
+-- How the ends of runs are told.
+use Rattle.std.proofs.Common.{◌≡◌, ◌≢◌, ◌↔◌, ℕ, List, sym, ap, ◌∙◌, inl, inr}
+use Rattle.std.proofs.lemmas.Result.{MatchResult-from_both, IfErr-at_err, IfErr-weaker, IfOk-weaker}
+use Rattle.std.specs.Prelude.{Result, Ok, Err, IfOk, IfErr, Option}
+use Rattle.player.specs.declared.end.PlayEnd.{PlayEnd}
+use Rattle.positions.specs.declared.side.Side.{Side}
+use Rattle.positions.specs.declared.value.Value.{Value}
+use Rattle.runs.specs.CheckRun.{CheckFails, RanCheck}
+use Rattle.runs.specs.Folders.{File, Opens}
+use Rattle.runs.specs.Jobs.{Checks, Opening, Plays, Solution, Stream, WritesWhole}
+use Rattle.runs.specs.Outcomes.{EndsAs, outcome_of_check, outcome_of_run}
+use Rattle.runs.specs.PlayRun.{PlayFails, RanPlay}
+use Rattle.runs.specs.Report.{Reports}
+use Rattle.runs.specs.Run.{Bytes, Fails, Ran}
+use Rattle.runs.specs.SolveRun.{CannotSolve, IsSolution}
+use Rattle.runs.specs.Texts.{BringsNoBoard}
+use Rattle.runs.specs.declared.checking.TheConstants.{MAX_PROOF_BYTES}
+use Rattle.runs.specs.declared.reading.TheConstants.{MAX_BOARD_BYTES}
+use Rattle.runs.specs.declared.fault.RunFault.{RunFault}
+use Rattle.runs.specs.declared.fault.RunFault.TheVariants.{Board, TooLarge, Proof, Memory, Worker, Read, Write, Limit}
+use Rattle.runs.specs.declared.outcome.Outcome.{Outcome}
+use Rattle.runs.specs.declared.outcome.Outcome.TheVariants.{Broken}
+use Rattle.runs.specs.declared.verdicts.Verdict.{Verdict}
+use Rattle.runs.specs.declared.verdicts.Verdict.TheVariants.{Accepted as AcceptedAs, Refused as RefusedFor}
+use Rattle.runs.proofs.Headlines.{shows_value, accepted}
+
+-- a broken check had this fault
+pub broken_check : (r : Result Verdict RunFault) (fault : RunFault) → outcome_of_check r ≡ Broken fault → r ≡ Err fault
+broken_check (Ok (AcceptedAs shown)) fault is = cc
+broken_check (Ok (RefusedFor why)) fault is = cc
+broken_check (Err why) fault is = let same : why ≡ fault = cc in ap (λ f. Err f) same
+
+-- a broken run had this fault
+pub broken_run : {A : Type 0} (r : Result A RunFault) (fault : RunFault) → outcome_of_run r ≡ Broken fault → r ≡ Err fault
+broken_run (Ok answer) fault is = cc
+broken_run (Err why) fault is = let same : why ≡ fault = cc in ap (λ f. Err f) same
+
+-- a run that ends so ends as its clauses say
+module _ {A : Type 0} (told : Result A RunFault → Outcome) (r : Result A RunFault) (Answers : A → Type 0) (Breaks : RunFault → Type 0) where
+  pub ends : (outcome : Outcome) → outcome ≡ told r → IfOk r Answers → IfErr r Breaks → EndsAs told Answers Breaks outcome
+  ends outcome is ok fault = (r, MatchResult-from_both r Answers Breaks ok fault, is)
+
+-- nothing was written before a fault that is told
+module _ {A : Type 0} (told : Result A RunFault → Outcome)
+    (broken : (r : Result A RunFault) (fault : RunFault) → told r ≡ Broken fault → r ≡ Err fault)
+    (r : Result A RunFault) (outcome : Outcome) (is : outcome ≡ told r) where
+  pub whole : (Kept : Type 0) → IfErr r (λ fault. fault ≢ Write → Kept) → (fault : RunFault) → outcome ≡ Broken fault → fault ≢ Write → Kept
+  whole Kept unwritten fault breaks = IfErr-at_err (λ f. f ≢ Write → Kept) (broken r fault (sym is ∙ breaks)) unwritten
+
+  pub told_as : (fault : RunFault) → told (Err fault) ≡ Broken fault → (Failed : Type 0) → (Failed ↔ (r ≡ Err fault)) → (Failed ↔ (outcome ≡ Broken fault))
+  told_as fault breaks Failed same =
+      ((λ failed. is ∙ ap told (same.0 failed) ∙ breaks), (λ broke. same.1 (broken r fault (sym is ∙ broke))))
+
+-- ---- what a run says follows from what another says
+
+module _ {A : Type 0} (P Q : List ℕ → A → List ℕ → Type 0) (wider : (text : List ℕ) (answer : A) (written : List ℕ) → P text answer written → Q text answer written)
+    (read written : Bytes) where
+  pub ran_wider : (answer : A) → Ran P read written answer → Ran Q read written answer
+  ran_wider answer (text, gave, (said, is, appends)) = (text, gave, (said, wider text answer said is, appends))
+
+  pub fails_wider : (Nothing More : List ℕ → RunFault → Type 0) → ((text : List ℕ) (fault : RunFault) → Nothing text fault → More text fault)
+      → (limit : ℕ) (fault : RunFault) → Fails P Nothing limit read written fault → Fails Q More limit read written fault
+  fails_wider Nothing More more limit fault (inl unread) = inl unread
+  fails_wider Nothing More more limit fault (inr (inl (text, gave, says))) = inr (inl (text, gave, more text fault says))
+  fails_wider Nothing More more limit fault (inr (inr (text, answer, gave, (said, is, front), told))) =
+      inr (inr (text, answer, gave, (said, wider text answer said is, front), told))
+
+-- what is untouched of a document
+check_untouched : (board_limit proof_limit : ℕ) (Old New : Type 0) → (Old → New) → (board proof written : Bytes)
+    (fault : RunFault) → CheckFails board_limit proof_limit Old board proof written fault
+    → CheckFails board_limit proof_limit New board proof written fault
+check_untouched board_limit proof_limit Old New to board proof written fault (inl (none, kept)) = inl (none, to kept)
+check_untouched board_limit proof_limit Old New to board proof written fault (inr rest) = inr rest
+
+-- one worker fails as several can
+pub any_worker : (workers : ℕ) (text : List ℕ) (fault : RunFault) → BringsNoBoard text fault
+    → CannotSolve workers text fault
+any_worker workers text Memory h = tt
+any_worker workers text (Board fault) h = h
+any_worker workers text TooLarge h = h
+any_worker workers text (Proof fault) h = absurd h
+any_worker workers text Worker h = absurd h
+any_worker workers text Read h = absurd h
+any_worker workers text Write h = absurd h
+any_worker workers text Limit h = absurd h
+
+-- several workers fail as they do
+pub these_workers : (workers : ℕ) (text : List ℕ) (fault : RunFault) → CannotSolve workers text fault
+    → CannotSolve workers text fault
+these_workers workers text fault h = h
+
+-- what is written of a solution shows its value and is accepted
+pub solution_of : (text : List ℕ) (value : Value) (written : List ℕ) → IsSolution text value written
+    → Solution text value written
+solution_of text value written is =
+    (is, shows_value text value written is, accepted text value written is)
+
+pub report_of : (text : List ℕ) (answer : Unit {0}) (written : List ℕ) → Reports text answer written
+    → Reports text answer written
+report_of text answer written is = is
+
+-- ---- jobs over files that were opened
+
+module _ {A : Type 0} (P Q : List ℕ → A → List ℕ → Type 0)
+    (wider : (text : List ℕ) (answer : A) (written : List ℕ) → P text answer written → Q text answer written)
+    (Nothing : List ℕ → RunFault → Type 0) (workers : ℕ)
+    (more : (text : List ℕ) (fault : RunFault) → Nothing text fault → CannotSolve workers text fault)
+    (file : File) (read : Bytes) (opens : Opens file read.old) (output : Stream)
+    (r : Result A RunFault) (outcome : Outcome) (is : outcome ≡ outcome_of_run r) where
+  pub opened_board : IfOk r (Ran P read output.bytes)
+      → IfErr r (Fails P Nothing MAX_BOARD_BYTES read output.bytes)
+      → IfErr r (λ fault. fault ≢ Write → output.IsKept)
+      → Opening file output.IsKept (λ bytes. EndsAs outcome_of_run (Ran Q bytes output.bytes)
+      (Fails Q (CannotSolve workers) MAX_BOARD_BYTES bytes output.bytes)) outcome
+      × WritesWhole output outcome
+  opened_board ok fault unwritten = (
+    inr (
+      read,
+      opens,
+      ends outcome_of_run r (Ran Q read output.bytes) (Fails Q (CannotSolve workers) MAX_BOARD_BYTES read output.bytes)
+          outcome is
+          (IfOk-weaker r (Ran P read output.bytes) (Ran Q read output.bytes)
+          (λ answer h. ran_wider P Q wider read output.bytes answer h) ok)
+          (IfErr-weaker r (Fails P Nothing MAX_BOARD_BYTES read output.bytes)
+          (Fails Q (CannotSolve workers) MAX_BOARD_BYTES read output.bytes)
+          (λ f h. fails_wider P Q wider read output.bytes Nothing (CannotSolve workers) more MAX_BOARD_BYTES f h) fault),
+    ),
+    whole outcome_of_run broken_run r outcome is output.IsKept unwritten,
+  )
+
+module _ (board proof : File) (b p : Bytes) (opens : Opens board b.old) (opens_too : Opens proof p.old)
+    (output : Stream) (r : Result Verdict RunFault) (outcome : Outcome) (is : outcome ≡ outcome_of_check r) where
+  pub opened_both : IfOk r (RanCheck b p output.bytes) → (Untouched : Type 0) → (Untouched → p.new ≡ p.old)
+      → IfErr r (CheckFails MAX_BOARD_BYTES MAX_PROOF_BYTES Untouched b p output.bytes)
+      → IfErr r (λ fault. fault ≢ Write → output.IsKept) → Checks board proof output outcome
+  opened_both ok Untouched to fault unwritten = (
+    inr (
+      b,
+      p,
+      opens,
+      opens_too,
+      ends outcome_of_check r (RanCheck b p output.bytes)
+          (CheckFails MAX_BOARD_BYTES MAX_PROOF_BYTES (p.new ≡ p.old) b p output.bytes) outcome is ok
+          (IfErr-weaker r (CheckFails MAX_BOARD_BYTES MAX_PROOF_BYTES Untouched b p output.bytes)
+          (CheckFails MAX_BOARD_BYTES MAX_PROOF_BYTES (p.new ≡ p.old) b p output.bytes)
+          (λ f h. check_untouched MAX_BOARD_BYTES MAX_PROOF_BYTES Untouched (p.new ≡ p.old) to b p output.bytes f h) fault),
+    ),
+    whole outcome_of_check broken_check r outcome is output.IsKept unwritten,
+  )
+
+module _ (side : Side) (file : File) (read : Bytes) (opens : Opens file read.old) (input output : Stream)
+    (r : Result PlayEnd RunFault) (outcome : Outcome) (is : outcome ≡ outcome_of_run r) where
+  pub opened_play : IfOk r (RanPlay side read input.bytes output.bytes)
+      → IfErr r (PlayFails side MAX_BOARD_BYTES (input.IsKept × output.IsKept) read input.bytes output.bytes)
+      → Plays side file input output outcome
+  opened_play ok fault = inr (
+    read,
+    opens,
+    ends outcome_of_run r (RanPlay side read input.bytes output.bytes)
+        (PlayFails side MAX_BOARD_BYTES (input.IsKept × output.IsKept) read input.bytes output.bytes) outcome is ok fault,
+  )

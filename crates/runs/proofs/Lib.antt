@@ -1,0 +1,13 @@
+pub mod EndLines
+pub mod WrittenWords
+pub mod FailedRuns
+pub mod WrongTexts
+pub mod AcceptedLines
+pub mod Headlines
+pub mod ReportCounts
+pub mod CountSums
+pub mod AcceptedDocuments
+pub mod Solutions
+pub mod OneOutcome
+pub mod Endings
+pub mod Served

@@ -1,0 +1,69 @@
+-- How words are served.
+use Rattle.std.proofs.Common.{◌≡◌, ◌↔◌, ◌<◌, ◌≤◌, ◌⊎◌, ℕ, List, [], length, ap, sym, subst, map, ◌∙◌, inl, inr}
+use Rattle.std.proofs.lemmas.Bool.{cases_lt}
+use Rattle.std.proofs.lemmas.List.{length-map}
+use Rattle.std.specs.Prelude.{Result, Ok, Err, IfErr, OnOk, OnErr}
+use Rattle.std.specs.Borrow.{Bor}
+use Rattle.std.specs.Io.KnownBytes.{Appends}
+use Rattle.clap.specs.Walk.{Text, texts}
+use Rattle.clap.specs.Words.{fault_of, subcommand_of}
+use Rattle.board_text.specs.Streams.{AppendsFront}
+use Rattle.command_line.specs.Commands.{program}
+use Rattle.command_line.specs.Reading.{IsReadAs}
+use Rattle.command_line.specs.declared.asked.Job.{Job}
+use Rattle.command_line.specs.declared.asked.Job.TheVariants.{Joined}
+use Rattle.command_line.specs.declared.asked.JobFault.{JobFault}
+use Rattle.runs.specs.Jobs.{Stream}
+use Rattle.runs.specs.Outcomes.{outcome_of_run}
+use Rattle.runs.specs.Serving.{Asks, EndsWith, IsWritten}
+use Rattle.runs.specs.declared.fault.RunFault.{RunFault}
+use Rattle.runs.specs.declared.fault.RunFault.TheVariants.{Write}
+use Rattle.runs.specs.declared.outcome.Outcome.TheVariants.{Broken, Done}
+
+-- what a write of a text tells
+pub written : (stream : Stream) (text : List ℕ) (r : Result (Unit {0}) RunFault)
+    → OnOk r (Appends stream.bytes.old stream.bytes.new text)
+    → OnErr r (AppendsFront stream.bytes.old stream.bytes.new text) → IfErr r (λ f. f ≡ Write)
+    → (stream.HasFailed ↔ (r ≡ Err Write)) → IsWritten stream text
+written stream text (Ok done) appends front told failed =
+    inl ((λ has. let bad : Ok done ≡ Err Write = failed.0 has in cc), appends)
+written stream text (Err fault) appends front told failed = inr (failed.1 (ap (λ f. Err f) told), front)
+
+-- what a write of help tells
+pub helped : (output errors : Stream) (status : ℕ) (r : Result (Unit {0}) RunFault) → IfErr r (λ f. f ≡ Write)
+    → (output.HasFailed ↔ (r ≡ Err Write)) → EndsWith errors status (outcome_of_run r)
+    → ((output.HasFailed → ⊥) × EndsWith errors status Done) ⊎ (output.HasFailed × EndsWith errors status (Broken Write))
+helped output errors status (Ok done) told failed ends =
+    inl ((λ has. let bad : Ok done ≡ Err Write = failed.0 has in cc), ends)
+helped output errors status (Err fault) told failed ends =
+    inr (failed.1 (ap (λ f. Err f) told), subst (λ f. EndsWith errors status (Broken f)) told ends)
+
+-- what the words ask for
+module _ (words : List (Bor Text)) (r : Result Job JobFault) (joined : (r ≡ Ok Joined) ↔ (length words ≤ 1)) where
+  as_many : length (texts words) ≡ length words
+  as_many = length-map words (λ (s : Bor Text). s.now)
+
+  plainly : (j : Job) → r ≡ Ok j → j ≡ Joined → Asks (texts words) j
+  plainly j is plain = inl (rw as_many (joined.0 (is ∙ ap (λ x. Ok x) plain)), plain)
+
+  pub asked : (j : Job) → r ≡ Ok j → (j ≡ Joined) ⊎ IsReadAs (subcommand_of program (texts words)) j
+      → (j ≡ Joined) ⊎ (fault_of program (texts words) ≡ []) → Asks (texts words) j
+  asked j is (inl plain) faultless = plainly j is plain
+  asked j is (inr read) (inl plain) = plainly j is plain
+  asked j is (inr read) (inr none) =
+      elim (cases_lt 1 (length words)) [
+        | inl more ↦ inr (rw as_many more, none, read)
+        | inr few ↦ (
+            let same : Ok Joined ≡ Ok j = sym (joined.1 few) ∙ is in
+            let plain : j ≡ Joined = cc in
+            plainly j is plain
+            )
+      ]
+
+  -- words that ask for no job are more than the program's name
+  pub more_words : (fault : JobFault) → r ≡ Err fault → 1 < length (texts words)
+  more_words fault is =
+      elim (cases_lt 1 (length words)) [
+        | inl more ↦ rw as_many more
+        | inr few ↦ (let bad : Ok Joined ≡ Err fault = sym (joined.1 few) ∙ is in cc)
+      ]

@@ -1,0 +1,40 @@
+-- Why a joined text has no answer.
+use Rattle.std.proofs.Common.{◌≡◌, ℕ, List, ◌++◌, take, drop, sym, ap, ◌∙◌, take-append-drop}
+use Rattle.board_text.specs.PlainBoard.{PlainBoard, IsBoard}
+use Rattle.board_text.specs.BoardText.{board_text}
+use Rattle.runs.specs.Verdicts.{CannotAnswer, BeginsWithBoard}
+use Rattle.runs.specs.Joined.{IsFrontLen}
+use Rattle.runs.specs.Texts.{BringsNoBoard, BringsNoProof, IsSmallBoard}
+use Rattle.runs.specs.declared.fault.RunFault.{RunFault}
+use Rattle.runs.specs.declared.fault.RunFault.TheVariants.{Board, TooLarge, Proof, Memory, Worker, Read, Write, Limit}
+
+pub begins_with : (text front rest : List ℕ) (board : PlainBoard) → IsBoard board → text ≡ front ++ rest → front ≡ board_text board
+    → BeginsWithBoard text board rest
+begins_with text front rest board is whole spelled = record { is_board = is; text_is = whole ∙ ap (λ (f : List ℕ). f ++ rest) spelled }
+
+pub no_board : (text front rest : List ℕ) (size : ℕ) (fault : RunFault) → IsFrontLen text size → front ≡ take size text
+    → text ≡ front ++ rest → BringsNoBoard front fault → CannotAnswer text fault
+no_board text front rest size (Board fault) first is whole (has, no_memory) = (size, first, rw (← is) has, no_memory)
+no_board text front rest size Memory first is whole h = tt
+no_board text front rest size TooLarge first is whole (board, is_board, spelled, many) =
+    (board, rest, begins_with text front rest board is_board whole spelled, many)
+no_board text front rest size (Proof fault) first is whole h = absurd h
+no_board text front rest size Worker first is whole h = absurd h
+no_board text front rest size Read first is whole h = absurd h
+no_board text front rest size Write first is whole h = absurd h
+no_board text front rest size Limit first is whole h = absurd h
+
+pub no_proof : (text front rest : List ℕ) (board : PlainBoard) (fault : RunFault) → IsSmallBoard front board → text ≡ front ++ rest
+    → BringsNoProof board rest fault → CannotAnswer text fault
+no_proof text front rest board (Proof fault) small whole (has, no_memory) =
+    (board, rest, begins_with text front rest board small.is_board whole small.spelled, small.few, has, no_memory)
+no_proof text front rest board Memory small whole h = tt
+no_proof text front rest board TooLarge small whole h = absurd h
+no_proof text front rest board (Board fault) small whole h = absurd h
+no_proof text front rest board Worker small whole h = absurd h
+no_proof text front rest board Read small whole h = absurd h
+no_proof text front rest board Write small whole h = absurd h
+no_proof text front rest board Limit small whole h = absurd h
+
+pub two_parts : (text front rest : List ℕ) (size : ℕ) → front ≡ take size text → rest ≡ drop size text → text ≡ front ++ rest
+two_parts text front rest size before behind = sym (rw (before, behind) (take-append-drop size text))

@@ -1,0 +1,22 @@
+use Rattle.std.proofs.Common.{inr}
+use Rattle.std.proofs.lemmas.Result.{err_from_is_err_and}
+use Rattle.runs.specs.Verdicts.{IsChecked}
+use Rattle.runs.specs.Run.{bytes_of}
+use Rattle.runs.specs.Texts.{BringsNoProof}
+use Rattle.runs.specs.declared.checking.TheConstants.{MAX_PROOF_BYTES}
+use Rattle.runs.proofs.FailedRuns.{cut_short}
+use Rattle.runs.proofs.checking.run_check.Goals as goal
+
+pub returns-in_err-write_text-clause-fault : goal.returns-in_err-write_text-clause-fault
+returns-in_err-write_text-clause-fault g c =
+    let p = err_from_is_err_and c.from_residual-in_err-write_text.result c.from_residual-in_err-write_text.ensures.1 in
+    let board = c.in_ok-board.board in
+    let proof = bytes_of g.P.Source.remaining c.args.proof.now c.read_text.new.reader in
+    let written = bytes_of g.W.Sink.contents c.args.writer.now c.write_text.new.writer in
+    rw (p.1, p.2, c.in_err-write_text.ensures.fault) (inr (
+      board,
+      c.in_ok-board.ensures.found.0,
+      cut_short (IsChecked board) (BringsNoProof board) MAX_PROOF_BYTES proof written
+          c.in_ok-text.text.items c.in_ok-text.ensures.ok c.in_ok-answer.answer.verdict _ (rw c.as_slice.ensures.value at c.in_ok-answer.ensures.checked)
+          (rw c.deref.ensures at c.in_err-write_text.ensures.front),
+    ))

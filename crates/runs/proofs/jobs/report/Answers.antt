@@ -1,0 +1,13 @@
+use Rattle.runs.specs.Jobs.{stream_of}
+use Rattle.runs.specs.Report.{Reports}
+use Rattle.runs.specs.Texts.{BringsNoBoard}
+use Rattle.runs.proofs.Endings.{any_worker, opened_board, report_of}
+use Rattle.runs.proofs.jobs.report.Goals as goal
+
+pub returns-then-workers-eq1-clause-done : goal.returns-then-workers-eq1-clause-done
+returns-then-workers-eq1-clause-done g c =
+    opened_board Reports Reports report_of BringsNoBoard c.args.workers (any_worker c.args.workers)
+    (g.F.Folder.at c.args.folder.now c.args.board.now) _ c.in-Ok.ensures.opened
+    (stream_of g.O.Sink.contents g.O.Sink.has_failed c.args.output.now c.run_report.new.writer)
+    c.run_report.result c.of_run.result c.of_run.ensures
+    c.run_report.ensures.ok c.run_report.ensures.fault c.run_report.ensures.unwritten

@@ -1,0 +1,20 @@
+-- The files that a run finds at paths.
+use Rattle.std.specs.Prelude.{◌≡◌, ℕ, List, Option, Some}
+
+-- the file at a path: nothing is known of it; it can't be opened; or it can, and has these bytes
+pub data File : Type 0 where
+  Unknown : File
+  Closed : File
+  Holds : List ℕ → File
+
+-- the file can be opened, and its reader has these bytes, where they are known
+abbrev pub Opens : File → Option (List ℕ) → Type 0
+Opens Unknown left = Unit {0}
+Opens Closed left = ⊥
+Opens (Holds bytes) left = left ≡ Some bytes
+
+-- the file can't be opened
+abbrev pub StaysShut : File → Type 0
+StaysShut Unknown = Unit {0}
+StaysShut Closed = Unit {0}
+StaysShut (Holds bytes) = ⊥

@@ -1,0 +1,34 @@
+-- What this crate's own functions say beside `Faults`.
+use Rattle.std.specs.Prelude.{◌≡◌, ◌≢◌, ◌⊎◌}
+use Rattle.board_text.specs.declared.fault.BoardFault.{BoardFault}
+use Rattle.board_text.specs.declared.fault.BoardKind.TheVariants as board_kinds
+use Rattle.board_text.specs.declared.read_write.ReadFault.{ReadFault}
+use Rattle.board_text.specs.declared.read_write.ReadFault.TheVariants as read_faults
+use Rattle.proof_text.specs.declared.fault.ProofFault.{ProofFault}
+use Rattle.proof_text.specs.declared.fault.ProofKind.TheVariants as proof_kinds
+use Rattle.solver.specs.declared.fault.SolveFault.{SolveFault}
+use Rattle.solver.specs.declared.fault.SolveFault.TheVariants as solve_faults
+use Rattle.runs.specs.declared.fault.RunFault.{RunFault}
+use Rattle.runs.specs.declared.fault.RunFault.TheVariants.{Board, TooLarge, Proof, Memory, Worker, Read, Limit}
+
+-- of a text that wasn't read to its end
+abbrev pub fault_of_reading : ReadFault → RunFault
+fault_of_reading read_faults.Memory = Memory
+fault_of_reading read_faults.Read = Read
+fault_of_reading read_faults.Limit = Limit
+
+-- of a text that is no board's: want of memory, or the text's own fault
+abbrev pub IsFaultOfBoard : BoardFault → RunFault → Type 0
+IsFaultOfBoard fault told =
+    ((fault.kind ≡ board_kinds.Memory) × (told ≡ Memory)) ⊎ ((fault.kind ≢ board_kinds.Memory) × (told ≡ Board fault))
+
+-- of a text that is no document's, in the same way
+abbrev pub IsFaultOfProof : ProofFault → RunFault → Type 0
+IsFaultOfProof fault told =
+    ((fault.kind ≡ proof_kinds.Memory) × (told ≡ Memory)) ⊎ ((fault.kind ≢ proof_kinds.Memory) × (told ≡ Proof fault))
+
+-- of values that weren't found
+abbrev pub fault_of_solving : SolveFault → RunFault
+fault_of_solving solve_faults.TooLarge = TooLarge
+fault_of_solving solve_faults.Memory = Memory
+fault_of_solving solve_faults.Worker = Worker

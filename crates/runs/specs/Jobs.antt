@@ -1,0 +1,130 @@
+-- What is done for each job, from the files and standard input to standard output.
+use Rattle.std.specs.Prelude.{◌≡◌, ◌≢◌, ℕ, Bool, true, ◌⊎◌, ◌↔◌, List, Option}
+use Rattle.board_text.specs.Ranges.{InRange}
+use Rattle.command_line.specs.declared.asked.Job.{Job}
+use Rattle.command_line.specs.declared.asked.Job.TheVariants.{Joined, Check, Nested, Solve, Report}
+use Rattle.command_line.specs.declared.asked.Job.TheVariants.{Play, Climb}
+use Rattle.player.specs.Transcript.{PersonClimbs}
+use Rattle.positions.specs.declared.value.Value.{Value}
+use Rattle.positions.specs.declared.side.Side.{Side}
+use Rattle.runs.specs.CheckRun.{RanCheck, CheckFails}
+use Rattle.runs.specs.Folders.{File, Opens, StaysShut}
+use Rattle.runs.specs.Headline.{ShowsValue, IsAccepted}
+use Rattle.runs.specs.NestedText.{IsNestedText}
+use Rattle.runs.specs.Outcomes.{EndsAs, outcome_of_check, outcome_of_run}
+use Rattle.runs.specs.PlayRun.{IsBrokenOff, IsOver, PlayFails, RanPlay}
+use Rattle.runs.specs.Report.{Reports}
+use Rattle.runs.specs.Run.{Bytes, Fails, Ran, Wrote, WroteFront, bytes_of}
+use Rattle.runs.specs.SolveRun.{CannotSolve, IsSolution}
+use Rattle.runs.specs.Verdicts.{CannotAnswer, IsAnswered}
+use Rattle.runs.specs.declared.checking.TheConstants.{MAX_JOINED_BYTES, MAX_PROOF_BYTES}
+use Rattle.runs.specs.declared.reading.TheConstants.{MAX_BOARD_BYTES}
+use Rattle.runs.specs.declared.fault.RunFault.{RunFault}
+use Rattle.runs.specs.declared.fault.RunFault.TheVariants.{Memory, Read, Write}
+use Rattle.runs.specs.declared.outcome.Outcome.{Outcome}
+use Rattle.runs.specs.declared.outcome.Outcome.TheVariants.{Broken}
+
+-- a standard stream before a job and after it: its bytes, that it is as it was, that it has failed
+pub record Stream : Type 1 where
+  pub bytes : Bytes
+  pub IsKept : Type 0
+  pub HasFailed : Type 0
+
+-- a stream, by what is known of it before and after
+abbrev pub stream_of : {S : Type 0} → (S → Option (List ℕ)) → (S → Bool) → S → S → Stream
+stream_of known has_failed before after =
+    record {
+      bytes = bytes_of known before after;
+      IsKept = after ≡ before;
+      HasFailed = has_failed after ≡ true;
+    }
+
+-- what is written for a board: the text of its document, which shows its value and is accepted
+abbrev pub Solution : List ℕ → Value → List ℕ → Type 0
+Solution text value written =
+    IsSolution text value written × ShowsValue text value written × IsAccepted text value written
+
+-- the file was opened and this was done with it; or it can't be opened, and the rest is untouched
+abbrev pub Opening : File → Type 0 → (Bytes → Outcome → Type 0) → Outcome → Type 0
+Opening file IsUntouched Then outcome =
+    (StaysShut file × IsUntouched × (outcome ≡ Broken Read))
+    ⊎ ((read : Bytes) × Opens file read.old × Then read outcome)
+
+-- nothing was written before a fault, but for one of writing
+abbrev pub WritesWhole : Stream → Outcome → Type 0
+WritesWhole output outcome =
+    (fault : RunFault) → outcome ≡ Broken fault → fault ≢ Write → output.IsKept
+
+-- the writer has failed exactly if that is the fault
+abbrev pub TellsWrites : Stream → Outcome → Type 0
+TellsWrites output outcome = output.HasFailed ↔ (outcome ≡ Broken Write)
+
+-- a board and a document behind it were checked
+abbrev pub ChecksJoined : Stream → Stream → Outcome → Type 0
+ChecksJoined input output outcome =
+    EndsAs outcome_of_check (Ran IsAnswered input.bytes output.bytes)
+    (Fails IsAnswered CannotAnswer MAX_JOINED_BYTES input.bytes output.bytes) outcome
+    × WritesWhole output outcome
+
+-- both files were opened, and the document was checked for the board; or one can't be opened
+abbrev pub Checks : File → File → Stream → Outcome → Type 0
+Checks board proof output outcome =
+    (((StaysShut board ⊎ StaysShut proof) × (outcome ≡ Broken Read))
+    ⊎ ((b p : Bytes) × Opens board b.old × Opens proof p.old
+    × EndsAs outcome_of_check (RanCheck b p output.bytes)
+    (CheckFails MAX_BOARD_BYTES MAX_PROOF_BYTES (p.new ≡ p.old) b p output.bytes) outcome))
+    × WritesWhole output outcome
+
+-- the board was solved by so many workers
+abbrev pub Solves : ℕ → File → Stream → Outcome → Type 0
+Solves workers board output outcome =
+    Opening board output.IsKept (λ read. EndsAs outcome_of_run (Ran Solution read output.bytes)
+    (Fails Solution (CannotSolve workers) MAX_BOARD_BYTES read output.bytes)) outcome
+    × WritesWhole output outcome
+
+-- the values of the board were counted by so many workers
+abbrev pub Counts : ℕ → File → Stream → Outcome → Type 0
+Counts workers board output outcome =
+    Opening board output.IsKept (λ read. EndsAs outcome_of_run (Ran Reports read output.bytes)
+    (Fails Reports (CannotSolve workers) MAX_BOARD_BYTES read output.bytes)) outcome
+    × WritesWhole output outcome
+
+-- a play on the board, with a person who is this side
+abbrev pub Plays : Side → File → Stream → Stream → Outcome → Type 0
+Plays side board input output outcome =
+    Opening board (input.IsKept × output.IsKept) (λ read. EndsAs outcome_of_run
+    (RanPlay side read input.bytes output.bytes)
+    (PlayFails side MAX_BOARD_BYTES (input.IsKept × output.IsKept)
+    read input.bytes output.bytes)) outcome
+
+-- a play on the nested board of the level
+abbrev pub Climbs : ℕ → Stream → Stream → Outcome → Type 0
+Climbs levels input output outcome =
+    EndsAs outcome_of_run (IsOver (PersonClimbs levels) input.bytes output.bytes)
+    (IsBrokenOff (PersonClimbs levels) input.bytes output.bytes) outcome
+
+-- the text of the nested board was written
+abbrev pub WritesNested : ℕ → ℕ → Stream → Outcome → Type 0
+WritesNested levels pebbles output outcome =
+    EndsAs {Answer = Unit {0}} outcome_of_run
+    (λ answer. Wrote (IsNestedText levels pebbles) output.bytes)
+    (λ fault. (fault ≡ Memory)
+    ⊎ ((fault ≡ Write) × WroteFront (IsNestedText levels pebbles) output.bytes)) outcome
+    × WritesWhole output outcome
+
+module _ (at : List ℕ → File) (input output : Stream) where
+  -- what is done for each job; only a joined check and the plays read standard input
+  abbrev pub Does : Job → Outcome → Type 0
+  Does Joined outcome = ChecksJoined input output outcome
+  Does (Check board proof) outcome =
+      Checks (at board.now) (at proof.now) output outcome × input.IsKept
+  Does (Nested levels pebbles) outcome = WritesNested levels pebbles output outcome × input.IsKept
+  Does (Solve workers board) outcome = Solves workers (at board.now) output outcome × input.IsKept
+  Does (Report workers board) outcome = Counts workers (at board.now) output outcome × input.IsKept
+  Does (Play side board) outcome = Plays side (at board.now) input output outcome
+  Does (Climb levels) outcome = Climbs levels input output outcome
+
+  -- the job is done, or broken off, and the streams have failed where the outcome says so
+  abbrev pub IsDone : Job → Outcome → Type 0
+  IsDone job outcome =
+      Does job outcome × TellsWrites output outcome × (input.HasFailed → outcome ≡ Broken Read)

@@ -1,0 +1,27 @@
+-- What an accepted document means for the start of its board.
+use Rattle.std.specs.Prelude.{◌≡◌, ℕ, ◌≤◌, List, ◌++◌, codes}
+use Rattle.std.specs.Fmt.{decimal}
+use Rattle.board_text.specs.LineForms.{closed}
+use Rattle.board_text.specs.PlainBoard.{PlainBoard, IsBoard}
+use Rattle.board_text.specs.BoardText.{board_text}
+use Rattle.positions.specs.Game.{LabellerTree}
+use Rattle.positions.specs.Table.{AnswerRow, Answers}
+use Rattle.proof_text.specs.declared.proof.TheConstants.{MOST_TURNS}
+use Rattle.runs.specs.Verdicts.{IsAnswered}
+use Rattle.runs.specs.declared.verdicts.Verdict.{Verdict}
+
+-- the text was answered with the line `accepted least k`, k being a number that documents have
+abbrev pub AcceptsLeast : List ℕ → ℕ → Type 0
+AcceptsLeast text number =
+    (number ≤ MOST_TURNS) × (verdict : Verdict) × IsAnswered text verdict (closed (codes "accepted least " ++ decimal number))
+
+-- the text begins with a board's; a table answers so many requests from its start, whichever they are,
+-- and the labeller has a tree of that depth
+pub record CanAnswer (text : List ℕ) (number : ℕ) : Type 0 where
+  pub board : PlainBoard
+  pub rest : List ℕ
+  pub is_board : IsBoard board
+  pub text_is : text ≡ board_text board ++ rest
+  pub table : List AnswerRow
+  pub answers : Answers board table number board.start
+  pub tree : LabellerTree board number board.start

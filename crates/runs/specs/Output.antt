@@ -1,0 +1,45 @@
+-- The one line that a check writes.
+use Rattle.std.specs.Prelude.{ℕ, List, [], ◌++◌, codes}
+use Rattle.std.specs.Fmt.{decimal}
+use Rattle.board_text.specs.LineForms.{closed}
+use Rattle.board_text.specs.PlaceForms.{spaced_places}
+use Rattle.board_text.specs.PlainBoard.{PlainBoard}
+use Rattle.positions.specs.Ranks.{configuration_at}
+use Rattle.proof_text.specs.ProofText.{claim_words}
+use Rattle.positions.specs.declared.side.Side.{Side}
+use Rattle.positions.specs.declared.side.Side.TheVariants.{Labeller, Adversary}
+use Rattle.proof_check.specs.declared.fault.CheckFault.{CheckFault}
+use Rattle.proof_check.specs.declared.fault.CheckFault.TheVariants as faults
+use Rattle.runs.specs.declared.verdicts.Verdict.{Verdict}
+use Rattle.runs.specs.declared.verdicts.Verdict.TheVariants.{Accepted, Refused}
+
+-- a side's name
+abbrev pub side_word : Side → List ℕ
+side_word Labeller = codes "labeller"
+side_word Adversary = codes "adversary"
+
+-- what a row's turns are named: a labeller's row has an answer for each pebble, an adversary's leads on by labels
+abbrev pub turn_word : Side → List ℕ
+turn_word Labeller = codes " pebble "
+turn_word Adversary = codes " label "
+
+-- a side's row of this rank, given by its places, and the turn
+abbrev pub row_words : PlainBoard → Side → ℕ → ℕ → List ℕ
+row_words board side at turn =
+    side_word side ++ codes " row" ++ spaced_places board.labels (configuration_at board at) ++ turn_word side ++ decimal turn
+
+-- why a document is refused; want of memory refuses none
+abbrev pub fault_words : PlainBoard → CheckFault → List ℕ
+fault_words board (faults.StartMissing side) = side_word side ++ codes " start missing"
+fault_words board (faults.StartNumber side) = side_word side ++ codes " start number"
+fault_words board (faults.IllegalAnswer at pebble) = row_words board Labeller at pebble ++ codes " illegal answer"
+fault_words board (faults.Unlisted side at turn) = row_words board side at turn ++ codes " unlisted"
+fault_words board (faults.TooSmall at pebble) = row_words board Labeller at pebble ++ codes " too small"
+fault_words board (faults.NotStuck at label) = row_words board Adversary at label ++ codes " not stuck"
+fault_words board (faults.TooLarge at label) = row_words board Adversary at label ++ codes " too large"
+fault_words board faults.Memory = []
+
+-- the line of a verdict
+abbrev pub line_of : PlainBoard → Verdict → List ℕ
+line_of board (Accepted shown) = closed (codes "accepted " ++ claim_words shown.claim)
+line_of board (Refused fault) = closed (codes "refused " ++ fault_words board fault)

@@ -1,0 +1,37 @@
+-- What a run of a play reads, answers and writes.
+use Rattle.std.specs.Prelude.{◌≡◌, ℕ}
+use Rattle.board_text.specs.PlainBoard.{PlainBoard}
+use Rattle.player.specs.Transcript.{Game, PersonAsks, PersonAnswers, IsPlayed}
+use Rattle.player.specs.Laws.{KeepsToValue}
+use Rattle.player.specs.Play.{HasEnded, BreaksOff}
+use Rattle.player.specs.declared.end.PlayEnd.{PlayEnd}
+use Rattle.player.specs.declared.end.PlayFault.{PlayFault}
+use Rattle.positions.specs.declared.side.Side.{Side}
+use Rattle.positions.specs.declared.side.Side.TheVariants.{Labeller, Adversary}
+use Rattle.runs.specs.BoardRun.{RanOn, FailsOn}
+use Rattle.runs.specs.Faults.{fault_of_play}
+use Rattle.runs.specs.Run.{Bytes}
+use Rattle.runs.specs.declared.fault.RunFault.{RunFault}
+
+-- the play on the board in which the person is this side
+abbrev pub game_of : Side → PlainBoard → Game
+game_of Adversary board = PersonAsks board
+game_of Labeller board = PersonAnswers board
+
+-- the play has ended, as the value of its start allows
+abbrev pub IsOver : Game → Bytes → Bytes → PlayEnd → Type 0
+IsOver game lines written end = HasEnded (IsPlayed game) lines.old lines.new written.old written.new end × KeepsToValue game end
+
+-- the play was broken off
+abbrev pub IsBrokenOff : Game → Bytes → Bytes → RunFault → Type 0
+IsBrokenOff game lines written fault =
+    (why : PlayFault) × BreaksOff (IsPlayed game) lines.old lines.new written.old written.new why × (fault ≡ fault_of_play why)
+
+-- a small board was read, and the play on it is over
+abbrev pub RanPlay : Side → Bytes → Bytes → Bytes → PlayEnd → Type 0
+RanPlay side board lines written end = RanOn board (λ b. IsOver (game_of side b) lines written end)
+
+-- why a play has no end: the board wasn't there, or memory was wanting, and nothing else is touched; or the play was broken off
+abbrev pub PlayFails : Side → ℕ → Type 0 → Bytes → Bytes → Bytes → RunFault → Type 0
+PlayFails side limit IsUntouched board lines written fault =
+    FailsOn limit board IsUntouched (λ b. IsBrokenOff (game_of side b) lines written) fault

@@ -1,0 +1,84 @@
+-- The report of a board: how many of its configurations have each value.
+use Rattle.std.specs.Prelude.{◌≡◌, ℕ, suc, ◌<◌, ◌≤◌, ◌↔◌, List, [], ◌∷◌, ◌++◌, length, slice_index, codes}
+use Rattle.std.specs.Fmt.{decimal}
+use Rattle.board_text.specs.LineForms.{closed}
+use Rattle.board_text.specs.PlainBoard.{PlainBoard}
+use Rattle.positions.specs.declared.value.Value.{Value}
+use Rattle.positions.specs.declared.value.Value.TheVariants.{Finite, Forever}
+use Rattle.positions.specs.Laws.{Occurs}
+use Rattle.positions.specs.Ranks.{configurations}
+use Rattle.positions.specs.Value.{HasValue}
+use Rattle.proof_text.specs.ProofText.{claim_words}
+use Rattle.solver.specs.Sizes.{HasCount}
+use Rattle.strategies.specs.Document.{claim_of}
+use Rattle.runs.specs.Texts.{IsSmallBoard}
+
+-- the value of the start, how many configurations have each finite value from 0 on, and how many last forever
+pub record Report : Type 0 where
+  pub start : Value
+  pub counts : List ℕ
+  pub forever : ℕ
+
+-- so many values there are from 0 to the greatest that occurs
+abbrev pub IsCountOfValues : PlainBoard → ℕ → Type 0
+IsCountOfValues board number = (value : ℕ) → value < number ↔ ((other : ℕ) × (value ≤ other) × Occurs board other)
+
+-- the counts are those of all configurations, for each finite value from 0 to the greatest that occurs
+pub record AreCounts (board : PlainBoard) (counts : List ℕ) : Type 0 where
+  pub counted : (value : ℕ) → value < length counts → HasCount board (Finite value) (slice_index counts value)
+  pub to_greatest : IsCountOfValues board (length counts)
+
+pub record IsReport (board : PlainBoard) (report : Report) : Type 0 where
+  pub start : HasValue board board.start report.start
+  pub counts : AreCounts board report.counts
+  pub forever : HasCount board Forever report.forever
+
+-- the line of a word and a number
+abbrev pub size_line : List ℕ → ℕ → List ℕ
+size_line word number = closed (word ++ codes " " ++ decimal number)
+
+-- the first lines, of a board with so many labels, pebbles and configurations
+abbrev pub size_lines : ℕ → ℕ → ℕ → List ℕ
+size_lines labels pebbles configurations =
+    closed (codes "report 1") ++ size_line (codes "labels") labels ++ size_line (codes "pebbles") pebbles
+    ++ size_line (codes "configurations") configurations
+
+abbrev pub head_lines : PlainBoard → List ℕ
+head_lines board = size_lines board.labels board.pebbles (configurations board)
+
+-- the line of the start's value
+abbrev pub start_value_line : Value → List ℕ
+start_value_line value = closed (codes "start " ++ claim_words (claim_of value))
+
+-- the line of a value and how many configurations have it
+abbrev pub count_line : ℕ → ℕ → List ℕ
+count_line value count = closed (codes "value " ++ decimal value ++ codes ": " ++ decimal count)
+
+-- the lines of the counts of a value and of those behind it
+abbrev pub count_lines : ℕ → List ℕ → List ℕ
+count_lines value [] = []
+count_lines value (count ∷ counts) = count_line value count ++ count_lines (suc value) counts
+
+-- the last lines
+abbrev pub end_lines : ℕ → List ℕ
+end_lines forever = closed (codes "forever: " ++ decimal forever) ++ closed (codes "end")
+
+-- the text of a report
+abbrev pub report_text : PlainBoard → Report → List ℕ
+report_text board report = head_lines board ++ start_value_line report.start ++ count_lines 0 report.counts ++ end_lines report.forever
+
+-- the text is that of the report of the board
+pub record IsReportOf (board : PlainBoard) (text : List ℕ) : Type 0 where
+  pub report : Report
+  pub is_report : IsReport board report
+  pub text_is : text ≡ report_text board report
+
+-- ---- the report of a text
+
+-- the text is that of a small board, and what is written is its report
+abbrev pub IsReportOfText : List ℕ → List ℕ → Type 0
+IsReportOfText text written = (board : PlainBoard) × IsSmallBoard text board × IsReportOf board written
+
+-- the same, of a run: it answers nothing beside what it writes
+abbrev pub Reports : List ℕ → Unit {0} → List ℕ → Type 0
+Reports text answer written = IsReportOfText text written

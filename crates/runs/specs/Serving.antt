@@ -1,0 +1,80 @@
+-- What the program does with its words, from its files and streams to its exit status.
+use Rattle.std.specs.Prelude.{◌≡◌, ℕ, ◌<◌, ◌≤◌, ◌⊎◌, true, List, [], length, codes, string_bytes}
+use Rattle.std.specs.Io.KnownBytes.{Appends}
+use Rattle.clap.specs.Walk.{Text, texts}
+use Rattle.clap.specs.Words.{fault_of, subcommand_of, takes}
+use Rattle.board_text.specs.LineForms.{closed}
+use Rattle.board_text.specs.Streams.{AppendsFront}
+use Rattle.command_line.specs.Commands.{program}
+use Rattle.command_line.specs.Reading.{IsReadAs, Shows}
+use Rattle.command_line.specs.declared.asked.Job.{Job}
+use Rattle.command_line.specs.declared.asked.Job.TheVariants.{Joined}
+use Rattle.command_line.specs.declared.asked.JobFault.{JobFault}
+use Rattle.command_line.specs.declared.asked.JobFault.TheVariants.{Help, Usage, Memory as NoMemory}
+use Rattle.runs.specs.FaultLines.{line_of_fault}
+use Rattle.runs.specs.Folders.{File}
+use Rattle.runs.specs.Jobs.{IsDone, Stream}
+use Rattle.runs.specs.Outcomes.{status_of}
+use Rattle.runs.specs.declared.fault.RunFault.TheVariants.{Memory, Write}
+use Rattle.runs.specs.declared.outcome.Outcome.{Outcome}
+use Rattle.runs.specs.declared.outcome.Outcome.TheVariants.{Broken, Done, Refused}
+use Rattle.runs.specs.declared.serving.Words.{Words}
+use Rattle.runs.specs.declared.serving.Words.TheVariants.{Given, NotText, OutOfMemory}
+
+-- the words, the program's name first, ask for the job: there is no other word, or `clap` reads it
+abbrev pub Asks : List Text → Job → Type 0
+Asks words job =
+    ((length words ≤ 1) × (job ≡ Joined))
+    ⊎ ((1 < length words) × (fault_of program words ≡ [])
+    × IsReadAs (subcommand_of program words) job)
+
+-- the text was written, and nothing else; or a prefix of it, and then the stream failed
+abbrev pub IsWritten : Stream → List ℕ → Type 0
+IsWritten stream text =
+    ((stream.HasFailed → ⊥) × Appends stream.bytes.old stream.bytes.new text)
+    ⊎ (stream.HasFailed × AppendsFront stream.bytes.old stream.bytes.new text)
+
+-- the line of a fault was written, and of no fault none
+abbrev pub Tells : Stream → Outcome → Type 0
+Tells errors Done = errors.IsKept
+Tells errors Refused = errors.IsKept
+Tells errors (Broken fault) = IsWritten errors (line_of_fault fault)
+
+-- the outcome was told on standard error and by the exit status
+abbrev pub EndsWith : Stream → ℕ → Outcome → Type 0
+EndsWith errors status outcome = Tells errors outcome × (status ≡ status_of outcome)
+
+module _ (at : List ℕ → File) (input output errors : Stream) (status : ℕ) where
+  -- a text was written on standard output
+  abbrev pub IsHelped : List ℕ → Type 0
+  IsHelped text = IsWritten output text × input.IsKept
+      × (((output.HasFailed → ⊥) × EndsWith errors status Done)
+      ⊎ (output.HasFailed × EndsWith errors status (Broken Write)))
+
+  -- a text was written on standard error, for wrong use
+  abbrev pub IsRefusedWith : List ℕ → Type 0
+  IsRefusedWith text = IsWritten errors text × input.IsKept × output.IsKept × (status ≡ 2)
+
+  -- memory to read the words in was refused
+  abbrev pub HasNoMemory : Type 0
+  HasNoMemory = input.IsKept × output.IsKept × EndsWith errors status (Broken Memory)
+
+  -- words that ask for no job are answered, by help or the version or as wrong use
+  abbrev pub Answers : JobFault → Type 0
+  Answers (Help text) = IsHelped (string_bytes text)
+  Answers (Usage text) = IsRefusedWith (string_bytes text)
+  Answers NoMemory = HasNoMemory
+
+  -- the words ask for a job, which is done or broken off; or for none, and that is answered
+  abbrev pub ServesWords : List Text → Type 0
+  ServesWords words =
+      ((job : Job) × Asks words job
+      × (outcome : Outcome) × IsDone at input output job outcome × EndsWith errors status outcome)
+      ⊎ ((fault : JobFault) × (1 < length words) × Shows (fault_of program words) fault
+      × (takes program words ≡ true → fault ≡ NoMemory) × Answers fault)
+
+  -- the same, if the words are there and are text
+  abbrev pub Serves : Words → Type 0
+  Serves (Given words) = ServesWords (texts words.now)
+  Serves NotText = IsRefusedWith (closed (codes "error: a word on the command line is not text"))
+  Serves OutOfMemory = HasNoMemory

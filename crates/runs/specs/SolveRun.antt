@@ -1,0 +1,29 @@
+-- What solving a text finds, and why it finds nothing.
+use Rattle.std.specs.Prelude.{◌≡◌, ℕ, ◌<◌, List}
+use Rattle.board_text.specs.PlainBoard.{PlainBoard}
+use Rattle.positions.specs.declared.value.Value.{Value}
+use Rattle.positions.specs.Value.{HasValue}
+use Rattle.proof_text.specs.Proof.{PlainProof}
+use Rattle.proof_text.specs.ProofText.{proof_text}
+use Rattle.strategies.specs.Document.{IsDocumentOf}
+use Rattle.runs.specs.Texts.{IsSmallBoard, IsWrongBoard}
+use Rattle.runs.specs.declared.fault.RunFault.{RunFault}
+use Rattle.runs.specs.declared.fault.RunFault.TheVariants.{Memory, Worker}
+
+-- the value of the board's start, and the text of the board's document
+pub record IsSolved (board : PlainBoard) (value : Value) (text : List ℕ) : Type 0 where
+  pub has_value : HasValue board board.start value
+  pub document : PlainProof
+  pub is_document : IsDocumentOf board document
+  pub text_is : text ≡ proof_text board document
+
+-- the text is that of a small board, with this value of its start, and what is written is the text of its document
+abbrev pub IsSolution : List ℕ → Value → List ℕ → Type 0
+IsSolution text value written = (board : PlainBoard) × IsSmallBoard text board × IsSolved board value written
+
+-- why a text isn't solved: memory was wanting; or it's the text of a small board, and a thread wasn't started, which there is with several
+-- workers alone; or it isn't the text of a small board
+abbrev pub CannotSolve : ℕ → List ℕ → RunFault → Type 0
+CannotSolve workers text Memory = Unit {0}
+CannotSolve workers text Worker = (1 < workers) × ((board : PlainBoard) × IsSmallBoard text board)
+CannotSolve workers text fault = IsWrongBoard text fault

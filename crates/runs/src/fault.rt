@@ -1,0 +1,119 @@
+//! Why a run ends without an answer, and how the faults of its parts become faults of a run.
+
+ghost use Rattle.std.specs.Prelude.{◌≡◌};
+ghost use Rattle.runs.specs.Faults.{fault_of_play};
+ghost use Rattle.runs.specs.Inside.Faults.{IsFaultOfBoard, IsFaultOfProof, fault_of_reading, fault_of_solving};
+ghost use Rattle.runs.specs.declared.fault.RunFault.TheVariants as faults;
+
+use board_text::{BoardFault, BoardKind, Memory, ReadFault};
+use player::PlayFault;
+use positions::TooLarge;
+use proof_text::{ProofFault, ProofKind};
+use solver::SolveFault;
+use std::alloc::AllocError;
+
+/// Why a run ended without an answer. `fault_line` has the line that says it.
+#[derive(Clone, Copy, Debug, PartialEq, Eq)]
+pub enum RunFault {
+    /// The text of the board has a fault.
+    Board(BoardFault),
+    /// The board has more than 1,048,576 configurations.
+    TooLarge,
+    /// The text of the document has a fault.
+    Proof(ProofFault),
+    /// A growth of memory was refused.
+    Memory,
+    /// A thread couldn't be started.
+    Worker,
+    /// The reader failed.
+    Read,
+    /// The writer failed.
+    Write,
+    /// The input is longer than it may be.
+    Limit,
+}
+
+impl From<Memory> for RunFault {
+    ghost from_gives = { λ _ told. told ≡ faults.Memory };
+
+    fn from(_fault: Memory) -> RunFault {
+        RunFault::Memory
+    }
+}
+
+impl From<AllocError> for RunFault {
+    ghost from_gives = { λ _ told. told ≡ faults.Memory };
+
+    fn from(_fault: AllocError) -> RunFault {
+        RunFault::Memory
+    }
+}
+
+impl From<ReadFault> for RunFault {
+    ghost from_gives = { λ fault told. told ≡ fault_of_reading fault };
+
+    fn from(fault: ReadFault) -> RunFault {
+        match fault {
+            ReadFault::Memory => RunFault::Memory,
+            ReadFault::Read => RunFault::Read,
+            ReadFault::Limit => RunFault::Limit,
+        }
+    }
+}
+
+impl From<BoardFault> for RunFault {
+    ghost from_gives = { IsFaultOfBoard };
+
+    fn from(fault: BoardFault) -> RunFault {
+        if fault.kind == BoardKind::Memory {
+            RunFault::Memory
+        } else {
+            RunFault::Board(fault)
+        }
+    }
+}
+
+impl From<ProofFault> for RunFault {
+    ghost from_gives = { IsFaultOfProof };
+
+    fn from(fault: ProofFault) -> RunFault {
+        if fault.kind == ProofKind::Memory {
+            RunFault::Memory
+        } else {
+            RunFault::Proof(fault)
+        }
+    }
+}
+
+impl From<TooLarge> for RunFault {
+    ghost from_gives = { λ _ told. told ≡ faults.TooLarge };
+
+    fn from(_fault: TooLarge) -> RunFault {
+        RunFault::TooLarge
+    }
+}
+
+impl From<SolveFault> for RunFault {
+    ghost from_gives = { λ fault told. told ≡ fault_of_solving fault };
+
+    fn from(fault: SolveFault) -> RunFault {
+        match fault {
+            SolveFault::TooLarge => RunFault::TooLarge,
+            SolveFault::Memory => RunFault::Memory,
+            SolveFault::Worker => RunFault::Worker,
+        }
+    }
+}
+
+impl From<PlayFault> for RunFault {
+    ghost from_gives = { λ fault told. told ≡ fault_of_play fault };
+
+    fn from(fault: PlayFault) -> RunFault {
+        match fault {
+            PlayFault::Read => RunFault::Read,
+            PlayFault::Write => RunFault::Write,
+            PlayFault::Memory => RunFault::Memory,
+            PlayFault::Limit => RunFault::Limit,
+        }
+    }
+}

@@ -1,0 +1,110 @@
+//! Laws of what is written: what it means. Each is the contract of a function without a body.
+
+ghost use Rattle.std.specs.Prelude.{◌≡◌, ℕ, ◌+◌, ◌≤◌, ◌⊎◌, List, [], Option, Some, sum};
+ghost use Rattle.positions.specs.Ranks.{configurations};
+ghost use Rattle.board_text.specs.PlainBoard.{PlainBoard, IsBoard, IsConfiguration};
+ghost use Rattle.board_text.specs.BoardText.{board_text};
+ghost use Rattle.positions.specs.Claim.{Holds};
+ghost use Rattle.proof_text.specs.Proof.{PlainProof, IsProof};
+ghost use Rattle.proof_text.specs.ProofText.{proof_text};
+ghost use Rattle.strategies.specs.Document.{claim_of};
+ghost use Rattle.proof_check.specs.declared.checking.Shown.{Shown as ShownClaim};
+ghost use Rattle.positions.specs.declared.value.Value.{Value as Worth};
+ghost use Rattle.runs.specs.Verdicts.{IsChecked, IsVerdict};
+ghost use Rattle.runs.specs.Headline.{ShowsValue, IsAccepted};
+ghost use Rattle.strategies.specs.Meaning.{Means};
+ghost use Rattle.runs.specs.Report.{Report as CountReport, IsReport, IsReportOf, IsReportOfText};
+ghost use Rattle.runs.specs.Run.{Bytes, Ran};
+ghost use Rattle.runs.specs.SolveRun.{IsSolution, IsSolved};
+ghost use Rattle.runs.specs.Texts.{BringsNoBoard, BringsNoProof, IsMemory, IsSmallBoard, IsWrongBoard};
+ghost use Rattle.runs.specs.CheckRun.{RanCheck};
+ghost use Rattle.runs.specs.Meaning.{AcceptsLeast, CanAnswer};
+ghost use Rattle.runs.specs.declared.fault.RunFault.{RunFault as Fault};
+ghost use Rattle.runs.specs.declared.verdicts.Verdict.{Verdict as Judgement};
+ghost use Rattle.runs.specs.declared.verdicts.Verdict.TheVariants.{Accepted};
+
+use crate::checking::{MAX_JOINED_BYTES, MAX_PROOF_BYTES};
+use crate::reading::MAX_BOARD_BYTES;
+use positions::MAX_CONFIGURATIONS;
+
+/// Each text of a small board has one value of its start and one text of its document. Any other text has one fault, and no text has both.
+pub fn solution_or_fault()
+    ensures solution { (text : List ℕ) → (board : PlainBoard) → IsSmallBoard text board
+        → (value : Worth) × (written : List ℕ) × IsSolution text value written }
+    ensures one { (text : List ℕ) → (value : Worth) → (worth : Worth) → (written : List ℕ) → (other : List ℕ)
+        → IsSolution text value written → IsSolution text worth other → (value ≡ worth) × (written ≡ other) }
+    ensures either { (text : List ℕ)
+        → ((value : Worth) × (written : List ℕ) × IsSolution text value written) ⊎ ((fault : Fault) × IsWrongBoard text fault) }
+    ensures one_fault { (text : List ℕ) → (fault : Fault) → (other : Fault) → IsWrongBoard text fault → IsWrongBoard text other
+        → fault ≡ other }
+    ensures not_both { (text : List ℕ) → (value : Worth) → (written : List ℕ) → (fault : Fault)
+        → IsSolution text value written → IsWrongBoard text fault → ⊥ }
+{}
+
+/// Each board has a report. Each text of a small board has one, any other text has a fault, and no text has both.
+pub fn report_or_fault()
+    ensures report { (board : PlainBoard) → IsConfiguration board board.start → (text : List ℕ) × IsReportOf board text }
+    ensures one { (text : List ℕ) → (written : List ℕ) → (other : List ℕ) → IsReportOfText text written → IsReportOfText text other
+        → written ≡ other }
+    ensures either { (text : List ℕ) → ((written : List ℕ) × IsReportOfText text written) ⊎ ((fault : Fault) × IsWrongBoard text fault) }
+    ensures not_both { (text : List ℕ) → (written : List ℕ) → (fault : Fault) → IsReportOfText text written → IsWrongBoard text fault → ⊥ }
+{}
+
+/// Where a text was answered with `accepted least k`, the labeller can answer k requests from the start of its board, however they come.
+/// Where a document is accepted, its claim holds of the start's value.
+pub fn accepted_claims_hold()
+    ensures least { (text : List ℕ) → (number : ℕ) → AcceptsLeast text number → CanAnswer text number }
+    ensures holds { (board : PlainBoard) → (proof : PlainProof) → (shown : ShownClaim) → IsBoard board
+        → IsVerdict board proof (Accepted shown) → Holds board shown.claim }
+{}
+
+/// The value that a solved board is given is the greatest number of requests that a labeller can answer against every adversary:
+/// the labeller's strategy that was written answers that many however requests come, the adversary's leaves every labeller without an
+/// answer by the next, and forever comes with a strategy that is closed over all requests and lists the start. A check accepts what was
+/// written.
+pub fn solved_boards_show_their_value()
+    ensures value { (text : List ℕ) → (value : Worth) → (written : List ℕ) → IsSolution text value written → ShowsValue text value written }
+    ensures accepted { (text : List ℕ) → (value : Worth) → (written : List ℕ) → IsSolution text value written
+        → IsAccepted text value written }
+{}
+
+/// Any document of the format whose text was written means the value. So the strategies that a reader finds in the bytes are those of
+/// which `solved_boards_show_their_value` speaks.
+pub fn written_documents_mean_the_value()
+    ensures { (text : List ℕ) → (value : Worth) → (written : List ℕ) → (board : PlainBoard) → (document : PlainProof)
+        → IsAccepted text value written → IsBoard board → IsProof board document
+        → text ≡ board_text board → written ≡ proof_text board document → Means board document value }
+{}
+
+/// The verdict on what was written for a solved board is that it is accepted, with the claim of the value.
+/// So a check of the same board and of what was written answers this, or that memory is wanting: neither of the two texts has a fault.
+pub fn printed_documents_are_accepted()
+    ensures verdict { (board : PlainBoard) → (value : Worth) → (text : List ℕ) → IsBoard board → configurations board ≤ MAX_CONFIGURATIONS
+        → IsSolved board value text → (proof : PlainProof) → (verdict : Judgement) → IsProof board proof → text ≡ proof_text board proof
+        → IsVerdict board proof verdict → verdict ≡ Accepted (record { claim = claim_of value }) }
+    ensures text { (text : List ℕ) → (written : List ℕ) → (value : Worth) → (board : PlainBoard) → (verdict : Judgement) → (line : List ℕ)
+        → IsSolution text value written → IsSmallBoard text board → IsChecked board written verdict line
+        → verdict ≡ Accepted (record { claim = claim_of value }) }
+    ensures faultless_board { (text : List ℕ) → (written : List ℕ) → (value : Worth) → IsSolution text value written
+        → (fault : Fault) → BringsNoBoard text fault → IsMemory fault }
+    ensures faultless_document { (text : List ℕ) → (written : List ℕ) → (value : Worth) → (board : PlainBoard) → (fault : Fault)
+        → IsSolution text value written → IsSmallBoard text board → BringsNoProof board written fault → IsMemory fault }
+    ensures runs { (bytes : List ℕ) → (text : List ℕ) → (solve_left : Option (List ℕ)) → (board_left : Option (List ℕ))
+        → (proof_left : Option (List ℕ)) → (written : Bytes) → (value : Worth) → (verdict : Judgement)
+        → Ran IsSolution (record { old = Some bytes; new = solve_left }) (record { old = Some []; new = Some text }) value
+        → RanCheck (record { old = Some bytes; new = board_left }) (record { old = Some text; new = proof_left }) written verdict
+        → verdict ≡ Accepted (record { claim = claim_of value }) }
+{}
+
+/// The counts of a report add up to the number of configurations.
+pub fn reports_add_up()
+    ensures { (board : PlainBoard) → (report : CountReport) → IsReport board report
+        → sum report.counts + report.forever ≡ configurations board }
+{}
+
+/// At most 1,048,576 bytes are read of a board, and 134,217,728 of a document or of a joined input.
+pub fn limits()
+    ensures board { MAX_BOARD_BYTES ≡ 1048576 }
+    ensures proof { MAX_PROOF_BYTES ≡ 134217728 }
+    ensures joined { MAX_JOINED_BYTES ≡ 134217728 }
+{}

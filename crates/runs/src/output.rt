@@ -1,0 +1,108 @@
+//! The one line that a check writes.
+
+ghost use Rattle.std.specs.Prelude.{◌≡◌, ◌<◌, ◌++◌, IfOk, OnOk, string_bytes};
+ghost use Rattle.positions.specs.Ranks.{configurations};
+ghost use Rattle.proof_check.specs.CheckFaults.{NamesRanks};
+ghost use Rattle.runs.specs.Output.{line_of, side_word as word_of_side, turn_word as word_of_turn, row_words, fault_words};
+ghost use Rattle.runs.specs.Inside.Verdicts.{NamesRanksOf};
+
+use crate::verdicts::Verdict;
+use board_text::Memory;
+use positions::{Space, write_labels};
+use proof_check::{CheckFault, Side};
+use proof_text::write_claim;
+use std::alloc::{AllocError, Global};
+use std::fmt::Write;
+
+/// The line of a verdict, built before anything is written.
+pub(crate) fn line(alloc: Global, space: &Space, verdict: Verdict) -> Result<String, Memory>
+    requires { NamesRanksOf space.now verdict }
+    ensures { IfOk result (λ text. string_bytes text ≡ line_of space.now verdict) }
+{
+    let mut text = String::new(alloc);
+    match verdict {
+        Verdict::Accepted(shown) => {
+            text.push_str("accepted ")?;
+            write_claim(&mut text, shown.claim)?;
+        }
+        Verdict::Refused(fault) => {
+            text.push_str("refused ")?;
+            write_fault(&mut text, space, fault)?;
+        }
+    }
+    text.push_str("\n")?;
+    Ok(text)
+}
+
+fn write_fault(text: &mut String, space: &Space, fault: CheckFault) -> Result<(), AllocError>
+    requires { NamesRanks space.now fault }
+    ensures { OnOk result (string_bytes text.new ≡ string_bytes text.old ++ fault_words space.now fault) }
+{
+    match fault {
+        CheckFault::StartMissing { side } => {
+            text.push_str(side_word(side))?;
+            text.push_str(" start missing")
+        }
+        CheckFault::StartNumber { side } => {
+            text.push_str(side_word(side))?;
+            text.push_str(" start number")
+        }
+        CheckFault::IllegalAnswer { at, pebble } => {
+            write_row(text, space, Side::Labeller, at, pebble as u16)?;
+            text.push_str(" illegal answer")
+        }
+        CheckFault::Unlisted { side, at, turn } => {
+            write_row(text, space, side, at, turn)?;
+            text.push_str(" unlisted")
+        }
+        CheckFault::TooSmall { at, pebble } => {
+            write_row(text, space, Side::Labeller, at, pebble as u16)?;
+            text.push_str(" too small")
+        }
+        CheckFault::NotStuck { at, label } => {
+            write_row(text, space, Side::Adversary, at, label)?;
+            text.push_str(" not stuck")
+        }
+        CheckFault::TooLarge { at, label } => {
+            write_row(text, space, Side::Adversary, at, label)?;
+            text.push_str(" too large")
+        }
+        CheckFault::Memory => Ok(()),
+    }
+}
+
+/// Writes which row and which of its turns is faulty.
+fn write_row(
+    text: &mut String,
+    space: &Space,
+    side: Side,
+    at: u32,
+    turn: u16,
+) -> Result<(), AllocError>
+    requires { at < configurations space.now }
+    ensures { OnOk result (string_bytes text.new ≡ string_bytes text.old ++ row_words space.now side at turn) }
+{
+    text.push_str(side_word(side))?;
+    text.push_str(" row")?;
+    write_labels(text, space, at)?;
+    text.push_str(turn_word(side))?;
+    write!(text, "{turn}")
+}
+
+fn side_word(side: Side) -> &'static str
+    ensures { result.now ≡ word_of_side side }
+{
+    match side {
+        Side::Labeller => "labeller",
+        Side::Adversary => "adversary",
+    }
+}
+
+fn turn_word(side: Side) -> &'static str
+    ensures { result.now ≡ word_of_turn side }
+{
+    match side {
+        Side::Labeller => " pebble ",
+        Side::Adversary => " label ",
+    }
+}

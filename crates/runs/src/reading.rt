@@ -1,0 +1,47 @@
+//! Reading a text to its end, and the board that it is.
+
+ghost use Rattle.std.specs.Prelude.{◌≡◌, ◌≢◌, ◌<◌, ◌↔◌, true, false, Err, IfOk, IfErr};
+ghost use Rattle.runs.specs.BoardRun.{GaveBoard, GaveNoBoard};
+ghost use Rattle.runs.specs.Run.{Gave, IsUnread, bytes_of};
+ghost use Rattle.runs.specs.declared.fault.RunFault.TheVariants.{Read, Write};
+
+use crate::boards::small_board;
+use crate::fault::RunFault;
+use board_text::{Board, Source, read_all};
+use positions::Space;
+use std::alloc::Global;
+
+/// The most bytes of a board.
+pub const MAX_BOARD_BYTES: usize = 1_048_576;
+
+/// All that a reader gives, which is to be no more than so many bytes.
+pub(crate) fn read_text<R: Source>(
+    alloc: Global,
+    reader: &mut R,
+    limit: usize,
+) -> Result<Vec<u8>, RunFault>
+    requires ready { R.has_failed reader.old ≡ false }
+    requires unended { R.has_ended reader.old ≡ false }
+    requires countable { limit < usize.MAX }
+    ensures ok { IfOk result (λ text. Gave (bytes_of R.remaining reader.old reader.new) text.items) }
+    ensures fault { IfErr result (IsUnread limit (bytes_of R.remaining reader.old reader.new)) }
+    ensures read { (R.has_failed reader.new ≡ true) ↔ (result ≡ Err Read) }
+{
+    Ok(read_all(alloc, reader, limit)?)
+}
+
+/// The small board whose text the reader gives, with its space.
+pub(crate) fn read_board<R: Source>(
+    alloc: Global,
+    reader: &mut R,
+) -> Result<(Board, Space), RunFault>
+    requires ready { R.has_failed reader.old ≡ false }
+    requires unended { R.has_ended reader.old ≡ false }
+    ensures found { IfOk result (λ p. GaveBoard (bytes_of R.remaining reader.old reader.new) p.0 × (p.1 ≡ p.0)) }
+    ensures fault { IfErr result (GaveNoBoard MAX_BOARD_BYTES (bytes_of R.remaining reader.old reader.new)) }
+    ensures read { (R.has_failed reader.new ≡ true) ↔ (result ≡ Err Read) }
+    ensures unwritten { result ≢ Err Write }
+{
+    let text = read_text(alloc, reader, MAX_BOARD_BYTES)?;
+    small_board(alloc, text.as_slice())
+}

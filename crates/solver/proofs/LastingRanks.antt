@@ -1,0 +1,103 @@
+-- How long a labeller lasts.
+use Rattle.std.proofs.Common.{◌≡◌, ◌≢◌, ℕ, ◌+◌, ◌-◌, ◌<◌, ◌≤◌, ◌⊎◌, ◌==◌, ◌&&◌, inl, inr, Bool, true, false, zero, suc, refl, arith, sym, ap, ◌∙◌, subst, Some, None}
+use Rattle.std.proofs.lemmas.Bool.Decides.{nat_tests}
+pub use Rattle.index_lists.proofs.Cited.{same_is, differ_is}
+use Rattle.solver.specs.Inside.Arena.{Arena, live, next, lasts}
+use Rattle.solver.proofs.Arenas.{IsArena}
+use Rattle.solver.proofs.Counts.{count_below-same, count_below-none, none_below, some_below, count_below-some, count_below-le}
+
+pub both_true : (b c : Bool) → b && c ≡ true → (b ≡ true) × (c ≡ true)
+both_true true true e = (refl, refl)
+both_true true false e = cc
+both_true false c e = cc
+
+pub and_true : (b c : Bool) → b ≡ true → c ≡ true → b && c ≡ true
+and_true b c e f = rw (e, f) refl
+
+pub not_zero : (n : ℕ) → n == 0 ≡ false → 0 < n
+not_zero n e = grind (arith, nat_tests)
+
+pub is_zero : (n : ℕ) → n == 0 ≡ true → n ≡ 0
+is_zero n e = grind (arith, nat_tests)
+
+pub zero_is : (n : ℕ) → n ≡ 0 → n == 0 ≡ true
+zero_is n e = grind (arith, nat_tests)
+
+pub positive_is : (n : ℕ) → 0 < n → n == 0 ≡ false
+positive_is n e = grind (arith, nat_tests)
+
+-- next holds exactly where each gap has a live answer
+pub next-gives : (a : Arena) (above : ℕ → Bool) (c p : ℕ) → next a above c ≡ true → p < a.pebbles → 0 < live a above (a.gap c p)
+next-gives a above c p e h = not_zero _ (none_below a.pebbles (λ q. live a above (a.gap c q) == 0) (is_zero _ e) p h)
+
+pub next-from : (a : Arena) (above : ℕ → Bool) (c : ℕ) → ((p : ℕ) → p < a.pebbles → 0 < live a above (a.gap c p)) → next a above c ≡ true
+next-from a above c each = zero_is _ (count_below-none a.pebbles (λ q. live a above (a.gap c q) == 0) (λ p h. positive_is _ (each p h)))
+
+-- next fails exactly where some gap has none
+pub next-fails : (a : Arena) (above : ℕ → Bool) (c : ℕ) → next a above c ≡ false → (p : ℕ) × (p < a.pebbles) × (live a above (a.gap c p) ≡ 0)
+next-fails a above c e =
+    let w = some_below a.pebbles (λ q. live a above (a.gap c q) == 0) (not_zero _ e) in
+    (w.0, w.1, is_zero _ w.2)
+
+pub next-closed : (a : Arena) (above : ℕ → Bool) (c p : ℕ) → p < a.pebbles → live a above (a.gap c p) ≡ 0 → next a above c ≡ false
+next-closed a above c p h e = positive_is _ (count_below-some a.pebbles (λ q. live a above (a.gap c q) == 0) p h (zero_is _ e))
+
+pub live-le : (a : Arena) → IsArena a → (f h : ℕ → Bool) (g : ℕ) → g < a.gaps → ((c : ℕ) → c < a.configurations → f c ≡ true → h c ≡ true) → live a f g ≤ live a h g
+live-le a is f h g in_range implies =
+    count_below-le a.places (λ v. a.is_answer g v && f (a.member g v)) (λ v. a.is_answer g v && h (a.member g v)) (λ v i e.
+    let both = both_true _ _ e in
+    and_true _ _ both.0 (implies (a.member g v) (is.member_in g v in_range i) both.1))
+
+pub live-same : (a : Arena) → IsArena a → (f h : ℕ → Bool) (g : ℕ) → g < a.gaps → ((c : ℕ) → c < a.configurations → f c ≡ h c) → live a f g ≡ live a h g
+live-same a is f h g in_range same =
+    count_below-same a.places (λ v. a.is_answer g v && f (a.member g v)) (λ v. a.is_answer g v && h (a.member g v)) (λ v i.
+    ap (λ b. a.is_answer g v && b) (same (a.member g v) (is.member_in g v in_range i)))
+
+pub next-le : (a : Arena) → IsArena a → (f h : ℕ → Bool) (c : ℕ) → c < a.configurations → ((x : ℕ) → x < a.configurations → f x ≡ true → h x ≡ true) → next a f c ≡ true → next a h c ≡ true
+next-le a is f h c in_range implies e = next-from a h c (λ p i.
+    let some = next-gives a f c p e i in
+    let more = live-le a is f h (a.gap c p) (is.gap_in c p in_range i) implies in
+    omega arith)
+
+pub same_test : (b c : Bool) → (b ≡ true → c ≡ true) → (c ≡ true → b ≡ true) → b ≡ c
+same_test true c there back = sym (there refl)
+same_test false true there back = back refl
+same_test false false there back = refl
+
+pub next-same : (a : Arena) → IsArena a → (f h : ℕ → Bool) (c : ℕ) → c < a.configurations → ((x : ℕ) → x < a.configurations → f x ≡ h x) → next a f c ≡ next a h c
+next-same a is f h c in_range same = same_test (next a f c) (next a h c)
+    (next-le a is f h c in_range (λ x i e. sym (same x i) ∙ e))
+    (next-le a is h f c in_range (λ x i e. same x i ∙ e))
+
+-- who lasts k + 1 requests lasts k
+pub lasts-less : (a : Arena) → IsArena a → (k c : ℕ) → c < a.configurations → lasts a (suc k) c ≡ true → lasts a k c ≡ true
+lasts-less a is zero c in_range e = refl
+lasts-less a is (suc k) c in_range e = next-le a is (lasts a (suc k)) (lasts a k) c in_range (λ x i. lasts-less a is k x i) e
+
+pub lasts_at : (a : Arena) (j k c : ℕ) → j ≡ k → lasts a j c ≡ true → lasts a k c ≡ true
+lasts_at a j k c same e = subst (λ n. lasts a n c ≡ true) same e
+
+pub lasts-fewer : (a : Arena) → IsArena a → (more k c : ℕ) → c < a.configurations → lasts a (more + k) c ≡ true → lasts a k c ≡ true
+lasts-fewer a is zero k c in_range e = lasts_at a (0 + k) k c (omega arith) e
+lasts-fewer a is (suc more) k c in_range e =
+    lasts-fewer a is more k c in_range (lasts-less a is (more + k) c in_range (lasts_at a (suc more + k) (suc (more + k)) c (omega arith) e))
+
+-- j requests at most are fewer than k
+pub lasts-at-most : (a : Arena) → IsArena a → (j k c : ℕ) → c < a.configurations → j ≤ k → lasts a k c ≡ true → lasts a j c ≡ true
+lasts-at-most a is j k c in_range h e = lasts-fewer a is (k - j) j c in_range (lasts_at a k (k - j + j) c (omega arith) e)
+
+pub true_or_false : (b : Bool) → (b ≡ true) ⊎ (b ≡ false)
+true_or_false true = inl refl
+true_or_false false = inr refl
+
+pub true_not_false : (b : Bool) → b ≡ true → b ≡ false → ⊥
+true_not_false b e f = cc
+
+pub same_or_not : (m n : ℕ) → (m ≡ n) ⊎ (m ≢ n)
+same_or_not m n = elim (true_or_false (m == n)) [ inl e ↦ inl (grind (arith, nat_tests)) | inr e ↦ inr (grind (arith, nat_tests)) ]
+
+pub some_same : (m n : ℕ) → Some m ≡ Some n → m ≡ n
+some_same m n e = cc
+
+pub none_some : (n : ℕ) → None ≡ Some n → ⊥
+none_some n e = cc

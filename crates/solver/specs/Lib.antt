@@ -1,0 +1,5 @@
+pub mod Solving
+pub mod Sizes
+pub mod Words
+pub mod Ending
+pub mod Inside

@@ -1,0 +1,23 @@
+-- What the words of a solver say: the values of configurations, and the counts of gaps.
+use Rattle.std.specs.Prelude.{◌≡◌, ℕ, ◌<◌, ◌≤◌, ◌==◌, ◌↔◌, cond, List, slice_index, slice_index_or, Option, Some, None}
+use Rattle.positions.specs.declared.value.Value.TheVariants.{Finite}
+use Rattle.positions.specs.Value.{HasValue}
+use Rattle.positions.specs.Ranks.{configurations, configuration_at}
+use Rattle.positions.specs.Gaps.{gaps}
+use Rattle.positions.specs.Counts.{HasSize}
+use Rattle.solver.specs.declared.word.TheConstants.{OPEN}
+use Rattle.solver.specs.Solving.{Solving, AnswerLasts}
+
+-- the value that a word stands for, if it stands for one
+abbrev pub value_of_word : ℕ → Option ℕ
+value_of_word word = cond (word == OPEN) None (Some word)
+
+-- each number is that of a gap's answers that last as long as the round's value
+abbrev pub AreFirstCounts : Solving → List ℕ → Type 0
+AreFirstCounts s counts = (gap : ℕ) → gap < gaps s.board → HasSize (AnswerLasts s.board gap s.rounds) (slice_index counts gap)
+
+-- each configuration has its value, where that is at most the round's
+abbrev pub AreFirstValues : Solving → List (Option ℕ) → Type 0
+AreFirstValues s values = (rank value : ℕ) → rank < configurations s.board
+    → (slice_index_or values rank None ≡ Some value)
+    ↔ ((value ≤ s.rounds) × HasValue s.board (configuration_at s.board rank) (Finite value))

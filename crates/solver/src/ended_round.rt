@@ -1,0 +1,60 @@
+//! Filing what a finished round has won.
+
+ghost use Rattle.std.specs.Prelude.{◌≡◌, ℕ, ◌<◌, ◌≤◌, true, false, [], length, slice_set};
+ghost use Rattle.index_lists.specs.Lists.{times};
+ghost use Rattle.positions.specs.Ranks.{configurations};
+ghost use Rattle.positions.specs.Gaps.{gaps};
+ghost use Rattle.solver.specs.Ending.{IsRoundEnd};
+ghost use Rattle.solver.specs.Inside.Tables.{is_open};
+ghost use Rattle.solver.specs.Inside.Stored.{IsSmall};
+ghost use Rattle.solver.specs.Inside.Stage.{counting, as_solving, IsFiled, IsKept, IsStriking, IsUnstruck, FilesAll, TakesCounts};
+
+use crate::end::RoundEnd;
+use crate::stage::Stage;
+use index_lists::ListStore;
+
+impl<S: ListStore> Stage<S> {
+    /// Files what a round that was worked off has won, and takes over its counts: all is struck then.
+    pub(crate) fn file_end<E: RoundEnd>(&mut self, end: &E)
+        requires unstruck { IsUnstruck self.old }
+        requires end { IsRoundEnd (as_solving self.old false) (E.won_list end.now) (E.counts end.now) }
+        ensures struck { IsStriking self.new [] }
+        ensures kept { IsKept self.old self.new }
+    {
+        self.file_all(end.won());
+        self.take_counts(end);
+    }
+
+    /// Files open configurations at the value, each of which is listed once.
+    fn file_all(&mut self, ranks: &[u32])
+        requires small { IsSmall self.old.board self.old.value }
+        requires filed { IsFiled self.old }
+        requires open { (rank : ℕ) → 0 < times rank ranks.now
+            → (rank < configurations self.old.board) × (is_open self.old.values rank ≡ true) }
+        requires once { (rank : ℕ) → times rank ranks.now ≤ 1 }
+        ensures { FilesAll self.old ranks.now self.new }
+    {
+        for rank in ranks {
+            self.file(*rank);
+        }
+    }
+
+    /// Takes over the counts of a round that was worked off.
+    fn take_counts<E: RoundEnd>(&mut self, end: &E)
+        requires wide { length (E.counts end.now) ≡ gaps self.old.board }
+        requires counted { length self.old.counts ≡ gaps self.old.board }
+        ensures { TakesCounts self.old (E.counts end.now) self.new }
+    {
+        for gap in 0..self.space().gaps() {
+            self.set_count(gap, end.count_of(gap));
+        }
+    }
+
+    /// Gives a gap this count.
+    fn set_count(&mut self, gap: u32, count: u32)
+        requires { gap < gaps self.old.board }
+        ensures { self.new ≡ counting self.old (slice_set self.old.counts gap count) }
+    {
+        self.counts[gap as usize] = count;
+    }
+}

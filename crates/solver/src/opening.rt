@@ -1,0 +1,119 @@
+//! A stage before the first round.
+
+ghost use Rattle.std.specs.Prelude.{if◌then◌else◌, ◌==◌, ◌≡◌, ◌+◌, ◌<◌, ◌≤◌, length, IfOk};
+ghost use Rattle.board_text.specs.PlainBoard.{places};
+ghost use Rattle.positions.specs.Ranks.{configurations};
+ghost use Rattle.positions.specs.Gaps.{gaps};
+ghost use Rattle.solver.specs.Inside.Arena.{lasts};
+ghost use Rattle.solver.specs.Inside.BoardArena.{arena_of};
+ghost use Rattle.solver.specs.Inside.Opening.{IsRun, AreStopping, IsWritten};
+ghost use Rattle.solver.specs.Inside.Tables.{IsCounted, AreFirstWords};
+ghost use Rattle.solver.specs.Inside.Stage.{IsUnlisted, IsOpened};
+
+use crate::gap_answers::GapAnswers;
+use crate::stage::Stage;
+use crate::word::OPEN;
+use board_text::{Board, Memory};
+use index_lists::ListStore;
+use positions::Space;
+use std::alloc::Global;
+
+impl<S: ListStore + Drop> Stage<S> {
+    /// A stage of a board of this space, in which all that has the value 0 is filed, in ascending rank.
+    pub(crate) fn open(alloc: Global, space: Space, board: &Board) -> Result<Stage<S>, Memory>
+        requires { space ≡ board.now }
+        ensures board { IfOk result (λ stage. stage.board ≡ board.now) }
+        ensures opened { IfOk result (λ stage. IsOpened stage) }
+    {
+        let size = space.configurations();
+        let GapAnswers { counts, dominators } = GapAnswers::of(alloc, &space, board)?;
+        let values = first_words(alloc, &space, &counts)?;
+        let buckets = S::new(alloc, size, size + 1)?;
+        let strikes = Vec::with_capacity(alloc, size as usize)?;
+        let mut stage = Stage {
+            space,
+            value: 0,
+            values,
+            dominators,
+            counts,
+            buckets,
+            strikes,
+        };
+        stage.list_zeros();
+        Ok(stage)
+    }
+}
+
+impl<S: ListStore> Stage<S> {
+    /// Lists what has the word 0, in ascending rank.
+    fn list_zeros(&mut self)
+        requires { IsUnlisted self.old }
+        ensures board { self.new.board ≡ self.old.board }
+        ensures opened { IsOpened self.new }
+    {
+        for rank in 0..self.space.configurations() {
+            if self.values[rank as usize] == 0 {
+                self.list(rank);
+            }
+        }
+    }
+}
+
+/// The word of each configuration before the first round: 0 where a request has no answer.
+fn first_words(alloc: Global, space: &Space, counts: &[u32]) -> Result<Vec<u32>, Memory>
+    requires { IsCounted (arena_of space.now) (lasts (arena_of space.now) 0) counts.now }
+    ensures { IfOk result (λ words. AreFirstWords (arena_of space.now) words.items) }
+{
+    let mut words = vec![in alloc; OPEN; space.configurations() as usize]?;
+    let gaps = space.gaps();
+    let mut gap = 0;
+    while gap < gaps {
+        let run = space.run(gap);
+        stop_run(
+            &mut words,
+            space,
+            gap,
+            &counts[gap as usize..(gap + run) as usize],
+        );
+        gap += run;
+    }
+    Ok(words)
+}
+
+/// Writes 0 as the word of each member of those gaps of a run that have no answer.
+fn stop_run(words: &mut [u32], space: &Space, gap: u32, counts: &[u32])
+    requires gap { gap < gaps space.now }
+    requires run { IsRun (arena_of space.now) gap (length counts.now) }
+    requires words { length words.old ≡ configurations space.now }
+    ensures { AreStopping (arena_of space.now) gap counts.now (places space.now) words.old words.new }
+{
+    if !counts.contains(&0) {
+        return;
+    }
+    let members = space.members(gap);
+    for place in 0..space.places() {
+        stop(words, members.rank(place) as usize, counts);
+    }
+}
+
+/// Writes 0, from a place on, where a count is 0.
+fn stop(words: &mut [u32], first: usize, counts: &[u32])
+    requires { first + length counts.now ≤ length words.old }
+    ensures { IsWritten first counts.now (length counts.now) words.old words.new }
+{
+    // The gaps of the last pebble are runs of one gap each: for those there is no loop.
+    if counts.len() == 1 {
+        words[first] = stopped(counts[0], words[first]);
+        return;
+    }
+    for place in 0..counts.len() {
+        words[first + place] = stopped(counts[place], words[first + place]);
+    }
+}
+
+/// What becomes of a word where there are so many answers.
+fn stopped(count: u32, word: u32) -> u32
+    ensures { result ≡ (if count == 0 then 0 else word) }
+{
+    if count == 0 { 0 } else { word }
+}
