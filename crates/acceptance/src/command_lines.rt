@@ -29,11 +29,11 @@ fn assert_usage(rt: &impl Abort, alloc: Global, words: &[&str]) {
     }
 }
 
-/// Asserts that the words ask for help, in which the other word stands.
+/// Asserts that the words ask for help or for the version, in whose text the other word stands.
 fn assert_help(rt: &impl Abort, alloc: Global, words: &[&str], within: &str) {
     match job_of(alloc, words) {
         Err(JobFault::Help { text }) => assert!(rt; text.contains(within)),
-        _ => panic!(rt; "no help is given"),
+        _ => panic!(rt; "no text is given"),
     }
 }
 
@@ -146,7 +146,6 @@ fn words_of_no_command(rt: HostRuntime) {
         ["pebbles", ""].as_slice(),
         ["pebbles", "--"].as_slice(),
         ["pebbles", "chek", "a", "b"].as_slice(),
-        ["pebbles", "--version"].as_slice(),
     ] {
         assert_usage(&rt, rt.alloc(), words);
     }
@@ -212,8 +211,10 @@ fn wrong_words_of_plays_and_climbs(rt: HostRuntime) {
 }
 
 #[test]
-fn help(rt: HostRuntime) {
+fn help_and_the_version(rt: HostRuntime) {
     for (words, within) in [
+        (["pebbles", "--version"].as_slice(), "board 2"),
+        (["pebbles", "-V"].as_slice(), "board 2"),
         (["pebbles", "--help"].as_slice(), "Exit statuses:"),
         (["pebbles", "-h"].as_slice(), "Exit statuses:"),
         (["pebbles", "help"].as_slice(), "nested"),
