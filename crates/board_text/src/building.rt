@@ -24,12 +24,12 @@ impl Board {
         start: &[u16],
         pairs: &[(u16, u16)],
     ) -> Result<Board, BoardFault>
-        // What is built is a board, and of these parts.
+        // A result is a board, and of these parts.
         ensures found { IfOk result (λ board. IsBoard board × (board ≡ plain_board labels pebbles start.now pairs.now)) }
         // The parts of a board are built, unless memory runs out.
         ensures only { IsBoard (plain_board labels pebbles start.now pairs.now)
             → MatchResult result (λ board. board ≡ plain_board labels pebbles start.now pairs.now) (λ fault. fault.kind ≡ OutOfMemory) }
-        // Which fault it is.
+        // A fault is the one that the text of these parts has.
         ensures fault { IfErr result (λ fault. HasBoardFault (board_text (plain_board labels pebbles start.now pairs.now))
             fault.line fault.kind) }
     {
@@ -37,7 +37,7 @@ impl Board {
     }
 }
 
-/// The same. What `only` says of it follows from the other two clauses.
+/// Does the work of `build`, whose clause `only` follows from the other two.
 fn build_parts(
     alloc: Global,
     labels: u16,
@@ -69,14 +69,15 @@ fn build_parts(
     })
 }
 
-/// Whether the list has a place for each pebble.
+/// Whether `start` has a place for each pebble.
 fn is_start(labels: u16, pebbles: u8, start: &[u16]) -> bool
     ensures { IsTrue result ↔ AreNumbers pebbles (labels + 1) start.now }
 {
     start.len() == usize::from(pebbles) && start.iter().all(|place| *place <= labels)
 }
 
-/// Lets the first label of each pair beat the second, unless a pair can't follow those before it.
+/// Lets the first label of each of `pairs` beat the second, or returns the fault of the first pair
+/// that can't follow those before it.
 fn push_pairs(beats: &mut Domination, pairs: &[(u16, u16)]) -> Result<(), BoardFault>
     requires { beats.old.pairs ≡ [] }
     ensures labels { beats.new.labels ≡ beats.old.labels }

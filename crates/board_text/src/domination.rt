@@ -24,7 +24,7 @@ pub struct Domination {
     labels: u16,
     /// The rows, one after the other.
     rows: Vec<u64>,
-    /// The place after that of the last pair, where the pairs of labels are counted in ascending order.
+    /// The place after that of the last pair, among all pairs of labels in ascending order.
     next: u32,
 }
 
@@ -43,7 +43,7 @@ impl Domination {
     ghost use Rattle.board_text.specs.PlainBoard.{IsNext};
     ghost use Rattle.board_text.specs.Domination.{has_bit};
 
-    /// No label beats another.
+    /// A domination among `labels` labels, without any pair.
     pub fn new(alloc: Global, labels: u16) -> Result<Domination, AllocError>
         requires { InRange 1 MAX_LABELS labels }
         ensures { IfOk result (λ d. (d.labels ≡ labels) × (d.pairs ≡ [])) }
@@ -64,7 +64,7 @@ impl Domination {
         self.labels
     }
 
-    /// Whether x beats y.
+    /// Whether `x` beats `y`.
     pub fn contains(&self, x: u16, y: u16) -> bool
         requires { AreLabels self.now.labels (x, y) }
         ensures { IsTrue result ↔ Contains self.now.pairs (x, y) }
@@ -72,7 +72,7 @@ impl Domination {
         has_pair(&self.rows, u32::from(x), u32::from(y))
     }
 
-    /// The bits of the labels that beat this one.
+    /// The bits of the labels that beat `label`.
     pub fn row(&self, label: u16) -> &[u64]
         requires { label < self.now.labels }
         ensures words { length result.now ≡ ROW_WORDS }
@@ -82,7 +82,7 @@ impl Domination {
         &self.rows[from..from + ROW_WORDS]
     }
 
-    /// Whether the pair comes after the last.
+    /// Whether the pair of `x` and `y` comes after the last one.
     pub fn is_next(&self, x: u16, y: u16) -> bool
         requires { AreLabels self.now.labels (x, y) }
         ensures { IsTrue result ↔ IsNext self.now.pairs (x, y) }
@@ -90,7 +90,7 @@ impl Domination {
         self.next <= place(self.labels, x, y)
     }
 
-    /// Lets x beat y, a pair that comes after the last.
+    /// Lets `x` beat `y`, a pair that comes after the last one.
     pub fn push(&mut self, x: u16, y: u16)
         requires labels { AreLabels self.old.labels (x, y) }
         requires next { IsNext self.old.pairs (x, y) }
@@ -103,14 +103,14 @@ impl Domination {
         self.next = place + 1;
     }
 
-    /// Writes a line for each pair, ascending.
+    /// Appends a line for each pair to `text`, ascending.
     pub(crate) fn write_lines(&self, text: &mut String) -> Result<(), AllocError>
         ensures { OnOk result (string_bytes text.new ≡ string_bytes text.old ++ flat_map beats_line self.now.pairs) }
     {
         write_pairs(self.labels, &self.rows, text)
     }
 
-    /// About how many bytes the lines of all pairs have, and no fewer than they have.
+    /// An upper bound on the bytes of the lines of all pairs.
     pub(crate) fn size_of_lines(&self) -> usize {
         let size_of_line = match self.labels {
             0..=10 => "beats 9 9\n".len(),
@@ -125,7 +125,7 @@ impl Domination {
     }
 }
 
-/// Writes a line for each pair that the rows have.
+/// Appends a line to `text` for each pair of `rows`.
 fn write_pairs(labels: u16, rows: &[u64], text: &mut String) -> Result<(), AllocError>
     requires in_range { InRange 1 MAX_LABELS labels }
     requires sized { length rows.now ≡ 4 * labels }
@@ -142,7 +142,7 @@ fn write_pairs(labels: u16, rows: &[u64], text: &mut String) -> Result<(), Alloc
     Ok(())
 }
 
-/// Whether the rows say that x beats y.
+/// Whether `rows` say that `x` beats `y`.
 fn has_pair(rows: &[u64], x: u32, y: u32) -> bool
     requires label { x < MAX_LABELS }
     requires row { 4 * y + 4 ≤ length rows.now }
@@ -152,7 +152,7 @@ fn has_pair(rows: &[u64], x: u32, y: u32) -> bool
     (word >> (x % 64)) & 1 == 1
 }
 
-/// Sets the bit of a pair.
+/// Sets the bit in `rows` of the pair of `x` and `y`.
 fn set_pair(labels: u16, rows: &mut [u64], x: u16, y: u16)
     requires few { labels ≤ MAX_LABELS }
     requires sized { length rows.old ≡ 4 * labels }
@@ -162,7 +162,7 @@ fn set_pair(labels: u16, rows: &mut [u64], x: u16, y: u16)
     rows[ROW_WORDS * y as usize + x as usize / 64] |= 1 << (x % 64);
 }
 
-/// Which place the pair has, where the pairs of labels are counted in ascending order.
+/// The place of the pair of `x` and `y` among all pairs of labels in ascending order.
 fn place(labels: u16, x: u16, y: u16) -> u32
     requires few { labels ≤ MAX_LABELS }
     requires pair { AreLabels labels (x, y) }

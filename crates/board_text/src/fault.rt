@@ -1,11 +1,11 @@
-//! What can be wrong with the text of a board.
+//! The faults of a board's text.
 
 ghost use Rattle.std.specs.Prelude.{◌≡◌};
 ghost use Rattle.board_text.specs.declared.fault.BoardKind.TheVariants.{Memory as OutOfMemory};
 
 use std::alloc::AllocError;
 
-/// What is wrong with a line of a board's text.
+/// The kind of a fault of a board's text.
 #[derive(Clone, Copy, Debug, PartialEq, Eq)]
 pub enum BoardKind {
     /// The first line isn't `board 1` or `board 2`.
@@ -14,7 +14,8 @@ pub enum BoardKind {
     Labels,
     /// The third line isn't `pebbles` and a number from 1 to 6.
     Pebbles,
-    /// The fourth line isn't `start` and a label for each pebble, or, in `board 2`, a label or `-`, of which one at least.
+    /// The fourth line isn't `start` and a label for each pebble; in `board 2` a label or `-`, and
+    /// at least one `-`.
     Start,
     /// A line among the pairs isn't `beats` and two labels.
     Beats,
@@ -26,7 +27,7 @@ pub enum BoardKind {
     Order,
     /// The line `end` is missing or cut.
     End,
-    /// Something stands behind the line `end`.
+    /// The text goes on after the line `end`.
     Trailing,
     /// A growth of memory was refused.
     Memory,
@@ -35,7 +36,7 @@ pub enum BoardKind {
 /// The first fault of a board's text.
 #[derive(Clone, Copy, Debug, PartialEq, Eq)]
 pub struct BoardFault {
-    /// The number of the faulty line, counted from 1; 0 for want of memory.
+    /// The number of the faulty line, counted from 1; 0 if memory ran out.
     pub line: u32,
     pub kind: BoardKind,
 }

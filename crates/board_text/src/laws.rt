@@ -16,14 +16,14 @@ pub fn one_board()
         → first ≡ second }
 {}
 
-/// A text has one fault at most, want of memory aside.
+/// A text has at most one fault other than out of memory.
 pub fn one_fault()
     ensures { (text : List ℕ) → (line : ℕ) → (kind : Kind) → (other_line : ℕ) → (other_kind : Kind) → kind ≢ OutOfMemory
         → other_kind ≢ OutOfMemory
         → HasBoardFault text line kind → HasBoardFault text other_line other_kind → (line ≡ other_line) × (kind ≡ other_kind) }
 {}
 
-/// A text is that of a board or has a fault, want of memory aside, and not both.
+/// A text is that of a board or has a fault other than out of memory, and not both.
 pub fn board_or_fault()
     ensures either { (text : List ℕ) → IsBoardText text ⊎ IsFaulty text }
     ensures not_both { (text : List ℕ) → IsBoardText text → IsFaulty text → ⊥ }

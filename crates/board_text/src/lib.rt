@@ -1,4 +1,4 @@
-//! Boards of the pebble game, their text, and where texts come from and go to.
+//! Boards of the pebble game, their text, and sources and sinks of texts.
 #![tactic(auto)]
 
 mod board;

@@ -1,4 +1,4 @@
-//! Reading lines, words and numbers from the front of a text.
+//! Reading lines, words and numbers from the start of a text.
 
 ghost use Rattle.std.specs.Prelude.{◌≡◌, ◌≢◌, ℕ, ◌+◌, ◌≤◌, ◌<◌, ◌^◌, ◌++◌, ◌∷◌, [], List, length, IsTrue, ◌↔◌};
 ghost use Rattle.std.specs.Prelude.{MatchOption, option_map};
@@ -14,7 +14,7 @@ ghost use Rattle.board_text.specs.declared.line_reader.Numeral.TheVariants.{Numb
 use crate::board::MAX_LABELS;
 use std::marker::Model;
 
-/// What a text of digits says.
+/// The meaning of a text of digits.
 #[derive(Clone, Copy, Debug, PartialEq, Eq)]
 pub enum Numeral {
     /// The number that they spell.
@@ -26,7 +26,7 @@ pub enum Numeral {
 impl Numeral {
     ghost use Rattle.board_text.specs.Numerals.{IsNumberIn};
 
-    /// The number, if it lies in the range from `low` to `high`, both of them too.
+    /// The number, if it lies in the range from `low` to `high`, both included.
     pub fn within(self, low: u32, high: u32) -> Option<u32>
         ensures { MatchOption result ((n : ℕ) → IsNumberIn low high self n → ⊥) (IsNumberIn low high self) }
     {
@@ -36,7 +36,7 @@ impl Numeral {
         }
     }
 
-    /// The number, if it is below the bound.
+    /// The number, if it is below `bound`.
     pub fn below(self, bound: u16) -> Option<u16>
         ensures { MatchOption result ((n : ℕ) → n < bound → self ≢ Number n) (λ n. (n < bound) × (self ≡ Number n)) }
     {
@@ -47,9 +47,9 @@ impl Numeral {
     }
 }
 
-/// What is left of a text, from which lines, words and numbers are taken at the front.
+/// The rest of a text, from whose start lines, words and numbers are taken.
 ///
-/// After a `None` nothing is known of what is left, unless the method says so.
+/// After a `None` nothing is known of the rest, unless the method says so.
 #[derive(Drop)]
 pub struct LineReader<'a> {
     rest: &'a [u8],
@@ -68,7 +68,7 @@ impl<'a> LineReader<'a> {
     ghost use Rattle.board_text.specs.PlaceForms.{places_line, TakesPlaces};
     ghost use Rattle.board_text.specs.Inside.PlaceForms.{TakesPlace};
 
-    /// A reader of all these bytes.
+    /// A reader of all of `bytes`.
     pub fn new(bytes: &'a [u8]) -> Self
         ensures { result ≡ bytes.now }
     {
@@ -89,14 +89,14 @@ impl<'a> LineReader<'a> {
         self.rest.len()
     }
 
-    /// Whether the next byte is this one.
+    /// Whether the next byte is `byte`.
     pub fn begins_with(&self, byte: u8) -> bool
         ensures { IsTrue result ↔ ((more : List ℕ) × (self.now ≡ byte ∷ more)) }
     {
         self.rest.first() == Some(&byte)
     }
 
-    /// Takes this text, where it stands at the front.
+    /// Takes `text`, if the rest begins with it; else takes nothing.
     pub fn take(&mut self, text: &[u8]) -> Option<()>
         ensures taken { MatchOption result ((more : List ℕ) → self.old ≢ text.now ++ more) (λ _. self.old ≡ text.now ++ self.new) }
         ensures none { MatchOption result (self.new ≡ self.old) (λ _. Unit {0}) }
@@ -105,7 +105,7 @@ impl<'a> LineReader<'a> {
         Some(())
     }
 
-    /// Takes the digits at the front, as many as there are.
+    /// Takes all digits that the rest begins with.
     pub fn digits(&mut self) -> &'a [u8]
         ensures digits { AllDigits 10 result.now }
         ensures taken { self.old ≡ result.now ++ self.new }
@@ -116,7 +116,7 @@ impl<'a> LineReader<'a> {
         digits
     }
 
-    /// Takes the number at the front, where it is one and lies in the range.
+    /// Takes the number that the rest begins with, if it lies in the range from `low` to `high`.
     pub fn number(&mut self, low: u32, high: u32) -> Option<u32>
         ensures { TakesNumber low high result self.old self.new }
     {
@@ -124,7 +124,8 @@ impl<'a> LineReader<'a> {
         if low <= n && n <= high { Some(n) } else { None }
     }
 
-    /// Takes the digits at the front, one or more, with the number that they spell.
+    /// Takes the digits that the rest begins with, one or more, and returns the number that they
+    /// spell.
     pub fn numeral(&mut self) -> Option<Numeral>
         ensures { TakesNumeral result self.old self.new }
     {
@@ -138,8 +139,8 @@ impl<'a> LineReader<'a> {
         }
     }
 
-    /// Takes as many texts of places as there is room for, each with a space before it, and says whether each spells a place below
-    /// the bound. If so, these are written.
+    /// Reads `places.len()` space-led words into `places`. `Some(false)`: a word is no place below
+    /// `bound`.
     pub fn places(&mut self, places: &mut [u16], labels: u16, bound: u16) -> Option<bool>
         requires some { 0 < length places.old }
         requires bound { (labels ≤ bound) × (bound ≤ labels + 1) }
@@ -156,8 +157,8 @@ impl<'a> LineReader<'a> {
         Some(are_places)
     }
 
-    /// Takes the text of a place: digits, or a hyphen if the number of labels is below the bound. Gives the place that it spells,
-    /// if that is below the bound.
+    /// Takes the text of a place: digits, or a hyphen if `labels` is below `bound`. Returns the
+    /// place that it spells, if that is below `bound`.
     fn place(&mut self, labels: u16, bound: u16) -> Option<Option<u16>>
         requires { (labels ≤ bound) × (bound ≤ labels + 1) }
         ensures { TakesPlace labels bound result self.old self.new }
@@ -171,7 +172,7 @@ impl<'a> LineReader<'a> {
         Some(self.numeral()?.below(labels))
     }
 
-    /// Takes a line of this word, a space and a number in the range.
+    /// Takes a line of `word`, a space and a number from `low` to `high`, and returns the number.
     pub fn number_line(&mut self, word: &[u8], low: u32, high: u32) -> Option<u32>
         ensures { Takes (InRange low high) (number_line word.now) result self.old self.new }
     {
@@ -182,7 +183,8 @@ impl<'a> LineReader<'a> {
         Some(n)
     }
 
-    /// Takes a line of this word and as many numbers below the bound as there is room for, each with a space before it.
+    /// Takes a line of `word` and `numbers.len()` space-led numbers below `bound`, and reads these
+    /// into `numbers`.
     pub fn numbers_line(&mut self, word: &[u8], numbers: &mut [u16], bound: u16) -> Option<()>
         requires some { 0 < length numbers.old }
         requires bound { 0 < bound }
@@ -195,7 +197,7 @@ impl<'a> LineReader<'a> {
         Some(())
     }
 
-    /// Takes a line of this word and as many places as there is room for, each with a space before it.
+    /// Takes a line of `word` and `places.len()` space-led places, and reads these into `places`.
     pub fn places_line(&mut self, word: &[u8], places: &mut [u16], labels: u16) -> Option<()>
         requires some { 0 < length places.old }
         requires few { labels ≤ MAX_LABELS }
@@ -223,7 +225,7 @@ impl<'a> LineReader<'a> {
     }
 }
 
-/// The digits at the front, as many as there are, and what follows them.
+/// All digits that `bytes` begin with, and the bytes after them.
 fn split_digits(bytes: &[u8]) -> (&[u8], &[u8])
     ensures digits { AllDigits 10 result.0.now }
     ensures taken { bytes.now ≡ result.0.now ++ result.1.now }
@@ -232,7 +234,7 @@ fn split_digits(bytes: &[u8]) -> (&[u8], &[u8])
     bytes.split_at(count_digits(bytes))
 }
 
-/// How many digits stand at the front.
+/// The number of digits that `bytes` begin with.
 fn count_digits(bytes: &[u8]) -> usize
     ensures within { result ≤ length bytes.now }
     ensures count { result ≡ prefix_len is_ascii_digit bytes.now }
@@ -240,7 +242,7 @@ fn count_digits(bytes: &[u8]) -> usize
     bytes.iter().take_while(|b| b.is_ascii_digit()).count()
 }
 
-/// The number that the digits spell, if it has no leading zero and fits.
+/// The number that `digits` spell, if it has no leading zero and fits.
 fn value(digits: &[u8]) -> Option<u32>
     requires { AllDigits 10 digits.now }
     ensures { MatchOption result ((n : ℕ) → n < 2 ^ 32 → digits.now ≢ decimal n) (λ n. digits.now ≡ decimal n) }
@@ -254,7 +256,7 @@ fn value(digits: &[u8]) -> Option<u32>
     number_of(digits)
 }
 
-/// The number that the digits write, if it fits.
+/// The value of `digits` in base ten, leading zeros included, if it fits.
 fn number_of(digits: &[u8]) -> Option<u32>
     requires { AllDigits 10 digits.now }
     ensures { MatchOption result (2 ^ 32 ≤ digits_value 10 digits.now) (λ n. (n < 2 ^ 32) × (n ≡ digits_value 10 digits.now)) }

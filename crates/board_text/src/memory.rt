@@ -1,8 +1,8 @@
-//! Want of memory.
+//! Out of memory.
 
 use std::alloc::AllocError;
 
-/// A growth of memory was refused. This is the one type for want of memory in all crates.
+/// A growth of memory was refused. Faults with further kinds have a kind of this name instead.
 #[derive(Clone, Copy, Debug, PartialEq, Eq)]
 pub struct Memory;
 

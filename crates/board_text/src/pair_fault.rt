@@ -1,4 +1,4 @@
-//! Which pair of labels can follow others in a board.
+//! The test whether a pair of labels can follow others in a board.
 
 ghost use Rattle.std.specs.Prelude.{MatchOption};
 ghost use Rattle.board_text.specs.PlainBoard.{AreLabels};
@@ -8,7 +8,7 @@ ghost use Rattle.board_text.specs.Inside.PairFaults.{IsPairFault};
 use crate::domination::Domination;
 use crate::fault::BoardKind;
 
-/// What is wrong with a pair that is to follow those so far.
+/// The fault of the pair of `x` and `y`, if it can't follow the pairs so far.
 pub(crate) fn pair_fault(beats: &Domination, x: u16, y: u16) -> Option<BoardKind>
     requires { AreLabels beats.now.labels (x, y) }
     ensures { MatchOption result (CanFollow beats.now.labels beats.now.pairs (x, y))

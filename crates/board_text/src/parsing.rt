@@ -26,7 +26,7 @@ fn take_pair(text: &mut LineReader<'_>, labels: u16) -> Option<(u16, u16)>
     Some((pair[0], pair[1]))
 }
 
-/// The pair of the next line, or nothing at the line `end`.
+/// Takes the next line, and returns its pair, or nothing at the line `end`.
 fn next_pair(text: &mut LineReader<'_>, beats: &Domination) -> Result<Option<(u16, u16)>, BoardKind>
     ensures { NextPair beats.now.labels beats.now.pairs result text.old text.new }
 {
@@ -45,7 +45,7 @@ fn next_pair(text: &mut LineReader<'_>, beats: &Domination) -> Result<Option<(u1
     }
 }
 
-/// Takes the `beats` lines and `end`, and says at which line `end` stands.
+/// Takes the `beats` lines and `end`, and returns the number of the line `end`.
 fn read_pairs(text: &mut LineReader<'_>, beats: &mut Domination) -> Result<u32, BoardFault>
     requires { beats.old.pairs ≡ [] }
     ensures labels { beats.new.labels ≡ beats.old.labels }
@@ -64,7 +64,7 @@ fn read_pairs(text: &mut LineReader<'_>, beats: &mut Domination) -> Result<u32, 
     }
 }
 
-/// Takes the first three lines, with the version and the numbers of labels and pebbles.
+/// Takes the first three lines, and returns the version and the numbers of labels and pebbles.
 fn read_head(text: &mut LineReader<'_>) -> Result<(u8, u16, u8), BoardFault>
     ensures { HeadRead result text.old text.new }
 {
@@ -80,7 +80,7 @@ fn read_head(text: &mut LineReader<'_>) -> Result<(u8, u16, u8), BoardFault>
     Ok((version as u8, labels as u16, pebbles as u8))
 }
 
-/// Takes the line of the start.
+/// Takes the line of the start, and reads its places into `start`.
 fn take_start(text: &mut LineReader<'_>, version: u8, labels: u16, start: &mut [u16]) -> Option<()>
     requires some { 0 < length start.old }
     requires few { labels ≤ MAX_LABELS }
@@ -94,14 +94,14 @@ fn take_start(text: &mut LineReader<'_>, version: u8, labels: u16, start: &mut [
     }
 }
 
-/// The board that the bytes are the text of, or the first fault. Memory is taken after the third line.
+/// The board whose text `bytes` are, or the first fault. Memory is taken after the third line.
 pub fn parse(alloc: Global, bytes: &[u8]) -> Result<Board, BoardFault>
-    // What is read is a board's text.
+    // A result is the board of this text.
     ensures found { IfOk result (λ board. IsBoard board × (bytes.now ≡ board_text board)) }
     // A board's text is read, unless memory runs out.
     ensures only { (b : PlainBoard) → IsBoard b → bytes.now ≡ board_text b
         → MatchResult result (λ board. board ≡ b) (λ fault. fault.kind ≡ OutOfMemory) }
-    // Which fault it is.
+    // A fault is the one that the text has.
     ensures fault { IfErr result (λ fault. HasBoardFault bytes.now fault.line fault.kind) }
 {
     read(alloc, bytes)

@@ -10,10 +10,10 @@ use crate::writing::write_places;
 use std::alloc::{AllocError, Global};
 use std::fmt::Write;
 
-/// No fewer bytes than all lines but those of the pairs have.
+/// An upper bound on the bytes of all lines except the pairs.
 const SIZE_OF_FRAME: usize = 64;
 
-/// The text of a board.
+/// The text of `board`.
 pub fn print(alloc: Global, board: &Board) -> Result<String, Memory>
     ensures { IfOk result (λ text. string_bytes text ≡ board_text board.now) }
 {
@@ -25,7 +25,7 @@ pub fn print(alloc: Global, board: &Board) -> Result<String, Memory>
     Ok(text)
 }
 
-/// Writes the first four lines of a board's text.
+/// Appends the first four lines of the text of `board` to `text`.
 fn write_head(text: &mut String, board: &Board) -> Result<(), AllocError>
     ensures { OnOk result (string_bytes text.new ≡ string_bytes text.old ++ board_head board.now.labels board.now.pebbles board.now.start) }
 {

@@ -1,4 +1,4 @@
-//! Reading all that there is, and writing all that there is to write.
+//! Reading a source to its end, and writing all of a slice.
 
 ghost use Rattle.std.specs.Prelude.{◌≡◌, ◌+◌, ◌<◌, ◌≤◌, length, take, drop, true, false};
 ghost use Rattle.std.specs.Prelude.{IfOk, IfErr, OnOk, OnErr, MatchResult};
@@ -10,20 +10,20 @@ use crate::sink::Sink;
 use crate::source::{Failed, Source};
 use std::alloc::{AllocError, Allocator};
 
-/// Why not all was read.
+/// The reason why a source was not read to its end.
 #[derive(Clone, Copy, Debug, PartialEq, Eq)]
 pub enum ReadFault {
-    /// A growth was refused.
+    /// A growth of memory was refused.
     Memory,
     /// The source failed.
     Read,
-    /// More came than the limit.
+    /// The source has more bytes than the limit.
     Limit,
 }
 
 const FIRST_READ: usize = 8192;
 
-/// Reads all that is left, at most `limit` bytes. The source must not have failed before, nor told
+/// Reads all remaining bytes, at most `limit`. The source must not have failed before, nor reported
 /// its end.
 pub fn read_all<A: Allocator, S: Source>(
     alloc: A,
@@ -58,7 +58,7 @@ pub fn read_all<A: Allocator, S: Source>(
     Err(ReadFault::Limit)
 }
 
-/// Makes `bytes` longer than `filled`, so that a read finds room: twice as long where it is full.
+/// Makes `bytes` longer than `filled`, so that a read finds room: twice as long if it is full.
 fn make_room<A: Allocator>(
     bytes: &mut Vec<u8, A>,
     filled: usize,
@@ -80,7 +80,7 @@ fn make_room<A: Allocator>(
     bytes.resize(longer, 0)
 }
 
-/// One read into `bytes` from `at` on.
+/// Reads once into `bytes` from `at` on, and returns the number of bytes.
 fn read_at<S: Source>(source: &mut S, bytes: &mut [u8], at: usize) -> Result<usize, Failed>
     requires inside { at < length bytes.old }
     requires unfailed { S.has_failed source.old ≡ false }

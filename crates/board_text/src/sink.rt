@@ -1,4 +1,4 @@
-//! Where bytes go.
+//! Sinks of bytes.
 
 ghost use Rattle.std.specs.Prelude.{◌≡◌, ℕ, Bool, List, Option, None};
 ghost use Rattle.std.specs.Io.{WritesAtMost};
@@ -7,9 +7,9 @@ ghost use Rattle.board_text.specs.Streams.{WriteFails};
 
 use crate::source::Failed;
 
-/// Where bytes go. A write that takes no byte of a non-empty slice has failed.
+/// A sink of bytes. A write that takes no byte of a non-empty slice has failed.
 pub trait Sink {
-    // The bytes that writes have given so far, where they are known.
+    // The bytes that writes have given so far, if they are known.
     ghost contents: { Self → Option (List ℕ) } = { λ _. None };
 
     // Whether a write has failed so far.

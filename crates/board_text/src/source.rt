@@ -1,25 +1,25 @@
-//! Where bytes come from.
+//! Sources of bytes.
 
 ghost use Rattle.std.specs.Prelude.{◌≡◌, ℕ, Bool, false, List, Option, None};
 ghost use Rattle.std.specs.Io.{ReadsAtMost};
 ghost use Rattle.std.specs.Io.KnownBytes.{ReadConsumes};
 ghost use Rattle.board_text.specs.Streams.{ReadFails, TellsEnd};
 
-/// What a reader or a writer that has failed answers. Nothing more is known of it.
+/// The error of a reader or a writer. Nothing more is known of the failure.
 #[derive(Clone, Copy, Debug, PartialEq, Eq)]
 pub struct Failed;
 
-/// Where bytes come from. A read of 0 bytes into a non-empty slice is the end of input.
+/// A source of bytes. A read of 0 bytes into a non-empty slice is the end of input.
 ///
-/// Nothing is asked of a source that has failed, or that has told its end.
+/// No read is made after a failure or after the end of input.
 pub trait Source {
-    // The bytes that reads will give from here on, where they are known.
+    // The bytes that reads will give from here on, if they are known.
     ghost remaining: { Self → Option (List ℕ) } = { λ _. None };
 
     // Whether a read has failed so far.
     ghost has_failed: { Self → Bool };
 
-    // Whether a read has told the end of the input so far.
+    // Whether a read has reported the end of the input so far.
     ghost has_ended: { Self → Bool };
 
     fn read(&mut self, into: &mut [u8]) -> Result<usize, Failed>

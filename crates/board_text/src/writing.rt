@@ -7,7 +7,7 @@ ghost use Rattle.board_text.specs.PlaceForms.{place_word, spaced_places};
 use std::alloc::AllocError;
 use std::fmt::Write;
 
-/// Writes places, each with a space before it.
+/// Appends `places` to `text`, each with a space before it.
 pub fn write_places(text: &mut String, labels: u16, places: &[u16]) -> Result<(), AllocError>
     ensures { OnOk result (string_bytes text.new ≡ string_bytes text.old ++ spaced_places labels places.now) }
 {
@@ -17,7 +17,8 @@ pub fn write_places(text: &mut String, labels: u16, places: &[u16]) -> Result<()
     Ok(())
 }
 
-/// Writes a place with a space before it: its label, or a hyphen for the number of labels, which stands for none.
+/// Appends `place` with a space before it: its label, or a hyphen if it is `labels`, which stands
+/// for none.
 pub fn write_place(text: &mut String, labels: u16, place: u16) -> Result<(), AllocError>
     ensures { OnOk result (string_bytes text.new ≡ string_bytes text.old ++ 32 ∷ place_word labels place) }
 {
@@ -28,7 +29,7 @@ pub fn write_place(text: &mut String, labels: u16, place: u16) -> Result<(), All
     }
 }
 
-/// Writes a number with a space before it.
+/// Appends `number` with a space before it.
 pub fn write_number(text: &mut String, number: u32) -> Result<(), AllocError>
     ensures { OnOk result (string_bytes text.new ≡ string_bytes text.old ++ 32 ∷ decimal number) }
 {
@@ -46,7 +47,7 @@ pub fn write_number(text: &mut String, number: u32) -> Result<(), AllocError>
     push_digit(text, number % 10)
 }
 
-/// Pushes the digit of a number below 10.
+/// Appends `number`, which is below 10, as a digit.
 fn push_digit(text: &mut String, number: u32) -> Result<(), AllocError>
     requires { number < 10 }
     ensures { OnOk result (string_bytes text.new ≡ string_bytes text.old ++ (48 + number) ∷ []) }

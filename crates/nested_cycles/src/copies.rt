@@ -1,4 +1,4 @@
-//! In which copies of the board of one level less words are, and their rests there.
+//! The copies of the board of one level less that words are in, and the rests of the words there.
 
 ghost use Rattle.std.specs.Prelude.{◌≡◌, ◌+◌, ◌-◌, ◌/◌, ◌%◌, ◌<◌, ◌≤◌, ◌↔◌, ◌==◌, ℕ, List, [], ◌∷◌, ◌++◌, length, map, take, All};
 ghost use Rattle.std.specs.Prelude.{Contains, IsTrue};
@@ -20,7 +20,7 @@ pub enum Copies {
     Three,
 }
 
-/// The copies that words are in, where each copy has so many labels.
+/// The copies that `words` are in, if each copy has `size` labels.
 pub fn copies_of(words: &[u64], size: u64) -> Copies
     requires size { 0 < size }
     requires labels { All (λ word. word / size < 3) words.now }
@@ -42,7 +42,7 @@ pub fn copies_of(words: &[u64], size: u64) -> Copies
     }
 }
 
-/// Whether some word is in the copy.
+/// Whether one of `words` is in the copy `digit`.
 fn has_word_in(words: &[u64], size: u64, digit: u64) -> bool
     requires { 0 < size }
     ensures { IsTrue result ↔ Contains (map (λ word. word / size) words.now) digit }
@@ -50,7 +50,7 @@ fn has_word_in(words: &[u64], size: u64, digit: u64) -> bool
     words.iter().any(|word| *word / size == digit)
 }
 
-/// How many labels each copy in the nested board of this level has.
+/// The number of labels of each copy in the nested board of level `levels`.
 pub fn copy_size(levels: u8) -> u64
     requires { InRange 2 MAX_LEVELS levels }
     ensures { result ≡ labels_of (levels - 1) }
@@ -58,7 +58,7 @@ pub fn copy_size(levels: u8) -> u64
     3_u64.pow(u32::from(levels) - 2)
 }
 
-/// The digit that comes next round the three-cycle.
+/// The digit that comes next after `digit` round the three-cycle.
 pub fn next_after(digit: u64) -> u64
     requires { digit < 3 }
     ensures { result ≡ next_digit digit }
@@ -66,7 +66,7 @@ pub fn next_after(digit: u64) -> u64
     (digit + 1) % 3
 }
 
-/// The words of a copy, without their first digit.
+/// Those of `words` that are in the copy `digit`, without their first digit.
 pub fn rests_of(words: &[u64], size: u64, digit: u64) -> Words
     requires size { 0 < size }
     requires room { length words.now ≤ MAX_LEVELS }
@@ -97,7 +97,7 @@ impl Model for Words {
 }
 
 impl Words {
-    /// No words.
+    /// An empty list of words.
     pub fn new() -> Self
         ensures { result ≡ [] }
     {
@@ -107,7 +107,7 @@ impl Words {
         }
     }
 
-    /// One more word.
+    /// Appends `word`.
     pub fn push(&mut self, word: u64)
         requires { length self.old < MAX_LEVELS }
         ensures { self.new ≡ self.old ++ word ∷ [] }
@@ -116,7 +116,7 @@ impl Words {
         self.count += 1;
     }
 
-    /// More words, in their order.
+    /// Appends the words `more`, in their order.
     pub fn append(&mut self, more: &[u64])
         requires { length self.old + length more.now ≤ MAX_LEVELS }
         ensures { self.new ≡ self.old ++ more.now }

@@ -1,4 +1,4 @@
-//! Which label of a nested board dominates which.
+//! The domination among labels of a nested board, by their digits.
 
 ghost use Rattle.std.specs.Prelude.{◌≡◌, ◌+◌, ◌%◌, ◌<◌, ◌↔◌, IsTrue};
 ghost use Rattle.board_text.specs.Ranges.{InRange};
@@ -7,7 +7,7 @@ ghost use Rattle.nested_cycles.specs.Domination.{labels_of, NestedBeats};
 
 use crate::game::MAX_LEVELS;
 
-/// Whether the label a dominates the label b on the nested board of this level, 1 to 24.
+/// Whether the label `a` dominates the label `b` on the nested board of level `levels`, 1 to 24.
 ///
 /// A label is a word of ternary digits, one fewer than there are levels, and its number is that word read in base 3.
 pub fn nested_beats(levels: u8, mut a: u64, mut b: u64) -> bool
@@ -26,7 +26,7 @@ pub fn nested_beats(levels: u8, mut a: u64, mut b: u64) -> bool
     false
 }
 
-/// Whether the digit a comes next after the digit b round the three-cycle.
+/// Whether the digit `a` comes next after the digit `b` round the three-cycle.
 fn comes_next(a: u64, b: u64) -> bool
     requires { b < 3 }
     ensures { IsTrue result ↔ (a ≡ (b + 1) % 3) }

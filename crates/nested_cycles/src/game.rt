@@ -48,7 +48,8 @@ impl NestedGame {
         self.levels
     }
 
-    /// Puts the pebble on a word that dominates the words of all other pebbles, and answers it.
+    /// Puts `pebble` on a word that dominates the words of all other pebbles, and returns that
+    /// word.
     pub fn request(&mut self, pebble: u8) -> u64
         requires { pebble < self.old.levels }
         ensures label { result < labels_of self.old.levels }

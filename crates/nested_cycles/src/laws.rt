@@ -48,7 +48,7 @@ pub fn half_of_all_pairs()
         → 2 * length board.pairs + board.labels ≡ board.labels * board.labels }
 {}
 
-/// There is one nested board of a level and so many pebbles.
+/// A level and a number of pebbles have at most one nested board.
 pub fn one_nested_board()
     ensures { (levels : ℕ) → (pebbles : ℕ) → (first : PlainBoard) → (second : PlainBoard)
         → IsNestedBoard levels pebbles first → IsNestedBoard levels pebbles second → first ≡ second }

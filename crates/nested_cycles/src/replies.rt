@@ -9,7 +9,7 @@ ghost use Rattle.nested_cycles.specs.Reply.{NestedReply};
 use crate::copies::{Copies, copies_of, copy_size, next_after, rests_of};
 use crate::game::MAX_LEVELS;
 
-/// Whether the words, at most as many as there are levels, are good on the nested board of this level, 1 to 24:
+/// Whether `words`, at most `levels` of them, are good on the nested board of this level, 1 to 24:
 /// pebbles on them can be moved for ever, in whatever order they are asked for.
 ///
 /// A word is given by its number, as in [`nested_beats`](crate::nested_beats).
@@ -34,10 +34,11 @@ pub fn nested_good(levels: u8, words: &[u64]) -> bool
     }
 }
 
-/// The word for a pebble that is asked for, where the other pebbles are on these good words, fewer than there are levels.
+/// The word for a requested pebble, if the other pebbles are on the good words `others`, fewer than
+/// `levels`.
 ///
-/// Where the others are in one copy, it is the first label of the copy that comes next.
-/// Where they are in two, it is within the one that comes next, and answers the words there.
+/// If the others are in one copy, it is the first label of the copy that comes next.
+/// If they are in two, it is within the one that comes next, and answers the words there.
 pub fn nested_reply(levels: u8, others: &[u64]) -> u64
     requires level { InRange 1 MAX_LEVELS levels }
     requires few { length others.now < levels }

@@ -26,7 +26,7 @@ impl Model for AnswerSet {
 }
 
 impl AnswerSet {
-    /// These labels as answers.
+    /// The answers `labels`.
     pub(crate) fn new(labels: LabelSet) -> AnswerSet
         ensures { result ≡ labels.words }
     {
@@ -40,7 +40,7 @@ impl AnswerSet {
         self.labels.len()
     }
 
-    /// The smallest answer that is at least a bound, if there is one.
+    /// The smallest answer that is at least `bound`, if there is one.
     pub fn first_from(&self, bound: u16) -> Option<u16>
         ensures { IsSmallest (λ x. (bound ≤ x) × (x < MAX_LABELS) × (has_bit self.now x ≡ true)) result }
     {

@@ -1,4 +1,4 @@
-/// What a strategy document says of the value of the start.
+/// A strategy document's claim on the value of the start.
 #[derive(Clone, Copy, Debug, PartialEq, Eq)]
 pub enum Claim {
     /// The value is this number.

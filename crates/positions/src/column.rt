@@ -11,8 +11,8 @@ use board_text::{Board, Memory, ROW_WORDS};
 use std::alloc::Global;
 use std::marker::Model;
 
-/// For each tuple a word with the bits of those of 64 labels that dominate all its places. No words at all, where the
-/// board has none of these labels.
+/// For each tuple a word with the bits of those of 64 labels that dominate all its places. There
+/// are no words if the board has none of these labels.
 ///
 /// Contracts see the words.
 #[derive(Drop)]
@@ -29,7 +29,7 @@ impl Model for Column {
 }
 
 impl Column {
-    /// The column of this number: that of the labels from 64 times the number on.
+    /// The column of the labels from `64 * number` on.
     ///
     /// The board is the one that the space was made for.
     pub(crate) fn of(
@@ -54,7 +54,7 @@ impl Column {
         Ok(Column { words })
     }
 
-    /// The word of a tuple, 0 where there are no words.
+    /// The word of `tuple`, or 0 if there are no words.
     pub(crate) fn word(&self, tuple: u32) -> u64
         ensures { result ≡ slice_index_or self.now tuple 0 }
     {
@@ -65,7 +65,7 @@ impl Column {
     }
 }
 
-/// The words for tuples of one more place, which stands before the others.
+/// The words for tuples with one more place, which stands before those of `fewer`.
 fn with_one_more(
     alloc: Global,
     board: &Board,
@@ -88,7 +88,7 @@ fn with_one_more(
     Ok(more)
 }
 
-/// Those of the labels of a column that dominate what a place holds.
+/// The bits of those labels of the column `number` that dominate `place`.
 fn word_beating(board: &Board, number: usize, place: u16) -> u64
     requires number { number < ROW_WORDS }
     requires place { place < places board.now }

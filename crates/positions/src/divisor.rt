@@ -1,4 +1,4 @@
-//! Division by a number that many numbers are divided by.
+//! Repeated division by one number, without a machine division.
 
 ghost use Rattle.std.specs.Prelude.{◌≡◌, ◌*◌, ◌/◌, ◌%◌, ◌<◌, ◌≤◌};
 
@@ -6,7 +6,7 @@ use crate::space::MAX_CONFIGURATIONS;
 use board_text::MAX_PEBBLES;
 use std::marker::Model;
 
-/// A divisor, 1 to 1,048,576, by which is divided with a product in place of a division.
+/// A divisor, 1 to 1,048,576, that divides by a product instead of a division.
 ///
 /// Contracts see the divisor.
 #[derive(Clone, Copy)]
@@ -33,7 +33,7 @@ impl Model for Divisor {
 }
 
 impl Divisor {
-    /// The divisor of this number.
+    /// The divisor `by`.
     pub(crate) fn new(by: u32) -> Divisor
         requires some { 0 < by }
         requires few { by ≤ MAX_CONFIGURATIONS }
@@ -51,7 +51,7 @@ impl Divisor {
         self.by
     }
 
-    /// How many times the divisor is in a number.
+    /// The quotient of `number` by the divisor.
     pub(crate) fn quotient(self, number: u32) -> u32
         requires few { number ≤ MAX_PEBBLES * MAX_CONFIGURATIONS }
         requires not_many { number ≤ MAX_CONFIGURATIONS * self }
@@ -60,7 +60,7 @@ impl Divisor {
         ((number as u64 * self.factor) >> 43) as u32
     }
 
-    /// What a number is more than a multiple of the divisor.
+    /// The remainder of `number` by the divisor.
     pub(crate) fn rest(self, number: u32) -> u32
         requires few { number ≤ MAX_PEBBLES * MAX_CONFIGURATIONS }
         requires not_many { number ≤ MAX_CONFIGURATIONS * self }

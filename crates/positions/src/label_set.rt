@@ -15,7 +15,7 @@ pub(crate) struct LabelSet {
 }
 
 impl LabelSet {
-    /// The labels below a number.
+    /// The labels below `labels`.
     pub(crate) fn below(labels: u16) -> LabelSet
         requires { labels ≤ MAX_LABELS }
         ensures { (x : ℕ) → x < MAX_LABELS → (has_bit result.words x ≡ true) ↔ (x < labels) }
@@ -27,7 +27,7 @@ impl LabelSet {
         LabelSet { words }
     }
 
-    /// The labels that are both in this set and in a row of bits.
+    /// The labels that are both in this set and in the bits `row`.
     pub(crate) fn intersection(self, row: &[u64]) -> LabelSet
         requires { length row.now ≡ ROW_WORDS }
         ensures { (x : ℕ) → x < MAX_LABELS
@@ -61,7 +61,7 @@ impl LabelSet {
         LabelWalk::new(self.words)
     }
 
-    /// The smallest label of the set that is at least a bound.
+    /// The smallest label of the set that is at least `bound`, if there is one.
     pub(crate) fn first_from(&self, bound: u16) -> Option<u16>
         ensures { IsSmallest (λ x. (bound ≤ x) × (x < MAX_LABELS) × (has_bit self.now.words x ≡ true)) result }
     {
@@ -79,7 +79,7 @@ impl LabelSet {
     }
 }
 
-/// The bits of a word that stand for labels from a bound on, which the word doesn't end before.
+/// A mask of the bits of word `place` whose labels are at least `bound`.
 fn bits_from(bound: usize, place: usize) -> u64
     requires word { place < ROW_WORDS }
     requires bound { bound < 64 * place + 64 }

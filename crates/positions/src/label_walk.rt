@@ -9,15 +9,15 @@ use std::marker::Model;
 
 /// A walk over the labels of a set, in ascending order.
 ///
-/// Contracts see the labels that are left, as words of bits, and a label that none of them is smaller than.
+/// Contracts see the remaining labels as a bit set, and a lower bound of them.
 #[derive(Drop)]
 pub struct LabelWalk {
     words: [u64; ROW_WORDS],
     /// The place of the word that the walk has come to.
     place: usize,
-    /// What is left of that word, which then stands for the one in `words`.
+    /// The remaining bits of that word, which replace those in `words`.
     word: u64,
-    /// 0 only where all words behind the first are 0.
+    /// 0 only if all words after the first are 0.
     behind: u64,
     from: u16,
 }
@@ -35,7 +35,7 @@ impl Model for LabelWalk {
 }
 
 impl LabelWalk {
-    /// A walk over the labels of which the bits are set.
+    /// A walk over the labels whose bits are set in `words`.
     pub(crate) fn new(words: [u64; ROW_WORDS]) -> LabelWalk
         ensures { result ≡ record { left = words; from = 0 } }
     {

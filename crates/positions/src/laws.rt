@@ -18,12 +18,13 @@ pub fn one_has_a_tree()
     ensures { (board : PlainBoard) → (depth : ℕ) → (configuration : List ℕ) → HasOneTree board depth configuration }
 {}
 
-/// A labeller who lasts longer lasts shorter.
+/// A labeller who can answer `depth + 1` requests can answer `depth`.
 pub fn lasts_less()
     ensures { (board : PlainBoard) → (depth : ℕ) → (configuration : List ℕ) → LastsLess board depth configuration }
 {}
 
-/// A value is at most one more than a number exactly where, for some pebble, all legal results have at most that number.
+/// A value is at most `most + 1` exactly if, for some pebble, all legal results have a value of at
+/// most `most`.
 pub fn values_by_requests()
     ensures { (board : PlainBoard) → (most : ℕ) → (configuration : List ℕ)
         → HasValueAtMost board configuration (suc most) ↔ HasRequestTo board configuration most }
@@ -35,8 +36,8 @@ pub fn one_value_at_most()
         → HasValue board configuration first → HasValue board configuration second → first ≡ second }
 {}
 
-/// A table that answers so many requests gives a labeller's tree, a closed one trees of every depth,
-/// and one that stops after so many answers an adversary's tree of one more depth.
+/// A table that answers `most` requests gives a labeller's tree of that depth, a closed one trees
+/// of every depth, and one that stops after `most` answers an adversary's tree of depth `most + 1`.
 pub fn tables_give_trees()
     ensures answers { (board : PlainBoard) → (table : List AnswerRow) → (most : ℕ) → (configuration : List ℕ)
         → Answers board table most configuration → LabellerTree board most configuration }
@@ -52,7 +53,7 @@ pub fn values_occur()
     ensures smaller { (board : PlainBoard) → (less : ℕ) → (more : ℕ) → less ≤ more → Occurs board more → Occurs board less }
 {}
 
-/// At most one pebble dominates all others, and a lone one does where it holds a label.
+/// At most one pebble dominates all others, and a lone one does exactly if it holds a label.
 pub fn one_dominator()
     ensures several { (board : PlainBoard) → (configuration : List ℕ) → (first : ℕ) → (second : ℕ) → IsAntisymmetric board
         → IsDominator board configuration first → IsDominator board configuration second → first ≡ second }
@@ -60,7 +61,7 @@ pub fn one_dominator()
         → IsDominator board configuration 0 ↔ (slice_index configuration 0 < board.labels) }
 {}
 
-/// What tables show holds.
+/// A claim that tables show holds.
 pub fn shown_claims_hold()
     ensures { (board : PlainBoard) → (labeller : List AnswerRow) → (adversary : List RequestRow) → (claim : Assertion)
         → IsConfiguration board board.start → Shows board labeller adversary claim → Holds board claim }

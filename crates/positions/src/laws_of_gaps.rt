@@ -31,8 +31,9 @@ pub fn members_of_gaps()
         → gap_of board (member_of board gap label) (pebble_of board gap) ≡ gap }
 {}
 
-/// What is legal at a configuration is an answer of the gap there, and a pebble dominates where its own label is one.
-/// No configuration is what an answer leads to in two gaps.
+/// A label is legal at a configuration exactly if it is an answer of the gap there, and a pebble
+/// dominates exactly if its own label is one. No configuration is the result of answers in two
+/// gaps.
 pub fn answers_of_gaps()
     ensures legal { (board : PlainBoard) → (configuration : List ℕ) → (pebble : ℕ) → (label : ℕ) → IsConfiguration board configuration
         → pebble < board.pebbles → Legal board configuration pebble label ↔ IsAnswer board (gap_of board configuration pebble) label }

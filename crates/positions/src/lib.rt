@@ -1,4 +1,4 @@
-//! Configurations of the pebble game, and what they are worth.
+//! Configurations of the pebble game, their moves, gaps and values.
 #![tactic(auto)]
 
 mod answer_set;

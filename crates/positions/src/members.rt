@@ -2,7 +2,8 @@
 
 ghost use Rattle.std.specs.Prelude.{◌≡◌, ◌+◌, ◌*◌, ◌<◌, ◌^◌};
 
-/// The ranks of a gap's members: that of the member with place 0, and what each step of the place adds.
+/// The ranks of a gap's members: the rank of the member with place 0, and the difference between
+/// neighbours.
 #[derive(Clone, Copy, Debug, PartialEq, Eq)]
 pub struct Members {
     pub first: u32,
@@ -10,7 +11,7 @@ pub struct Members {
 }
 
 impl Members {
-    /// The rank of the member with this place for the gap's pebble.
+    /// The rank of the member with `place` for the gap's pebble.
     pub fn rank(self, place: u16) -> u32
         requires { self.first + place * self.step < 2 ^ 32 }
         ensures { result ≡ self.first + place * self.step }

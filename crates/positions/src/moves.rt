@@ -37,7 +37,7 @@ impl<'a> Model for Moves<'a> {
 }
 
 impl Space {
-    /// The moves from the configuration of a rank.
+    /// The moves from the configuration of `rank`.
     ///
     /// The board is the one that the space was made for.
     pub fn moves<'a>(&'a self, board: &'a Board, rank: u32) -> Moves<'a>
@@ -62,7 +62,7 @@ impl Space {
 }
 
 impl<'a> Moves<'a> {
-    /// Whether a request of the pebble may be answered with the label.
+    /// Whether a request of `pebble` may be answered with `label`.
     pub fn is_legal(&self, pebble: u8, label: u16) -> bool
         ensures { IsTrue result ↔ Legal self.now.board self.now.configuration pebble label }
     {
@@ -77,7 +77,7 @@ impl<'a> Moves<'a> {
         true
     }
 
-    /// Whether the pebble holds a label that dominates all others.
+    /// Whether `pebble` holds a label that dominates all others.
     pub fn dominates(&self, pebble: u8) -> bool
         requires { pebble < self.now.board.pebbles }
         ensures { IsTrue result ↔ IsDominator self.now.board self.now.configuration pebble }
@@ -85,7 +85,7 @@ impl<'a> Moves<'a> {
         self.is_legal(pebble, self.places[pebble as usize])
     }
 
-    /// The labels that a request of the pebble may be answered with.
+    /// The labels that a request of `pebble` may be answered with.
     pub fn answers(&self, pebble: u8) -> AnswerSet
         ensures bits { (label : ℕ) → label < MAX_LABELS
             → (has_bit result label ≡ true) ↔ Legal self.now.board self.now.configuration pebble label }
@@ -101,7 +101,7 @@ impl<'a> Moves<'a> {
         AnswerSet::new(answers)
     }
 
-    /// The ranks of the configurations after a request of the pebble, by the label of the answer.
+    /// The ranks of the configurations after a request of `pebble`, by the label of the answer.
     pub fn results(&self, pebble: u8) -> Members
         requires { pebble < self.now.board.pebbles }
         ensures ranks { (label : ℕ) → label < self.now.board.labels → result.first + label * result.step
@@ -114,7 +114,7 @@ impl<'a> Moves<'a> {
         Members { first, step }
     }
 
-    /// The rank of the configuration after the pebble is put on a label.
+    /// The rank of the configuration after `pebble` is put on `label`.
     pub fn after(&self, pebble: u8, label: u16) -> u32
         requires pebble { pebble < self.now.board.pebbles }
         requires label { label < self.now.board.labels }

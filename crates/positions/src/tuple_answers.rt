@@ -37,7 +37,7 @@ impl Model for TupleAnswers {
 }
 
 impl TupleAnswers {
-    /// The answers of a board's gaps. The board is the one that the space was made for.
+    /// The answers of the gaps of `board`, which is the one that `space` was made for.
     pub fn of(alloc: Global, space: &Space, board: &Board) -> Result<TupleAnswers, Memory>
         requires { space.now ≡ board.now }
         ensures { IfOk result (λ answers. answers ≡ board.now) }
@@ -54,7 +54,7 @@ impl TupleAnswers {
         })
     }
 
-    /// The answers of the gaps of a tuple.
+    /// The answers of the gaps of `tuple`.
     pub fn answers(&self, tuple: u32) -> AnswerSet
         requires { tuple < gaps_each self.now }
         ensures { (gap : ℕ) → gap < gaps self.now → tuple_of self.now gap ≡ tuple

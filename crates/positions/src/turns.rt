@@ -1,7 +1,7 @@
-/// For how many turns a labeller's row is listed.
+/// The number of turns that a labeller's row is listed for.
 #[derive(Clone, Copy, Debug, PartialEq, Eq)]
 pub enum Turns {
-    /// So many requests.
+    /// This number of requests.
     Count(u32),
     /// Requests without end.
     Always,

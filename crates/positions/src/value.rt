@@ -1,7 +1,7 @@
-/// How many requests a labeller can answer from a configuration against every adversary.
+/// The number of requests that a labeller can answer from a configuration against every adversary.
 #[derive(Clone, Copy, Debug, PartialEq, Eq)]
 pub enum Value {
-    /// So many, and no more.
+    /// This number, and no more.
     Finite(u32),
     /// Any number.
     Forever,

@@ -8,7 +8,8 @@ use crate::space::Space;
 use board_text::write_place;
 use std::alloc::AllocError;
 
-/// Writes the places of the configuration of a rank, each with a space before it: its label, or a hyphen where it holds none.
+/// Appends the places of the configuration of rank `at` to `text`, each with a space before it: a
+/// label, or a hyphen if the pebble holds none.
 pub fn write_labels(text: &mut String, space: &Space, at: u32) -> Result<(), AllocError>
     requires { at < configurations space.now }
     ensures { OnOk result (string_bytes text.new ≡ string_bytes text.old
