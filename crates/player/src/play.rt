@@ -120,9 +120,7 @@ fn stop<P: Play, W: Sink>(play: &P, text: &mut String, writer: &mut W) -> Result
     ensures write { (W.has_failed writer.new ≡ true) ↔ (result ≡ Err Write) }
 {
     let requests = play.requests();
-    if write_stopped(text, requests).is_err() {
-        return Err(PlayFault::Memory);
-    }
+    write_stopped(text, requests)?;
     flush(text, writer)?;
     Ok(PlayEnd::Stopped { requests })
 }

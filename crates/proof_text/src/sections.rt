@@ -41,9 +41,7 @@ pub(crate) fn read_part<R: Row>(
         match R::read(text, space, claim, least) {
             Ok(row) => {
                 least = row.rank() + 1;
-                if rows.push(row).is_err() {
-                    return Err(ProofFault::at(0, ProofKind::Memory));
-                }
+                rows.push(row).map_err(AllocError::from)?;
             }
             Err(kind) => return Err(ProofFault::at(line + 1 + come, kind)),
         }

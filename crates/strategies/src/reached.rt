@@ -47,9 +47,7 @@ impl Reached {
         ensures added { IfOk result (λ _. IsWith self.old.ranks rank self.new.ranks) }
     {
         if !self.marks.get(rank) {
-            if self.ranks.push(rank).is_err() {
-                return Err(Memory);
-            }
+            self.ranks.push(rank)?;
             self.marks.set(rank);
         }
         Ok(())

@@ -109,9 +109,7 @@ impl BestMoves<'_> {
         let mut from = 0;
         while let Some(rank) = reached.first_from(from) {
             if let Some(row) = R::at(self, start, rank) {
-                if rows.push(row).is_err() {
-                    return Err(Memory);
-                }
+                rows.push(row)?;
             }
             from = rank + 1;
         }
