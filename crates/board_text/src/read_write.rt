@@ -5,6 +5,7 @@ ghost use Rattle.std.specs.Prelude.{IfOk, IfErr, OnOk, OnErr, MatchResult};
 ghost use Rattle.std.specs.Io.KnownBytes.{Appends, Consumes, IsAtEnd, Keeps};
 ghost use Rattle.board_text.specs.Streams.{GaveAll, AppendsFront, ReadFails};
 ghost use Rattle.board_text.specs.ReadFaults.{ReadAllFails};
+ghost use Rattle.board_text.specs.declared.read_write.ReadFault.TheVariants as read_faults;
 
 use crate::sink::Sink;
 use crate::source::{Failed, Source};
@@ -19,6 +20,14 @@ pub enum ReadFault {
     Read,
     /// The source has more bytes than the limit.
     Limit,
+}
+
+impl From<AllocError> for ReadFault {
+    ghost from_gives = { λ _ fault. fault ≡ read_faults.Memory };
+
+    fn from(_error: AllocError) -> ReadFault {
+        ReadFault::Memory
+    }
 }
 
 const FIRST_READ: usize = 8192;
@@ -43,9 +52,7 @@ pub fn read_all<A: Allocator, S: Source>(
     let mut bytes = Vec::new(alloc);
     let mut filled = 0;
     while filled <= limit {
-        if make_room(&mut bytes, filled, limit).is_err() {
-            return Err(ReadFault::Memory);
-        }
+        make_room(&mut bytes, filled, limit)?;
         match read_at(source, bytes.as_mut_slice(), filled) {
             Ok(0) => {
                 bytes.truncate(filled);

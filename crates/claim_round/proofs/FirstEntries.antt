@@ -1,4 +1,4 @@
--- What is known before a step: the seat is of the round, and its first entry is of the game.
+-- Facts before a step: the seat is of the round, and its first entry is of the game.
 use Rattle.std.proofs.Common.{◌≡◌, ℕ, ◌+◌, ◌<◌, List, [], ◌∷◌, length, sym, ap, ◌∙◌, subst, arith}
 use Rattle.atomic_table.specs.Seated.{TableId}
 use Rattle.board_text.specs.PlainBoard.{PlainBoard}

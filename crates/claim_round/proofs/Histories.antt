@@ -1,4 +1,5 @@
--- The history of a round after each step: one step more, whose answer is told to the seat that made it.
+-- The history of a round after each step: one step more, whose answer is told to the seat that
+-- made it.
 use Rattle.std.proofs.Common.{◌≡◌, ℕ, zero, suc, max, ◌+◌, ◌<◌, ◌≤◌, List, [], ◌∷◌, ◌++◌, length, set, get_or, refl, sym, ap, ◌∙◌, subst, arith, inl, inr, length-append, Some}
 use mathlib.Core.Option.{some}
 use lib.ListN.{get_elem?}

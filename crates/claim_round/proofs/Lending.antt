@@ -1,4 +1,4 @@
--- A shared round may be lent to any thread where its solver may.
+-- A shared round may be lent to any thread if its solver may.
 use denote.RattleType.{RattleType}
 use denote.Ref.{NamedLft}
 use denote.Struct.Declared.{shape}

@@ -1,4 +1,4 @@
--- What a round's calls answer and do.
+-- The answers and the effects of a round's calls.
 use Rattle.std.specs.Prelude.{◌≡◌, ℕ, suc, ◌<◌, ◌≤◌, ◌==◌, Bool, cond, [], ◌∷◌, ◌++◌, Option, Some, None}
 use Rattle.positions.specs.Ranks.{configuration_at}
 use Rattle.positions.specs.Gaps.{gap_of, IsDominator}
@@ -19,15 +19,17 @@ pub record Opens (s : Solving) (width : ℕ) (round : RoundId) (seat : Place) : 
   pub wide : seat.view.has.width ≡ width
   pub none_made : seat.view.made ≡ []
 
--- the answer stands in the history at one more place of the seat, which is not before its earlier ones
+-- the answer stands in the history at one more place of the seat, which is not before its earlier
+-- ones
 pub record StandsNext (before : View) (answer : Seen) (after : View) : Type 0 where
   pub place : ℕ
   pub not_before : before.since ≤ place
   pub made_is : after.made ≡ before.made ++ (place, answer) ∷ []
   pub since_is : after.since ≡ suc place
 
--- the first that the seat had to strike was struck in the gap of the pebble that dominates there, whose count was found.
--- With the last the gap is closed, and its open members are owed. The answer has its place in the history
+-- the first that the seat had to strike was struck in the gap of the pebble that dominates there,
+-- whose count was found. With the last the gap is closed, and its open members are owed. The answer
+-- has its place in the history
 pub record HasStruck (before : View) (config : ℕ) (closed : Option ℕ) (after : View) : Type 0 where
   pub first : config ≡ first_of before.has.todo
   pub pebble : ℕ

@@ -1,4 +1,5 @@
--- The history of a shared round: the steps of one run of the machine, in which each call of each seat has its place.
+-- The history of a shared round: the steps of one run of the machine, in which each call of each
+-- seat has its place.
 use Rattle.std.specs.Prelude.{◌≡◌, ℕ, ◌<◌, ◌≤◌, false, true, List, map, length, slice_index, Option, Some, None}
 use Rattle.std.specs.List.{All, Contains, sum_by}
 use Rattle.index_lists.specs.Lists.{times}
@@ -14,7 +15,7 @@ use Rattle.retro_core.specs.History.{answer_at}
 use Rattle.claim_round.specs.Shared.{Key, View, Ended}
 use Rattle.claim_round.specs.Words.{round_of_words}
 
--- what all seats have
+-- the plain seats of the views
 abbrev pub seats_of : List View → List PlainSeat
 seats_of views = map (λ view. view.has) views
 
@@ -22,11 +23,12 @@ seats_of views = map (λ view. view.has) views
 abbrev pub AreTold : List (Step × Seen) → List (ℕ × Seen) → Type 0
 AreTold steps made = All (λ call. answer_at steps call.0 ≡ Some call.1) made
 
--- the places of what was told
+-- the places of the answers told
 abbrev pub places_of : List (ℕ × Seen) → List ℕ
 places_of made = map (λ call. call.0) made
 
--- one for the answer of a strike or of a try, each of which is the call of a seat, and none for a split, a join or no step
+-- one for the answer of a strike or of a try, each of which is the call of a seat, and none for a
+-- split, a join or no step
 abbrev pub calls_of : Option Seen → ℕ
 calls_of (Some (seen.Struck config closed)) = 1
 calls_of (Some (seen.Tried config won)) = 1
@@ -38,8 +40,9 @@ calls_of None = 0
 abbrev pub calls_at : List (Step × Seen) → ℕ → ℕ
 calls_at steps place = calls_of (answer_at steps place)
 
--- steps of the machine lead from an opening, whose counts are those of the solver, to these words and seats. What a seat was told is
--- the answers at its places, its next one can stand at the end, and each strike and each try was told to one seat, once
+-- steps of the machine lead from an opening, whose counts are those of the solver, to these words
+-- and seats. The answers told to a seat are those at its places, its next one can stand at the
+-- end, and each strike and each try was told to one seat, once
 pub record IsHistory (k : Key) (words : List ℕ) (views : List View) : Type 0 where
   pub first : Round
   pub steps : List (Step × Seen)
@@ -49,8 +52,9 @@ pub record IsHistory (k : Key) (words : List ℕ) (views : List View) : Type 0 w
   pub told : All (λ view. AreTold steps view.made × (view.since ≤ length steps)) views
   pub once : (place : ℕ) → sum_by (λ view. times place (places_of view.made)) views ≡ calls_at steps place
 
--- steps of the machine lead from an opening, whose counts are those of the solver, to an end at which no seat has work left. The end has
--- these counts and values, and what was won. What was told is the answers of all strikes and tries, each once
+-- steps of the machine lead from an opening, whose counts are those of the solver, to an end at
+-- which no seat has work left. The end has these counts, values and won configurations. The
+-- answers told are those of all strikes and tries, each once
 pub record HasHistory (k : Key) (made : List (ℕ × Seen)) (end : Ended) : Type 0 where
   pub first : Round
   pub steps : List (Step × Seen)
@@ -65,12 +69,14 @@ pub record HasHistory (k : Key) (made : List (ℕ × Seen)) (end : Ended) : Type
   pub told : AreTold steps made
   pub once : (place : ℕ) → times place (places_of made) ≡ calls_at steps place
 
--- what was told as lost was told as won at an earlier place, and stands in what was won
+-- each claim told as lost was told as won at an earlier place, and its configuration is in the
+-- won list
 abbrev pub LostWereWon : List (ℕ × Seen) → List ℕ → Type 0
 LostWereWon made won = (place config : ℕ) → Contains made (place, seen.Tried config false)
     → (earlier : ℕ) × (earlier < place) × Contains made (earlier, seen.Tried config true) × (0 < times config won)
 
--- of each gap it was told at most once that it is closed, only where it has no count left, and always there if it had one at the opening
+-- each gap was told closed at most once, only if its count is 0, and always then if it had a live
+-- answer at the opening
 pub record TellsClosedGaps (s : Solving) (made : List (ℕ × Seen)) (counts : List ℕ) : Type 0 where
   pub once : (gap place other config another : ℕ) → Contains made (place, seen.Struck config (Some gap))
       → Contains made (other, seen.Struck another (Some gap)) → place ≡ other

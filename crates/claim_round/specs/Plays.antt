@@ -1,4 +1,4 @@
--- What each kind of step on a round's table tells.
+-- The contract of each kind of step on a round's table.
 use Rattle.std.specs.Prelude.{◌≡◌, ℕ, suc, ◌*◌, ◌<◌, ◌≤◌, ◌==◌, cond, [], ◌∷◌, ◌++◌, length, Some, None}
 use Rattle.atomic_table.specs.Table.{Me, Step}
 use Rattle.index_lists.specs.Lists.{times}
@@ -26,16 +26,18 @@ claimed v n place = record {
   since = suc place;
 }
 
--- a strike tells the count that it found, and stands at a place that is not before the seat's earlier ones
+-- a strike returns the count that it found, and stands at a place that is not before the seat's
+-- earlier ones
 abbrev pub TableStrikes : Step Unit0 → Me Unit0 View → ℕ → Me Unit0 View → Type 0
 TableStrikes s m n m' = (place : ℕ) × (m.0.since ≤ place) × (m'.0 ≡ view_struck m.0 s.word n place) × (m'.1 ≡ m.1) × (0 < n)
 
--- a claim tells the word that it found, and stands at such a place
+-- a claim returns the word that it found, and stands at such a place
 abbrev pub Claims : Step Unit0 → Me Unit0 View → ℕ → Me Unit0 View → Type 0
 Claims s m n m' = (place : ℕ) × (m.0.since ≤ place) × (m'.0 ≡ claimed m.0 n place) × (m'.1 ≡ m.1)
     × (length m'.0.has.won ≤ size m'.0.key)
 
--- what any state of the round says of one seat: its width is at most the round's, and its lists are no longer than they can be
+-- the bounds of a seat in any state of the round: its width is at most the round's, and its lists
+-- are no longer than they can be
 pub record IsBounded (v : View) : Type 0 where
   pub width : v.has.width ≤ v.key.width
   pub once : (x : ℕ) → times x v.has.won ≤ 1

@@ -19,17 +19,18 @@ most k = places k.solving.board
 abbrev pub size : Key → ℕ
 size k = configurations k.solving.board
 
--- what a seat may still owe: what it owes, and that number of members for each that it has to strike
+-- a bound on the entries that a seat may still owe: those that it owes, and `most` members for
+-- each configuration that it has to strike
 abbrev pub load : ℕ → View → ℕ
 load most v = length v.has.owed + most * length v.has.todo
 
--- who has a width knows the round, and who has none was told nothing
+-- a seat with a width knows the round, and a seat without was told nothing
 pub record KnowsRound (k : Key) (v : View) : Type 0 where
   pub round : 0 < v.has.width → v.key ≡ k
   pub nothing : v.has.width ≡ 0 → v.made ≡ []
 
--- the words and the seats have a history from an opening on, and no more is owed, or may be, than for each configuration that could
--- be struck
+-- the words and the seats have a history from an opening on, and the entries that all seats may
+-- still owe are at most `most` for each configuration
 pub record Kept (k : Key) (s : State Unit0 View) : Type 0 where
   pub solving : IsSolving k.solving
   pub history : IsHistory k s.words s.views

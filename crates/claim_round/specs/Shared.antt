@@ -1,4 +1,4 @@
--- A shared round as clauses see it: what is known of it and of its seats, how these split and join, and how it ends.
+-- A shared round as clauses see it: its key, its seats, how these split and join, and how it ends.
 use Rattle.std.specs.Prelude.{◌≡◌, ℕ, suc, max, ◌<◌, ◌≤◌, ◌↔◌, List, [], ◌++◌, length}
 use Rattle.std.specs.Prelude.{slice_index_or, Option, Some, None}
 use Rattle.atomic_table.specs.Seated.{TableId}
@@ -11,41 +11,41 @@ use Rattle.retro_core.specs.Round.{seat_kept, seat_new, seat_joined}
 use Rattle.retro_core.specs.declared.step.Seen.{Seen}
 use Rattle.solver.specs.Ending.{IsRoundEnd}
 
--- what a table is told: the solver whose round it is, and the round's width
+-- the key of a table: the solver whose round it is, and the round's width
 pub record Key : Type 0 where
   pub solving : Solving
   pub width : ℕ
 
--- what is known of a seat: its round, what it has, the answers of its strikes and claims, each with its place in the round's history, and
--- from which place on its next one can stand
+-- the view of a seat: its round, its width and lists, the answers of its strikes and claims, each
+-- with its place in the round's history, and the first place at which its next one can stand
 pub record View : Type 0 where
   pub key : Key
   pub has : PlainSeat
   pub made : List (ℕ × Seen)
   pub since : ℕ
 
--- what a clause sees of a shared round: which table it is, and its key
+-- a shared round in clauses: its table and its key
 pub record RoundId : Type 0 where
   pub table : TableId
   pub key : Key
 
--- what a clause sees of a seat: which table it is of, and its view
+-- a seat in clauses: its table and its view
 pub record Place : Type 0 where
   pub table : TableId
   pub view : View
 
--- the two seats after a split: what was told stays with the first, and both stand after it
+-- the two seats after a split: the answers told stay with the first, and both go on after them
 abbrev pub kept_part : View → View
 kept_part v = record { key = v.key; has = seat_kept v.has; made = v.made; since = v.since }
 
 abbrev pub new_part : View → View
 new_part v = record { key = v.key; has = seat_new v.has; made = []; since = v.since }
 
--- the seat after a join: it was told what both were, and stands after both
+-- the seat after a join: it was told the answers of both, and goes on after both
 abbrev pub view_joined : View → View → View
 view_joined v u = record { key = v.key; has = seat_joined v.has u.has; made = v.made ++ u.made; since = max v.since u.since }
 
--- ---- what clauses say
+-- ---- relations of clauses
 
 -- the seat is one of the round's
 abbrev pub IsOf : RoundId → Place → Type 0
@@ -55,7 +55,7 @@ IsOf r p = (p.table ≡ r.table) × (p.view.key ≡ r.key) × (0 < p.view.has.wi
 abbrev pub Stays : Place → Place → Type 0
 Stays p q = (q.table ≡ p.table) × (q.view.key ≡ p.view.key)
 
--- a seat was cut in two: what it keeps, and a new seat of the same table
+-- a seat was cut in two: the part that it keeps, and a new seat of the same table
 abbrev pub IsSplit : Place → Place → Place → Type 0
 IsSplit seat kept new = (kept.table ≡ seat.table) × (kept.view ≡ kept_part seat.view)
     × (new.table ≡ seat.table) × (new.view ≡ new_part seat.view)
@@ -64,13 +64,14 @@ IsSplit seat kept new = (kept.table ≡ seat.table) × (kept.view ≡ kept_part 
 abbrev pub IsJoined : Place → Place → Place → Type 0
 IsJoined into from both = (both.table ≡ into.table) × (both.view ≡ view_joined into.view from.view)
 
--- what a clause sees of a closed round: the count of each gap, the value of each configuration that has one, and what was won
+-- a closed round in clauses: the count of each gap, the value of each configuration that has one,
+-- and the configurations won
 pub record Ended : Type 0 where
   pub counts : List ℕ
   pub values : List (Option ℕ)
   pub won : List ℕ
 
--- the seat has the round's whole width and nothing left to do, and what was won is what it has won
+-- the seat has the round's whole width and nothing left to do, and the round's won list is its own
 abbrev pub IsClosedBy : RoundId → Place → Ended → Type 0
 IsClosedBy r p e = (p.view.has.width ≡ r.key.width) × (p.view.has.todo ≡ []) × (p.view.has.owed ≡ []) × (e.won ≡ p.view.has.won)
 

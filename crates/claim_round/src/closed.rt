@@ -1,4 +1,4 @@
-//! A closed round.
+//! The result of a shared round, in the form that a solver files.
 
 ghost use Rattle.std.specs.Prelude.{◌≡◌, ◌<◌, length, slice_index, slice_index_or, None};
 
@@ -7,7 +7,8 @@ use solver::{RoundEnd, value_of};
 use std::alloc::Global;
 use std::marker::Model;
 
-/// A round that was closed: its words, of which the first so many are counts, and what was won.
+/// A round that was closed: its words, of which the first `gaps` are counts, and the
+/// configurations won.
 pub struct Closed {
     pub(crate) rows: Rows<(), Global>,
     pub(crate) gaps: usize,
@@ -27,14 +28,14 @@ impl Model for Closed {
 }
 
 impl Closed {
-    /// What was won: the configurations of the next value.
+    /// The ranks of the configurations that were won: those of the next value.
     pub fn won(&self) -> &[u32]
         ensures { result.now ≡ self.now.won }
     {
         self.won.as_slice()
     }
 
-    /// How many answers of the gap have a result of a value above the round's.
+    /// The number of answers of `gap` whose result has a value above the round's.
     pub fn count_of(&self, gap: u32) -> u32
         requires { gap < length self.now.counts }
         ensures { result ≡ slice_index self.now.counts gap }
@@ -42,7 +43,7 @@ impl Closed {
         self.rows.word(gap as usize) as u32
     }
 
-    /// The value of a configuration, if it has one that is no greater than the round's next.
+    /// The value of configuration `rank`, if it has one that is at most the round's next.
     pub fn value_at(&self, rank: u32) -> Option<u32>
         requires { rank < length self.now.values }
         ensures { result ≡ slice_index_or self.now.values rank None }

@@ -1,4 +1,4 @@
-//! Room in a seat's lists, which is made before a step and filled behind it.
+//! Room in a seat's lists: it is made before a step and filled after it.
 
 ghost use Rattle.std.specs.VecDeque.{deque_capacity};
 ghost use Rattle.std.specs.Prelude.{◌≡◌, ◌<◌, ◌≤◌, ◌++◌, ◌+◌, ◌⊎◌, length, vec_capacity, MatchBool, IsTrue};
@@ -10,7 +10,8 @@ use index_lists::ListStore;
 use solver::Solver;
 use std::collections::VecDeque;
 
-/// How many places a list needs of what is won, where so many entries may be owed yet. No more are won than there are configurations.
+/// The capacity that a won list needs if up to `entries` may be won. No more are won than there
+/// are configurations.
 pub(crate) fn places_for<S: ListStore>(solver: &Solver<S>, entries: usize) -> usize
     ensures { (configurations solver.now.board ≤ result) ⊎ (entries ≤ result) }
 {
@@ -18,7 +19,7 @@ pub(crate) fn places_for<S: ListStore>(solver: &Solver<S>, entries: usize) -> us
     if entries < most { entries } else { most }
 }
 
-/// Makes room for so many more, if there is memory.
+/// Makes room for `more` entries after those of `list`; `false` if out of memory.
 pub(crate) fn make_room(list: &mut VecDeque<u32>, more: usize) -> bool
     ensures items { list.new.items ≡ list.old.items }
     ensures capacity { deque_capacity list.old ≤ deque_capacity list.new }
@@ -27,7 +28,7 @@ pub(crate) fn make_room(list: &mut VecDeque<u32>, more: usize) -> bool
     list.reserve_exact(more).is_ok()
 }
 
-/// Makes so many places in all, if there is memory.
+/// Makes room for `places` entries of `list` in all; `false` if out of memory.
 pub(crate) fn make_places(list: &mut Vec<u32>, places: usize) -> bool
     ensures items { list.new.items ≡ list.old.items }
     ensures room { MatchBool result (places ≤ vec_capacity list.new) (vec_capacity list.new ≡ vec_capacity list.old) }
@@ -36,7 +37,7 @@ pub(crate) fn make_places(list: &mut Vec<u32>, places: usize) -> bool
     list.reserve_exact(more).is_ok()
 }
 
-/// Owes the open members of a gap, for which there is room.
+/// Appends the open members of `gap` to `owed`, which has room for them.
 pub(crate) fn owe_members<S: ListStore>(owed: &mut VecDeque<u32>, solver: &Solver<S>, gap: u32)
     requires gap { gap < gaps solver.now.board }
     requires room { length owed.old.items + length (source solver.now gap) ≤ deque_capacity owed.old }

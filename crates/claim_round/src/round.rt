@@ -20,13 +20,15 @@ use std::alloc::Global;
 use std::collections::VecDeque;
 use std::marker::Model;
 
-/// A round of a solver at the value that it has reached, over shared words: one for each gap's count, and then one for each configuration.
+/// A round of a solver at the value that it has reached, over shared words: one for each gap's
+/// count, and then one for each configuration.
 ///
-/// A call waits for no other thread. A strike, a claim and a split make one step on one word. A join makes two: the join of
-/// the two seats, and a load that changes nothing. Contracts see which table of words it is, and the solver and the width
-/// that it was opened with. All calls together have one history, which is a run of the machine (`IsHistory`); each strike and
-/// each claim has its place in it. The calls of a seat stand in their order, and after those of the seats that it was split
-/// or joined from. No order is promised of the calls of two seats that never met.
+/// A call waits for no other thread. A strike, a claim and a split make one step on one word. A
+/// join makes two: the join of the two seats, and a load that changes nothing. Contracts see which
+/// table of words it is, and the solver and the width that it was opened with. All calls together
+/// have one history, which is a run of the machine (`IsHistory`); each strike and each claim has
+/// its place in it. The calls of a seat stand in their order, and after those of the seats that it
+/// was split or joined from. No order is promised of the calls of two seats that never met.
 #[derive(Drop)]
 pub struct SharedRound<'a, S: ListStore> {
     alloc: Global,
@@ -47,16 +49,16 @@ impl<'a, S: ListStore> Model for SharedRound<'a, S> {
     ghost invariant = { λ s. IsRound (record { solving = s.solver.now; width = s.width }) s.table.shared.key s.table.shared.table_id };
 }
 
-/// What a strike did.
+/// The result of a strike.
 #[derive(Clone, Copy, Debug, Drop, PartialEq, Eq)]
 pub struct Struck {
     /// The rank of the configuration that was struck.
     pub config: u32,
-    /// The gap, where that was its last live answer: its open members are now owed.
+    /// The gap, if that was its last live answer: its open members are now owed.
     pub closed: Option<u32>,
 }
 
-/// What a claim did.
+/// The result of a claim.
 #[derive(Clone, Copy, Debug, Drop, PartialEq, Eq)]
 pub struct Claim {
     /// The rank of the configuration that was claimed.
@@ -65,12 +67,12 @@ pub struct Claim {
     pub won: bool,
 }
 
-/// Why a round was not closed. The first that holds is told.
+/// Why a round was not closed: the first reason that holds.
 #[derive(Clone, Copy, Debug, Drop, PartialEq, Eq)]
 pub enum Why {
     /// Some of the round's width is with other seats.
     SeatsOut,
-    /// The seat has something to strike, or owes something.
+    /// The seat has configurations to strike, or owes some.
     WorkLeft,
 }
 
@@ -86,10 +88,12 @@ pub struct NotClosed<'a, S: ListStore> {
 }
 
 impl<'a, S: ListStore> SharedRound<'a, S> {
-    /// Opens a round at the value of a solver. Its first seat has all to strike and the whole width.
+    /// Opens a round at the value of `solver`. Its first seat has all the configurations to strike
+    /// and the whole `width`.
     ///
-    /// Beside the words it takes room for what the seat has to strike, for the members of one gap, and for what the seat
-    /// may win: the members of as many gaps as it has to strike, and no more than there are configurations.
+    /// Beside the words it takes room for the configurations to strike, for the members of one gap,
+    /// and for the configurations that the seat may win: the members of one gap for each one to
+    /// strike, and no more than there are configurations.
     pub fn open(
         alloc: Global,
         solver: &'a Solver<S>,
@@ -123,7 +127,8 @@ impl<'a, S: ListStore> SharedRound<'a, S> {
         Ok((round, seat))
     }
 
-    /// Strikes the first configuration: one step on the count of its dominator's gap.
+    /// Strikes the first configuration that `seat` has to strike: one step on the count of its
+    /// dominator's gap.
     pub fn strike(&self, seat: &mut RoundSeat) -> Struck
         requires mine { IsOf self.now seat.old }
         requires todo { 0 < length seat.old.view.has.todo }
@@ -155,7 +160,8 @@ impl<'a, S: ListStore> SharedRound<'a, S> {
         }
     }
 
-    /// Claims the first configuration that is owed: one step on its value word, and that single try decides.
+    /// Claims the first configuration that `seat` owes: one step on its value word, and that single
+    /// try decides.
     pub fn claim(&self, seat: &mut RoundSeat) -> Claim
         requires mine { IsOf self.now seat.old }
         requires owed { 0 < length seat.old.view.has.owed }
@@ -178,10 +184,12 @@ impl<'a, S: ListStore> SharedRound<'a, S> {
         Claim { config, won: false }
     }
 
-    /// Cuts what is to strike and the width in two, the larger half first. What is owed and won stays with the first seat.
-    /// A refusal comes before the step, and gives the seat back as it was.
+    /// Cuts the list to strike and the width of `seat` in two, the larger half first. The owed and
+    /// won configurations stay with the first seat. A refusal comes before the step, and gives
+    /// `seat` back as it was.
     ///
-    /// It takes the room that `open` takes for a seat, for the half that moves. The first seat keeps what it had.
+    /// It takes the room that `open` takes for a seat, for the half that moves. The first seat
+    /// keeps its room.
     pub fn split(&self, mut seat: RoundSeat) -> Result<(RoundSeat, RoundSeat), (RoundSeat, Memory)>
         requires mine { IsOf self.now seat }
         requires width { 2 ≤ seat.view.has.width }
@@ -214,14 +222,14 @@ impl<'a, S: ListStore> SharedRound<'a, S> {
         Ok((seat, new))
     }
 
-    /// Appends the second seat's lists to the first's, and adds the widths. A refusal comes before the step, and gives
-    /// both seats back as they were.
+    /// Appends the lists of `from` to those of `into`, and adds the widths. A refusal comes before
+    /// the step, and gives both seats back as they were.
     ///
-    /// Beside the step it makes one load, which changes nothing: from it is learned that the won list has no doubles and that
-    /// the lists are no longer than they can be.
+    /// Beside the step it makes one load, which changes nothing: by it the contract knows that the
+    /// won list has no doubles and that the lists are no longer than they can be.
     ///
-    /// The first seat's lists get room for what both have, and for what both may win, which is no more than there are
-    /// configurations.
+    /// The lists of `into` get room for the entries of both seats, and for those that both may win,
+    /// which are no more than there are configurations.
     pub fn join(
         &self,
         mut into: RoundSeat,
@@ -268,9 +276,10 @@ impl<'a, S: ListStore> SharedRound<'a, S> {
         Ok(into)
     }
 
-    /// Closes the round, with a seat of its whole width that has nothing left to do.
+    /// Closes the round, if `seat` has its whole width and nothing left to do.
     ///
-    /// The history is then whole: all strikes and claims that were made were told to this seat, or to one that was joined in.
+    /// The history is then whole: all strikes and claims that were made were told to this seat, or
+    /// to one that was joined in.
     pub fn close(self, seat: RoundSeat) -> Result<Closed, NotClosed<'a, S>>
         requires mine { IsOf self seat }
         ensures ok { IfOk result (λ c. IsClosedBy self.entry seat c) }

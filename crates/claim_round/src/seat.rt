@@ -1,4 +1,4 @@
-//! A seat of a round.
+//! The part of a round that one worker holds.
 
 ghost use Rattle.std.specs.Prelude.{◌≡◌, length};
 
@@ -7,9 +7,11 @@ use atomic_table::Seat;
 use std::collections::VecDeque;
 use std::marker::Model;
 
-/// A worker's share of a round: a width, and what it has to strike, owes and has won.
+/// A worker's share of a round: a width, and the configurations that it has to strike, owes and
+/// has won.
 ///
-/// It is what lets its holder make steps: each call on the round takes the seat. A seat that is dropped leaves its round open for good.
+/// Only the holder of a seat can make steps: each call on the round takes the seat. A seat that
+/// is dropped leaves its round open for good.
 #[derive(Drop)]
 pub struct RoundSeat {
     pub(crate) seat: Seat<(), Hand>,
@@ -32,28 +34,29 @@ impl Model for RoundSeat {
 }
 
 impl RoundSeat {
-    /// How many configurations it has to strike.
+    /// The number of configurations that the seat has to strike.
     pub fn todo(&self) -> u32
         ensures { result ≡ length self.now.view.has.todo }
     {
         self.todo.len() as u32
     }
 
-    /// How many configurations it owes.
+    /// The number of configurations that the seat owes.
     pub fn owed(&self) -> u32
         ensures { result ≡ length self.now.view.has.owed }
     {
         self.owed.len() as u32
     }
 
-    /// The ranks of the configurations that it has won, in the order of its claims.
+    /// The ranks of the configurations that the seat has won, in the order of its claims.
     pub fn won(&self) -> &[u32]
         ensures { result.now ≡ self.now.view.has.won }
     {
         self.won.as_slice()
     }
 
-    /// Its share of the round's width: how many seats of width 1 it can be split to.
+    /// The seat's share of the round's width: the number of seats of width 1 that it can be split
+    /// into.
     pub fn width(&self) -> u32
         ensures { result ≡ self.now.view.has.width }
     {

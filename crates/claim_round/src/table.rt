@@ -1,11 +1,11 @@
-//! The rule of a round's table, and what each kind of step tells.
+//! The rule of a round's table, and the contract of each kind of step.
 
 use atomic_table::{Join, Play, Split, TableRule};
 use index_lists::ListStore;
 use solver::Solver;
 use std::marker::Model;
 
-/// What a seat knows. No value of it is made.
+/// The knowledge of a seat, in contracts alone. No value of this type is made.
 pub struct Hand {
     none: (),
 }
@@ -19,7 +19,7 @@ impl Model for Hand {
     ghost view = { λ _. spent_view };
 }
 
-/// What the table is told when it is made.
+/// The solver and the width that a table is made for.
 #[derive(Drop)]
 pub struct Plan<'a, S: ListStore> {
     pub solver: &'a Solver<S>,

@@ -11,7 +11,8 @@ use std::alloc::Global;
 /// The word of a configuration without a value.
 pub const OPEN: u64 = solver::OPEN as u64;
 
-/// The words of a round at its opening: the count of each gap, and then the word of each configuration.
+/// The words of a round of `solver` at its opening: the count of each gap, and then the word of
+/// each configuration.
 pub(crate) fn first_words<S: ListStore>(
     alloc: Global,
     solver: &Solver<S>,
@@ -21,8 +22,8 @@ pub(crate) fn first_words<S: ListStore>(
 {
     let counts = solver.counts();
     let values = solver.words();
-    // Room for twice the words, half of it never touched: glibc keeps freed memory for the next round up to twice the
-    // largest block that was given back.
+    // Room for twice the words, half of it never touched: glibc keeps freed memory for the next
+    // round up to twice the largest block that was given back.
     let room = counts.len() + values.len();
     let mut words = Vec::with_capacity(alloc, 2 * room)?;
     append(&mut words, counts);
@@ -30,7 +31,7 @@ pub(crate) fn first_words<S: ListStore>(
     Ok(words)
 }
 
-/// Appends numbers, for which there is room.
+/// Appends `numbers` to `words`, which has room for them.
 fn append(words: &mut Vec<u64>, numbers: &[u32])
     requires { length words.old.items + length numbers.now ≤ vec_capacity words.old }
     ensures items { words.new.items ≡ words.old.items ++ numbers.now }

@@ -1,4 +1,4 @@
--- What is given has a row in the matches, and so has each argument with a default.
+-- Each argument that is given or has a default has a row in the matches.
 use Rattle.std.proofs.Common.{◌≡◌, ◌<◌, ◌++◌, ◌||◌, Bool, true, false, true≢false, List, [], ◌∷◌, length, Option, Some, None, is_some, refl, sym, cond, arith}
 use Rattle.std.specs.Prelude.{find, fold}
 use Rattle.std.specs.Option.{option_map_or}

@@ -1,4 +1,4 @@
--- Where the names of a parser lie in memory changes nothing of the faults that a command finds.
+-- The addresses of a parser's names don't change the faults that a command finds.
 use Rattle.std.proofs.Common.{◌≡◌, ◌∙◌, ◌+◌, ◌&&◌, ◌||◌, not, ℕ, Bool, true, false, List, [], ◌∷◌, length, Option, Some, None, is_some, refl, ap, ap₂, cond, option_map}
 use Rattle.std.specs.Prelude.{zero, suc, slice_get, drop, encode_utf8, min}
 use Rattle.std.specs.List.{list_any}

@@ -1,4 +1,4 @@
--- What one level of a parse that passes gives.
+-- The matches of one level of a parse that passes.
 use Rattle.std.proofs.Common.{◌≡◌, ◌∙◌, ◌<◌, ◌&&◌, ◌||◌, not, ℕ, Bool, true, false, true≢false, List, [], ◌∷◌, length, Option, Some, None, is_some, refl, sym, ap, subst, inl, inr, cond, arith, drop, ◌==◌}
 use Rattle.std.specs.Prelude.{find, fold, pos, unwrap_or}
 use Rattle.std.specs.List.{list_all}

@@ -1,4 +1,4 @@
--- Where the names of a parser lie in memory changes no rows of a walk.
+-- The addresses of a parser's names change no rows of a walk.
 use Rattle.std.proofs.Common.{◌≡◌, ◌∙◌, ◌&&◌, ◌||◌, ℕ, Bool, true, false, List, [], ◌∷◌, length, Option, Some, None, refl, ap, cond, map, option_map}
 use Rattle.std.specs.Prelude.{find, fold, zero, suc, slice_get, drop, encode_utf8}
 use Rattle.std.specs.Borrow.{Bor}

@@ -1,4 +1,5 @@
--- What a use of an argument keeps of the matches: each entry is an argument's, and has values that passed its parser.
+-- The invariant of the matches that each use of an argument keeps: each entry is an argument's, and
+-- has values that passed its parser.
 use Rattle.std.proofs.Common.{◌≡◌, ◌∙◌, ◌<◌, ◌≤◌, ◌⊎◌, ◌++◌, ◌&&◌, ◌||◌, Bool, true, false, true≢false, List, [], ◌∷◌, length, Option, Some, refl, sym, ap, subst, arith, inl, inr, cond}
 use Rattle.std.specs.Prelude.{⊤, find, nat_le}
 use Rattle.std.specs.List.{list_all}

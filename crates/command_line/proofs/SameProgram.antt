@@ -1,4 +1,5 @@
--- What the program's commands take and give doesn't depend on where the words for the sides lie.
+-- The words that the program's commands take, and their results, don't depend on the addresses of
+-- the words for the sides.
 use Rattle.std.proofs.Common.{◌≡◌, ◌∙◌, ◌++◌, ◌&&◌, ◌||◌, not, Bool, true, false, ℕ, List, [], ◌∷◌, Option, Some, None}
 use Rattle.std.proofs.Common.{is_some, refl, sym, ap, ap₂, cond, map, option_map, drop}
 use Rattle.std.specs.Prelude.{find, unwrap_or}

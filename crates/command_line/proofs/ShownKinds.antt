@@ -1,4 +1,4 @@
--- Which texts are shown for what `clap` finds.
+-- The texts that are shown for the faults that `clap` finds.
 use Rattle.std.proofs.Common.{◌≡◌, ◌⊎◌, inl, inr, subst}
 use Rattle.clap.specs.Kinds.{IsAmong, Kinds}
 use Rattle.clap.specs.declared.error.kind.ErrorKind.{ErrorKind}

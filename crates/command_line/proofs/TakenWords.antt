@@ -1,4 +1,4 @@
--- Where `clap` takes the words, the job can be read from its matches.
+-- If `clap` takes the words, the job can be read from its matches.
 use Rattle.std.proofs.Common.{◌≡◌, ◌∙◌, ◌<◌, ◌⊎◌, ◌++◌, ◌&&◌, ◌||◌, not, Bool, ℕ, List, [], ◌∷◌, length, Option, Some, None}
 use Rattle.std.proofs.Common.{is_some, true, false, true≢false, refl, sym, ap, subst, inl, inr, cond, codes, drop, arith}
 use Rattle.std.specs.Prelude.{⊤, find, fold, map, option_map, pos, unwrap_or}

@@ -1,4 +1,4 @@
--- Where the names of a parser lie in memory changes nothing of what a command takes.
+-- The addresses of a parser's names don't change the words that a command takes.
 use Rattle.std.proofs.Common.{◌≡◌, ◌∙◌, ◌+◌, ◌&&◌, ◌||◌, not, ℕ, Bool, true, false, List, [], ◌∷◌, length, Option, Some, None, is_some, refl, ap, cond, option_map}
 use Rattle.std.specs.Prelude.{zero, suc, slice_get, drop, encode_utf8, min, nat_le}
 use Rattle.std.specs.List.{list_all, list_any}

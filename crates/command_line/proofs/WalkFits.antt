@@ -1,4 +1,4 @@
--- What the walk over the words keeps of the matches.
+-- The invariant of the matches that the walk over the words keeps.
 use Rattle.std.proofs.Common.{◌≡◌, ◌&&◌, not, ℕ, Bool, true, false, List, [], ◌∷◌, length, Option, Some, None, is_some, refl, cond}
 use Rattle.std.specs.Prelude.{⊤, zero, suc, slice_get, drop, encode_utf8}
 use Rattle.std.specs.Option.{option_map_or}

@@ -9,7 +9,7 @@ use Rattle.nested_cycles.specs.declared.nested_boards.TheConstants.{MAX_BOARD_LE
 use Rattle.nested_cycles.specs.declared.game.TheConstants.{MAX_LEVELS}
 use Rattle.command_line.specs.declared.asked.TheConstants.{MAX_WORKERS}
 
--- a word that has to be there, and one that has to be a number from 1 to `most`
+-- a word that must be given, and one that must be a number from 1 to `most`
 abbrev pub path : Text → Rule
 path id = record (new_rule id) { required = true; value_names = 1 }
 
@@ -20,7 +20,7 @@ number id most = record (new_rule id) {
   parser = Some (vp.Signed (pos 1) (pos most));
 }
 
--- the option for the number of workers, which is 1 where the option isn't there
+-- the option for the number of workers, which is 1 if the option isn't given
 abbrev pub workers : Rule
 workers = record (new_rule (codes "workers")) {
   long = Some (codes "workers");
@@ -52,7 +52,7 @@ nested = command (codes "nested") (number (codes "levels") MAX_BOARD_LEVELS ∷ 
 abbrev pub side_words : List Text
 side_words = codes "labeller" ∷ codes "adversary" ∷ []
 
--- the option for the side that the person plays, which has to be there and to be one of these words
+-- the option for the side that the person plays, which must be given as one of these words
 abbrev pub side_among : Bor (List (Bor Text)) → Rule
 side_among words = record (new_rule (codes "side")) {
   long = Some (codes "side");
@@ -78,7 +78,7 @@ commands_among words =
     ∷ climb
     ∷ []
 
--- the program with these commands, one of which has to be named
+-- the program with these commands, one of which must be named
 abbrev pub program_of : List Shape → App
 program_of commands = record {
   top = record (new_shape (codes "pebbles")) { is_leaf = false; has_version = true; subcommand_required = true };
@@ -88,7 +88,7 @@ program_of commands = record {
 abbrev pub program_among : Bor (List (Bor Text)) → App
 program_among words = program_of (commands_among words)
 
--- a value behind a reference; what `clap` reads doesn't depend on where it lies
+-- a value behind a reference; `clap` reads the same wherever it lies
 abbrev pub somewhere : {X : Type 0} → X → Bor X
 somewhere x = record { ref_ptr = (0, 0); now = x }
 

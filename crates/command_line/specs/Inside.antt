@@ -1,2 +1,2 @@
--- What the clauses of this crate's own functions cite, and no public contract.
+-- Definitions that clauses of this crate's own functions cite, and no public contract.
 pub mod Reading

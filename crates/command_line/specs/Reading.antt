@@ -47,12 +47,13 @@ AsksFor name rows (jobs.Play side board) = (name ≡ codes "play")
     × (first_of (codes "board") rows ≡ Some board.now)
 AsksFor name rows (jobs.Climb levels) = (name ≡ codes "climb") × HasNumber rows (codes "levels") MAX_LEVELS levels
 
--- what `clap` finds on the words asks for the job
+-- the command that `clap` finds on the words asks for the job
 abbrev pub IsReadAs : Option (Text × List Row) → Job → Type 0
 IsReadAs None job = ⊥
 IsReadAs (Some found) job = AsksFor found.0 found.1 job
 
--- the numbers of the job are those of boards that can be made or played on unmade, and of workers that can be started
+-- the numbers of the job are those of boards that can be made or played on unmade, and of workers
+-- that can be started
 abbrev pub IsInRange : Job → Type 0
 IsInRange jobs.Joined = Unit {0}
 IsInRange (jobs.Check board proof) = Unit {0}
@@ -62,14 +63,15 @@ IsInRange (jobs.Report workers board) = (1 ≤ workers) × (workers ≤ MAX_WORK
 IsInRange (jobs.Play side board) = Unit {0}
 IsInRange (jobs.Climb levels) = (1 ≤ levels) × (levels ≤ MAX_LEVELS)
 
--- which texts are shown for an error of this kind: help and the version as such, and all others as wrong use
+-- the texts that are shown for an error of this kind: help and the version as such, and all others
+-- as wrong use
 abbrev pub ShowsKind : ErrorKind → JobFault → Type 0
 ShowsKind kind (Help text) = (kind ≡ kinds.DisplayHelp) ⊎ (kind ≡ kinds.DisplayVersion)
 ShowsKind kind (Usage text) = (kind ≢ kinds.DisplayHelp) × (kind ≢ kinds.DisplayVersion)
 ShowsKind kind Memory = Unit {0}
 
--- a text that was asked for is shown where `clap` finds that help or the version was asked for, and the usage where it finds
--- something else, or nothing
+-- a text that was asked for is shown if `clap` finds that help or the version was asked for, and
+-- the usage if it finds something else, or nothing
 abbrev pub Shows : Kinds → JobFault → Type 0
 Shows found (Help text) = IsAmong kinds.DisplayHelp found ⊎ IsAmong kinds.DisplayVersion found
 Shows found (Usage text) = (found ≡ [])

@@ -1,4 +1,4 @@
-//! What the program can be asked to do, and why it is asked for nothing.
+//! Jobs of the command line, and why words give none.
 
 ghost use Rattle.std.specs.Prelude.{◌≡◌};
 ghost use Rattle.command_line.specs.declared.asked.JobFault.TheVariants as fault;
@@ -6,29 +6,32 @@ ghost use Rattle.command_line.specs.declared.asked.JobFault.TheVariants as fault
 use positions::Side;
 use std::alloc::AllocError;
 
-/// How many workers may be asked for at most.
+/// The largest number of workers that may be asked for.
 pub const MAX_WORKERS: u8 = 16;
 
-/// What the program is asked to do.
+/// A job that the program is asked to do.
 #[derive(Clone, Copy, Debug, PartialEq, Eq)]
 pub enum Job<'a> {
     /// Check the strategy document that follows a board on standard input.
     Joined,
     /// Check the strategy document for the board. Both are paths.
     Check { board: &'a str, proof: &'a str },
-    /// Write the nested board with so many levels and pebbles, each 1 to 6.
+    /// Write the nested board with these numbers of levels and pebbles, each 1 to 6.
     Nested { levels: u8, pebbles: u8 },
     /// Solve the board, a path, with 1 to 16 workers, and write its strategy document.
     Solve { workers: u8, board: &'a str },
-    /// Solve the board, a path, with 1 to 16 workers, and write how many configurations have each value.
+    /// Solve the board, a path, with 1 to 16 workers, and write the number of configurations of
+    /// each value.
     Report { workers: u8, board: &'a str },
-    /// Play on the board, a path. The person plays this side, by lines of standard input, and the program the other one.
+    /// Play on the board, a path. The person plays this side, by lines of standard input, and the
+    /// program the other one.
     Play { side: Side, board: &'a str },
-    /// Play on the nested board with so many levels, 1 to 24, and as many pebbles. The person is the adversary, by lines of standard input.
+    /// Play on the nested board with this number of levels, 1 to 24, and as many pebbles. The
+    /// person is the adversary, by lines of standard input.
     Climb { levels: u8 },
 }
 
-/// Why the words ask for nothing that can be done.
+/// Why words give no job.
 #[derive(Debug, Drop)]
 pub enum JobFault {
     /// Help, or the version, was asked for.

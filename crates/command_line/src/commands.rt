@@ -18,13 +18,13 @@ const VERSION: &str =
 /// The command may be left out.
 const USAGE: &str = "pebbles [COMMAND]";
 
-/// What the program is for.
+/// The purpose of the program.
 const ABOUT: &str =
     "Finds and checks strategies for the pebble game, whose boards are bounded timestamp systems.\n\n\
     Without a command it reads a board and after it a strategy document from standard input, and \
     writes what `check` writes.";
 
-/// What the statuses mean, with an example.
+/// The meaning of the exit statuses, with an example.
 const AFTER_HELP: &str = "Exit statuses:\n  \
     0  done, or help or the version was asked for\n  \
     1  a fault in the text of a board or a document, or a board that is too large\n  \
@@ -102,7 +102,7 @@ pub(crate) fn program<'a>(alloc: Global) -> Result<Command<'a>, AllocError>
     program_among(alloc, SIDES.as_slice())
 }
 
-/// All commands, with these words for the sides of a play.
+/// All commands, with the words `sides` for the sides of a play.
 fn program_among<'a>(alloc: Global, sides: &'a [&'a str]) -> Result<Command<'a>, AllocError>
     ensures { IfOk result (λ c. app_of c ≡ commands.program_among sides.entry) }
 {
@@ -225,7 +225,7 @@ fn climb<'a>(alloc: Global) -> Result<Command<'a>, AllocError>
         .arg(levels)
 }
 
-/// The side that the person plays, one of these words.
+/// The option for the side that the person plays, one of the words `sides`.
 fn side<'a>(alloc: Global, sides: &'a [&'a str]) -> Arg<'a>
     ensures rule { rule_of result ≡ commands.side_among sides.entry }
     ensures local { result.global ≡ false }
@@ -238,7 +238,7 @@ fn side<'a>(alloc: Global, sides: &'a [&'a str]) -> Arg<'a>
         .help("The side that you play")
 }
 
-/// A path that has to be there.
+/// A path that must be given.
 fn path<'a>(alloc: Global, id: &'a str, name: &'a str, help: &'a str) -> Arg<'a>
     ensures rule { rule_of result ≡ commands.path id.entry.now }
     ensures local { result.global ≡ false }
@@ -249,7 +249,7 @@ fn path<'a>(alloc: Global, id: &'a str, name: &'a str, help: &'a str) -> Arg<'a>
         .help(help)
 }
 
-/// A number from 1 to `most` that has to be there.
+/// A number from 1 to `most` that must be given.
 fn count<'a>(alloc: Global, id: &'a str, name: &'a str, most: u8, help: &'a str) -> Arg<'a>
     ensures rule { rule_of result ≡ commands.number id.entry.now most }
     ensures local { result.global ≡ false }
@@ -261,7 +261,7 @@ fn count<'a>(alloc: Global, id: &'a str, name: &'a str, most: u8, help: &'a str)
         .help(help)
 }
 
-/// How many workers solve a board, 1 to `MAX_WORKERS`; 1 where the option isn't there.
+/// The option for the number of workers, 1 to `MAX_WORKERS`; 1 if it isn't given.
 fn workers<'a>(alloc: Global) -> Arg<'a>
     ensures rule { rule_of result ≡ commands.workers }
     ensures local { result.global ≡ false }

@@ -1,4 +1,4 @@
-//! What the words of the command line ask the program for.
+//! Reads the words of the command line into the job that they ask for.
 #![tactic(auto)]
 
 mod asked;

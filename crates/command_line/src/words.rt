@@ -17,11 +17,11 @@ use nested_cycles::{MAX_BOARD_LEVELS, MAX_LEVELS};
 use positions::Side;
 use std::alloc::Global;
 
-/// The job that the words ask for, the program's name first.
+/// The job that `words` ask for, the program's name first.
 ///
-/// Without a word after the name it is `Job::Joined`. All other words are read by `clap`, exactly: there is a job only if it
-/// finds no fault in them, and words that it takes are refused only if memory runs out. `--help`, `help` and `--version` are
-/// answered with the text that they ask for.
+/// Without a word after the name it is `Job::Joined`. All other words are read by `clap`, exactly:
+/// there is a job only if it finds no fault in them, and words that it takes are refused only if
+/// memory runs out. `--help`, `help` and `--version` are answered with the text that they ask for.
 pub fn job<'a, 'w>(alloc: Global, words: &'a [&'w str]) -> Result<Job<'a>, JobFault>
     ensures joined { (result ≡ Ok Job.Joined) ↔ (length words.now ≤ 1) }
     ensures job { IfOk result (λ j. (j ≡ Job.Joined)
@@ -39,7 +39,7 @@ pub fn job<'a, 'w>(alloc: Global, words: &'a [&'w str]) -> Result<Job<'a>, JobFa
     named_job(alloc, words)
 }
 
-/// The job of the command that the words name.
+/// The job of the command that `words` name.
 fn named_job<'a, 'w>(alloc: Global, words: &'a [&'w str]) -> Result<Job<'a>, JobFault>
     ensures job { IfOk result (IsReadAs (subcommand_of commands.program (texts words.now))) }
     ensures faultless { OnOk result (fault_of commands.program (texts words.now) ≡ []) }
@@ -62,7 +62,7 @@ fn named_job<'a, 'w>(alloc: Global, words: &'a [&'w str]) -> Result<Job<'a>, Job
     }
 }
 
-/// The fault with the text of the error, for the reader of help or of the usage.
+/// The fault with the text of `error`, for the reader of help or of the usage.
 fn fault(alloc: Global, error: &Error) -> JobFault
     ensures memory { kind_of error.now ≡ ErrorKind.OutOfMemory → result ≡ JobFault.Memory }
     ensures shows { ShowsKind (kind_of error.now) result }
@@ -77,7 +77,7 @@ fn fault(alloc: Global, error: &Error) -> JobFault
     }
 }
 
-/// The job of the command that the words named.
+/// The job of the command that was named, if `matches` have its values.
 fn chosen<'a>(matches: &ArgMatches<'a>) -> Option<Job<'a>>
     ensures some { IfSome result (λ j. IsReadAs (subcommand_rows_of matches.now) j) }
     ensures numbers { IfSome result IsInRange }
@@ -95,7 +95,7 @@ fn chosen<'a>(matches: &ArgMatches<'a>) -> Option<Job<'a>>
     }
 }
 
-/// The command that was named, with its matches.
+/// The command that `matches` name, with its own matches.
 fn named<'m, 'a>(matches: &'m ArgMatches<'a>) -> Option<(&'a str, &'m ArgMatches<'a>)>
     ensures { subcommand_rows_of matches.now
         ≡ option_map (λ p. (p.0.now, rows_of (found_of p.1.now))) result }

@@ -1,4 +1,5 @@
--- A configuration lasts for ever exactly where a closed table lists it, and finite values are below their number.
+-- A configuration lasts for ever exactly if a closed table lists it, and finite values are below
+-- their number.
 use Rattle.std.proofs.Common.{◌≡◌, ℕ, suc, ◌<◌, List, [], get_or, refl, ◌∙◌, ap, subst, arith, inl, inr}
 use Rattle.std.proofs.lemmas.Bool.{cases_lt}
 use Rattle.board_text.specs.PlainBoard.{PlainBoard, plain_board, IsConfiguration}

@@ -1,4 +1,4 @@
--- Two pebbles last only where domination has a cycle.
+-- Two pebbles last only if domination has a cycle.
 use Rattle.std.proofs.Common.{◌≡◌, ◌↔◌, ◌≢◌, ℕ, zero, suc, ◌+◌, ◌-◌, ◌==◌, ◌<◌, ◌≤◌, List, [], ◌∷◌, length}
 use Rattle.std.proofs.Common.{get_or, set, replicate, refl, sym, ◌∙◌, ap, subst, arith, inl, inr, cond}
 use Rattle.std.specs.Prelude.{All, Contains}

@@ -1,4 +1,4 @@
--- A claim holds of the start exactly where some document that breaks no rule makes it.
+-- A claim holds of the start exactly if some document that breaks no rule makes it.
 use Rattle.std.proofs.Common.{◌≡◌, ℕ, zero, suc, ◌-◌, ◌<◌, ◌≤◌, List, [], length, get_or, map, refl, sym, ◌∙◌, ap}
 use Rattle.std.proofs.Common.{subst, arith, inl, inr}
 use Rattle.std.specs.Prelude.{AllPairs, Contains}

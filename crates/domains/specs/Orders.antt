@@ -2,7 +2,7 @@
 use Rattle.std.specs.Prelude.{ℕ, ◌<◌}
 use Rattle.board_text.specs.PlainBoard.{PlainBoard, Beats}
 
--- labels have heights below the count, and what beats a label is higher
+-- labels have heights below the count, and a label is higher than those that it beats
 pub record HasHeights (board : PlainBoard) (height : ℕ → ℕ) (count : ℕ) : Type 0 where
   pub low : (label : ℕ) → label < board.labels → height label < count
   pub higher : (x y : ℕ) → x < board.labels → y < board.labels

@@ -5,7 +5,7 @@ use Rattle.positions.specs.declared.value.Value.{Value}
 use Rattle.positions.specs.Value.{HasValue}
 use Rattle.strategies.specs.Best.{IsLess}
 
--- the value is not greater than the bound, where forever is greater than all numbers
+-- the value is not greater than the bound; forever is greater than all numbers
 abbrev pub IsAtMost : Value → Value → Type 0
 IsAtMost value bound = ¬ IsLess bound value
 

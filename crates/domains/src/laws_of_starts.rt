@@ -11,7 +11,7 @@ ghost use Rattle.domains.specs.Cycles.{AreBeaten};
 ghost use Rattle.domains.specs.Dominated.{AreDominated, IsHeld};
 ghost use Rattle.domains.specs.Orders.{HasHeights, IsChain};
 
-/// Every start lasts for ever exactly where each list of one label fewer than there are pebbles is
+/// Every start lasts for ever exactly if each list of one label fewer than there are pebbles is
 /// dominated by a label; one request answered from every start is enough to see it.
 pub fn dominated_boards_last()
     ensures last { (board : PlainBoard) → (count : ℕ) → (configuration : List ℕ)
@@ -24,9 +24,9 @@ pub fn dominated_boards_last()
         → AreDominated board count }
 {}
 
-/// No order carries two processes for ever. On a board whose labels have heights, so that what
-/// beats a label is higher, a value is at most the number of heights, also if no label is held; and
-/// no more requests are answered than there are heights above a label that is held.
+/// No order carries two processes for ever. On a board whose labels have heights, so that a label
+/// is higher than those that it beats, a value is at most the number of heights, also if no label
+/// is held; and no more requests are answered than there are heights above a label that is held.
 pub fn orders_end()
     ensures end { (board : PlainBoard) → (height : ℕ → ℕ) → (count : ℕ) → (depth : ℕ)
         → (configuration : List ℕ) → (pebble : ℕ) → HasHeights board height count
@@ -47,7 +47,7 @@ pub fn chains_have_their_value()
         → 2 ≤ board.pebbles → HasValue board (replicate board.pebbles 0) (Finite more) }
 {}
 
-/// Two pebbles last for ever from some start exactly where domination has a cycle: from each start
+/// Two pebbles last for ever from some start exactly if domination has a cycle: from each start
 /// on labels of which each is beaten by one of them. If they last as many requests as there are
 /// labels, there are such labels.
 pub fn two_pebbles_last_on_cycles()

@@ -12,7 +12,7 @@ ghost use Rattle.positions.specs.declared.value.Value.TheVariants.{Finite, Forev
 ghost use Rattle.domains.specs.Minimax.{IsMinimax};
 ghost use Rattle.domains.specs.ValueOrder.{IsWorthAtMost};
 
-/// A function gives each configuration of a board its value exactly where it solves the minimax
+/// A function gives each configuration of a board its value exactly if it solves the minimax
 /// equation: each value is the least over the pebbles of the greatest over the legal labels of one
 /// more than the value after the move.
 pub fn values_solve_one_equation()
@@ -21,7 +21,7 @@ pub fn values_solve_one_equation()
         → HasValue board configuration (value configuration)) ↔ IsMinimax board value }
 {}
 
-/// A value is at most another one exactly where a labeller who answers any number of requests from
+/// A value is at most another one exactly if a labeller who answers any number of requests from
 /// the first configuration answers as many from the second. Each list with a place for each pebble
 /// has one value, also with places that hold no label on a board whose start has none of these.
 pub fn values_compare_as_trees()
@@ -33,7 +33,7 @@ pub fn values_compare_as_trees()
         → length configuration ≡ board.pebbles → HasOneValue board configuration }
 {}
 
-/// A configuration has the value forever exactly where some closed table lists it: one strategy for
+/// A configuration has the value forever exactly if some closed table lists it: one strategy for
 /// any number of requests. A finite value is below the number of configurations.
 pub fn for_ever_is_a_closed_table()
     ensures table { (board : PlainBoard) → (configuration : List ℕ)

@@ -1,4 +1,4 @@
-//! Laws of label domains: what follows from the rule of a domain and from others that are known.
+//! Laws of label domains: consequences of a domain's rule and of other domains that are known.
 #![tactic(auto)]
 
 #[cfg(test)]

@@ -25,11 +25,12 @@ pub struct Solved {
     pub document: Proof,
 }
 
-/// The value of the board's start, and the document that means it: it claims the value, its tables
-/// show the claim, it breaks no rule of checking, and there is no other document of the board.
+/// The value of the start of `board`, and the document that means it: it claims the value, its
+/// tables show the claim, it breaks no rule of checking, and there is no other document of the
+/// board.
 ///
 /// It works on this thread. It answers `TooLarge` for a board of more than 1,048,576
-/// configurations, and `Memory` where a growth of memory was refused.
+/// configurations, and `Memory` if a growth of memory was refused.
 pub fn solve_board(alloc: Global, board: &Board) -> Result<Solved, SolveFault>
     ensures value { IfOk result (λ solved. HasValue board.now board.now.start solved.value) }
     ensures means { IfOk result (λ solved.
@@ -56,7 +57,7 @@ pub fn solve_board(alloc: Global, board: &Board) -> Result<Solved, SolveFault>
     }
 }
 
-/// The values of a board.
+/// The values of `board`.
 fn values_of(alloc: Global, board: &Board) -> Result<Values, SolveFault>
     ensures values { IfOk result (λ values. values ≡ board.now) }
     ensures few { IfOk result (λ _. (MAX_CONFIGURATIONS < configurations board.now) → ⊥) }

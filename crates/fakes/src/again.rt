@@ -1,13 +1,14 @@
-//! Asking once more where memory was refused.
+//! Asking once more if memory was refused.
 //!
-//! A run of the tests may refuse one growth of memory, whichever. So a call that was refused one is made once more.
+//! A run of the tests may refuse one growth of memory, whichever. So a call that was refused one is
+//! made once more.
 
 ghost use Rattle.std.specs.Prelude.{◌≡◌, true, false};
 
-/// What came of a call.
+/// The outcome of a call.
 #[derive(Clone, Copy, Debug, PartialEq, Eq)]
 pub enum Outcome {
-    /// It answered and wrote what it should.
+    /// Its answer and its output are right.
     Right,
     /// It was refused memory, and wrote no more than it may then.
     Refused,
@@ -16,7 +17,7 @@ pub enum Outcome {
 }
 
 impl Outcome {
-    /// The outcome of a call that was refused memory or not, and did what it should.
+    /// The outcome of a call that was refused memory or not, and whose output was right or not.
     pub fn of(is_refused: bool, is_right: bool) -> Outcome
         ensures right { result ≡ Outcome.Right → (is_refused ≡ false) × (is_right ≡ true) }
         ensures refused { result ≡ Outcome.Refused → (is_refused ≡ true) × (is_right ≡ true) }
@@ -29,7 +30,8 @@ impl Outcome {
     }
 }
 
-/// Whether a call comes out right. One that was refused memory is made once more, and is to come out right then.
+/// Whether `call` comes out right. If it is refused memory, it is made once more, and must come
+/// out right then.
 pub fn comes_right<F: Fn() -> Outcome>(call: F) -> bool
     requires { F.IsAlwaysCallable call }
 {

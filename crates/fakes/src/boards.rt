@@ -35,12 +35,12 @@ pub const CYCLE_WITHOUT_LABELS: &str = "board 2\nlabels 3\npebbles 2\nstart - -\
 /// One label, and one pebble that doesn't hold it yet.
 pub const LONE_WITHOUT_LABEL: &str = "board 2\nlabels 1\npebbles 1\nstart -\nend\n";
 
-/// As many labels and configurations as the solver takes, and no label that dominates another.
+/// As many configurations as the solver takes, and no label that dominates another.
 pub const NO_PAIRS: &str = "board 1\nlabels 32\npebbles 4\nstart 31 0 7 7\nend\n";
 
 /// Three labels in a cycle, and one pebble: the nested board of the second level.
 pub const CYCLE_WITH_ONE_PEBBLE: &str = "board 1\nlabels 3\npebbles 1\nstart 0\n\
     beats 0 2\nbeats 1 0\nbeats 2 1\nend\n";
 
-/// One label more than the solver takes with so many pebbles.
+/// One label more than the solver takes with four pebbles.
 pub const TOO_MANY_CONFIGURATIONS: &str = "board 1\nlabels 33\npebbles 4\nstart 0 0 0 0\nend\n";

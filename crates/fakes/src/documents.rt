@@ -39,7 +39,7 @@ pub const CHAIN_MOST_TWO: &str = "proof 1\nmost 2\nadversary 4\nat 0 0 for 2 ask
 pub const LONE_WITHOUT_LABEL_FOREVER: &str =
     "proof 1\nforever\nlabeller 2\nat 0 for * take 0\nat - for * take 0\nend\n";
 
-/// For two labels and pebbles that hold none yet: the pair's own play stands behind two first answers.
+/// For two labels and pebbles that hold none yet: the pair's own play follows two first answers.
 pub const PAIR_WITHOUT_LABELS_VALUE_TWO: &str = "proof 1\nvalue 2\nlabeller 3\n\
     at 0 - for 1 take 0 1\nat - 0 for 1 take 1 0\nat - - for 2 take 0 0\n\
     adversary 4\nat 0 1 for 0 ask 0\nat 0 - for 1 ask 1\nat 1 - for 0 ask 1\n\

@@ -31,7 +31,7 @@ impl<'a> Drip<'a> {
         }
     }
 
-    /// What it hasn't given yet.
+    /// The bytes that it hasn't given yet.
     pub fn rest(&self) -> &[u8] {
         self.rest
     }
@@ -76,7 +76,8 @@ pub enum Failing {
     TakesNothing,
 }
 
-/// Takes one byte a call, at most `ROOM` in all. Once its good calls or its room are used up, a call fails.
+/// Takes one byte a call, at most `ROOM` in all. Once its good calls or its room are used up, a
+/// call fails.
 #[derive(Drop)]
 pub struct Trickle<const ROOM: usize> {
     bytes: [u8; ROOM],
@@ -101,7 +102,7 @@ impl<const ROOM: usize> Trickle<ROOM> {
         }
     }
 
-    /// What it has taken.
+    /// The bytes that it has taken.
     pub fn taken(&self) -> &[u8] {
         &self.bytes[..self.count]
     }

@@ -1,5 +1,5 @@
-//! What tests share: the texts of boards, of documents and of plays, readers and writers that are slow or that fail, and asking once
-//! more where memory was refused.
+//! Parts that tests share: the texts of boards, of documents and of plays, readers and writers
+//! that are slow or that fail, and asking once more if memory was refused.
 #![tactic(auto)]
 
 mod again;

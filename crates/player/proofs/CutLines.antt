@@ -1,4 +1,4 @@
--- Lines that are cut from what was read.
+-- Lines that are cut from the bytes that were read.
 use Rattle.std.proofs.Common.{◌≡◌, ◌≢◌, ℕ, suc, ◌+◌, ◌≤◌, ◌<◌, true, false, List, [], ◌∷◌, ◌++◌, length, take, drop, inl, inr, sym, ap, ◌∙◌, subst, arith, append-nil, append_assoc, take-append-drop, length-take-le}
 use Rattle.std.specs.Prelude.{Option, None, Some, MatchOption, slice_index}
 use Rattle.std.specs.Io.KnownBytes.{Consumes}

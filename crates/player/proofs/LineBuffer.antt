@@ -1,4 +1,4 @@
--- What stands in a buffer after its part was moved to the front and more was read behind it.
+-- The bytes of a buffer after its part was moved to the start and more bytes were read after it.
 use Rattle.std.proofs.Common.{◌≡◌, ℕ, ◌+◌, ◌-◌, ◌≤◌, List, ◌++◌, length, take, drop, sym, ap, ◌∙◌, subst, arith, length-take-le, length-drop, drop_at}
 use Rattle.std.specs.List.{copy_within}
 use Rattle.std.proofs.lemmas.List.{drop-take}

@@ -1,4 +1,4 @@
--- Ranks after a move, and texts that were put behind others.
+-- Ranks after a move, and texts that were appended to others.
 use Rattle.std.proofs.Common.{◌≡◌, ℕ, ◌<◌, List, [], ◌++◌, sym, ap, ◌∙◌, subst}
 use Rattle.std.specs.Prelude.{Option, Result, Ok, Err, IfOk}
 use Rattle.board_text.specs.PlainBoard.{PlainBoard}

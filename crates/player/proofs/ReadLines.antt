@@ -1,4 +1,4 @@
--- The lines that came so far, and what is left of what was read.
+-- The lines that came so far, and the bytes that were read after them.
 use Rattle.std.proofs.Common.{◌≡◌, ℕ, ◌<◌, ◌≤◌, true, false, List, [], ◌∷◌, ◌++◌, length, All, inl, inr, refl, sym, ap, ◌∙◌, subst, arith, append-nil, append_assoc}
 use Rattle.std.specs.Prelude.{Option, None, Some, ◌⊎◌}
 use Rattle.std.specs.List.{flat_map}

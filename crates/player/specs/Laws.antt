@@ -1,4 +1,4 @@
--- What plays have to do with the value of the start.
+-- The ends of plays that the value of the start allows.
 use Rattle.std.specs.Prelude.{◌≡◌, ℕ, zero, suc, ◌≤◌, List}
 use Rattle.board_text.specs.Ranges.{InRange}
 use Rattle.board_text.specs.PlainBoard.{PlainBoard, IsBoard}
@@ -19,13 +19,15 @@ HasReached board requests = (number : ℕ) × HasValue board board.start (Finite
 abbrev pub IsWithin : PlainBoard → ℕ → Type 0
 IsWithin board requests = (number : ℕ) × HasValue board board.start (Finite number) × (requests ≤ number)
 
--- an end of a play with a person who is the adversary: no label is legal only once as many requests are answered as the value has
+-- an end of a play with a person who is the adversary: no label is legal only once as many requests
+-- are answered as the value has
 abbrev pub IsNoSooner : PlainBoard → PlayEnd → Type 0
 IsNoSooner board (Stuck requests) = HasReached board requests
 IsNoSooner board (Stopped requests) = Unit {0}
 IsNoSooner board NoStrategy = ⊥
 
--- an end of a play with a person who is the labeller: no more requests are answered than the value has, unless that is forever
+-- an end of a play with a person who is the labeller: no more requests are answered than the value
+-- has, unless that is forever
 abbrev pub IsNoLater : PlainBoard → PlayEnd → Type 0
 IsNoLater board (Stuck requests) = IsWithin board requests
 IsNoLater board (Stopped requests) = IsWithin board requests
@@ -47,7 +49,7 @@ KeepsToValue (PersonAsks board) end = IsNoSooner board end
 KeepsToValue (PersonAnswers board) end = IsNoLater board end
 KeepsToValue (PersonClimbs levels) end = IsStopped end
 
--- a play of best requests and best answers ends after so many answers
+-- a play of best requests and best answers ends after this number of answers
 abbrev pub EndsBestPlay : PlainBoard → List ℕ → ℕ → Type 0
 EndsBestPlay board configuration zero = (pebble : ℕ) × IsBestRequest board configuration pebble
     × ((label : ℕ) → Legal board configuration pebble label → ⊥)

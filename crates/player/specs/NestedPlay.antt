@@ -5,8 +5,8 @@ use Rattle.board_text.specs.PlainBoard.{PlainBoard, AreLabels, Beats}
 use Rattle.nested_cycles.specs.Domination.{labels_of, NestedBeats}
 use Rattle.nested_cycles.specs.GoodWords.{NestedGood}
 
--- The labels of a level with nested domination, and at most as many pebbles as levels. It is plain data, with any number of labels:
--- beyond 256 no text has it, and it is never built.
+-- The labels of a level with nested domination, and at most as many pebbles as levels. It is plain
+-- data, with any number of labels: beyond 256 no text has it, and it is never built.
 pub record IsNestedPlay (levels : ℕ) (board : PlainBoard) : Type 0 where
   pub labels : board.labels ≡ labels_of levels
   pub pebbles : board.pebbles ≤ levels

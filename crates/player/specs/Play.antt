@@ -1,4 +1,4 @@
--- What a play reads and writes.
+-- The input and the output of a play.
 use Rattle.std.specs.Prelude.{◌≡◌, ◌≢◌, ℕ, ◌<◌, ◌≤◌, ◌⊎◌, List, [], ◌∷◌, ◌++◌, length, All}
 use Rattle.std.specs.Prelude.{Option, Some}
 use Rattle.std.specs.List.{flat_map}
@@ -12,11 +12,11 @@ use Rattle.player.specs.declared.end.PlayFault.{PlayFault}
 use Rattle.player.specs.declared.end.PlayFault.TheVariants.{Read, Write, Memory, Limit}
 use Rattle.player.specs.declared.play.TheConstants.{MOST_LINES}
 
--- these lines and the rest were all that came, each line with its line feed
+-- these lines and the rest were all the bytes that came, each line with its line feed
 abbrev pub CameClosed : Option (List ℕ) → Option (List ℕ) → List (List ℕ) → List ℕ → Type 0
 CameClosed left_old left_new lines rest = Consumes left_old left_new (flat_map closed lines ++ rest)
 
--- these lines were all that there was, the last of them without a line feed
+-- these lines were the whole input, the last of them without a line feed
 pub record CameWhole (left_old left_new : Option (List ℕ)) (lines : List (List ℕ)) : Type 0 where
   pub before : List (List ℕ)
   pub last : List ℕ
@@ -24,7 +24,7 @@ pub record CameWhole (left_old left_new : Option (List ℕ)) (lines : List (List
   pub some : last ≢ []
   pub read : GaveAll left_old left_new (flat_map closed before ++ last)
 
--- these lines came, and behind them the rest
+-- these lines came, and after them the rest
 pub record Came (left_old left_new : Option (List ℕ)) (lines : List (List ℕ)) (rest : List ℕ) : Type 0 where
   pub came : CameClosed left_old left_new lines rest ⊎ ((rest ≡ []) × CameWhole left_old left_new lines)
   pub each : All IsLine lines
@@ -42,22 +42,23 @@ GoesOnOrEnds Played left_new lines rest text =
     ((at : List ℕ) × (requests : ℕ) × Played lines text (Going at requests)) ⊎ ((end : PlayEnd) × Ends Played left_new lines rest text end)
 
 module _ (Played : List (List ℕ) → List ℕ → Standing → Type 0) (left_old left_new taken_old taken_new : Option (List ℕ)) where
-  -- lines came, and what was written is their transcript, which tells this end
+  -- lines came, and the text written is their transcript, with this end
   abbrev pub HasEnded : PlayEnd → Type 0
   HasEnded end = (lines : List (List ℕ)) × (rest text : List ℕ)
       × Came left_old left_new lines rest × Ends Played left_new lines rest text end × Appends taken_old taken_new text
 
-  -- lines came that didn't end the play, and what was written is what they bring
+  -- lines came that didn't end the play, and the text written is the reply to them
   abbrev pub HasWritten : (List (List ℕ) → List ℕ → Type 0) → Type 0
   HasWritten Waits = (lines : List (List ℕ)) × (rest text at : List ℕ) × (requests : ℕ)
       × Came left_old left_new lines rest × Waits lines rest × Played lines text (Going at requests) × Appends taken_old taken_new text
 
-  -- lines came, and what was written is a front of what they bring, which tells an end only where the play has one
+  -- lines came, and the text written is a prefix of the reply to them, which has an end only if the
+  -- play has one
   abbrev pub HasBegun : Type 0
   HasBegun = (lines : List (List ℕ)) × (rest text : List ℕ)
       × Came left_old left_new lines rest × GoesOnOrEnds Played left_new lines rest text × AppendsFront taken_old taken_new text
 
-  -- when each fault comes, and what was written before it
+  -- the cases of each fault, and the text written before it
   abbrev pub BreaksOff : PlayFault → Type 0
   BreaksOff Read = HasWritten (λ lines rest. IsLine rest × (length lines < MOST_LINES))
   BreaksOff Limit = HasWritten (λ lines rest. (length lines ≡ MOST_LINES) ⊎ BeginsTooLong rest)
@@ -65,7 +66,7 @@ module _ (Played : List (List ℕ) → List ℕ → Standing → Type 0) (left_o
   BreaksOff Memory = HasBegun
 
 -- the bytes in memory are a person's lines, or begin with lines that end the play, and the text is
--- their transcript, which tells this end
+-- their transcript, with this end
 abbrev pub PlaysBytes : Game → List ℕ → List ℕ → PlayEnd → Type 0
 PlaysBytes game bytes text end =
     (left : List ℕ) × HasEnded (IsPlayed game) (Some bytes) (Some left) (Some []) (Some text) end

@@ -1,4 +1,4 @@
--- What a play writes: a text for each line of the person, by the moves of the pebble game.
+-- The output of a play: a text for each line of the person, by the moves of the pebble game.
 use Rattle.std.specs.Prelude.{◌≡◌, ◌≢◌, ℕ, suc, ◌<◌, ◌⊎◌, List, [], ◌∷◌, ◌++◌, map, replicate, codes}
 use Rattle.std.specs.Fmt.{decimal}
 use Rattle.std.specs.List.{flat_map}
@@ -20,12 +20,14 @@ use Rattle.player.specs.Words.{quit}
 use Rattle.player.specs.declared.end.PlayEnd.{PlayEnd}
 use Rattle.player.specs.declared.end.PlayEnd.TheVariants.{Stuck, Stopped, NoStrategy}
 
--- who the person is, and the board that is played on; or the person asks on the nested board of a level, which isn't built
+-- who the person is, and the board that is played on; or the person asks on the nested board of a
+-- level, which isn't built
 pub data Game : Type 0 where
   PersonAsks PersonAnswers : PlainBoard → Game
   PersonClimbs : ℕ → Game
 
--- where a play stands: it goes on from a configuration, after so many answered requests, or it is over
+-- the state of a play: it goes on from a configuration, after a number of answered requests, or it
+-- is over
 pub data Standing : Type 0 where
   Going : List ℕ → ℕ → Standing
   Over : PlayEnd → Standing
@@ -70,18 +72,18 @@ no_answer_line = closed (codes "not an answer")
 
 -- ---- the person asks
 
--- the line names none of so many pebbles, and isn't `quit`
+-- the line names no pebble below `pebbles`, and isn't `quit`
 abbrev pub IsNoRequest : ℕ → List ℕ → Type 0
 IsNoRequest pebbles line = (line ≢ quit) × ((pebble : ℕ) → pebble < pebbles → line ≢ decimal pebble)
 
--- what a line brings where the person names one of so many pebbles, each of which is answered so
+-- the reply to a line if the person names one of `pebbles` pebbles, each answered by `Answers`
 abbrev pub RepliesToLine : ℕ → (ℕ → List ℕ → Standing → Type 0) → List ℕ → ℕ → List ℕ → List ℕ → Standing → Type 0
 RepliesToLine pebbles Answers at requests line said to =
     ((pebble : ℕ) × (pebble < pebbles) × (line ≡ decimal pebble) × Answers pebble said to)
     ⊎ ((line ≡ quit) × (said ≡ stopped_line requests) × (to ≡ Over (Stopped requests)))
     ⊎ (IsNoRequest pebbles line × (said ≡ no_request_line) × (to ≡ Going at requests))
 
--- the best answer to a request, where some label is legal
+-- the best answer to a request, if some label is legal
 abbrev pub Replies : PlainBoard → List ℕ → ℕ → ℕ → List ℕ → Standing → Type 0
 Replies board at requests pebble said to =
     ((label : ℕ) × IsBestAnswer board at pebble label
@@ -117,7 +119,7 @@ NestedReplies levels at requests pebble said to =
 
 -- ---- the person answers
 
--- the best request, which no label may be legal for
+-- the best request; possibly no label is legal for it
 abbrev pub Asks : PlainBoard → List ℕ → ℕ → List ℕ → Standing → Type 0
 Asks board at requests said to = (pebble : ℕ) × IsBestRequest board at pebble
     × ((((label : ℕ) × Legal board at pebble label) × (said ≡ ask_line pebble) × (to ≡ Going at requests))
@@ -132,7 +134,7 @@ IsLegalLine board at line pebble label = IsBestRequest board at pebble × Legal 
 abbrev pub IsNoAnswer : PlainBoard → List ℕ → List ℕ → Type 0
 IsNoAnswer board at line = (line ≢ quit) × ((pebble label : ℕ) → IsLegalLine board at line pebble label → ⊥)
 
--- what a line brings where the person is the labeller
+-- the reply to a line if the person is the labeller
 abbrev pub AsksAfterLine : PlainBoard → List ℕ → ℕ → List ℕ → List ℕ → Standing → Type 0
 AsksAfterLine board at requests line said to =
     ((pebble label : ℕ) × (asked : List ℕ) × IsLegalLine board at line pebble label
@@ -142,8 +144,8 @@ AsksAfterLine board at requests line said to =
 
 -- ---- the play
 
--- what is written before a line is read: the value or the level, the start, and where the person is the labeller the first request,
--- or that there is no strategy
+-- the text written before a line is read: the value or the level, the start, and if the person is
+-- the labeller the first request, or that there is no strategy
 abbrev pub BeginsPlay : Game → List ℕ → Standing → Type 0
 BeginsPlay (PersonAsks board) said to =
     (value : Value) × HasValue board board.start value × (said ≡ opening_lines board value board.start) × (to ≡ Going board.start 0)
@@ -153,7 +155,7 @@ BeginsPlay (PersonAnswers board) said to =
     × (said ≡ opening_lines board (Finite number) board.start ++ asked) × Asks board board.start 0 asked to)
 BeginsPlay (PersonClimbs levels) said to = (said ≡ nested_opening_lines levels) × (to ≡ Going (replicate levels 0) 0)
 
--- what one line brings; nothing where the play is over
+-- the reply to one line; none if the play is over
 abbrev pub Brings : Game → Standing → List ℕ → List ℕ → Standing → Type 0
 Brings game (Over end) line said to = (said ≡ []) × (to ≡ Over end)
 Brings (PersonAsks board) (Going at requests) line said to = RepliesToLine board.pebbles (Replies board at requests)
@@ -162,13 +164,13 @@ Brings (PersonAnswers board) (Going at requests) line said to = AsksAfterLine bo
 Brings (PersonClimbs levels) (Going at requests) line said to = RepliesToLine levels (NestedReplies levels at requests)
     at requests line said to
 
--- what these lines bring, one after the other
+-- the replies to these lines, one after the other
 abbrev pub BringInTurn : Game → Standing → List (List ℕ) → List ℕ → Standing → Type 0
 BringInTurn game from [] text to = (text ≡ []) × (from ≡ to)
 BringInTurn game from (line ∷ lines) text to =
     (said more : List ℕ) × (next : Standing) × Brings game from line said next × BringInTurn game next lines more to × (text ≡ said ++ more)
 
--- what is written once these lines are read, and where the play then stands
+-- the text written once these lines are read, and the state of the play then
 pub record IsPlayed (game : Game) (lines : List (List ℕ)) (text : List ℕ) (to : Standing) : Type 0 where
   pub opening : List ℕ
   pub first : Standing
@@ -177,13 +179,13 @@ pub record IsPlayed (game : Game) (lines : List (List ℕ)) (text : List ℕ) (t
   pub brings : BringInTurn game first lines more to
   pub text_is : text ≡ opening ++ more
 
--- where the lines end before the play is over, one more line is written
+-- if the lines end before the play is over, one more line is written
 abbrev pub Stops : (List (List ℕ) → List ℕ → Standing → Type 0) → List (List ℕ) → List ℕ → PlayEnd → Type 0
 Stops Played lines text end =
     (at front : List ℕ) × (requests : ℕ) × Played lines front (Going at requests) × (text ≡ front ++ stopped_line requests)
     × (end ≡ Stopped requests)
 
--- the whole transcript of input lines, and the end that it tells
+-- the whole transcript of input lines, and its end
 abbrev pub Transcribes : (List (List ℕ) → List ℕ → Standing → Type 0) → List (List ℕ) → List ℕ → PlayEnd → Type 0
 Transcribes Played lines text end = Played lines text (Over end) ⊎ Stops Played lines text end
 

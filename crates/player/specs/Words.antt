@@ -1,4 +1,4 @@
--- The lines that a person writes, and what they say.
+-- The lines that a person writes.
 use Rattle.std.specs.Prelude.{◌≢◌, ℕ, suc, ◌<◌, ◌≤◌, List, length, take, All, codes}
 use Rattle.player.specs.declared.lines.TheConstants.{MOST_BYTES}
 
@@ -11,7 +11,7 @@ pub record IsLine (line : List ℕ) : Type 0 where
   pub no_feed : HasNoFeed line
   pub short : length line ≤ MOST_BYTES
 
--- before any line feed stand more bytes than a line has
+-- more bytes than a line may have stand before any line feed
 pub record BeginsTooLong (bytes : List ℕ) : Type 0 where
   pub long : MOST_BYTES < length bytes
   pub no_feed : HasNoFeed (take (suc MOST_BYTES) bytes)

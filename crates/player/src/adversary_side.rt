@@ -21,11 +21,13 @@ use std::alloc::{AllocError, Global};
 use std::marker::Model;
 use strategies::best_answer;
 
-/// Plays with a person who is the adversary: each line names a pebble, which is put on the label of the best answer.
+/// Plays with a person who is the adversary: each line names a pebble, which is put on the label of
+/// the best answer.
 ///
-/// The values are those of the board. The reader and the writer must not have failed before, nor
-/// the reader have told its end.
-/// The play ends where no label is legal for a pebble, with a line `quit`, or at the end of the input.
+/// The `values` are those of `board`. The reader and the writer must not have failed before, nor
+/// the reader have reported its end.
+/// The play ends when no label is legal for a pebble, with a line `quit`, or at the end of the
+/// input.
 /// A line of any other kind is answered and changes nothing.
 /// Each answer is written before the next line is read.
 pub fn play_adversary_side<R: Source, W: Sink>(
@@ -65,7 +67,7 @@ struct AdversarySide<'a> {
     values: &'a Values,
     /// The rank of the configuration.
     rank: u32,
-    /// How many requests were answered.
+    /// The number of answered requests.
     requests: u32,
 }
 
@@ -82,7 +84,8 @@ impl<'a> Model for AdversarySide<'a> {
 }
 
 impl<'a> AdversarySide<'a> {
-    /// No request was answered yet, and the pebbles are at the configuration of this rank.
+    /// A play in which no request was answered yet, and the pebbles are at the configuration of
+    /// `rank`.
     fn new(board: &'a Board, values: &'a Values, rank: u32) -> AdversarySide<'a>
         requires same_board { values.now ≡ board.now }
         requires rank { rank < configurations board.now }
@@ -96,7 +99,7 @@ impl<'a> AdversarySide<'a> {
         }
     }
 
-    /// Answers a request of a pebble, if some label is legal.
+    /// Answers a request of `pebble`; if no label is legal, the play is over.
     fn request(&mut self, pebble: u8, text: &mut String) -> Result<Option<PlayEnd>, AllocError>
         requires pebble { pebble < self.old.board.pebbles }
         requires few { self.old.requests + 1 < 2 ^ 32 }

@@ -20,10 +20,10 @@ use board_text::{Memory, Sink, Source};
 use nested_cycles::{MAX_LEVELS, NestedGame};
 use std::alloc::{AllocError, Global};
 
-/// Plays on the nested board of a level, 1 to 24, with as many pebbles as levels: each line of the person names a pebble,
-/// which is put on the word of the nested reply.
+/// Plays on the nested board of level `levels`, 1 to 24, with as many pebbles as levels: each line
+/// of the person names a pebble, which is put on the word of the nested reply.
 ///
-/// The reader and the writer must not have failed before, nor the reader have told its end.
+/// The reader and the writer must not have failed before, nor the reader have reported its end.
 /// The play ends with a line `quit`, or at the end of the input: some label is always legal.
 /// A line of any other kind is answered and changes nothing.
 /// Each answer is written before the next line is read.
@@ -60,12 +60,13 @@ pub fn play_nested<R: Source, W: Sink>(
 #[derive(Drop)]
 struct Climb {
     nested: NestedGame,
-    /// How many requests were answered.
+    /// The number of answered requests.
     requests: u32,
 }
 
 impl Climb {
-    /// No request was answered yet, and all pebbles are on the label 0.
+    /// A play on the nested board of level `levels` before its first request: all pebbles are on
+    /// the label 0.
     fn new(alloc: Global, levels: u8) -> Result<Climb, Memory>
         requires { InRange 1 MAX_LEVELS levels }
         ensures { IfOk result (λ play. (play.nested ≡ plain_game levels (replicate levels 0)) × (play.requests ≡ 0)) }
@@ -77,7 +78,7 @@ impl Climb {
         })
     }
 
-    /// Answers a request of a pebble.
+    /// Answers a request of `pebble`.
     fn request(&mut self, pebble: u8, text: &mut String) -> Result<Option<PlayEnd>, AllocError>
         requires pebble { pebble < self.old.nested.levels }
         requires few { self.old.requests + 1 < 2 ^ 32 }

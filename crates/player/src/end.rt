@@ -1,5 +1,10 @@
 //! How a play ends, and why one is broken off.
 
+ghost use Rattle.std.specs.Prelude.{◌≡◌};
+ghost use Rattle.player.specs.declared.end.PlayFault.TheVariants as faults;
+
+use std::alloc::AllocError;
+
 /// How a play has ended, with the number of requests that were answered.
 #[derive(Clone, Copy, Debug, PartialEq, Eq)]
 pub enum PlayEnd {
@@ -22,4 +27,12 @@ pub enum PlayFault {
     Memory,
     /// A line is longer than 64 bytes, or a million lines didn't end the play.
     Limit,
+}
+
+impl From<AllocError> for PlayFault {
+    ghost from_gives = { λ _ fault. fault ≡ faults.Memory };
+
+    fn from(_error: AllocError) -> PlayFault {
+        PlayFault::Memory
+    }
 }

@@ -16,15 +16,15 @@ use nested_cycles::MAX_LEVELS;
 use solver::Values;
 use std::alloc::Global;
 
-/// The transcript of lines in memory, and the end that it tells.
+/// The transcript of a play over lines in memory, and its end.
 #[derive(Drop)]
 pub struct Played {
     pub text: Vec<u8>,
     pub end: PlayEnd,
 }
 
-/// Plays with a person who is the adversary and whose lines are these bytes. The values are those
-/// of the board.
+/// Plays with a person who is the adversary and whose lines are `bytes`. The `values` are those
+/// of `board`.
 ///
 /// The fault is `Memory` if the transcript has no room, and `Limit` if a line is too long or there
 /// are too many lines.
@@ -51,8 +51,8 @@ pub fn play_adversary_bytes(
     }
 }
 
-/// Plays with a person who is the labeller and whose lines are these bytes. The values are those of
-/// the board.
+/// Plays with a person who is the labeller and whose lines are `bytes`. The `values` are those of
+/// `board`.
 ///
 /// The fault is `Memory` if the transcript has no room, and `Limit` if a line is too long or there
 /// are too many lines.
@@ -79,7 +79,7 @@ pub fn play_labeller_bytes(
     }
 }
 
-/// Plays on the nested board of a level, 1 to 24, with a person whose lines are these bytes.
+/// Plays on the nested board of level `levels`, 1 to 24, with a person whose lines are `bytes`.
 ///
 /// The fault is `Memory` if the transcript has no room, and `Limit` if a line is too long or there
 /// are too many lines.
@@ -101,7 +101,7 @@ pub fn play_nested_bytes(alloc: Global, levels: u8, bytes: &[u8]) -> Result<Play
     }
 }
 
-/// The fault of a play whose writer is memory, which fails if it can't grow.
+/// The `fault` of a play whose writer is in memory: such a writer fails only if memory is refused.
 fn in_memory(fault: PlayFault) -> PlayFault
     ensures { result ≡ memory_for_write fault }
 {

@@ -27,12 +27,13 @@ use std::fmt::Write;
 use std::marker::Model;
 use strategies::{best_answer, best_request};
 
-/// Plays with a person who is the labeller: best requests are made, and each line answers one with a label.
+/// Plays with a person who is the labeller: best requests are made, and each line answers one with
+/// a label.
 ///
-/// The values are those of the board. The reader and the writer must not have failed before, nor
-/// the reader have told its end.
-/// The play ends where no label is legal for the pebble that is asked for, with a line `quit`, or at the end of the input.
-/// Where the value is forever it ends before a line is read.
+/// The `values` are those of `board`. The reader and the writer must not have failed before, nor
+/// the reader have reported its end.
+/// The play ends when no label is legal for the pebble that is asked for, with a line `quit`, or
+/// at the end of the input. If the value is forever it ends before a line is read.
 /// A line of any other kind is answered, and the same request stands.
 /// Each answer is written before the next line is read.
 pub fn play_labeller_side<R: Source, W: Sink>(
@@ -69,7 +70,7 @@ pub fn play_labeller_side<R: Source, W: Sink>(
     }
 }
 
-/// What comes next in a play.
+/// The next turn of a play.
 #[derive(Clone, Copy, Debug, PartialEq, Eq)]
 enum Next {
     /// A pebble is asked for.
@@ -78,7 +79,7 @@ enum Next {
     Ends(PlayEnd),
 }
 
-/// The best request at the configuration of a rank with a finite value.
+/// A best request, at a configuration with a finite value.
 #[derive(Clone, Copy, Debug, PartialEq, Eq)]
 struct Request {
     pebble: u8,
@@ -86,7 +87,8 @@ struct Request {
     is_stuck: bool,
 }
 
-/// Writes the value of the start and its labels, and what comes next.
+/// Appends the value and the labels of the start, and the first request or that there is no
+/// strategy; returns the next turn.
 fn open(text: &mut String, board: &Board, values: &Values, start: u32) -> Result<Next, AllocError>
     requires same_board { values.now ≡ board.now }
     requires board { IsBoard board.now }
@@ -107,7 +109,7 @@ fn open(text: &mut String, board: &Board, values: &Values, start: u32) -> Result
     }
 }
 
-/// The best request at the configuration of a rank, whose value is finite.
+/// The best request at the configuration of `rank`, whose value is finite.
 fn request_at(board: &Board, values: &Values, rank: u32) -> Request
     requires same_board { values.now ≡ board.now }
     requires rank { rank < configurations board.now }
@@ -119,7 +121,7 @@ fn request_at(board: &Board, values: &Values, rank: u32) -> Request
     Request { pebble, is_stuck }
 }
 
-/// Writes a request, and that the play is over where no label is legal.
+/// Appends `request`, and that the play is over if no label is legal; returns the next turn.
 fn write_request(text: &mut String, request: Request, requests: u32) -> Result<Next, AllocError>
     ensures { IfOk result (λ next. AddsText (string_bytes text.old) (string_bytes text.new) (HasAsked request requests next)) }
 {
@@ -140,7 +142,7 @@ struct LabellerSide<'a> {
     rank: u32,
     /// The pebble that is asked for, which is the best request.
     asked: u8,
-    /// How many requests were answered.
+    /// The number of answered requests.
     requests: u32,
 }
 
@@ -155,7 +157,8 @@ impl<'a> Model for LabellerSide<'a> {
 }
 
 impl<'a> LabellerSide<'a> {
-    /// No request was answered yet, and the pebble is asked for at the configuration of this rank.
+    /// A play in which no request was answered yet, and pebble `asked` is asked for at the
+    /// configuration of `rank`.
     fn new(board: &'a Board, values: &'a Values, rank: u32, asked: u8) -> LabellerSide<'a>
         requires { IsPlayState board.now values.now rank asked }
         ensures { result ≡ record { board = board.now; rank = rank; requests = 0 } }
@@ -169,7 +172,7 @@ impl<'a> LabellerSide<'a> {
         }
     }
 
-    /// Whether a label is legal for the pebble that is asked for.
+    /// Whether `label` is legal for the pebble that is asked for.
     fn is_legal(&self, label: u16) -> bool
         ensures { IsTrue result ↔ IsLegalAt self.now label }
     {
@@ -178,7 +181,7 @@ impl<'a> LabellerSide<'a> {
             .legal(self.board, self.rank, self.asked, label)
     }
 
-    /// Puts the pebble that is asked for on a legal label, and makes the next request.
+    /// Puts the pebble that is asked for on the legal `label`, and makes the next request.
     fn move_to_label(
         &mut self,
         label: u16,
@@ -236,7 +239,7 @@ impl Play for LabellerSide<'_> {
     }
 }
 
-/// AddsText that a line is no answer.
+/// Appends the reply to a line that is no answer; the play goes on.
 fn refuse(text: &mut String) -> Result<Option<PlayEnd>, AllocError>
     ensures { IfOk result (λ end. (end ≡ None) × (string_bytes text.new ≡ string_bytes text.old ++ no_answer_line)) }
 {

@@ -11,9 +11,10 @@ ghost use Rattle.player.specs.declared.end.PlayEnd.{PlayEnd as End};
 use crate::lines::MOST_BYTES;
 use crate::play::MOST_LINES;
 
-/// Against a person who is the adversary the labeller's side is stuck only after as many answered requests as the start's value,
-/// and never where that is forever. A person who is the labeller answers at most that many,
-/// and there is no strategy against the person exactly where the value is forever. On a nested board no one is ever stuck.
+/// Against a person who is the adversary the labeller's side is stuck only after as many answered
+/// requests as the start's value, and never if that is forever. A person who is the labeller
+/// answers at most that many, and there is no strategy against the person exactly if the value is
+/// forever. On a nested board no one is ever stuck.
 pub fn plays_last_by_the_value()
     ensures asking { (board : PlainBoard) → (lines : List (List ℕ)) → (text : List ℕ) → (end : End)
         → IsTranscript (PersonAsks board) lines text end → IsNoSooner board end }
@@ -25,8 +26,7 @@ pub fn plays_last_by_the_value()
         → IsTranscript (PersonClimbs levels) lines text end → IsStopped end }
 {}
 
-/// Any lines have one transcript, which tells one end, in each play on a board and on a nested
-/// board.
+/// Any lines have one transcript and one end, in each play on a board and on a nested board.
 pub fn one_transcript()
     ensures some { (game : Game) → (lines : List (List ℕ)) → IsGame game
         → (text : List ℕ) × (end : End) × IsTranscript game lines text end }
@@ -35,7 +35,8 @@ pub fn one_transcript()
         → IsTranscript game lines first end → IsTranscript game lines second other → (first ≡ second) × (end ≡ other) }
 {}
 
-/// Best requests and best answers end a play after exactly as many answers as the value, where that is finite.
+/// Best requests and best answers end a play after exactly as many answers as the value, if that
+/// is finite.
 pub fn best_play_ends_by_the_value()
     ensures ends { (board : PlainBoard) → (configuration : List ℕ) → (number : ℕ) → IsConfiguration board configuration
         → HasValue board configuration (Finite number) → EndsBestPlay board configuration number }

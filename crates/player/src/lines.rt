@@ -12,10 +12,10 @@ use crate::word::Word;
 use board_text::{Failed, Source};
 use std::marker::Model;
 
-/// How many bytes a line has at most, without its line feed.
+/// The largest number of bytes of a line, without its line feed.
 pub(crate) const MOST_BYTES: usize = 64;
 
-/// How many bytes are read at a time.
+/// The largest number of bytes that are read at a time.
 const SIZE: usize = 4096;
 
 /// Why there is no next line.
@@ -27,9 +27,9 @@ pub(crate) enum LineFault {
     Limit,
 }
 
-/// What was read and isn't taken yet.
+/// The bytes that were read and aren't taken yet.
 ///
-/// At the end of the input, bytes behind the last line feed are a line too.
+/// At the end of the input, bytes after the last line feed are a line too.
 #[derive(Drop)]
 pub(crate) struct Lines {
     buffer: [u8; SIZE],
@@ -50,7 +50,7 @@ impl Model for Lines {
 }
 
 impl Lines {
-    /// Nothing is read yet.
+    /// An empty buffer: no byte is read yet.
     pub(crate) fn new() -> Lines
         ensures { result ≡ record { bytes = []; has_ended = false } }
     {
@@ -62,7 +62,8 @@ impl Lines {
         }
     }
 
-    /// What the next line says, if there is one. The reader is asked only where no whole line is left.
+    /// The word of the next line, or `None` at the end. `reader` is asked only if no whole line is
+    /// left.
     pub(crate) fn next<R: Source>(&mut self, reader: &mut R) -> Result<Option<Word>, LineFault>
         requires ready { R.has_failed reader.old ≡ false }
         requires ended { R.has_ended reader.old ≡ self.old.has_ended }
@@ -92,14 +93,14 @@ impl Lines {
         }
     }
 
-    /// What was read and isn't taken yet.
+    /// The bytes that were read and aren't taken yet.
     fn unread(&self) -> &[u8]
         ensures { result.now ≡ self.now.bytes }
     {
         &self.buffer[self.from..self.to]
     }
 
-    /// What the line of so many bytes says, which is taken with its line feed.
+    /// Takes the first line, of `size` bytes, with its line feed, and returns its word.
     fn take_line(&mut self, size: usize) -> Word
         requires inside { size < length self.old.bytes }
         ensures word { Spells (take size self.old.bytes) result }
@@ -111,7 +112,7 @@ impl Lines {
         word
     }
 
-    /// What all that is left says, unless nothing is.
+    /// Takes the remaining bytes as the last line, and returns its word; `None` if no byte is left.
     fn take_last(&mut self) -> Option<Word>
         ensures nothing_left { self.new.bytes ≡ [] }
         ensures same { self.new.has_ended ≡ self.old.has_ended }
@@ -125,7 +126,7 @@ impl Lines {
         Some(word)
     }
 
-    /// Reads once, behind what isn't taken yet, and says whether anything came.
+    /// Reads once from `reader`, after the bytes that aren't taken yet; `false` at the end.
     fn fill<R: Source>(&mut self, reader: &mut R) -> Result<bool, LineFault>
         requires short { length self.old.bytes ≤ MOST_BYTES }
         requires goes_on { self.old.has_ended ≡ false }
@@ -154,7 +155,7 @@ impl Lines {
     }
 }
 
-/// How many bytes stand before the first line feed, or all where there is none.
+/// The number of bytes before the first line feed, or of all if there is none.
 fn line_size(bytes: &[u8]) -> usize
     ensures within { result ≤ length bytes.now }
     ensures inside { HasNoFeed (take result bytes.now) }

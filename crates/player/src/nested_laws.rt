@@ -12,9 +12,10 @@ ghost use Rattle.positions.specs.Value.{HasValue};
 ghost use Rattle.player.specs.NestedPlay.{IsNestedPlay, IsGoodConfiguration};
 ghost use Rattle.player.specs.Transcript.{Going, PersonClimbs, IsPlayed};
 
-/// From good words a labeller answers any number of requests on the nested board of a level, with at most as many pebbles as levels.
-/// This holds of each level, and each has such a board, though few are built; a board that is built lasts for ever from its start.
-/// The nested reply is a legal answer and leaves the words good, so that each configuration of a play on a nested board has the
+/// From good words a labeller answers any number of requests on the nested board of a level, with
+/// at most as many pebbles as levels. This holds of each level, and each has such a board, though
+/// few are built; a board that is built lasts for ever from its start. The nested reply is a legal
+/// answer and leaves the words good, so that each configuration of a play on a nested board has the
 /// value forever.
 pub fn nested_boards_last_for_ever()
     ensures good { (levels : ℕ) → (board : PlainBoard) → (configuration : List ℕ) → IsNestedPlay levels board

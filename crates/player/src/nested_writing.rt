@@ -12,7 +12,7 @@ use nested_cycles::MAX_LEVELS;
 use std::alloc::AllocError;
 use std::fmt::Write;
 
-/// Writes the level, and the words of the pebbles.
+/// Appends the level `levels`, and the `words` of the pebbles.
 pub(crate) fn write_levels(text: &mut String, levels: u8, words: &[u64]) -> Result<(), AllocError>
     requires { InRange 1 MAX_LEVELS levels }
     ensures { OnOk result (string_bytes text.new ≡ string_bytes text.old
@@ -22,7 +22,7 @@ pub(crate) fn write_levels(text: &mut String, levels: u8, words: &[u64]) -> Resu
     write_words(text, levels, words)
 }
 
-/// Writes the word that a pebble takes, and the words of the pebbles after it.
+/// Appends the `word` that `pebble` takes, and the `words` of the pebbles after that answer.
 pub(crate) fn write_nested_reply(
     text: &mut String,
     levels: u8,
@@ -40,7 +40,7 @@ pub(crate) fn write_nested_reply(
     write_words(text, levels, words)
 }
 
-/// Writes the words of the pebbles.
+/// Appends the `words` of the pebbles.
 fn write_words(text: &mut String, levels: u8, words: &[u64]) -> Result<(), AllocError>
     requires { InRange 1 MAX_LEVELS levels }
     ensures { OnOk result (string_bytes text.new ≡ string_bytes text.old ++ words_line levels words.now) }
@@ -53,7 +53,7 @@ fn write_words(text: &mut String, levels: u8, words: &[u64]) -> Result<(), Alloc
     text.push_str("\n")
 }
 
-/// Writes the digits of a word, and a dot for the word without digits.
+/// Appends the digits of `word`, or a dot for the word without digits.
 fn write_word(text: &mut String, levels: u8, word: u64) -> Result<(), AllocError>
     requires { InRange 1 MAX_LEVELS levels }
     ensures { OnOk result (string_bytes text.new ≡ string_bytes text.old ++ word_text levels word) }
@@ -64,7 +64,7 @@ fn write_word(text: &mut String, levels: u8, word: u64) -> Result<(), AllocError
     write_digits(text, levels - 1, word)
 }
 
-/// Writes the word of so many ternary digits that has this number.
+/// Appends the word of `count` ternary digits that has the number `number`.
 fn write_digits(text: &mut String, count: u8, number: u64) -> Result<(), AllocError>
     requires { count ≤ 23 }
     ensures { OnOk result (string_bytes text.new ≡ string_bytes text.old ++ flat_map decimal (word_of count number)) }

@@ -1,4 +1,4 @@
-//! A play, line by line.
+//! The loop of every play: it reads a line, answers it, and writes the answer.
 
 ghost use Rattle.std.specs.Prelude.{◌≡◌, ◌↔◌, ◌+◌, ◌≤◌, ◌<◌, ◌^◌, ℕ, List, [], true, false, Err, IfOk, IfErr, OnOk, string_bytes};
 ghost use Rattle.std.specs.Io.KnownBytes.{Appends};
@@ -17,10 +17,10 @@ use crate::writing::write_stopped;
 use board_text::{Sink, Source};
 use std::alloc::AllocError;
 
-/// How many lines are read at most.
+/// The largest number of lines that a play reads.
 pub(crate) const MOST_LINES: u32 = 1_000_000;
 
-/// A play that goes on, which answers what a person says.
+/// A play that goes on, which answers the lines of a person.
 pub(crate) trait Play {
     // Who the person is, and the board.
     ghost game: { Self → Game };
@@ -28,10 +28,10 @@ pub(crate) trait Play {
     // The configuration.
     ghost at: { Self → List ℕ };
 
-    // How many requests were answered.
+    // The number of answered requests.
     ghost requests: { Self → ℕ };
 
-    /// Writes what a word brings behind the text, and gives the end of the play, if it is over.
+    /// Appends the reply to `word`; returns the end if the play is over.
     fn reply(&mut self, word: Word, text: &mut String) -> Result<Option<PlayEnd>, AllocError>
         requires { requests self.old + 1 < 2 ^ 32 }
         ensures game { game self.new ≡ game self.old }
@@ -40,12 +40,13 @@ pub(crate) trait Play {
             (λ said. BringsAll (game self.old) (Going (at self.old) (requests self.old)) word said
             (standing end (at self.new) (requests self.new)))) };
 
-    /// How many requests were answered.
+    /// The number of answered requests.
     fn requests(&self) -> u32
         ensures { result ≡ requests self.now };
 }
 
-/// Plays on with the lines of a reader, as far as they go. Each answer is written before the next line is read.
+/// Plays on with the lines of `reader` until the play or the input ends. Each answer is written
+/// before the next line is read.
 pub(crate) fn play_on<P: Play, R: Source, W: Sink>(
     play: &mut P,
     text: &mut String,
@@ -81,7 +82,7 @@ pub(crate) fn play_on<P: Play, R: Source, W: Sink>(
     Err(PlayFault::Limit)
 }
 
-/// Answers a word, and shows the answer.
+/// Answers `word`, and writes the answer; returns the end if the play is over.
 fn turn<P: Play, W: Sink>(
     play: &mut P,
     word: Word,
@@ -120,9 +121,7 @@ fn stop<P: Play, W: Sink>(play: &P, text: &mut String, writer: &mut W) -> Result
     ensures write { (W.has_failed writer.new ≡ true) ↔ (result ≡ Err Write) }
 {
     let requests = play.requests();
-    if write_stopped(text, requests).is_err() {
-        return Err(PlayFault::Memory);
-    }
+    write_stopped(text, requests)?;
     flush(text, writer)?;
     Ok(PlayEnd::Stopped { requests })
 }

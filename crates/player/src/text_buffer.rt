@@ -1,4 +1,4 @@
-//! What a person is shown.
+//! Flushing a play's text to its writer.
 
 ghost use Rattle.std.specs.Prelude.{◌≡◌, [], true, false, IfErr, OnOk, OnErr, string_bytes};
 ghost use Rattle.std.specs.Io.KnownBytes.{Appends};
@@ -8,7 +8,7 @@ ghost use Rattle.player.specs.declared.end.PlayFault.TheVariants.{Write};
 use crate::end::PlayFault;
 use board_text::{Failed, Sink, write_all};
 
-/// Writes the text, and empties it.
+/// Writes `text` to `writer`, and empties it.
 pub(crate) fn flush<W: Sink>(text: &mut String, writer: &mut W) -> Result<(), PlayFault>
     requires { W.has_failed writer.old ≡ false }
     ensures written { OnOk result (Appends (W.contents writer.old) (W.contents writer.new) (string_bytes text.old)) }

@@ -1,4 +1,4 @@
-//! What a line of a person says.
+//! The meaning of a person's line.
 
 ghost use Rattle.std.specs.Prelude.{◌≡◌, ◌≢◌, ℕ, ◌<◌, ◌^◌, MatchOption};
 ghost use Rattle.std.specs.Fmt.{decimal};
@@ -9,19 +9,19 @@ use board_text::line_reader::LineReader;
 /// The line that ends a play.
 const QUIT: &[u8] = b"quit";
 
-/// What a line says.
+/// The meaning of a line.
 #[derive(Clone, Copy, Debug, PartialEq, Eq)]
 pub(crate) enum Word {
     /// A number below 2^32, without a sign or a leading zero.
     Number(u32),
-    /// That the play shall end.
+    /// The play shall end.
     Quit,
     /// Anything else.
     Other,
 }
 
 impl Word {
-    /// What the line says.
+    /// The meaning of `line`.
     pub(crate) fn of(line: &[u8]) -> Word
         ensures { Spells line.now result }
     {
@@ -34,7 +34,7 @@ impl Word {
         }
     }
 }
-/// The number that a whole line spells.
+/// The number that the whole of `line` spells, if it spells one below 2^32.
 fn whole_number(line: &[u8]) -> Option<u32>
     ensures { MatchOption result ((number : ℕ) → number < 2 ^ 32 → line.now ≢ decimal number) (λ number. line.now ≡ decimal number) }
 {

@@ -13,7 +13,7 @@ use std::alloc::AllocError;
 use std::fmt::Write;
 use strategies::claim;
 
-/// Writes the value of the start, and its labels.
+/// Appends the `value` and the labels of the start.
 pub(crate) fn write_opening(
     text: &mut String,
     space: &Space,
@@ -29,7 +29,7 @@ pub(crate) fn write_opening(
     write_at(text, space, start)
 }
 
-/// Writes the labels of the configuration of a rank.
+/// Appends the labels of the configuration of `rank`.
 pub(crate) fn write_at(text: &mut String, space: &Space, rank: u32) -> Result<(), AllocError>
     requires { rank < configurations space.now }
     ensures { OnOk result (string_bytes text.new ≡ string_bytes text.old ++ at_line space.now (configuration_at space.now rank)) }
@@ -39,7 +39,7 @@ pub(crate) fn write_at(text: &mut String, space: &Space, rank: u32) -> Result<()
     text.push_str("\n")
 }
 
-/// Writes the label that a pebble takes, and the configuration of the rank after it.
+/// Appends the `label` that `pebble` takes, and the labels of the configuration of `rank`.
 pub(crate) fn write_reply(
     text: &mut String,
     space: &Space,
@@ -55,7 +55,7 @@ pub(crate) fn write_reply(
     write_at(text, space, rank)
 }
 
-/// Writes that no label is legal for a pebble, after so many answered requests.
+/// Appends that no label is legal for `pebble`, after `requests` answered requests.
 pub(crate) fn write_stuck(text: &mut String, pebble: u8, requests: u32) -> Result<(), AllocError>
     ensures { OnOk result (string_bytes text.new ≡ string_bytes text.old ++ stuck_line pebble requests) }
 {
@@ -65,14 +65,14 @@ pub(crate) fn write_stuck(text: &mut String, pebble: u8, requests: u32) -> Resul
     )
 }
 
-/// Writes that the play was stopped, after so many answered requests.
+/// Appends that the play was stopped, after `requests` answered requests.
 pub(crate) fn write_stopped(text: &mut String, requests: u32) -> Result<(), AllocError>
     ensures { OnOk result (string_bytes text.new ≡ string_bytes text.old ++ stopped_line requests) }
 {
     write!(text, "stopped after {requests} requests\n")
 }
 
-/// The end of a play that the person stops, with its line.
+/// Appends the line of a play that the person stops, and returns that end.
 pub(crate) fn stopped(text: &mut String, requests: u32) -> Result<Option<PlayEnd>, AllocError>
     ensures { IfOk result (λ end. (end ≡ Some (Stopped requests))
         × (string_bytes text.new ≡ string_bytes text.old ++ stopped_line requests)) }
@@ -81,7 +81,7 @@ pub(crate) fn stopped(text: &mut String, requests: u32) -> Result<Option<PlayEnd
     Ok(Some(PlayEnd::Stopped { requests }))
 }
 
-/// Says that a line is no request.
+/// Appends the reply to a line that is no request; the play goes on.
 pub(crate) fn refused(text: &mut String) -> Result<Option<PlayEnd>, AllocError>
     ensures { IfOk result (λ end. (end ≡ None) × (string_bytes text.new ≡ string_bytes text.old ++ no_request_line)) }
 {

@@ -1,4 +1,4 @@
--- What an adversary's rows that obey the rules come to.
+-- The strategy of an adversary's rows that obey the rules.
 use Rattle.std.proofs.Common.{◌≡◌, ℕ, suc, ◌<◌, List, [], ◌∷◌, length, Some, sym, ap, ◌∙◌, subst, arith}
 use Rattle.std.specs.Option.{option_map}
 use Rattle.std.specs.List.{All, Contains}

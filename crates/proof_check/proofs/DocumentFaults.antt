@@ -1,4 +1,5 @@
--- The fault of a document: it has one at most, which names ranks of the board, and one that breaks no rule has none.
+-- The fault of a document: it has one at most, which names ranks of the board, and one that breaks
+-- no rule has none.
 use Rattle.std.proofs.Common.{◌≡◌, ◌≢◌, ◌⊎◌, ℕ, suc, ◌<◌, List, Option, Some, None, slice_get, MatchOption, sym, ◌∙◌, subst, arith, inl}
 use Rattle.std.proofs.Common.{inr}
 use Rattle.std.specs.List.{All, Contains}

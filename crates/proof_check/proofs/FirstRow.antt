@@ -1,4 +1,4 @@
--- The first faulty row of a slice whose rows are looked at in parallel.
+-- The first faulty row of a slice whose rows are checked in parallel.
 use Rattle.std.proofs.Common.{◌≡◌, Bool, true, false, List, [], ◌∷◌, map, Option, Some, None, slice_get, MatchBool, MatchOption, Bor, refl, sym, ap, ◌∙◌, subst}
 use Rattle.std.specs.List.{All, AllZip}
 use Rattle.std.proofs.lemmas.List.{map-append}

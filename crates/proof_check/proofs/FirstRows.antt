@@ -1,4 +1,4 @@
--- Where no two rows are for one configuration, the first row of a configuration is the row.
+-- If no two rows are for one configuration, the first row of a configuration is the row.
 use Rattle.std.proofs.Common.{◌≡◌, ◌≢◌, ℕ, ◌<◌, Bool, true, true≢false, nat_eq, List, length, get_or, Some, IsSome, is_some, slice_get, sym}
 use Rattle.std.proofs.Common.{ap, ◌∙◌, arith, inl, inr}
 use Rattle.std.specs.List.{AllPairs, Contains, find, position_or_len}

@@ -1,4 +1,4 @@
--- What a labeller's rows that obey the rules answer.
+-- The answers of a labeller's rows that obey the rules.
 use Rattle.std.proofs.Common.{◌≡◌, ℕ, zero, suc, ◌-◌, ◌<◌, ◌≤◌, nat_eq, List, [], ◌∷◌, length, Some, slice_get, ap, ◌∙◌, subst, arith, is_some}
 use Rattle.std.specs.Option.{option_and_then}
 use Rattle.std.specs.List.{All, Contains, find}

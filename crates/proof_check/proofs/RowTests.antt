@@ -1,4 +1,4 @@
--- What a test of the row that is found for a configuration shows.
+-- The meaning of a test of the row that is found for a configuration.
 use Rattle.std.proofs.Common.{◌≡◌, ◌↔◌, Bool, true, false, not, true≢false, IsTrue, ℕ, ◌<◌, ◌≤◌, List, length, take, slice_get, slice_index}
 use Rattle.std.proofs.Common.{Option, Some, None, MatchOption, refl, sym, ap, ◌∙◌, subst, arith, inr}
 use Rattle.std.specs.Bool.{then_some}

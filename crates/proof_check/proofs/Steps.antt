@@ -1,4 +1,4 @@
--- Steps of checking: of a step's faults there is one, and none where all is right.
+-- Steps of checking: of a step's faults there is one, and none if all is right.
 use Rattle.std.proofs.Common.{◌≡◌, ℕ, List, [], ◌∷◌, ◌++◌, Option, Some, refl, sym, ◌∙◌, subst, arith, ◌⊎◌, inl, inr}
 use Rattle.std.specs.List.{All, Contains}
 use Rattle.std.proofs.lemmas.Bool.{cases_order}

@@ -18,7 +18,7 @@ use Rattle.proof_check.specs.declared.fault.CheckFault.TheVariants as faults
 abbrev pub HasRow : {X : Type 0} → (X → List ℕ) → List X → List ℕ → Type 0
 HasRow {X} at rows configuration = (row : X) × Contains rows row × (at row ≡ configuration)
 
--- where a row should serve: that there is none is the first of two faults, and that it doesn't serve the second
+-- no row: the fault `missing`; a row that doesn't serve: the fault `short`
 abbrev pub IsUnserved : Type 0 → Type 0 → CheckFault → CheckFault → CheckFault → Type 0
 IsUnserved Listed Served missing short fault = (¬ Listed × (fault ≡ missing)) ⊎ (Listed × ¬ Served × (fault ≡ short))
 
@@ -51,7 +51,7 @@ IsWrongResult board rows row pebble result fault =
     IsUnserved (HasRow (λ r. r.at) rows result) (IsListedFor rows result (one_less row.turns))
     (faults.Unlisted Labeller (rank_of board row.at) pebble) (faults.TooSmall (rank_of board row.at) pebble) fault
 
--- what is wrong with a labeller's row at a request of the pebble
+-- the fault of a labeller's row at a request of the pebble
 abbrev pub IsWrongAt : PlainBoard → List AnswerRow → AnswerRow → ℕ → CheckFault → Type 0
 IsWrongAt board rows row pebble fault = (label : ℕ) × (slice_get row.answers pebble ≡ Some label)
     × ((¬ Legal board row.at pebble label × (fault ≡ faults.IllegalAnswer (rank_of board row.at) pebble))
@@ -64,17 +64,17 @@ IsWrongNext board rows row label result fault =
     IsUnserved (HasRow (λ r. r.at) rows result) (IsListedBelow rows result row.left)
     (faults.Unlisted Adversary (rank_of board row.at) label) (faults.TooLarge (rank_of board row.at) label) fault
 
--- what is wrong with an adversary's row at the label, which is a legal answer
+-- the fault of an adversary's row at the label, which is a legal answer
 abbrev pub IsWrongAfter : PlainBoard → List RequestRow → RequestRow → ℕ → CheckFault → Type 0
 IsWrongAfter board rows row label fault =
     ((row.left ≡ 0) × (fault ≡ faults.NotStuck (rank_of board row.at) label))
     ⊎ ((0 < row.left) × IsWrongNext board rows row label (moved row.at row.request label) fault)
 
--- what is wrong with a labeller's row, at its first faulty pebble
+-- the fault of a labeller's row, at its first faulty pebble
 abbrev pub IsWrongAnswer : PlainBoard → List AnswerRow → AnswerRow → CheckFault → Type 0
 IsWrongAnswer board rows row = FirstTurn (λ pebble. pebble < board.pebbles) (MeetsRequest board rows row) (IsWrongAt board rows row)
 
--- what is wrong with an adversary's row, at its first faulty label
+-- the fault of an adversary's row, at its first faulty label
 abbrev pub IsWrongRequest : PlainBoard → List RequestRow → RequestRow → CheckFault → Type 0
 IsWrongRequest board rows row = FirstTurn (Legal board row.at row.request) (MeetsAnswer board rows row) (IsWrongAfter board rows row)
 
@@ -88,20 +88,20 @@ AdversaryBreach board rows = FirstFault (MeetsAnswers board rows) (IsWrongReques
 
 -- ---- the start
 
--- what is wrong with the start's number in the labeller's rows
+-- the fault of the start's number in the labeller's rows
 abbrev pub IsWrongStart : PlainBoard → PlainProof → CheckFault → Type 0
 IsWrongStart board proof fault = IsWanted (wanted_of proof.claim)
     × IsUnserved (HasRow (λ r. r.at) proof.labeller board.start) (IsListedFor proof.labeller board.start (wanted_of proof.claim))
     (faults.StartMissing Labeller) (faults.StartNumber Labeller) fault
 
--- the number that the claim says the value is at most, if it says so
+-- the bound of the claim from above, if it has one
 abbrev pub bound_of : Claim → Option ℕ
 bound_of (Exactly number) = Some number
 bound_of (AtLeast number) = None
 bound_of (AtMost number) = Some number
 bound_of Forever = None
 
--- what is wrong with the start's number in the adversary's rows
+-- the fault of the start's number in the adversary's rows
 abbrev pub IsWrongBound : PlainBoard → PlainProof → CheckFault → Type 0
 IsWrongBound board proof fault = (number : ℕ) × (bound_of proof.claim ≡ Some number)
     × IsUnserved (HasRow (λ r. r.at) proof.adversary board.start) (IsListedBelow proof.adversary board.start (suc number))
@@ -114,8 +114,8 @@ pub record StartServes (board : PlainBoard) (proof : PlainProof) : Type 0 where
   pub labeller : Serves proof.labeller board.start (wanted_of proof.claim)
   pub adversary : StartIsBelow proof.adversary board.start proof.claim
 
--- The fault is the first in the order of checking: the start's numbers, for the labeller and then the adversary, then the labeller's rows,
--- then the adversary's.
+-- The fault is the first in the order of checking: the start's numbers, for the labeller and then
+-- the adversary, then the labeller's rows, then the adversary's.
 abbrev pub IsFirstFault : PlainBoard → PlainProof → CheckFault → Type 0
 IsFirstFault board proof fault =
     IsWrongStart board proof fault
@@ -123,7 +123,7 @@ IsFirstFault board proof fault =
     ⊎ (StartServes board proof × LabellerBreach board proof.labeller fault)
     ⊎ (StartServes board proof × LabellerObeys board proof.labeller × AdversaryBreach board proof.adversary fault)
 
--- The fault is the first one, or memory was wanting, at any place.
+-- The fault is the first one, or out of memory, at any place.
 abbrev pub IsCheckFault : PlainBoard → PlainProof → CheckFault → Type 0
 IsCheckFault board proof fault = (fault ≡ faults.Memory) ⊎ IsFirstFault board proof fault
 

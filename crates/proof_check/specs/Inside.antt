@@ -1,3 +1,3 @@
--- What the clauses of this crate's own functions cite, and no public contract.
+-- Definitions that clauses of this crate's own functions cite, and no public contract.
 pub mod Checker
 pub mod RowIndex

@@ -36,7 +36,7 @@ impl CheckedRow for AdversaryRow {
 }
 
 impl Checker<'_> {
-    /// What is wrong with the row at a legal answer, if anything is. The rank is that of its result.
+    /// The fault of `row` at the legal answer `label`, if it has one. The result's rank is `rank`.
     fn label_fault(&self, row: &AdversaryRow, label: u16, rank: u32) -> Option<CheckFault>
         requires row { IsRequesting self.now.board row.now }
         requires legal { Legal self.now.board (configuration_at self.now.board row.now.at) row.now.ask label }
@@ -57,7 +57,8 @@ impl Checker<'_> {
         self.number_fault(rank, row.left - 1, missing, large)
     }
 
-    /// What is wrong with the start's number in the adversary's rows, if the claim says that the value is at most some number.
+    /// The fault of the start's number in the adversary's rows, if it has one. Only a claim that
+    /// bounds the value from above can have it.
     pub(crate) fn bound_fault(&self) -> Option<CheckFault>
         ensures { MatchOption result
             (StartIsBelow self.now.proof.adversary self.now.board.start self.now.proof.claim)
@@ -72,7 +73,8 @@ impl Checker<'_> {
         self.number_fault(self.start(), most, missing, large)
     }
 
-    /// The fault, if the adversary's rows have no number for a rank that is at most this one: no row has it, or one with a larger number.
+    /// The fault if the adversary's rows have no number up to `most` for `rank`: `missing` if no
+    /// row has the rank, `large` if its row has a larger number.
     fn number_fault(
         &self,
         rank: u32,

@@ -20,14 +20,14 @@ pub(crate) trait CheckedRow {
 
     ghost is_wrong: { Checked → Self → Fault → Type 0 };
 
-    /// What is wrong with the row, if anything is.
+    /// The fault of the row, if it has one.
     fn fault(&self, checker: &Checker<'_>) -> Option<CheckFault>
         requires { is_ready checker.now.board self.now }
         ensures fault { MatchOption result (meets checker.now self.now) (is_wrong checker.now self.now) }
         ensures faulty { IsSome result → ¬ meets checker.now self.now };
 }
 
-/// The fault of the first faulty row, if there is one. The rows are looked at in parallel.
+/// The fault of the first faulty row of `rows`, if there is one. The rows are checked in parallel.
 pub(crate) fn first_fault<R: CheckedRow + Sync>(
     rt: &(impl Threads + Sync),
     checker: &Checker<'_>,

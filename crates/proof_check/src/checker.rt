@@ -37,7 +37,7 @@ impl<'a> Model for Checker<'a> {
 }
 
 impl<'a> Checker<'a> {
-    /// The document's rows by their configurations.
+    /// A checker of `proof` on `board`: the document's rows by their configurations.
     pub(crate) fn new(
         alloc: Global,
         board: &'a Board,
@@ -66,7 +66,7 @@ impl<'a> Checker<'a> {
         self.claim
     }
 
-    /// How many pebbles the board has.
+    /// The number of pebbles of the board.
     pub(crate) fn pebbles(&self) -> u8
         ensures { result ≡ self.now.board.pebbles }
     {
@@ -81,7 +81,7 @@ impl<'a> Checker<'a> {
         self.space.rank(self.board.start())
     }
 
-    /// The moves from the configuration of a rank.
+    /// The moves from the configuration of `rank`.
     pub(crate) fn moves(&self, rank: u32) -> Moves<'_>
         requires { rank < configurations self.now.board }
         ensures { result ≡ position_at self.now.board rank }

@@ -1,4 +1,4 @@
-//! Whether a document shows its claim.
+//! The order of checking a document.
 
 ghost use Rattle.std.specs.Prelude.{◌≡◌, ◌≤◌, OnOk, IfOk, IfErr, MatchOption};
 ghost use Rattle.positions.specs.Ranks.{configurations};
@@ -23,7 +23,7 @@ pub struct Shown {
     pub claim: Claim,
 }
 
-/// The claim of the document, if its rows show it, or the first fault in the order of checking.
+/// The claim of `proof`, if its rows show it, or the first fault in the order of checking.
 pub fn check(
     rt: &(impl Threads + Sync),
     alloc: Global,
@@ -32,7 +32,7 @@ pub fn check(
 ) -> Result<Shown, CheckFault>
     requires few { configurations board.now ≤ MAX_CONFIGURATIONS }
     requires document { IsDocument board.now proof.now }
-    // What is shown is the document's claim.
+    // The claim shown is the document's.
     ensures claim { IfOk result (λ shown. shown.claim ≡ proof.now.claim) }
     // Its rows show it.
     ensures shows { OnOk result (Shows board.now (answer_rows board.now proof.now.labeller.items)
@@ -41,7 +41,7 @@ pub fn check(
     ensures rules { OnOk result (BreaksNoRule board.now (plain_proof board.now proof.now)) }
     // Each that breaks none is accepted, unless memory runs out.
     ensures accepts { BreaksNoRule board.now (plain_proof board.now proof.now) → IfErr result (λ fault. fault ≡ OutOfMemory) }
-    // Which fault it is.
+    // The fault is the first in the order of checking, or memory ran out.
     ensures fault { IfErr result (λ fault. IsCheckFault board.now (plain_proof board.now proof.now) fault) }
     // A fault names rows by ranks of the board.
     ensures named { IfErr result (NamesRanks board.now) }

@@ -11,7 +11,8 @@ pub enum CheckFault {
     StartNumber { side: Side },
     /// The answer to a request of the pebble is no legal one.
     IllegalAnswer { at: u32, pebble: u8 },
-    /// The result of the labeller's answer for the pebble `turn`, or of the adversary's row with the label `turn`, isn't listed.
+    /// The result of the labeller's answer for the pebble `turn`, or of the adversary's row with
+    /// the label `turn`, isn't listed.
     Unlisted { side: Side, at: u32, turn: u16 },
     /// The result of the answer for the pebble is listed with too small a number.
     TooSmall { at: u32, pebble: u8 },

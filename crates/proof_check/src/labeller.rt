@@ -14,7 +14,7 @@ use crate::fault::CheckFault;
 use positions::{Moves, Side, Turns};
 use proof_text::{Claim, LabellerRow};
 
-/// Whether so many turns are enough where these are wanted.
+/// Whether `turns` is at least `wanted`.
 fn is_enough(wanted: Turns, turns: Turns) -> bool
     ensures { IsTrue result ↔ IsEnough wanted turns }
 {
@@ -25,7 +25,7 @@ fn is_enough(wanted: Turns, turns: Turns) -> bool
     }
 }
 
-/// The turns that are left after one of them.
+/// The turns that are left after one of `turns`.
 fn after_one(turns: Turns) -> Turns
     ensures { result ≡ one_less turns }
 {
@@ -35,14 +35,14 @@ fn after_one(turns: Turns) -> Turns
     }
 }
 
-/// Whether some turns are wanted.
+/// Whether `turns` isn't 0.
 fn is_wanted(turns: Turns) -> bool
     ensures { IsTrue result ↔ IsWanted turns }
 {
     turns != Turns::Count(0)
 }
 
-/// The turns that a claim wants of the start.
+/// The turns that `claim` wants of the start.
 fn wanted_of(claim: Claim) -> Turns
     ensures { result ≡ rules.wanted_of claim }
 {
@@ -73,7 +73,8 @@ impl CheckedRow for LabellerRow {
 }
 
 impl Checker<'_> {
-    /// What is wrong with the row's answer to a request of the pebble, if anything is. The moves are those from the row's configuration.
+    /// The fault of the answer of `row` to a request of `pebble`, if it has one. The `moves` are
+    /// those from the row's configuration.
     fn answer_fault(&self, row: &LabellerRow, moves: &Moves<'_>, pebble: u8) -> Option<CheckFault>
         requires row { IsAnswering self.now.board row.now }
         requires moves { moves.now ≡ position_at self.now.board row.now.at }
@@ -96,7 +97,7 @@ impl Checker<'_> {
         self.turns_fault(moves.after(pebble, label), left, missing, short)
     }
 
-    /// What is wrong with the start's number in the labeller's rows, if anything is.
+    /// The fault of the start's number in the labeller's rows, if it has one.
     pub(crate) fn start_fault(&self) -> Option<CheckFault>
         ensures { MatchOption result
             (Serves self.now.proof.labeller self.now.board.start (rules.wanted_of self.now.proof.claim))
@@ -108,7 +109,8 @@ impl Checker<'_> {
         self.turns_fault(self.start(), wanted_of(self.claim()), missing, short)
     }
 
-    /// The fault, if the labeller's rows don't serve the wanted turns at a rank: no row has it, or one that is too short.
+    /// The fault if the labeller's rows don't serve the `wanted` turns at `rank`: `missing` if no
+    /// row has the rank, `short` if its row has too few turns.
     fn turns_fault(
         &self,
         rank: u32,

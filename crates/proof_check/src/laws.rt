@@ -15,13 +15,13 @@ pub fn rules_show()
         → Shows board proof.labeller proof.adversary proof.claim }
 {}
 
-/// A document that breaks no rule has no fault: all that can be wanting is memory.
+/// A document that breaks no rule has no fault but out of memory.
 pub fn unbroken_rules_leave_no_fault()
     ensures { (board : PlainBoard) → (proof : PlainProof) → (fault : Fault) → BreaksNoRule board proof → IsCheckFault board proof fault
         → fault ≡ OutOfMemory }
 {}
 
-/// A document has one fault at most, want of memory aside.
+/// A document has one fault at most, apart from out of memory.
 pub fn one_check_fault()
     ensures { (board : PlainBoard) → (proof : PlainProof) → (fault : Fault) → (other : Fault) → fault ≢ OutOfMemory → other ≢ OutOfMemory
         → IsCheckFault board proof fault → IsCheckFault board proof other → fault ≡ other }

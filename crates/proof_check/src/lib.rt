@@ -1,4 +1,4 @@
-//! Whether the rows of a strategy document show its claim.
+//! Checks whether the rows of a strategy document show its claim, without the board's values.
 #![tactic(auto)]
 
 mod adversary;

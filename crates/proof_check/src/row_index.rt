@@ -32,17 +32,18 @@ impl Ranked for AdversaryRow {
     }
 }
 
-/// What stands in an index where no row has the rank. It is no place.
+/// The entry of an index at a rank that no row has. It is no place.
 const NO_PLACE: u32 = u32::MAX;
 
-/// Rows that are searched have fewer than one in so many configurations.
+/// Below one row per 64 configurations rows are found by binary search, not by an index.
 const SEARCHED: usize = 64;
 
 /// Rows that are found by their ranks. Contracts see the rows.
 #[derive(Drop)]
 pub(crate) struct RowIndex<'a, R: Ranked> {
     rows: &'a [R],
-    /// At each row's rank its place; elsewhere a number that is no place. Empty where the rows are searched.
+    /// At each row's rank its place; elsewhere a number that is no place. Empty if the rows are
+    /// searched.
     places: Vec<u32>,
 }
 
@@ -58,7 +59,7 @@ impl<'a, R: Ranked> Model for RowIndex<'a, R> {
 }
 
 impl<'a, R: Ranked> RowIndex<'a, R> {
-    /// The index of these rows, whose ranks ascend and are below the size.
+    /// The index of `rows`, whose ranks ascend and are below `size`.
     pub(crate) fn new(
         alloc: Global,
         size: u32,
@@ -82,7 +83,7 @@ impl<'a, R: Ranked> RowIndex<'a, R> {
         self.rows
     }
 
-    /// The row of this rank.
+    /// The row of `rank`, if there is one.
     pub(crate) fn find(&self, rank: u32) -> Option<&'a R>
         ensures { MatchOption result (HasNone R.rank self.now rank) (λ row. IsRowOf R.rank self.now rank row.now) }
     {
@@ -93,7 +94,7 @@ impl<'a, R: Ranked> RowIndex<'a, R> {
     }
 }
 
-/// The row of this rank, among rows whose ranks ascend.
+/// The row of `rank`, if there is one, among `rows`, whose ranks ascend.
 fn search<R: Ranked>(rows: &[R], rank: u32) -> Option<&R>
     requires { AreAscending R.rank rows.now }
     ensures { MatchOption result (HasNone R.rank rows.now rank) (λ row. IsRowOf R.rank rows.now rank row.now) }
@@ -104,7 +105,7 @@ fn search<R: Ranked>(rows: &[R], rank: u32) -> Option<&R>
     }
 }
 
-/// At each row's rank its place, and elsewhere a number that is no place.
+/// The place of each of `rows` at its rank, and elsewhere a number that is no place.
 fn places_of<R: Ranked>(alloc: Global, size: u32, rows: &[R]) -> Result<Vec<u32>, AllocError>
     requires { AreRanked R.rank size rows.now }
     ensures { IfOk result (λ places. IsIndex R.rank rows.now places.items) }

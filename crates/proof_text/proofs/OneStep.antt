@@ -1,4 +1,5 @@
--- A text is read in one way: each step from its front finds one thing at most, and what is behind that is read in one way too.
+-- A text is read in one way: each step from its start finds one thing at most, and the rest is read
+-- in one way too.
 use Rattle.std.proofs.Common.{◌≡◌, ◌⊎◌, ℕ, List, ◌++◌, sym, subst, ◌∙◌, inl, inr}
 use Rattle.board_text.specs.LineForms.{Lacks}
 

@@ -1,4 +1,4 @@
--- What the digits of a row spell.
+-- The numbers that the digits of a row spell.
 use Rattle.std.proofs.Common.{◌≡◌, ◌≢◌, ℕ, ◌+◌, ◌^◌, ◌<◌, ◌≤◌, true, false, List, [], ◌++◌, Option, Some, None, refl, sym, ap, ◌∙◌, arith}
 use Rattle.std.specs.Prelude.{codes, MatchOption}
 use Rattle.std.specs.Option.{is_some}

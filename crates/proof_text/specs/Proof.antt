@@ -1,4 +1,4 @@
--- A strategy document as plain data, and what the format asks of it.
+-- A strategy document as plain data, and the rules of its format.
 use Rattle.std.specs.Prelude.{◌≡◌, ℕ, ◌<◌, ◌≤◌, Bool, true, false, List, [], length, map, take, slice_index, All, AllPairs}
 use Rattle.board_text.specs.Ranges.{InRange, AreNumbers}
 use Rattle.board_text.specs.PlainBoard.{PlainBoard, IsConfiguration}
@@ -41,7 +41,8 @@ asks_adversary (AtLeast number) = false
 asks_adversary (AtMost number) = true
 asks_adversary Forever = false
 
--- a labeller's row of a document with the claim may be for these turns: always, where the claim is for ever, and else a number from 1 on
+-- a labeller's row of a document with the claim may be for these turns: always, if the claim is for
+-- ever, and else a number from 1 on
 abbrev pub AreTurns : Claim → Turns → Type 0
 AreTurns Forever Always = Unit {0}
 AreTurns Forever (Count number) = ⊥
@@ -64,7 +65,8 @@ pub record IsRequestRow (board : PlainBoard) (row : RequestRow) : Type 0 where
 abbrev pub IsBefore : PlainBoard → List ℕ → List ℕ → Type 0
 IsBefore board first second = rank_of board first < rank_of board second
 
--- the rows of a section: not too many, each as it should be, and their configurations in ascending order of rank
+-- the rows of a section: not too many, each as the format has it, and their configurations in
+-- ascending order of rank
 pub record AreRows {X : Type 0} (board : PlainBoard) (IsRow : X → Type 0) (at : X → List ℕ) (rows : List X) : Type 0 where
   pub few : length rows ≤ MAX_CONFIGURATIONS
   pub each : All IsRow rows
@@ -78,7 +80,8 @@ AreAnswerRows board claim rows = AreRows board (IsAnswerRow board claim) (λ row
 abbrev pub AreRequestRows : PlainBoard → List RequestRow → Type 0
 AreRequestRows board rows = AreRows board (IsRequestRow board) (λ row. row.at) rows
 
--- a document for the board: its rows are as the format has them, and sections that the claim doesn't ask for have none
+-- a document for the board: its rows are as the format has them, and sections that the claim
+-- doesn't ask for have none
 pub record IsProof (board : PlainBoard) (proof : PlainProof) : Type 0 where
   pub claim : IsClaim proof.claim
   pub labeller : AreAnswerRows board proof.claim proof.labeller
@@ -88,7 +91,8 @@ pub record IsProof (board : PlainBoard) (proof : PlainProof) : Type 0 where
 
 -- ---- rows that name their configuration by its rank
 
--- a labeller's row with its configuration in place of the rank, and an answer for each pebble of the board
+-- a labeller's row with its configuration in place of the rank, and an answer for each pebble of
+-- the board
 abbrev pub answer_row : PlainBoard → LabellerRow → AnswerRow
 answer_row board row = record { at = configuration_at board row.at; turns = row.turns; answers = take board.pebbles row.take }
 

@@ -47,15 +47,15 @@ abbrev pub MayFollow : {X : Type 0} → PlainBoard → (X → List ℕ) → List
 MayFollow {X} board at rows configuration = (before : List X) (last : X) → rows ≡ before ++ last ∷ []
     → IsBefore board (at last) configuration
 
--- The fault of what stands where a row should, where no fault before it in the order is there: its words are misread, or its configuration
--- may not stand there.
+-- The fault of the text in the place of a row, if it has no fault before it in the order: its words
+-- are misread, or its configuration may not stand there.
 abbrev pub RowFault : {X : Type 0} → (X → Type 0) → (X → List ℕ) → (X → List ℕ) → (List ℕ → ProofKind → Type 0) → (List ℕ → Type 0)
     → List ℕ → ProofKind → Type 0
 RowFault {X} IsRow at row_line Misread MayStand rest kinds.Order =
     (row : X) × IsRow row × (more : List ℕ) × (rest ≡ row_line row ++ more) × ¬ MayStand (at row)
 RowFault {X} IsRow at row_line Misread MayStand rest kind = Misread rest kind
 
--- what is wrong with the words where a labeller's row should stand
+-- the fault of the words in the place of a labeller's row
 abbrev pub AnswerMisread : PlainBoard → Claim → List ℕ → ProofKind → Type 0
 AnswerMisread board claim rest kinds.Row = Lacks (AreAnswerWords board.pebbles board.labels (places board)) answer_words_line rest
 AnswerMisread board claim rest kinds.Label =
@@ -65,7 +65,7 @@ AnswerMisread board claim rest kinds.Number =
     × ¬ SpellsTurns claim words.turns
 AnswerMisread board claim rest kind = ⊥
 
--- what is wrong with the words where an adversary's row should stand
+-- the fault of the words in the place of an adversary's row
 abbrev pub RequestMisread : PlainBoard → List ℕ → ProofKind → Type 0
 RequestMisread board rest kinds.Row = Lacks (AreRequestWords board.pebbles board.labels (places board)) request_words_line rest
 RequestMisread board rest kinds.Label =
@@ -77,17 +77,17 @@ RequestMisread board rest kinds.Number =
     × ¬ SpellsBelow (MOST_TURNS + 1) words.left
 RequestMisread board rest kind = ⊥
 
--- the fault of what stands where a labeller's row should
+-- the fault of the text in the place of a labeller's row
 abbrev pub AnswerRowFault : PlainBoard → Claim → (List ℕ → Type 0) → List ℕ → ProofKind → Type 0
 AnswerRowFault board claim MayStand rest kind =
     RowFault (IsAnswerRow board claim) (λ row. row.at) (answer_line board) (AnswerMisread board claim) MayStand rest kind
 
--- the fault of what stands where an adversary's row should
+-- the fault of the text in the place of an adversary's row
 abbrev pub RequestRowFault : PlainBoard → (List ℕ → Type 0) → List ℕ → ProofKind → Type 0
 RequestRowFault board MayStand rest kind =
     RowFault (IsRequestRow board) (λ row. row.at) (request_line board) (RequestMisread board) MayStand rest kind
 
--- The head of a section of so many rows stands here, and these rows have come.
+-- The head of a section of `count` rows stands here, and these rows have come.
 pub record RowsCome {X : Type 0} (board : PlainBoard) (IsRow : X → Type 0) (at : X → List ℕ) (section_line : ℕ → List ℕ)
     (row_line : X → List ℕ)
     (text : List ℕ) (count : ℕ) (rows : List X) (rest : List ℕ) : Type 0 where
@@ -96,8 +96,8 @@ pub record RowsCome {X : Type 0} (board : PlainBoard) (IsRow : X → Type 0) (at
   pub are_rows : AreRows board IsRow at rows
   pub spelled : text ≡ section_line count ++ (flat_map row_line rows ++ rest)
 
--- The fault of a section whose head should stand here, at the line `number`. Memory may be wanting at any row: the lines before it are
--- faultless.
+-- The fault of a section whose head should stand here, at the line `number`. Memory may run out at
+-- any row: the lines before it are faultless.
 abbrev pub InSection : {X : Type 0} → PlainBoard → (X → Type 0) → (X → List ℕ) → (ℕ → List ℕ) → (X → List ℕ)
     → ((List ℕ → Type 0) → List ℕ → ProofKind → Type 0)
     → List ℕ → ℕ → ℕ → ProofKind → Type 0
@@ -131,7 +131,8 @@ pub record LabellerFault (board : PlainBoard) (text : List ℕ) (line : ℕ) (ki
   pub spelled : text ≡ head claim ++ rest
   pub fault : InLabeller board claim rest 3 line kind
 
--- The adversary's section that the claim asks for has the fault, and the labeller's section, if there is one, has none.
+-- The adversary's section that the claim asks for has the fault, and the labeller's section, if
+-- there is one, has none.
 pub record AdversaryFault (board : PlainBoard) (text : List ℕ) (line : ℕ) (kind : ProofKind) : Type 0 where
   pub claim : Claim
   pub labeller : List AnswerRow
@@ -147,7 +148,8 @@ pub record AdversaryFault (board : PlainBoard) (text : List ℕ) (line : ℕ) (k
 abbrev pub end_number : PlainProof → ℕ
 end_number proof = 3 + labeller_lines proof.claim proof.labeller + adversary_lines proof.claim proof.adversary
 
--- All lines before this one are faultless, and this one has the fault and none before it in the order.
+-- All lines before this one are faultless, and this one has the fault and none before it in the
+-- order.
 abbrev pub HasProofFault : PlainBoard → List ℕ → ℕ → ProofKind → Type 0
 HasProofFault board text line kinds.Version = (line ≡ 1) × Lacks (λ (u : Unit {0}). Unit {0}) (λ u. version_line) text
 HasProofFault board text line kinds.Claim = (line ≡ 2) × (rest : List ℕ) × (text ≡ version_line ++ rest) × Lacks IsClaim claim_line rest

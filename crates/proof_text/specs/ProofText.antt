@@ -46,12 +46,12 @@ request_line board row = closed
 abbrev pub head : Claim → List ℕ
 head claim = version_line ++ claim_line claim
 
--- the labeller's section, where the claim asks for it
+-- the labeller's section, if the claim asks for it
 abbrev pub labeller_section : PlainBoard → Claim → List AnswerRow → List ℕ
 labeller_section board claim rows =
     if asks_labeller claim then number_line (codes "labeller") (length rows) ++ flat_map (answer_line board) rows else []
 
--- the adversary's section, where the claim asks for it
+-- the adversary's section, if the claim asks for it
 abbrev pub adversary_section : PlainBoard → Claim → List RequestRow → List ℕ
 adversary_section board claim rows =
     if asks_adversary claim then number_line (codes "adversary") (length rows) ++ flat_map (request_line board) rows else []
@@ -65,10 +65,10 @@ front board proof = (closed (codes "proof 1") ++ closed (claim_words proof.claim
 abbrev pub proof_text : PlainBoard → PlainProof → List ℕ
 proof_text board proof = front board proof ++ end_line
 
--- how many lines the labeller's section has
+-- the number of lines of the labeller's section
 abbrev pub labeller_lines : Claim → List AnswerRow → ℕ
 labeller_lines claim rows = if asks_labeller claim then 1 + length rows else 0
 
--- how many lines the adversary's section has
+-- the number of lines of the adversary's section
 abbrev pub adversary_lines : Claim → List RequestRow → ℕ
 adversary_lines claim rows = if asks_adversary claim then 1 + length rows else 0

@@ -21,7 +21,8 @@ pub record RequestWords : Type 0 where
 abbrev pub IsTurnsText : List ℕ → Type 0
 IsTurnsText text = IsNumeral 10 text ⊎ (text ≡ codes "*")
 
--- as many places below the bound and as many labels as there are pebbles, each in digits, or a place as a hyphen
+-- as many places below the bound and as many labels as there are pebbles, each in digits, or a
+-- place as a hyphen
 pub record AreAnswerWords (pebbles labels bound : ℕ) (words : AnswerWords) : Type 0 where
   pub at : ArePlaceTexts pebbles labels bound words.at
   pub turns : IsTurnsText words.turns

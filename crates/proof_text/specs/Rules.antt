@@ -1,4 +1,4 @@
--- The rules of checking: what the rows of a document and the start's number must meet.
+-- The rules of checking, for the rows of a document and for the start's number.
 use Rattle.std.specs.Prelude.{◌≡◌, ℕ, suc, ◌-◌, ◌<◌, ◌≤◌, List, Some, slice_get}
 use Rattle.std.specs.List.{All, Contains}
 use Rattle.board_text.specs.PlainBoard.{PlainBoard}
@@ -10,7 +10,7 @@ use Rattle.positions.specs.declared.turns.Turns.{Turns}
 use Rattle.positions.specs.declared.turns.Turns.TheVariants.{Count, Always}
 use Rattle.proof_text.specs.Proof.{PlainProof}
 
--- so many turns are enough where these are wanted
+-- the turns are at least the wanted ones
 abbrev pub IsEnough : Turns → Turns → Type 0
 IsEnough (Count wanted) (Count turns) = wanted ≤ turns
 IsEnough (Count wanted) Always = Unit {0}
@@ -27,14 +27,14 @@ abbrev pub IsWanted : Turns → Type 0
 IsWanted (Count turns) = 1 ≤ turns
 IsWanted Always = Unit {0}
 
--- the configuration is listed for so many turns or more
+-- the configuration is listed for the wanted turns or more
 pub record IsListedFor (rows : List AnswerRow) (configuration : List ℕ) (wanted : Turns) : Type 0 where
   pub row : AnswerRow
   pub among : Contains rows row
   pub at : row.at ≡ configuration
   pub enough : IsEnough wanted row.turns
 
--- the configuration is listed for so many turns, if any are wanted
+-- the configuration is listed for the wanted turns, if any are wanted
 abbrev pub Serves : List AnswerRow → List ℕ → Turns → Type 0
 Serves rows configuration wanted = IsWanted wanted → IsListedFor rows configuration wanted
 
@@ -79,7 +79,7 @@ wanted_of (AtLeast number) = Count number
 wanted_of (AtMost number) = Count 0
 wanted_of Forever = Always
 
--- the start's number serves what the claim says of the adversary
+-- the start's number serves the claim's bound from above, if it has one
 abbrev pub StartIsBelow : List RequestRow → List ℕ → Claim → Type 0
 StartIsBelow rows start (Exactly number) = IsListedBelow rows start (suc number)
 StartIsBelow rows start (AtLeast number) = Unit {0}

@@ -1,4 +1,4 @@
-//! The claim of a document, taken from the front of a text and written.
+//! Reading and writing the claim of a document.
 
 ghost use Rattle.board_text.specs.LineForms.{Takes};
 ghost use Rattle.std.specs.Prelude.{◌≡◌, ◌++◌, OnOk, string_bytes};
@@ -11,7 +11,7 @@ use positions::Claim;
 use std::alloc::AllocError;
 use std::fmt::Write;
 
-/// Takes the line of a claim.
+/// Takes the line of a claim from `text`, and returns the claim.
 pub(crate) fn claim(text: &mut LineReader<'_>) -> Option<Claim>
     ensures { Takes IsClaim claim_line result text.old text.new }
 {
@@ -28,7 +28,7 @@ pub(crate) fn claim(text: &mut LineReader<'_>) -> Option<Claim>
     Some(Claim::Forever)
 }
 
-/// Writes a claim as a document has it: its word and, where it has one, its number.
+/// Appends `claim` as a document has it: its word and, if it has one, its number.
 pub fn write_claim(text: &mut String, claim: Claim) -> Result<(), AllocError>
     ensures { OnOk result (string_bytes text.new ≡ string_bytes text.old ++ claim_words claim) }
 {

@@ -1,11 +1,11 @@
-//! What can be wrong with the text of a strategy document.
+//! The faults of the text of a strategy document.
 
 ghost use Rattle.std.specs.Prelude.{◌≡◌};
 ghost use Rattle.proof_text.specs.declared.fault.ProofKind.TheVariants.{Memory as OutOfMemory};
 
 use std::alloc::AllocError;
 
-/// What is wrong with a line of a document's text.
+/// The fault of a line of a document's text.
 #[derive(Clone, Copy, Debug, PartialEq, Eq)]
 pub enum ProofKind {
     /// The first line isn't `proof 1`.
@@ -16,17 +16,17 @@ pub enum ProofKind {
     Section,
     /// A row hasn't the words of its section's rows.
     Row,
-    /// A place of a row holds no label.
+    /// A place of a row isn't one of the board's, or an answer isn't a label.
     Label,
-    /// The requested pebble is none.
+    /// The requested pebble isn't one of the board's.
     Pebble,
-    /// The number of a row isn't one that the claim allows.
+    /// The number of a row is out of range, or the claim doesn't allow it.
     Number,
     /// The configuration doesn't come after that of the row before.
     Order,
     /// The line `end` is missing or cut.
     End,
-    /// Something stands behind the line `end`.
+    /// More bytes follow the line `end`.
     Trailing,
     /// A growth of memory was refused.
     Memory,
@@ -35,7 +35,7 @@ pub enum ProofKind {
 /// The first fault of a document's text.
 #[derive(Clone, Copy, Debug, PartialEq, Eq)]
 pub struct ProofFault {
-    /// The number of the faulty line, counted from 1; 0 for want of memory.
+    /// The number of the faulty line, counted from 1; 0 if out of memory.
     pub line: u32,
     pub kind: ProofKind,
 }

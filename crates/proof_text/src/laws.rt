@@ -13,20 +13,21 @@ ghost use Rattle.proof_text.specs.declared.proof.AdversaryRow.{AdversaryRow as R
 
 use crate::proof::MOST_TURNS;
 
-/// For one board a text is that of one document at most. So the text that is printed for a document is read back as that document.
+/// For one board a text is that of one document at most. So the text that is printed for a
+/// document is read back as that document.
 pub fn one_document()
     ensures { (board : PlainBoard) → (first : PlainProof) → (second : PlainProof) → IsBoard board → IsProof board first
         → IsProof board second
         → proof_text board first ≡ proof_text board second → first ≡ second }
 {}
 
-/// No line of a document's text has a fault: all that can be wanting is memory.
+/// No line of a document's text has a fault but out of memory.
 pub fn documents_have_no_fault()
     ensures { (board : PlainBoard) → (document : PlainProof) → (line : ℕ) → (kind : Kind) → IsBoard board → IsProof board document
         → HasProofFault board (proof_text board document) line kind → kind ≡ OutOfMemory }
 {}
 
-/// For one board a text has one fault at most, want of memory aside.
+/// For one board a text has one fault at most, apart from out of memory.
 pub fn one_fault()
     ensures { (board : PlainBoard) → (text : List ℕ) → (line : ℕ) → (other_line : ℕ) → (kind : Kind) → (other_kind : Kind) → IsBoard board
         → kind ≢ OutOfMemory → other_kind ≢ OutOfMemory
@@ -34,7 +35,7 @@ pub fn one_fault()
         → (line ≡ other_line) × (kind ≡ other_kind) }
 {}
 
-/// Rows that name the same configuration by its rank, and say the same of it, are the same in each field.
+/// Rows whose plain forms, with configurations for ranks, are the same are the same in each field.
 pub fn one_row_of_a_rank()
     ensures labeller { (board : PlainBoard) → (first : RankedAnswers) → (second : RankedAnswers)
         → first.at < configurations board → second.at < configurations board → IsPadded board first → IsPadded board second

@@ -1,4 +1,5 @@
-//! Strategy documents: a claim on a board's value, with the strategies that are to show it, and their text.
+//! Strategy documents: a claim on a board's value, with the strategies that should show it, and
+//! their text.
 #![tactic(auto)]
 
 mod claims;

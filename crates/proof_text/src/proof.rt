@@ -11,9 +11,10 @@ pub const MOST_TURNS: u32 = 1_000_000_000;
 pub struct LabellerRow {
     /// The rank of the configuration.
     pub at: u32,
-    /// For how many turns the configuration is listed.
+    /// The turns for which the configuration is listed.
     pub turns: Turns,
-    /// The label that each pebble is put on; 0 in the places of pebbles that the board doesn't have.
+    /// The label that each pebble is put on; 0 in the places of pebbles that the board doesn't
+    /// have.
     pub take: [u16; MAX_PEBBLES],
 }
 
@@ -22,7 +23,7 @@ pub struct LabellerRow {
 pub struct AdversaryRow {
     /// The rank of the configuration.
     pub at: u32,
-    /// How many answers the labeller has left at most.
+    /// The largest number of answers that the labeller has left.
     pub left: u32,
     /// The pebble that is requested.
     pub ask: u8,

@@ -1,4 +1,4 @@
-//! The words of a row, taken from the front of a text, with what they spell.
+//! The words of a row, taken from the start of a text, with their values.
 
 ghost use Rattle.std.specs.Prelude.{◌≡◌, ◌≢◌, ℕ, ◌+◌, ◌<◌, ◌≤◌, length, option_map, MatchOption, Some, None};
 ghost use Rattle.positions.specs.declared.turns.Turns.TheVariants.{Count, Always};
@@ -10,18 +10,18 @@ use crate::proof::MOST_TURNS;
 use board_text::line_reader::{LineReader, Numeral};
 use positions::{Claim, Turns};
 
-/// What the words of a labeller's row spell, beside its places and its answers.
+/// The values of the words of a labeller's row, beside its places and its answers.
 #[derive(Clone, Copy)]
 pub(crate) struct AnswerValues {
     /// Each place of the position is one of the board.
     pub are_places: bool,
-    /// The turns, if they are such as the claim allows.
+    /// The turns, if the claim allows them.
     pub turns: Option<Turns>,
     /// Each answer is a label.
     pub are_answers: bool,
 }
 
-/// What the words of an adversary's row spell, beside its places.
+/// The values of the words of an adversary's row, beside its places.
 #[derive(Clone, Copy)]
 pub(crate) struct RequestValues {
     /// Each place of the position is one of the board.
@@ -32,7 +32,7 @@ pub(crate) struct RequestValues {
     pub ask: Option<u16>,
 }
 
-/// Takes the words of a labeller's row.
+/// Takes the words of a labeller's row from `text`; `None` if it doesn't begin with such.
 pub(crate) fn answer_words(
     text: &mut LineReader<'_>,
     labels: u16,
@@ -58,7 +58,7 @@ pub(crate) fn answer_words(
     })
 }
 
-/// Takes the words of an adversary's row.
+/// Takes the words of an adversary's row from `text`; `None` if it doesn't begin with such.
 pub(crate) fn request_words(
     text: &mut LineReader<'_>,
     labels: u16,
@@ -83,7 +83,8 @@ pub(crate) fn request_words(
     })
 }
 
-/// Takes `at`, the places of a position, and ` for `. Says whether each is one of so many places; then these are written.
+/// Takes `at`, the places of a position, and ` for `. `Some(true)`: each is one of `places` places,
+/// and they are written.
 fn position(text: &mut LineReader<'_>, labels: u16, places: u16, at: &mut [u16]) -> Option<bool>
     requires some { 0 < length at.old }
     requires places { (labels ≤ places) × (places ≤ labels + 1) }
@@ -95,7 +96,8 @@ fn position(text: &mut LineReader<'_>, labels: u16, places: u16, at: &mut [u16])
     Some(are_places)
 }
 
-/// Takes a star or digits, with the turns that they spell, if these are such as the claim allows.
+/// Takes a star or digits from `text`, and returns the turns that they spell, if `claim` allows
+/// them.
 fn turns(text: &mut LineReader<'_>, claim: Claim) -> Option<Option<Turns>>
     ensures { TakesTurns claim result text.old text.new }
 {
@@ -105,7 +107,7 @@ fn turns(text: &mut LineReader<'_>, claim: Claim) -> Option<Option<Turns>>
     Some(count(claim, text.numeral()?))
 }
 
-/// Turns without end, if the claim allows them.
+/// Turns without end, if `claim` allows them.
 fn always(claim: Claim) -> Option<Turns>
     ensures { MatchOption result (AreTurns claim Always → ⊥) (λ turns. AreTurns claim turns × (turns ≡ Always)) }
 {
@@ -115,7 +117,7 @@ fn always(claim: Claim) -> Option<Turns>
     }
 }
 
-/// So many turns, if the claim allows them.
+/// The turns that `numeral` spells, if `claim` allows them.
 fn count(claim: Claim, numeral: Numeral) -> Option<Turns>
     ensures { MatchOption result ((n : ℕ) → AreTurns claim (Count n) → numeral ≢ Number n)
         (λ turns. AreTurns claim turns × ((n : ℕ) × (turns ≡ Count n) × (numeral ≡ Number n))) }

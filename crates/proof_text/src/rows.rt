@@ -26,11 +26,11 @@ pub(crate) trait Row: Copy {
     fn word() -> &'static str
         ensures { (board : PlainBoard) → (claim : Claimed) → result.now ≡ (form board claim).word };
 
-    /// Whether a document with the claim has the section.
+    /// Whether a document with `claim` has the section.
     fn is_asked(claim: Claim) -> bool
         ensures { (board : PlainBoard) → result ≡ (form board claim).asked };
 
-    /// The row of the next line, where ranks may stand from the least on.
+    /// Reads the row of the next line, whose rank must be at least `least`.
     fn read(
         text: &mut LineReader<'_>,
         space: &Space,
@@ -39,7 +39,7 @@ pub(crate) trait Row: Copy {
     ) -> Result<Self, ProofKind>
         ensures { NextRow space.now (form space.now claim) least result text.old text.new };
 
-    /// Writes the row's line.
+    /// Appends the row's line to `text`.
     fn write(&self, text: &mut String, space: &Space) -> Result<(), AllocError>
         requires { (claim : Claimed) → (form space.now claim).rank self.now < configurations space.now }
         ensures { OnOk result ((claim : Claimed) → string_bytes text.new ≡ string_bytes text.old ++ (form space.now claim).line self.now) };

@@ -1,4 +1,4 @@
-//! The sections of a document: read from the front of a text, and written.
+//! Reading and writing the sections of a document.
 
 ghost use Rattle.std.specs.Prelude.{◌≡◌, ◌<◌, ◌≤◌, ◌+◌, ◌++◌, true, if◌then◌else◌, All, IfOk, IfErr, OnOk, string_bytes};
 ghost use Rattle.positions.specs.Ranks.{configurations};
@@ -12,7 +12,8 @@ use positions::{Claim, MAX_CONFIGURATIONS, Space};
 use std::alloc::{AllocError, Global};
 use std::fmt::Write;
 
-/// Takes a section, whose head stands at this line, if the claim asks for it.
+/// Takes a section from `text`, if `claim` asks for it, and returns its rows. Its head is at line
+/// `line`.
 pub(crate) fn read_part<R: Row>(
     alloc: Global,
     text: &mut LineReader<'_>,
@@ -41,9 +42,7 @@ pub(crate) fn read_part<R: Row>(
         match R::read(text, space, claim, least) {
             Ok(row) => {
                 least = row.rank() + 1;
-                if rows.push(row).is_err() {
-                    return Err(ProofFault::at(0, ProofKind::Memory));
-                }
+                rows.push(row).map_err(AllocError::from)?;
             }
             Err(kind) => return Err(ProofFault::at(line + 1 + come, kind)),
         }
@@ -51,7 +50,7 @@ pub(crate) fn read_part<R: Row>(
     Ok(rows)
 }
 
-/// Writes a section, if the claim asks for it.
+/// Appends the section of `rows`, if `claim` asks for it.
 pub(crate) fn write_part<R: Row>(
     text: &mut String,
     space: &Space,
@@ -72,7 +71,7 @@ pub(crate) fn write_part<R: Row>(
     Ok(())
 }
 
-/// How many lines a section of so many rows has, if it is asked for.
+/// The number of lines of a section of `rows` rows: 0 unless it is `asked` for.
 pub(crate) fn section_lines(asked: bool, rows: usize) -> u32
     requires { rows ≤ MAX_CONFIGURATIONS }
     ensures { result ≡ (if asked then 1 + rows else 0) }

@@ -63,9 +63,7 @@ impl<'a, S: ListStore> RoundState<'a, S> {
         let words = Vec::from_slice(alloc, solver.words())?;
         let todo = solver.to_strike(alloc)?;
         let mut seats = Vec::with_capacity(alloc, 1)?;
-        if seats.push(Seat::first(alloc, width, todo)).is_err() {
-            return Err(Memory);
-        }
+        seats.push(Seat::first(alloc, width, todo))?;
         Ok(RoundState {
             alloc,
             solver,
@@ -122,9 +120,7 @@ impl<'a, S: ListStore> RoundState<'a, S> {
         };
         let gap = self.solver.space().gap(config, pebble);
         let count = self.counts[gap as usize];
-        if self.seats[seat].strike(self.solver, gap, count).is_err() {
-            return Err(StepFault::Memory);
-        }
+        self.seats[seat].strike(self.solver, gap, count)?;
         self.counts[gap as usize] = count - 1;
         let closed = if count == 1 { Some(gap) } else { None };
         Ok(Seen::Struck { config, closed })
@@ -142,9 +138,7 @@ impl<'a, S: ListStore> RoundState<'a, S> {
         }
         let config = owed[0];
         let won = self.words[config as usize] == OPEN;
-        if self.seats[seat].settle(won).is_err() {
-            return Err(StepFault::Memory);
-        }
+        self.seats[seat].settle(won)?;
         if won {
             self.words[config as usize] = next;
         }
@@ -159,13 +153,9 @@ impl<'a, S: ListStore> RoundState<'a, S> {
         if self.seat_width(seat) == 1 {
             return Err(StepFault::TooNarrow);
         }
-        let Ok(half) = self.seats[seat].new_half(self.alloc) else {
-            return Err(StepFault::Memory);
-        };
+        let half = self.seats[seat].new_half(self.alloc)?;
         let new_seat = self.seats.len();
-        if self.seats.push(half).is_err() {
-            return Err(StepFault::Memory);
-        }
+        self.seats.push(half).map_err(Memory::from)?;
         self.seats[seat].keep_half();
         Ok(Seen::Parted { seat: new_seat })
     }

@@ -100,8 +100,8 @@ impl Seat {
         ensures memory { is_ok result ≡ false → is_open ≡ true }
     {
         let first = self.owed[0];
-        if is_open && self.won.push(first).is_err() {
-            return Err(Memory);
+        if is_open {
+            self.won.push(first)?;
         }
         self.owed.remove(0);
         Ok(())
@@ -132,9 +132,7 @@ impl Seat {
     {
         let todo = self.todo.len();
         let owed = self.owed.len();
-        if self.todo.extend_from_slice(&other.todo).is_err() {
-            return Err(Memory);
-        }
+        self.todo.extend_from_slice(&other.todo)?;
         if self.owed.extend_from_slice(&other.owed).is_err() {
             self.todo.truncate(todo);
             return Err(Memory);

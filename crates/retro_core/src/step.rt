@@ -1,5 +1,9 @@
 //! The steps of the machine, and the answers and faults of steps.
 
+ghost use Rattle.std.specs.Prelude.{◌≡◌};
+ghost use Rattle.retro_core.specs.declared.step.StepFault.TheVariants as faults;
+
+use board_text::Memory;
 use thiserror::Error;
 
 /// A step of a seat, or of two seats. Seats have numbers in the order in which they were made, from 0.
@@ -46,4 +50,12 @@ pub enum StepFault {
     /// A growth of memory was refused.
     #[error("out of memory")]
     Memory,
+}
+
+impl From<Memory> for StepFault {
+    ghost from_gives = { λ _ fault. fault ≡ faults.Memory };
+
+    fn from(_refused: Memory) -> StepFault {
+        StepFault::Memory
+    }
 }

@@ -1,4 +1,4 @@
--- What workers do to a seat.
+-- The effect of workers on a seat.
 use Rattle.std.specs.Prelude.{◌≡◌, []}
 use Rattle.claim_round.specs.Shared.{Place, Stays}
 

@@ -1,10 +1,11 @@
-//! What each worker passes before its first strike, and leaves when nothing is left.
+//! A hook at the start and at the end of each worker's part of a round.
 
 ghost use Rattle.std.specs.Prelude.{◌≡◌, []};
 
 use claim_round::RoundSeat;
 
-/// A gate that each worker passes in each round before its first strike, and leaves when it has nothing left to do.
+/// A gate that each worker passes in each round before its first strike, and leaves when it has
+/// nothing left to do.
 ///
 /// Between the two a worker waits for no other one. A gate may make a worker wait in either call.
 pub trait Gate: Sync {

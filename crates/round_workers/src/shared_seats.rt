@@ -1,5 +1,5 @@
-//! A round whose seats can be split, worked and joined, without the lifetime that the type of a shared round names: a
-//! closure that captures it by a bound keeps its clauses.
+//! A round whose seats can be split, worked and joined, without the lifetime that the type of a
+//! shared round names: a closure that captures it by a bound keeps its clauses.
 
 ghost use Rattle.std.specs.Prelude.{◌≤◌, IfOk};
 ghost use Rattle.claim_round.specs.Shared.{IsOf, RoundId, IsSplit, IsJoined};
@@ -14,7 +14,7 @@ use index_lists::ListStore;
 pub trait Sharing {
     ghost id: { Self → RoundId };
 
-    /// Strikes and claims until nothing is left.
+    /// Strikes and claims until `seat` has nothing left to strike and owes nothing.
     fn work(&self, seat: &mut RoundSeat)
         requires { IsOf (id self.now) seat.old }
         ensures { IsWorked seat.old seat.new };

@@ -1,4 +1,4 @@
-//! The values of a board, by workers.
+//! Solving a board round by round, each round shared by all workers.
 
 ghost use Rattle.std.specs.Prelude.{◌≡◌, ◌<◌, ◌≤◌, ◌↔◌, false, Err, IfOk};
 ghost use Rattle.positions.specs.Ranks.{configurations};
@@ -16,10 +16,11 @@ use std::alloc::Global;
 use std::sync::Wait;
 use std::thread::Threads;
 
-/// How many workers may share a round at most.
+/// The largest number of workers that may share a round.
 pub const MAX_WORKERS: u32 = 16;
 
-/// So many workers, each in a thread of its own, work a round to its end. Worker 0 is this thread.
+/// Works a round of `solver` to its end by `workers` workers, each in a thread of its own. Worker
+/// 0 is this thread.
 fn work_round<S: ListStore + Sync, G: Gate, R: Threads + Wait + Sync>(
     rt: &R,
     alloc: Global,
@@ -40,12 +41,13 @@ fn work_round<S: ListStore + Sync, G: Gate, R: Threads + Wait + Sync>(
     Ok(closed)
 }
 
-/// The values of a board, found in rounds that so many workers share, 1 to `MAX_WORKERS`.
+/// The values of `board`, found in rounds that `workers` workers share, 1 to `MAX_WORKERS`.
 ///
-/// Each round is shared by all workers: a seat of its own for each, the first on this thread, the others each on a thread
-/// that is started for the round and joined before it ends. One worker starts no thread. It may wait for its workers.
-/// The values are those of the board, whatever the number of workers, the gate and the schedule are.
-/// `Worker` is answered only where a thread's start was refused, so never with one worker.
+/// Each round is shared by all workers: a seat of its own for each, the first on this thread, the
+/// others each on a thread that is started for the round and joined before it ends. One worker
+/// starts no thread. It may wait for its workers. The values are those of the board, whatever the
+/// number of workers, the gate and the schedule are. `Worker` is answered only if a thread's start
+/// was refused, so never with one worker.
 pub fn solve_values<G: Gate, R: Threads + Wait + Sync>(
     rt: &R,
     alloc: Global,

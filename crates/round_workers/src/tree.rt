@@ -1,4 +1,5 @@
-//! The fork tree of a round: a seat is split down to width 1, left to right, and each worker has one part.
+//! The fork tree of a round: a seat is split down to width 1, left to right, and each worker has
+//! one part.
 
 ghost use Rattle.std.specs.Thread.{IsSync};
 ghost use Rattle.std.specs.Prelude.{◌≡◌, ◌<◌, ◌+◌, ◌^◌, Err, IfOk};
@@ -25,7 +26,7 @@ impl Promise<Result<RoundSeat, WorkFault>> for Worked {
     ghost kept_by = { λ p r. IfOk r (λ s. IsWorked p.0.value s) };
 }
 
-/// What one worker does in a round: it passes the gate, works its seat to the end, and leaves.
+/// One worker's part of a round: it passes `gate`, works `seat` to the end, and leaves.
 fn worker<W: Sharing, G: Gate>(
     round: &W,
     gate: &G,
@@ -43,8 +44,8 @@ fn worker<W: Sharing, G: Gate>(
     seat
 }
 
-/// Workers do what a seat has to do, one for each part of its width. The first of them has this number. A seat of width 1
-/// is worked on this thread.
+/// Works off `seat` by one worker for each part of its width, numbered from `first` on. A seat of
+/// width 1 is worked on this thread.
 #[cycle(tree)]
 pub fn share<W: Sharing + Sync, G: Gate, R: Threads + Wait + Sync>(
     rt: &R,
@@ -67,7 +68,7 @@ pub fn share<W: Sharing + Sync, G: Gate, R: Threads + Wait + Sync>(
     round.join(left, right)
 }
 
-/// Workers do what two seats have to do: those of the right one from a thread of its own on, those of the left one from here on.
+/// Works off both seats: `right` from a new thread on, `left` from this one.
 #[cycle(tree)]
 fn apart<W: Sharing + Sync, G: Gate, R: Threads + Wait + Sync>(
     rt: &R,

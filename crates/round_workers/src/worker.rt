@@ -1,4 +1,4 @@
-//! What one worker does with its seat.
+//! The loop of one worker over its seat.
 
 ghost use Rattle.claim_round.specs.Shared.{IsOf};
 ghost use Rattle.round_workers.specs.Work.{IsWorked};
@@ -6,7 +6,7 @@ ghost use Rattle.round_workers.specs.Work.{IsWorked};
 use claim_round::{RoundSeat, SharedRound};
 use index_lists::ListStore;
 
-/// Strikes and claims until nothing is left.
+/// Strikes and claims until `seat` has nothing left to strike and owes nothing.
 pub fn work<S: ListStore>(round: &SharedRound<'_, S>, seat: &mut RoundSeat)
     requires { IsOf round.now seat.old }
     ensures { IsWorked seat.old seat.new }

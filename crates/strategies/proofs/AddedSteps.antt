@@ -1,4 +1,4 @@
--- What is added at a step: the result of a best answer, or those of all answers of a gap.
+-- The ranks added at a step: the result of a best answer, or those of all answers of a gap.
 use Rattle.std.proofs.Common.{◌≡◌, ℕ, ◌+◌, ◌<◌, ◌≤◌, ◌↔◌, inl, inr, Bool, true, false, List, Some, None, slice_index_or, slice_set, sym, ap, ◌∙◌, subst, arith}
 use Rattle.std.proofs.Math.ListN.{replicate, length-set, length-replicate}
 use Rattle.std.proofs.lemmas.Bool.{both_ways, cases_lt, cases_eq}

@@ -1,5 +1,5 @@
 -- The document of a board means the value of its start.
-use Rattle.std.proofs.Common.{◌≡◌, ℕ, suc, ap, ◌∙◌, subst}
+use Rattle.std.proofs.Common.{◌≡◌, suc, ap, ◌∙◌, subst}
 use Rattle.board_text.specs.PlainBoard.{PlainBoard, IsConfiguration}
 use Rattle.positions.specs.declared.value.Value.{Value}
 use Rattle.positions.specs.declared.value.Value.TheVariants.{Finite, Forever}

@@ -1,4 +1,4 @@
--- What moves of one kind lead to.
+-- The configurations that moves of one kind lead to.
 use Rattle.std.proofs.Common.{ℕ, suc, ◌<◌, List, [], ◌∷◌, ◌++◌, sym, ap, subst}
 use Rattle.board_text.specs.PlainBoard.{PlainBoard, IsConfiguration}
 use Rattle.positions.specs.declared.value.Value.TheVariants.{Forever}

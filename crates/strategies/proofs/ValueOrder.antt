@@ -1,4 +1,4 @@
--- What the order of values says of trees.
+-- The order of values, by trees.
 use Rattle.std.proofs.Common.{◌≡◌, ℕ, zero, suc, ◌<◌, ◌≤◌, ◌⊎◌, List, Some, inl, inr, refl, ap, subst, arith}
 use Rattle.std.proofs.lemmas.Bool.{cases_lt, cases_order}
 use Rattle.board_text.specs.PlainBoard.{PlainBoard}

@@ -7,7 +7,7 @@ use Rattle.positions.specs.Game.{Legal, moved}
 use Rattle.positions.specs.Value.{HasValue}
 use Rattle.positions.specs.Counts.{IsSmallest}
 
--- the first value is smaller than the second, where forever is greater than all numbers
+-- the first value is smaller than the second; forever is greater than all numbers
 abbrev pub IsLess : Value → Value → Type 0
 IsLess (Finite first) (Finite second) = first < second
 IsLess (Finite first) Forever = Unit {0}

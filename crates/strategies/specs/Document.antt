@@ -19,7 +19,7 @@ pub record IsAnswerable (board : PlainBoard) (configuration : List ℕ) : Type 0
   pub has_value : HasValue board configuration value
   pub some : IsLess (Finite 0) value
 
--- the pebble is asked where the value is 1 or more, and the label is the best answer
+-- the pebble is asked at a value of 1 or more, and the label is the best answer
 pub record IsAnswerMove (board : PlainBoard) (configuration : List ℕ) (pebble label : ℕ) : Type 0 where
   pub is_pebble : pebble < board.pebbles
   pub answerable : IsAnswerable board configuration
@@ -35,20 +35,20 @@ abbrev pub LeadsBy : (List ℕ → ℕ → ℕ → Type 0) → List ℕ → List
 LeadsBy IsMove from [] to = from ≡ to
 LeadsBy IsMove from ((pebble, label) ∷ moves) to = IsMove from pebble label × LeadsBy IsMove (moved from pebble label) moves to
 
--- what the document says of the start, which has the value
+-- the claim of a document of a board whose start has the value
 abbrev pub claim_of : Value → Claim
 claim_of (Finite number) = claims.Exactly number
 claim_of Forever = claims.Forever
 
--- for how many turns a configuration of the second value is listed, where the start has the first:
+-- the turns for which a configuration of the second value is listed, if the start has the first:
 -- always if the start lasts forever, and else the smaller of the two values
 abbrev pub turns_of : Value → Value → Turns
 turns_of Forever value = Always
 turns_of (Finite number) (Finite value) = Count (min value number)
 turns_of (Finite number) Forever = Count number
 
--- a row that the document has for the labeller: a configuration of value 1 or more that best answers lead to from the start,
--- its turns, and the best answer to each request
+-- a row that the document has for the labeller: a configuration of value 1 or more that best
+-- answers lead to from the start, its turns, and the best answer to each request
 pub record IsLabellerRow (board : PlainBoard) (start : Value) (row : AnswerRow) : Type 0 where
   pub moves : List (ℕ × ℕ)
   pub reached : LeadsBy (IsAnswerMove board) board.start moves row.at
@@ -59,8 +59,8 @@ pub record IsLabellerRow (board : PlainBoard) (start : Value) (row : AnswerRow) 
   pub one_each : length row.answers ≡ board.pebbles
   pub best : (pebble : ℕ) → pebble < board.pebbles → IsBestAnswer board row.at pebble (slice_index row.answers pebble)
 
--- a row that the document of a start with a finite value has for the adversary: a configuration that answers to best requests
--- lead to from the start, its value, and the best request
+-- a row that the document of a start with a finite value has for the adversary: a configuration
+-- that answers to best requests lead to from the start, its value, and the best request
 pub record IsAdversaryRow (board : PlainBoard) (row : RequestRow) : Type 0 where
   pub moves : List (ℕ × ℕ)
   pub reached : LeadsBy (IsRequestMove board) board.start moves row.at

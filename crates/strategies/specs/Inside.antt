@@ -1,4 +1,4 @@
--- What the clauses of this crate's own functions cite, and no public contract.
+-- Definitions that clauses of this crate's own functions cite, and no public contract.
 pub mod GapBest
 pub mod Listed
 pub mod Marks

@@ -17,7 +17,8 @@ use positions::{MAX_CONFIGURATIONS, Space, Value};
 use solver::Values;
 use std::marker::Model;
 
-/// The best moves on a board. The best answers of the first gaps are listed, and those of all others are found when they are asked for.
+/// The best moves on a board. The best answers of the first gaps are listed, and those of all
+/// others are found when they are asked for.
 ///
 /// Contracts see the board.
 #[derive(Drop)]
@@ -40,7 +41,7 @@ impl<'a> Model for BestMoves<'a> {
 }
 
 impl<'a> BestMoves<'a> {
-    /// The best moves on a board, by its values and the best answers of its first gaps.
+    /// The best moves on `board`, by its `values` and the `listed` best answers of its first gaps.
     pub(crate) fn new(board: &'a Board, values: &'a Values, listed: &'a [Listed]) -> BestMoves<'a>
         requires same_board { values.now ≡ board.now }
         requires listed { AreGapsBest board.now listed.now }
@@ -79,7 +80,7 @@ impl<'a> BestMoves<'a> {
         self.space().rank(self.board.start())
     }
 
-    /// The value of the configuration of a rank.
+    /// The value of the configuration of `rank`.
     pub(crate) fn value(&self, rank: u32) -> Value
         requires { rank < configurations self.now }
         ensures { HasValue self.now (configuration_at self.now rank) result }
@@ -87,7 +88,8 @@ impl<'a> BestMoves<'a> {
         self.values.of(rank)
     }
 
-    /// The best answer to a request of a pebble at the configuration of a rank, with its value, if a label is legal.
+    /// The best answer to a request of `pebble` at the configuration of `rank`, with its value, if
+    /// a label is legal.
     pub(crate) fn answer(&self, rank: u32, pebble: u8) -> Option<Best>
         requires rank { rank < configurations self.now }
         requires pebble { pebble < self.now.pebbles }
@@ -96,7 +98,7 @@ impl<'a> BestMoves<'a> {
         self.answer_of_gap(self.space().gap(rank, pebble))
     }
 
-    /// The best answer of a gap, if it has an answer.
+    /// The best answer of `gap`, if it has an answer.
     fn answer_of_gap(&self, gap: u32) -> Option<Best>
         requires { gap < gaps self.now }
         ensures { IsGapBest self.now gap result }
@@ -107,7 +109,7 @@ impl<'a> BestMoves<'a> {
         }
     }
 
-    /// The best request at the configuration of a rank, if its value is finite.
+    /// The best request at the configuration of `rank`, if its value is finite.
     pub(crate) fn request(&self, rank: u32) -> Option<u8>
         requires { rank < configurations self.now }
         ensures best { IsSmallest (LowersValue self.now (configuration_at self.now rank)) result }
@@ -123,7 +125,7 @@ impl<'a> BestMoves<'a> {
     }
 }
 
-/// Whether a request with this best answer leads below a value, whatever is answered.
+/// Whether a request with the best answer `best` leads below `value`, whatever the answer.
 fn leads_below(best: Option<Best>, value: Value) -> bool
     ensures { IsTrue result ↔ LeadsBelow best value }
 {

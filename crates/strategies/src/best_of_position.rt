@@ -12,10 +12,10 @@ use crate::best_moves::BestMoves;
 use board_text::Board;
 use solver::Values;
 
-/// The best answer to a request of a pebble at the configuration of a rank, if a label is legal:
+/// The best answer to a request of `pebble` at the configuration of `rank`, if a label is legal:
 /// the smallest legal label whose result has the greatest value.
 ///
-/// The values are those of the board.
+/// The `values` are those of `board`.
 pub fn best_answer(board: &Board, values: &Values, rank: u32, pebble: u8) -> Option<u16>
     requires same_board { values.now ≡ board.now }
     requires rank { rank < configurations board.now }
@@ -27,10 +27,10 @@ pub fn best_answer(board: &Board, values: &Values, rank: u32, pebble: u8) -> Opt
     Some(best.label)
 }
 
-/// The best request at the configuration of a rank, if its value is finite:
+/// The best request at the configuration of `rank`, if its value is finite:
 /// the smallest pebble all of whose legal results have a smaller value.
 ///
-/// The values are those of the board.
+/// The `values` are those of `board`.
 pub fn best_request(board: &Board, values: &Values, rank: u32) -> Option<u8>
     requires same_board { values.now ≡ board.now }
     requires rank { rank < configurations board.now }

@@ -1,4 +1,4 @@
-//! The document that shows the value of a board's start.
+//! Making the document that shows the value of a board's start.
 
 ghost use Rattle.std.specs.Prelude.{◌≡◌, IfOk};
 ghost use Rattle.positions.specs.Claim.{Shows};
@@ -14,9 +14,10 @@ use proof_text::Proof;
 use solver::Values;
 use std::alloc::Global;
 
-/// The document of a board: the value of its start, a strategy for the labeller, and one for the adversary where the value is finite.
+/// The document of `board`: the value of its start, a strategy for the labeller, and one for the
+/// adversary if the value is finite.
 ///
-/// The values are those of the board.
+/// The `values` are those of `board`.
 pub fn document(alloc: Global, board: &Board, values: &Values) -> Result<Proof, Memory>
     requires same_board { values.now ≡ board.now }
     ensures document { IfOk result (λ proof. IsDocumentOf board.now (plain_proof board.now proof)) }
@@ -41,7 +42,7 @@ pub fn document(alloc: Global, board: &Board, values: &Values) -> Result<Proof, 
     })
 }
 
-/// What a document says of a start with a value.
+/// The claim of a document of a board whose start has `value`.
 pub fn claim(value: Value) -> Claim
     ensures { result ≡ claim_of value }
 {

@@ -19,7 +19,7 @@ pub(crate) struct Best {
     pub(crate) value: Value,
 }
 
-/// The best answer of each gap.
+/// The best answer of each gap, by `values`, which are those of `board`.
 pub(crate) fn best_of_gaps(
     alloc: Global,
     board: &Board,
@@ -39,7 +39,7 @@ pub(crate) fn best_of_gaps(
     Ok(best)
 }
 
-/// The best answer of a gap, if it has an answer. The answers are those of the gap.
+/// The best answer of `gap`, if it has an answer. The `answers` are those of the gap.
 pub(crate) fn best_of_gap(values: &Values, gap: u32, answers: AnswerSet) -> Option<Best>
     requires gap { gap < gaps values.now }
     requires answers { (label : ℕ) → label < MAX_LABELS → (has_bit answers label ≡ true) ↔ IsAnswer values.now gap label }
@@ -52,7 +52,7 @@ pub(crate) fn best_of_gap(values: &Values, gap: u32, answers: AnswerSet) -> Opti
     while let Some(label) = labels.take_next() {
         let value = values.of(members.rank(label));
         let found = better(best, Best { label, value });
-        // None leads to more, and all others that last forever stand behind.
+        // Nothing beats Forever, and later labels lose ties.
         if let Value::Forever = found.value {
             return Some(found);
         }
@@ -61,7 +61,7 @@ pub(crate) fn best_of_gap(values: &Values, gap: u32, answers: AnswerSet) -> Opti
     best
 }
 
-/// The better of a best answer so far and a later one, which has to lead to a greater value.
+/// The better of `best`, the best answer so far, and `later`, which must lead to a greater value.
 fn better(best: Option<Best>, later: Best) -> Best
     ensures { IsBetter best later result }
 {
@@ -71,7 +71,7 @@ fn better(best: Option<Best>, later: Best) -> Best
     }
 }
 
-/// Whether the first value is smaller than the second. Forever is greater than all numbers.
+/// Whether `first` is smaller than `second`. Forever is greater than all numbers.
 pub(crate) fn is_less(first: Value, second: Value) -> bool
     ensures { IsTrue result ↔ IsLess first second }
 {

@@ -7,7 +7,7 @@ ghost use Rattle.positions.specs.Game.{Legal, LabellerTree, moved};
 ghost use Rattle.positions.specs.Value.{HasValue};
 ghost use Rattle.strategies.specs.Best.{HasSmallerValue, HasNoGreaterValue, IsBestAnswer, IsBestRequest};
 
-/// A request has a best answer exactly where it has a legal one, and then it has one best answer.
+/// A request has a best answer exactly if it has a legal one, and then it has one best answer.
 /// Each smaller legal label has a result of a smaller value.
 pub fn one_best_answer()
     ensures exists { (board : PlainBoard) → (configuration : List ℕ) → (pebble : ℕ) → IsConfiguration board configuration
@@ -19,7 +19,7 @@ pub fn one_best_answer()
         → HasSmallerValue board (moved configuration pebble other) (moved configuration pebble label) }
 {}
 
-/// A best request exists exactly where the value is finite, and then there is one.
+/// A best request exists exactly if the value is finite, and then there is one.
 /// Each smaller pebble has a legal answer after which the value is not smaller.
 pub fn one_best_request()
     ensures exists { (board : PlainBoard) → (configuration : List ℕ) → IsConfiguration board configuration
@@ -31,7 +31,8 @@ pub fn one_best_request()
         → (label : ℕ) × Legal board configuration other label × HasNoGreaterValue board configuration (moved configuration other label) }
 {}
 
-/// A labeller who can answer one more than a number of requests can answer that number after a best answer.
+/// A labeller who can answer one more than a number of requests can answer that number after a best
+/// answer.
 pub fn best_answers_last()
     ensures { (board : PlainBoard) → (number : ℕ) → (configuration : List ℕ) → (pebble : ℕ) → (label : ℕ) → pebble < board.pebbles
         → IsBestAnswer board configuration pebble label → LabellerTree board (suc number) configuration

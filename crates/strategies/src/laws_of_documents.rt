@@ -20,7 +20,7 @@ pub fn each_board_has_a_document()
     ensures { (board : PlainBoard) → IsConfiguration board board.start → (proof : PlainProof) × IsDocumentOf board proof }
 {}
 
-/// What the document of a board claims of the start holds.
+/// The claim of the document of a board holds.
 pub fn documents_claim_what_holds()
     ensures { (board : PlainBoard) → (proof : PlainProof) → IsDocumentOf board proof → Holds board proof.claim }
 {}
@@ -50,7 +50,8 @@ pub fn documents_have_their_form()
         → IsDocumentOf board proof → IsProof board proof }
 {}
 
-/// A board has one document at most, and for each configuration there is one row at most that its document may have.
+/// A board has one document at most, and for each configuration there is one row at most that its
+/// document may have.
 pub fn one_document_of_a_board()
     ensures document { (board : PlainBoard) → (first : PlainProof) → (second : PlainProof)
         → IsDocumentOf board first → IsDocumentOf board second → first ≡ second }
@@ -60,7 +61,7 @@ pub fn one_document_of_a_board()
         → IsAdversaryRow board first → IsAdversaryRow board second → first.at ≡ second.at → first ≡ second }
 {}
 
-/// Documents as they stand: one of a start with a finite value, and one of a start that lasts forever.
+/// Documents in full: one of a start with a finite value, and one of a start that lasts forever.
 pub fn documents_of_small_boards()
     ensures finite { IsDocumentOf small_board small_document }
     ensures forever { IsDocumentOf lone_board lone_document }

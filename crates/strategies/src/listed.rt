@@ -6,7 +6,7 @@ use crate::gap_best::Best;
 use positions::Value;
 use std::marker::Model;
 
-/// What a gap has for an answer.
+/// The kind of a gap's best answer, by the value that it leads to.
 #[derive(Drop)]
 enum Answer {
     None,
@@ -33,7 +33,7 @@ impl Model for Listed {
 }
 
 impl Listed {
-    /// A best answer, if there is one, for a list.
+    /// The entry of `best` in a list.
     pub(crate) fn of(best: Option<Best>) -> Listed
         ensures { result ≡ best }
     {

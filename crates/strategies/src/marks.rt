@@ -1,4 +1,4 @@
-//! Marks, a bit each.
+//! A set of numbers below a size, with a bit for each.
 
 ghost use Rattle.std.specs.Prelude.{◌≡◌, ◌<◌, ◌≤◌, true, false, length, IfOk, replicate, slice_index_or, slice_set};
 ghost use Rattle.positions.specs.Counts.{IsSmallest};
@@ -10,7 +10,7 @@ use std::marker::Model;
 /// The number of marks in a word.
 const WORD: u32 = 64;
 
-/// Whether each of so many numbers is marked, a bit each. Contracts see a list of truth values.
+/// Marks of the numbers below `size`, a bit each. Contracts see a list of truth values.
 #[derive(Drop)]
 pub(crate) struct Marks {
     size: u32,
@@ -29,7 +29,7 @@ impl Model for Marks {
 }
 
 impl Marks {
-    /// None of so many numbers is marked.
+    /// Marks of `size` numbers, none of which is marked.
     pub(crate) fn new(alloc: Global, size: u32) -> Result<Marks, Memory>
         ensures { IfOk result (λ marks. marks ≡ replicate size false) }
     {
@@ -37,7 +37,7 @@ impl Marks {
         Ok(Marks { size, words })
     }
 
-    /// Whether the number is marked.
+    /// Whether `number` is marked.
     pub(crate) fn get(&self, number: u32) -> bool
         requires { number < length self.now }
         ensures { result ≡ slice_index_or self.now number false }
@@ -46,7 +46,7 @@ impl Marks {
         (word >> (number % WORD)) & 1 == 1
     }
 
-    /// Marks the number.
+    /// Marks `number`.
     pub(crate) fn set(&mut self, number: u32)
         requires { number < length self.old }
         ensures { self.new ≡ slice_set self.old number true }
@@ -54,7 +54,7 @@ impl Marks {
         self.words[(number / WORD) as usize] |= 1 << (number % WORD);
     }
 
-    /// The smallest marked number that is at least a bound, if there is one.
+    /// The smallest marked number that is at least `bound`, if there is one.
     pub(crate) fn first_from(&self, bound: u32) -> Option<u32>
         ensures { IsSmallest (λ number. (bound ≤ number) × (slice_index_or self.now number false ≡ true)) result }
     {

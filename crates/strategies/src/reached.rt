@@ -1,4 +1,4 @@
-//! Configurations that were reached.
+//! A set of reached configurations that keeps their order.
 
 ghost use Rattle.std.specs.Prelude.{◌≡◌, ◌<◌, ◌≤◌, [], length, Contains, IfOk, slice_get};
 ghost use Rattle.positions.specs.Counts.{IsSmallest};
@@ -29,7 +29,7 @@ impl Model for Reached {
 }
 
 impl Reached {
-    /// Nothing is reached, of so many configurations.
+    /// A set in which none of `size` configurations is reached.
     pub(crate) fn new(alloc: Global, size: u32) -> Result<Reached, Memory>
         ensures size { IfOk result (λ reached. reached.size ≡ size) }
         ensures empty { IfOk result (λ reached. reached.ranks ≡ []) }
@@ -40,36 +40,34 @@ impl Reached {
         })
     }
 
-    /// Adds a rank behind the others, if it isn't among them.
+    /// Adds `rank` after the others, if it isn't among them.
     pub(crate) fn add(&mut self, rank: u32) -> Result<(), Memory>
         requires { rank < self.old.size }
         ensures size { IfOk result (λ _. self.new.size ≡ self.old.size) }
         ensures added { IfOk result (λ _. IsWith self.old.ranks rank self.new.ranks) }
     {
         if !self.marks.get(rank) {
-            if self.ranks.push(rank).is_err() {
-                return Err(Memory);
-            }
+            self.ranks.push(rank)?;
             self.marks.set(rank);
         }
         Ok(())
     }
 
-    /// The smallest rank that was reached and is at least a bound, if there is one.
+    /// The smallest rank that was reached and is at least `bound`, if there is one.
     pub(crate) fn first_from(&self, bound: u32) -> Option<u32>
         ensures { IsSmallest (λ rank. (bound ≤ rank) × Contains self.now.ranks rank) result }
     {
         self.marks.first_from(bound)
     }
 
-    /// How many were reached.
+    /// The number of ranks that were reached.
     pub(crate) fn len(&self) -> usize
         ensures { result ≡ length self.now.ranks }
     {
         self.ranks.len()
     }
 
-    /// The rank that was reached after so many others.
+    /// The rank that was reached after `place` others, if there is one.
     pub(crate) fn at(&self, place: usize) -> Option<u32>
         ensures rank { result ≡ slice_get self.now.ranks place }
         ensures few { length self.now.ranks ≤ self.now.size }

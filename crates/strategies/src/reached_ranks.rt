@@ -1,4 +1,4 @@
-//! What best answers, and best requests, lead to from a configuration.
+//! The results of best answers, and of best requests, at a configuration.
 
 ghost use Rattle.std.specs.Prelude.{◌≡◌, ◌<◌, IfOk};
 ghost use Rattle.positions.specs.Ranks.{configurations};
@@ -13,7 +13,8 @@ use board_text::Memory;
 use positions::Value;
 
 impl BestMoves<'_> {
-    /// Adds what best answers to each request lead to from a configuration, where its value is 1 or more.
+    /// Adds the result of the best answer to each request at `rank`, if that has a value of 1 or
+    /// more.
     pub(crate) fn add_answers(&self, reached: &mut Reached, rank: u32) -> Result<(), Memory>
         requires size { reached.old.size ≡ configurations self.now }
         requires rank { rank < configurations self.now }
@@ -30,7 +31,7 @@ impl BestMoves<'_> {
         Ok(())
     }
 
-    /// Adds what legal answers to the best request lead to from a configuration. What all answers of a gap lead to is added once.
+    /// Adds each result of the best request at `rank`. The results of a gap are added once.
     pub(crate) fn add_results(
         &self,
         reached: &mut Reached,
@@ -56,7 +57,7 @@ impl BestMoves<'_> {
         Ok(())
     }
 
-    /// Adds what the answers of a gap lead to.
+    /// Adds the results of all answers of `gap`.
     fn add_members(&self, reached: &mut Reached, gap: u32) -> Result<(), Memory>
         requires size { reached.old.size ≡ configurations self.now }
         requires gap { gap < gaps self.now }

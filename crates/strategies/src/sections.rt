@@ -25,7 +25,8 @@ pub(crate) trait SectionRow: Copy {
         ensures reached { IfOk result (λ reached. (start : Worth) → AreReached moves.now (side moves.now start) reached.ranks) }
         ensures few { configurations moves.now ≤ MAX_CONFIGURATIONS };
 
-    /// The row of a configuration that was reached, if it has one, where the start has a value.
+    /// The row of the reached configuration of `rank`, if it has one. The start has the value
+    /// `start`.
     fn at(moves: &BestMoves<'_>, start: Value, rank: u32) -> Option<Self>
         requires rank { rank < configurations moves.now }
         requires reached { (side moves.now start).IsReached rank }
@@ -35,7 +36,8 @@ pub(crate) trait SectionRow: Copy {
 impl SectionRow for LabellerRow {
     ghost side = { labeller_side };
 
-    /// The configurations of value 1 or more that requests and best answers to them lead to from the start, each asked at such a one.
+    /// The configurations of value 1 or more that best answers reach from the start, through such
+    /// configurations only.
     fn reached(moves: &BestMoves<'_>, alloc: Global) -> Result<Reached, Memory> {
         let mut reached = Reached::new(alloc, moves.space().configurations())?;
         let start = moves.start();
@@ -96,7 +98,8 @@ impl SectionRow for AdversaryRow {
 }
 
 impl BestMoves<'_> {
-    /// One side's rows of the document of a board whose start has a value, in ascending rank.
+    /// One side's rows of the document of a board whose start has the value `start`, in ascending
+    /// rank.
     pub(crate) fn section<R: SectionRow>(
         &self,
         alloc: Global,
@@ -109,9 +112,7 @@ impl BestMoves<'_> {
         let mut from = 0;
         while let Some(rank) = reached.first_from(from) {
             if let Some(row) = R::at(self, start, rank) {
-                if rows.push(row).is_err() {
-                    return Err(Memory);
-                }
+                rows.push(row)?;
             }
             from = rank + 1;
         }
@@ -119,7 +120,8 @@ impl BestMoves<'_> {
     }
 }
 
-/// For how many turns a configuration of a value is listed, where the start has the first value.
+/// The turns for which a configuration with `value` is listed, if the start has the value
+/// `start`.
 fn turns(start: Value, value: Value) -> Turns
     ensures { result ≡ turns_of start value }
 {

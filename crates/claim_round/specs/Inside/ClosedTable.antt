@@ -1,4 +1,4 @@
--- What a closed round's fields are, beside what a clause sees of it.
+-- The fields of a closed round, and its view in clauses.
 use Rattle.std.specs.Prelude.{◌≡◌, ℕ, ◌^◌, ◌<◌, ◌≤◌, List, map, take, drop, slice_index}
 use Rattle.std.specs.Slots.{slots_items, slots_len, IsFull}
 use Rattle.claim_round.specs.Shared.{Ended}
@@ -9,7 +9,7 @@ use Rattle.solver.specs.Words.{value_of_word}
 abbrev pub words_of : Inside → List ℕ
 words_of s = slots_items s.rows.words
 
--- the first words are the counts, and those behind them the values
+-- the first words are the counts, and those after them the values
 abbrev pub end_of : Inside → Ended
 end_of s = record { counts = take s.gaps (words_of s); values = map value_of_word (drop s.gaps (words_of s)); won = s.won.items }
 

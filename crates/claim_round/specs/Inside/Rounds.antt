@@ -1,4 +1,4 @@
--- What a round's fields are, beside what a clause sees of it.
+-- The fields of a shared round, and its view in clauses.
 use Rattle.std.specs.Prelude.{◌≡◌, ◌+◌, ◌^◌, ◌<◌}
 use Rattle.atomic_table.specs.Seated.{TableId}
 use Rattle.positions.specs.Ranks.{configurations}
@@ -6,7 +6,8 @@ use Rattle.positions.specs.Gaps.{gaps}
 use Rattle.solver.specs.Solving.{IsSolving}
 use Rattle.claim_round.specs.Shared.{Key, RoundId}
 
--- the table's key is what the round was opened with, and the table has a word for each gap and each configuration
+-- the table's key is that of the round's opening, and the table has a word for each gap and each
+-- configuration
 pub record IsRound (given key : Key) (table : TableId) : Type 0 where
   pub key_is : key ≡ given
   pub words : table.words ≡ gaps key.solving.board + configurations key.solving.board

@@ -1,4 +1,4 @@
--- What a seat's fields are, beside its view.
+-- The fields of a seat, beside its view.
 use Rattle.std.specs.Prelude.{◌≡◌, ℕ, ◌+◌, ◌*◌, ◌^◌, ◌<◌, ◌≤◌, ◌⊎◌, [], length, vec_capacity}
 use Rattle.std.specs.VecDeque.{deque_capacity}
 use Rattle.index_lists.specs.Lists.{times}
@@ -14,14 +14,16 @@ IsDueIn k rank = IsDue k.solving.board rank k.solving.rounds
 abbrev pub place_of : Inside → Place
 place_of s = record { table = s.seat.table_id; view = s.seat.me.0 }
 
--- there is room for what may be won: for all configurations, or for all that may be owed. What may be owed is a small number
+-- there is room for the entries that may be won: for all configurations, or for all that may be
+-- owed, which are few
 pub record SeatHasRoom (k : Key) (won owed todo room : ℕ) : Type 0 where
   pub places : (size k ≤ room) ⊎ (won + owed + most k * todo ≤ room)
   pub few : owed + most k * todo ≤ most k * size k
   pub narrow : most k * size k < 2 ^ 32
   pub some_most : 0 < most k
 
--- the real lists are those of the view, what is to do and owed is of the game, and there is room for what may be owed and won
+-- the real lists are those of the view, the entries to do and owed are of the game, and there is
+-- room for those that may be owed and won
 pub record IsSeated (s : Inside) : Type 0 where
   pub free : s.seat.me.1 ≡ []
   pub todo : s.todo.items ≡ s.seat.me.0.has.todo

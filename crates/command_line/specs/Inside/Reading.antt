@@ -1,4 +1,4 @@
--- What this crate's own functions say beside `Reading`.
+-- Definitions that this crate's own functions cite beside `Reading`.
 use Rattle.std.specs.Prelude.{◌≡◌, MatchOption, ℕ, ℤ, pos, negsuc, Bool, ◌&&◌, false, List, Option, Some, None, is_some}
 use Rattle.std.specs.Str.{bytes_eq}
 use Rattle.std.specs.List.{list_all, list_any}
@@ -33,7 +33,7 @@ has_value rows id _ = is_some (first_of id rows)
 abbrev pub has_values : List Row → Shape → Bool
 has_values rows command = list_all (λ rule. has_value rows rule.id rule.parser) command.rules
 
--- the job is what the command is asked for, and there is none where the matches lack a value of it
+-- the job that the command is asked for; none if the matches lack one of its values
 abbrev pub Reads : Shape → List Row → Option Job → Type 0
 Reads command rows job = MatchOption job (has_values rows command ≡ false) (AsksFor command.name rows)
 

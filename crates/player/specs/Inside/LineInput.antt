@@ -1,4 +1,4 @@
--- What is read before the next line is known.
+-- The input that is read before the next line is known.
 use Rattle.std.specs.Prelude.{◌≡◌, ◌≢◌, ℕ, ◌<◌, ◌≤◌, ◌⊎◌, Bool, true, false, List, [], ◌++◌, length, Option, None, Some}
 use Rattle.std.specs.Io.KnownBytes.{Consumes, IsAtEnd}
 use Rattle.board_text.specs.Streams.{GaveAll}
@@ -14,7 +14,7 @@ pub record Unread : Type 0 where
   pub bytes : List ℕ
   pub has_ended : Bool
 
--- where the end was seen, nothing is left to take
+-- if the end was seen, nothing is left to take
 abbrev pub IsEmptyAtEnd : Unread → Option (List ℕ) → Type 0
 IsEmptyAtEnd unread left = unread.has_ended ≡ true → (unread.bytes ≡ []) × IsAtEnd left
 
@@ -33,7 +33,7 @@ pub record IsLastLine (old new : Unread) (left_old left_new : Option (List ℕ))
   pub nothing_left : new.bytes ≡ []
   pub ends : new.has_ended ≡ true
 
--- what the next line says, if there is one
+-- the word of the next line, if there is one
 abbrev pub GivesLine : Unread → Unread → Option (List ℕ) → Option (List ℕ) → Option Word → Type 0
 GivesLine old new left_old left_new (Some word) = (line : List ℕ) × (old.has_ended ≡ false) × Spells line word × IsLine line
     × (IsClosedLine old new left_old left_new line ⊎ (IsLastLine old new left_old left_new line × (line ≢ [])))
@@ -46,7 +46,7 @@ GivesNoLine old left_old left_new Read = (more : List ℕ) × (old.has_ended ≡
 GivesNoLine old left_old left_new Limit = (more : List ℕ) × (old.has_ended ≡ false) × Consumes left_old left_new more
     × BeginsTooLong (old.bytes ++ more)
 
--- more came, or the end was seen
+-- more bytes came, or the end was seen
 abbrev pub IsFilled : Unread → Unread → Option (List ℕ) → Option (List ℕ) → Bool → Type 0
 IsFilled old new left_old left_new true =
     (more : List ℕ) × (new.bytes ≡ old.bytes ++ more) × Consumes left_old left_new more × (0 < length more) × (new.has_ended ≡ false)

@@ -1,4 +1,4 @@
--- Where a person plays, and what is asked there.
+-- The state of a play with a person, and the request in it.
 use Rattle.std.specs.Prelude.{◌≡◌, ℕ, ◌<◌, true, false, List, ◌++◌}
 use Rattle.board_text.specs.PlainBoard.{PlainBoard, IsBoard}
 use Rattle.positions.specs.Ranks.{configurations, configuration_at}
@@ -10,7 +10,7 @@ use Rattle.player.specs.declared.labeller_side.Next.{Next}
 use Rattle.player.specs.declared.labeller_side.Next.TheVariants as next
 use Rattle.player.specs.declared.labeller_side.Request.{Request}
 
--- a board, the rank of a configuration, and how many requests were answered
+-- a board, the rank of a configuration, and the number of answered requests
 pub record PlayState : Type 0 where
   pub board : PlainBoard
   pub rank : ℕ
@@ -30,14 +30,14 @@ pub record IsRequestAt (board : PlainBoard) (configuration : List ℕ) (request 
   pub stuck : request.is_stuck ≡ true → (label : ℕ) → Legal board configuration request.pebble label → ⊥
   pub free : request.is_stuck ≡ false → (label : ℕ) × Legal board configuration request.pebble label
 
--- what is written of a request after so many answered ones, and what comes next
+-- the text of a request after `requests` answered ones, and the next turn
 abbrev pub HasAsked : Request → ℕ → Next → List ℕ → Type 0
 HasAsked request requests (next.Asks pebble) said = (request.is_stuck ≡ false) × (pebble ≡ request.pebble)
     × (said ≡ ask_line request.pebble)
 HasAsked request requests (next.Ends end) said = (request.is_stuck ≡ true) × (end ≡ Stuck requests)
     × (said ≡ ask_line request.pebble ++ stuck_line request.pebble requests)
 
--- where the play stands: at the configuration with the best request, or at its end
+-- the state of the play: at the configuration with the best request, or at its end
 abbrev pub NextStands : PlainBoard → List ℕ → ℕ → Next → Standing → Type 0
 NextStands board configuration requests (next.Asks pebble) to = IsBestRequest board configuration pebble
     × (to ≡ Going configuration requests)

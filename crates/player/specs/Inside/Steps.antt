@@ -1,4 +1,4 @@
--- What one turn of a play writes.
+-- The text that one turn of a play writes.
 use Rattle.std.specs.Prelude.{◌≡◌, ℕ, List, ◌++◌, Option}
 use Rattle.std.specs.Io.KnownBytes.{Appends, Keeps}
 use Rattle.board_text.specs.Streams.{AppendsFront}
@@ -8,11 +8,11 @@ use Rattle.player.specs.declared.word.Word.{Word}
 use Rattle.player.specs.declared.end.PlayFault.{PlayFault}
 use Rattle.player.specs.declared.end.PlayFault.TheVariants.{Write, Memory}
 
--- this is what each line brings that says the word
+-- this is the reply to each line that spells the word
 abbrev pub BringsAll : Game → Standing → Word → List ℕ → Standing → Type 0
 BringsAll game from word said to = (line : List ℕ) → Spells line word → Brings game from line said to
 
--- a text was put behind another, and it is right
+-- a text was appended to another, and it is right
 abbrev pub AddsText : List ℕ → List ℕ → (List ℕ → Type 0) → Type 0
 AddsText old new IsRight = (said : List ℕ) × (new ≡ old ++ said) × IsRight said
 

@@ -1,10 +1,10 @@
--- What this crate's own functions say beside `Transcript`.
+-- Definitions that this crate's own functions cite beside `Transcript`.
 use Rattle.std.specs.Prelude.{ℕ, List, Option, None, Some}
 use Rattle.player.specs.declared.end.PlayEnd.{PlayEnd}
 use Rattle.player.specs.Transcript.{Standing}
 use Rattle.player.specs.Transcript.{Going, Over}
 
--- it is over where there is an end
+-- it is over if there is an end
 abbrev pub standing : Option PlayEnd → List ℕ → ℕ → Standing
 standing None at requests = Going at requests
 standing (Some end) at requests = Over end

@@ -1,4 +1,4 @@
--- What a document is checked with.
+-- A checker's board and rows, and the faults that its functions return.
 use Rattle.std.specs.Prelude.{◌≡◌, ℕ, ◌<◌, List, slice_index}
 use Rattle.std.specs.List.{All, Contains}
 use Rattle.board_text.specs.PlainBoard.{PlainBoard, IsBoard, IsConfiguration}
@@ -29,32 +29,32 @@ checked board claim labeller adversary =
 abbrev pub GivesLabels : PlainBoard → LabellerRow → Type 0
 GivesLabels board row = (pebble : ℕ) → pebble < board.pebbles → slice_index row.take pebble < board.labels
 
--- a labeller's row can be looked at
+-- a labeller's row is ready to be checked
 pub record IsAnswering (board : PlainBoard) (row : LabellerRow) : Type 0 where
   pub is_board : IsBoard board
   pub is_rank : row.at < configurations board
   pub gives : GivesLabels board row
 
--- an adversary's row can be looked at
+-- an adversary's row is ready to be checked
 pub record IsRequesting (board : PlainBoard) (row : AdversaryRow) : Type 0 where
   pub is_board : IsBoard board
   pub is_rank : row.at < configurations board
   pub is_pebble : row.ask < board.pebbles
 
--- rows in ascending order, each of which can be looked at
+-- rows in ascending order, each ready to be checked
 pub record AreReady {R : Type 0} (board : PlainBoard) (IsReady : R → Type 0) (rank : R → ℕ) (rows : List R) : Type 0 where
   pub ranked : AreRanked rank (configurations board) rows
   pub each : All IsReady rows
 
--- labeller's rows that can be looked at
+-- labeller's rows that are ready to be checked
 abbrev pub AreAnswering : PlainBoard → List LabellerRow → Type 0
 AreAnswering board rows = AreReady board (IsAnswering board) (λ row. row.at) rows
 
--- adversary's rows that can be looked at
+-- adversary's rows that are ready to be checked
 abbrev pub AreRequesting : PlainBoard → List AdversaryRow → Type 0
 AreRequesting board rows = AreReady board (IsRequesting board) (λ row. row.at) rows
 
--- the space is the board's, and the rows of both sides can be looked at
+-- the space is the board's, and the rows of both sides are ready to be checked
 pub record IsChecker (board space : PlainBoard) (labeller : List LabellerRow) (adversary : List AdversaryRow) : Type 0 where
   pub same_board : space ≡ board
   pub answering : AreAnswering board labeller

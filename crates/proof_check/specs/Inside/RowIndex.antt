@@ -1,4 +1,4 @@
--- Where the row of a rank stands.
+-- The place of the row of each rank.
 use Rattle.std.specs.Prelude.{◌≡◌, ◌≢◌, ℕ, ◌<◌, ◌≤◌, List, length, slice_index, slice_index_or}
 use Rattle.std.specs.List.{All, AllPairs, Contains}
 use Rattle.positions.specs.declared.space.TheConstants.{MAX_CONFIGURATIONS}
@@ -13,14 +13,14 @@ pub record AreRanked {X : Type 0} (rank : X → ℕ) (size : ℕ) (rows : List X
   pub each : All (λ row. rank row < size) rows
   pub ascending : AreAscending rank rows
 
--- at each row's rank stands its place, and what stands elsewhere is no place
+-- at each row's rank stands its place, and elsewhere a number that is no place
 pub record IsIndex {X : Type 0} (rank : X → ℕ) (rows : List X) (places : List ℕ) : Type 0 where
   pub each : (place : ℕ) (d : X) → place < length rows → (rank (slice_index_or rows place d) < length places)
       × (slice_index places (rank (slice_index_or rows place d)) ≡ place)
   pub only : (number : ℕ) (d : X) → number < length places → slice_index places number < length rows
       → rank (slice_index_or rows (slice_index places number) d) ≡ number
 
--- rows of different ranks are found by these places, or searched where there are none
+-- rows of different ranks are found by these places, or searched if there are none
 pub record AreFound {X : Type 0} (rank : X → ℕ) (rows : List X) (places : List ℕ) : Type 0 where
   pub ascending : AreAscending rank rows
   pub index : 0 < length places → IsIndex rank rows places

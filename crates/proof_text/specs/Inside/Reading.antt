@@ -1,4 +1,4 @@
--- What each step of reading a document takes from the text.
+-- The text that each step of reading a document takes.
 use Rattle.std.specs.Prelude.{◌≡◌, ◌≢◌, ℕ, ◌+◌, ◌<◌, ◌⊎◌, Bool, List, ◌++◌, Option, Some, None, codes}
 use Rattle.std.specs.Fmt.{decimal}
 use Rattle.board_text.specs.LineForms.{Lacks, NoDigit}
@@ -15,7 +15,7 @@ use Rattle.proof_text.specs.declared.row_words.AnswerValues.{AnswerValues}
 use Rattle.proof_text.specs.declared.row_words.RequestValues.{RequestValues}
 use Rattle.proof_text.specs.declared.proof.TheConstants.{MOST_TURNS}
 
--- the words of a position, and what follows
+-- the words of a position, and the rest
 abbrev pub position_text : List (List ℕ) → List ℕ → List ℕ
 position_text texts rest = codes "at" ++ (spaced_texts texts ++ (codes " for " ++ rest))
 
@@ -27,7 +27,7 @@ TakesPosition pebbles labels bound (Some (are, numbers)) old new =
     (texts : List (List ℕ)) × ArePlaceTexts pebbles labels bound texts × (old ≡ position_text texts new)
     × SpellPlaces labels bound texts are numbers
 
--- the turns that the text spells, if they are such as the claim allows
+-- the turns that the text spells, if the claim allows them
 abbrev pub TurnsOf : Claim → List ℕ → Option Turns → Type 0
 TurnsOf claim text None = SpellsTurns claim text → ⊥
 TurnsOf claim text (Some turns) = AreTurns claim turns × (text ≡ turns_text turns)

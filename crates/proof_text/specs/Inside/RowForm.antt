@@ -1,4 +1,4 @@
--- What is asked of the rows of one side's section, how they are written, and what is read of them.
+-- The form of one side's rows, and the results of writing and of reading them.
 use Rattle.std.specs.Prelude.{◌≡◌, ℕ, ◌<◌, ◌≤◌, Bool, false, if◌then◌else◌, List, [], ◌++◌, length, Result, Ok, Err, codes}
 use Rattle.std.specs.List.{flat_map}
 use Rattle.board_text.specs.LineForms.{number_line}
@@ -26,7 +26,7 @@ pub record RowForm (R : Type 0) : Type 1 where
   pub asked : Bool
   -- a row's line
   pub line : R → List ℕ
-  -- what may be wrong with the words of a line, of the kinds of rows
+  -- the faults of the words of a line, of the kinds of rows
   pub Misread : List ℕ → ProofKind → Type 0
   pub no_section : (rest : List ℕ) → Misread rest kinds.Section → ⊥
   pub no_memory : (rest : List ℕ) → Misread rest kinds.Memory → ⊥
@@ -65,22 +65,22 @@ at_of board form row = configuration_at board (form.rank row)
 abbrev pub IsFrom : PlainBoard → ℕ → List ℕ → Type 0
 IsFrom board least at = least ≤ rank_of board at
 
--- what is wrong with a row's line, where `MayStand` says which configurations may come
+-- the fault of a row's line; its configuration must be one of `MayStand`
 abbrev pub LineFault : {R : Type 0} → PlainBoard → RowForm R → (List ℕ → Type 0) → List ℕ → ProofKind → Type 0
 LineFault {R} board form MayStand rest kind = RowFault form.IsRow (at_of board form) form.line form.Misread MayStand rest kind
 
--- What the next line says, where ranks may stand from the least on.
+-- The row of the next line, whose rank must be at least `least`, or the line's fault.
 abbrev pub NextRow : {R : Type 0} → PlainBoard → RowForm R → ℕ → Result R ProofKind → List ℕ → List ℕ → Type 0
 NextRow board form least (Ok row) old new =
     form.IsRow row × (least ≤ form.rank row) × (form.rank row < configurations board) × (configurations board ≤ MAX_CONFIGURATIONS)
     × (old ≡ form.line row ++ new)
 NextRow board form least (Err kind) old new = LineFault board form (IsFrom board least) old kind
 
--- the section's text, where there is one
+-- the section's text, if there is one
 abbrev pub section_text : {R : Type 0} → RowForm R → List R → List ℕ
 section_text form rows = if form.asked then number_line form.word (length rows) ++ flat_map form.line rows else []
 
--- A section was taken, or none where the document has none.
+-- A section was taken, or none if the document has none.
 pub record PartRead {R : Type 0} (board : PlainBoard) (form : RowForm R) (rows : List R) (old new : List ℕ) : Type 0 where
   pub are_rows : AreRows board form.IsRow (at_of board form) rows
   pub none : form.asked ≡ false → rows ≡ []

@@ -8,13 +8,13 @@ use Rattle.positions.specs.Gaps.{gap_of}
 use Rattle.strategies.specs.declared.gap_best.Best.{Best}
 use Rattle.strategies.specs.Best.{IsLess, IsBestAnswer}
 
--- the best answer to a request, with the value of its result; none where no label is legal
+-- the best answer to a request, with the value of its result; none if no label is legal
 abbrev pub IsBestFor : PlainBoard → List ℕ → ℕ → Option Best → Type 0
 IsBestFor board configuration pebble (Some best) =
     IsBestAnswer board configuration pebble best.label × HasValue board (moved configuration pebble best.label) best.value
 IsBestFor board configuration pebble None = (label : ℕ) → Legal board configuration pebble label → ⊥
 
--- the better of a best answer so far and a later one, which has to lead to a greater value
+-- the better of the best answer so far and a later one, which must lead to a greater value
 abbrev pub IsBetter : Option Best → Best → Best → Type 0
 IsBetter (Some first) later better = (IsLess first.value later.value → better ≡ later) × (¬ IsLess first.value later.value → better ≡ first)
 IsBetter None later better = better ≡ later

@@ -1,4 +1,4 @@
--- Steps from one configuration to another, by ranks, and what they lead to from the start.
+-- Steps from one configuration to another, by ranks, and the ranks reached from the start.
 use Rattle.std.specs.Prelude.{◌≡◌, ℕ, ◌<◌, ◌↔◌, ◌⊎◌, ◌++◌, ◌≢◌, Bool, true, false, List, [], ◌∷◌, Contains, AllPairs, length, slice_index_or}
 use Rattle.board_text.specs.PlainBoard.{PlainBoard}
 use Rattle.positions.specs.Game.{Legal, moved}
@@ -7,7 +7,8 @@ use Rattle.positions.specs.Gaps.{gaps, member_of, IsAnswer}
 use Rattle.strategies.specs.Best.{IsBestAnswer, IsBestRequest}
 use Rattle.strategies.specs.Document.{IsAnswerable, IsAnswerMove, IsRequestMove, LeadsBy}
 
--- the best answer to a request of the pebble leads from one rank to the other, which has a value of 1 or more
+-- the best answer to a request of the pebble leads from one rank to the other, which has a value of
+-- 1 or more
 pub record IsAnswerStep (board : PlainBoard) (from pebble to : ℕ) : Type 0 where
   pub is_pebble : pebble < board.pebbles
   pub label : ℕ
@@ -48,7 +49,7 @@ IsReachedByRequests board = IsReachedBy board (IsRequestMove board) (λ configur
 abbrev pub AreRanksOf : PlainBoard → (ℕ → Type 0) → List ℕ → Type 0
 AreRanksOf board P ranks = (rank : ℕ) → Contains ranks rank ↔ ((rank < configurations board) × P rank)
 
--- which ranks were reached, in which order, of how many
+-- the ranks that were reached, in order, and the number of all ranks
 pub record ReachedRanks : Type 0 where
   pub size : ℕ
   pub ranks : List ℕ
@@ -58,12 +59,12 @@ pub record AreMarked (marks : List Bool) (ranks : List ℕ) : Type 0 where
   pub marked : (rank : ℕ) → (slice_index_or marks rank false ≡ true) ↔ Contains ranks rank
   pub once : AllPairs (λ first second. first ≢ second) ranks
 
--- the rank stands behind the others, or was among them
+-- the rank was added after the others, or was among them
 pub record IsWith (before : List ℕ) (rank : ℕ) (after : List ℕ) : Type 0 where
   pub known : Contains before rank → after ≡ before
   pub other : ¬ Contains before rank → after ≡ before ++ rank ∷ []
 
--- what the fact holds of is added, behind the others
+-- the ranks of which the fact holds are added, after the others
 pub record IsWithAll (before : List ℕ) (P : ℕ → Type 0) (after : List ℕ) : Type 0 where
   pub each : (rank : ℕ) → Contains after rank ↔ (Contains before rank ⊎ P rank)
   pub behind : (more : List ℕ) × (after ≡ before ++ more)
@@ -76,7 +77,7 @@ IsAnswerAt board gap label rank = IsAnswer board gap label × (rank ≡ rank_of 
 abbrev pub IsAnswerOf : PlainBoard → ℕ → ℕ → Type 0
 IsAnswerOf board gap rank = (label : ℕ) × IsAnswerAt board gap label rank
 
--- whether all that the answers of a gap lead to is among the ranks
+-- the results of all answers of each expanded gap are among the ranks
 pub record AreExpanded (board : PlainBoard) (expanded : List Bool) (ranks : List ℕ) : Type 0 where
   pub one_each : length expanded ≡ gaps board
   pub there : (gap : ℕ) → gap < gaps board → slice_index_or expanded gap false ≡ true → (rank : ℕ) → IsAnswerOf board gap rank

@@ -1,4 +1,4 @@
--- The sides of a document: which rows a side's section has, and where they stand.
+-- The sides of a document: the rows of a side's section, and their configurations.
 use Rattle.std.specs.Prelude.{◌≡◌, ℕ, List, map, Option, Some, None, All}
 use Rattle.board_text.specs.PlainBoard.{PlainBoard, IsConfiguration}
 use Rattle.positions.specs.declared.value.Value.{Value}
@@ -57,7 +57,7 @@ pub record AreReached {R : Type 0} (board : PlainBoard) (side : Side R) (ranks :
   pub each : AreRanksOf board side.IsReached ranks
   pub rows : AreOfReached board side
 
--- the row at the configuration of a rank, or none where the side has none there
+-- the row at the configuration of a rank, or none if the side has none there
 abbrev pub IsRowAt : {R : Type 0} → PlainBoard → Side R → ℕ → Option R → Type 0
 IsRowAt board side rank (Some row) =
     side.IsRow (side.shown row) × (side.at (side.shown row) ≡ configuration_at board rank) × side.IsFilled row

@@ -1,4 +1,4 @@
-use Rattle.std.proofs.Common.{◌≡◌, ◌+◌, ◌++◌, ◌∷◌, List, [], ℕ, length, refl, sym, ap, ◌∙◌, arith}
+use Rattle.std.proofs.Common.{rules, ◌≡◌, ◌+◌, ◌++◌, ◌∷◌, List, [], ℕ, length, refl, sym, ap, ◌∙◌, arith}
 use Rattle.std.proofs.lemmas.List.{length_push}
 use Rattle.std.proofs.lemmas.Result.{err_from_is_err_and}
 use Rattle.board_text.specs.LineForms.{number_line}
@@ -30,7 +30,7 @@ loop-come-preserved g c =
     let i = c.loop-come.invariant in
     let next = c.in-Ok.ensures in
     let rank : c.rank-least.result ≡ form.rank c.in-Ok.row = c.rank-least.ensures board c.args.claim in
-    let items : c.push.new.self.items ≡ c.loop-come.rows.items ++ c.in-Ok.row ∷ [] = rw c.if-is_err.ensures.negation at c.push.ensures.items in
+    let items : c.push.new.self.items ≡ c.loop-come.rows.items ++ c.in-Ok.row ∷ [] = search rules in
     let step = row_push board form c.args.text.now c.in-Some.count c.loop-come.least c.loop-come.rows.items c.push.new.self.items c.in-Ok.row c.loop-come.text c.read.new.text items
     i.come (omega (arith, i.number, c.loop-come-test.true)) i.from next in
     record {

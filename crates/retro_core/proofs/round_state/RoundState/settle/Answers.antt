@@ -24,7 +24,7 @@ invariant_of-self-then-won g c =
     let made = settling _ _ _ words _ _ c.self.view_is c.self.invariant.0 c.self.invariant.1 c.args.seat c.requires
     c.index.result.now c.owed-owed.result.now c.index-2.result.now c.round_number-next.result _ c.index_mut.result.now c.settle.new.self c.index.ensures c.owed-owed.ensures some
     c.index-2.ensures c.round_number-next.ensures.value (sym (cond_same c.index-2.result.now OPEN (set words (get_or c.owed-owed.result.now 0 0) (c.round_number-next.result + 1)) words c.if-won.true))
-    c.index_mut.ensures.value (rw c.if-is_err.ensures.negation at c.settle.ensures.seat) in
+    c.index_mut.ensures.value (search rules) in
     (c.self.invariant.0, made.lawful)
 
 pub invariant_of-self-else-won : goal.invariant_of-self-else-won
@@ -34,7 +34,7 @@ invariant_of-self-else-won g c =
     let made = settling _ _ _ words _ _ c.self.view_is c.self.invariant.0 c.self.invariant.1 c.args.seat c.requires
     c.index.result.now c.owed-owed.result.now c.index-2.result.now c.round_number-next.result _ c.index_mut.result.now c.settle.new.self c.index.ensures c.owed-owed.ensures some
     c.index-2.ensures c.round_number-next.ensures.value (sym (cond_other c.index-2.result.now OPEN (set words (get_or c.owed-owed.result.now 0 0) (c.round_number-next.result + 1)) words c.if-won.false))
-    c.index_mut.ensures.value (rw c.if-is_err.ensures.negation at c.settle.ensures.seat) in
+    c.index_mut.ensures.value (search rules) in
     (c.self.invariant.0, made.lawful)
 
 pub returns-then-won-clause-done : goal.returns-then-won-clause-done
@@ -44,7 +44,7 @@ returns-then-won-clause-done g c =
     let made = settling _ _ _ words _ _ c.self.view_is c.self.invariant.0 c.self.invariant.1 c.args.seat c.requires
     c.index.result.now c.owed-owed.result.now c.index-2.result.now c.round_number-next.result _ c.index_mut.result.now c.settle.new.self c.index.ensures c.owed-owed.ensures some
     c.index-2.ensures c.round_number-next.ensures.value (sym (cond_same c.index-2.result.now OPEN (set words (get_or c.owed-owed.result.now 0 0) (c.round_number-next.result + 1)) words c.if-won.true))
-    c.index_mut.ensures.value (rw c.if-is_err.ensures.negation at c.settle.ensures.seat) in
+    c.index_mut.ensures.value (search rules) in
     made.tries
 
 pub returns-else-won-clause-done : goal.returns-else-won-clause-done
@@ -54,5 +54,5 @@ returns-else-won-clause-done g c =
     let made = settling _ _ _ words _ _ c.self.view_is c.self.invariant.0 c.self.invariant.1 c.args.seat c.requires
     c.index.result.now c.owed-owed.result.now c.index-2.result.now c.round_number-next.result _ c.index_mut.result.now c.settle.new.self c.index.ensures c.owed-owed.ensures some
     c.index-2.ensures c.round_number-next.ensures.value (sym (cond_other c.index-2.result.now OPEN (set words (get_or c.owed-owed.result.now 0 0) (c.round_number-next.result + 1)) words c.if-won.false))
-    c.index_mut.ensures.value (rw c.if-is_err.ensures.negation at c.settle.ensures.seat) in
+    c.index_mut.ensures.value (search rules) in
     made.tries

@@ -1,5 +1,6 @@
-use Rattle.std.proofs.Common.{◌≡◌, ℕ, ◌<◌, List, length, map, arith, ap, ◌∙◌, get_or, set, None}
+use Rattle.std.proofs.Common.{rules, ◌≡◌, ℕ, ◌<◌, List, length, map, arith, ap, ◌∙◌, get_or, set, None}
 use Rattle.std.proofs.lemmas.List.{get_or_read, set-get_or}
+use Rattle.std.proofs.lemmas.Result.{err_from_is_err_and}
 use Rattle.positions.specs.Ranks.{configurations, configuration_at}
 use Rattle.positions.specs.Gaps.{gaps, gap_of}
 use Rattle.solver.specs.Words.{value_of_word}
@@ -39,7 +40,7 @@ overflow_sub-count g c =
     let made = striking _ _ _ _ _ _ c.self.view_is c.self.invariant.0 c.self.invariant.1 c.args.seat c.requires
     c.index.result.now c.todo-todo.result.now c.in-Some.pebble c.gap-gap.result c.index-count.result.now c.index_mut.result.now c.strike.new.self None c.index.ensures c.todo-todo.ensures some
     c.in-Some.ensures.0 gap_is (get_or_read c.self.inside.counts.items c.gap-gap.result c.index-count.result.now inside c.index-count.ensures 0) c.index_mut.ensures.value
-    (rw c.if-is_err.ensures.negation at c.strike.ensures.seat) in
+    (search rules) in
     made.some_left
 
 pub invariant_of-self-2 : goal.invariant_of-self-2
@@ -53,7 +54,7 @@ invariant_of-self-2 g c =
     let made = striking _ _ _ _ _ _ c.self.view_is c.self.invariant.0 c.self.invariant.1 c.args.seat c.requires
     c.index.result.now c.todo-todo.result.now c.in-Some.pebble c.gap-gap.result c.index-count.result.now c.index_mut.result.now c.strike.new.self None c.index.ensures c.todo-todo.ensures some
     c.in-Some.ensures.0 gap_is (get_or_read c.self.inside.counts.items c.gap-gap.result c.index-count.result.now inside c.index-count.ensures 0) c.index_mut.ensures.value
-    (rw c.if-is_err.ensures.negation at c.strike.ensures.seat) in
+    (search rules) in
     (c.self.invariant.0, made.lawful)
 
 pub returns-clause-done : goal.returns-clause-done
@@ -67,14 +68,14 @@ returns-clause-done g c =
     let made = striking _ _ _ _ _ _ c.self.view_is c.self.invariant.0 c.self.invariant.1 c.args.seat c.requires
     c.index.result.now c.todo-todo.result.now c.in-Some.pebble c.gap-gap.result c.index-count.result.now c.index_mut.result.now c.strike.new.self c.if-count-eq1.closed c.index.ensures c.todo-todo.ensures some
     c.in-Some.ensures.0 gap_is (get_or_read c.self.inside.counts.items c.gap-gap.result c.index-count.result.now inside c.index-count.ensures 0) c.index_mut.ensures.value
-    (rw c.if-is_err.ensures.negation at c.strike.ensures.seat) in
+    (search rules) in
     made.strikes (elim c.if-count-eq1.branch [
       | then-count-eq1 w ↦ count-then c.index-count.result.now c.gap-gap.result c.if-count-eq1.closed w.if-count-eq1.true w.closed-is
       | else-count-eq1 w ↦ count-else c.index-count.result.now c.gap-gap.result c.if-count-eq1.closed w.if-count-eq1.false w.closed-is
     ])
 
-pub returns-then-is_err-clause-refused : goal.returns-then-is_err-clause-refused
-returns-then-is_err-clause-refused g c =
+pub returns-in_err-strike-clause-refused : goal.returns-in_err-strike-clause-refused
+returns-in_err-strike-clause-refused g c =
     let some : 0 < length c.todo-todo.result.now = some-of _ _ c.is_empty.ensures c.if-is_empty.false in
     let config : ℕ = get_or c.todo-todo.result.now 0 0 in
     let seats : List PlainSeat = c.self.inside.seats.items in
@@ -83,10 +84,12 @@ returns-then-is_err-clause-refused g c =
     (let low = c.gap-gap.ensures.below in let same = ap gaps c.space.ensures in let long = c.self.invariant.1.counts_length in omega arith) in
     let gap_is : c.gap-gap.result ≡ gap_of c.self.inside.solver.now.board (configuration_at c.self.inside.solver.now.board config) c.in-Some.pebble =
     c.gap-gap.ensures.gap ∙ ap (λ b. gap_of b (configuration_at b config) c.in-Some.pebble) c.space.ensures in
-    let unchanged : c.strike.new.self ≡ c.index_mut.result.now = rw c.if-is_err.ensures.negation at c.strike.ensures.seat in
-    let same : set seats c.args.seat c.strike.new.self ≡ seats = ap (set seats c.args.seat) (unchanged ∙ c.index_mut.ensures.value) ∙ set-get_or seats c.args.seat c.index_mut.result.now in (
+    let unchanged : c.strike.new.self ≡ c.index_mut.result.now = search rules in
+    let same : set seats c.args.seat c.strike.new.self ≡ seats = ap (set seats c.args.seat) (unchanged ∙ c.index_mut.ensures.value) ∙ set-get_or seats c.args.seat c.index_mut.result.now in
+    let p = err_from_is_err_and c.from_residual.result c.from_residual.ensures.1 in
+    rw (p.1, p.2) (
       closing _ _ _ _ _ _ c.self.view_is c.self.invariant.0 c.self.invariant.1 c.args.seat c.requires
           c.index.result.now c.todo-todo.result.now c.in-Some.pebble c.gap-gap.result c.index-count.result.now c.index.ensures c.todo-todo.ensures some
-          c.in-Some.ensures.0 gap_is (get_or_read counts c.gap-gap.result c.index-count.result.now inside c.index-count.ensures 0) (c.strike.ensures.memory c.if-is_err.ensures.negation),
+          c.in-Some.ensures.0 gap_is (get_or_read counts c.gap-gap.result c.index-count.result.now inside c.index-count.ensures 0) (c.strike.ensures.memory (search rules)),
       ap (round_of c.self.inside.solver.now c.self.inside.width counts (map value_of_word c.self.inside.words.items)) same ∙ c.self.view_is,
     )

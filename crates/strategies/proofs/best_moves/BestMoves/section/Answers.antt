@@ -1,8 +1,9 @@
-use Rattle.std.proofs.Common.{◌<◌, arith}
+use Rattle.std.proofs.Common.{◌<◌, ◌≡◌, true, arith, rules}
+use Rattle.std.specs.Prelude.{is_ok}
 use Rattle.positions.specs.Ranks.{configurations}
 use Rattle.strategies.proofs.GatheredRows.{one_more, none_there, all_gathered}
 use Rattle.strategies.proofs.best_moves.BestMoves.section.Goals as goal
-use Rattle.strategies.proofs.best_moves.BestMoves.section.Goals.{in-Some-at+else-is_err, in_default-at}
+use Rattle.strategies.proofs.best_moves.BestMoves.section.Goals.{in-Some-at+in_ok-push, in_default-at}
 
 pub at-requires-clause-rank : goal.at-requires-clause-rank
 at-requires-clause-rank g c = (((c.in_ok-reached.ensures.reached c.args.start).each c.in-Some.rank).0 c.in-Some.ensures.0.1).0
@@ -25,8 +26,12 @@ loop-rank-preserved g c =
     let side = g.R.SectionRow.side b c.args.start in
     let reached = c.in_ok-reached.ensures.reached c.args.start in
     elim c.match-at.branch [
-      | in-Some-at+else-is_err w ↦ rw (w.rows-is, w.push.ensures.items, w.if-is_err.ensures.negation)
+      | in-Some-at+in_ok-push w ↦
+          (
+          let pushed : is_ok w.push.result ≡ true = search rules in
+          rw (w.rows-is, w.push.ensures.items, pushed)
           (one_more b side _ reached _ _ c.loop-rank.invariant c.in-Some.rank _ c.in-Some.ensures w.in-Some-at.ensures)
+          )
       | in_default-at w ↦ rw w.rows-is
           (none_there b side _ reached _ _ c.loop-rank.invariant c.in-Some.rank c.in-Some.ensures w.in_default-at.ensures)
     ]
