@@ -9,19 +9,20 @@ use Rattle.board_text.specs.declared.fault.BoardKind.TheVariants.{Version, Label
 use Rattle.board_text.specs.declared.fault.BoardKind.TheVariants.{End, Trailing, Memory}
 use Rattle.board_text.specs.declared.board.TheConstants.{MAX_LABELS, MAX_PEBBLES}
 
--- no line `end` stands here
+-- the rest doesn't begin with the line `end`
 abbrev pub NotEnd : List ℕ → Type 0
 NotEnd rest = Lacks (λ (u : Unit {0}). Unit {0}) (λ u. end_line) rest
 
--- nothing stands here, or an `e`
+-- the rest is empty or begins with an `e`
 abbrev pub IsCut : List ℕ → Type 0
 IsCut rest = (rest ≡ []) ⊎ ((more : List ℕ) × (rest ≡ 101 ∷ more))
 
--- a line with this pair stands here
+-- the rest begins with a line of this pair
 abbrev pub HasPair : ℕ → List ℕ → ℕ × ℕ → Type 0
 HasPair labels rest p = AreLabels labels p × (more : List ℕ) × (rest ≡ beats_line p ++ more)
 
--- The fault of what stands after the `beats` lines of these pairs, where no fault before it in the table is there.
+-- The fault of the text after the `beats` lines of these pairs, if it has no fault that comes
+-- before it in the table.
 abbrev pub PairFault : ℕ → List (ℕ × ℕ) → List ℕ → BoardKind → Type 0
 PairFault labels pairs rest End = NotEnd rest × IsCut rest
 PairFault labels pairs rest Beats = NotEnd rest × (IsCut rest → ⊥) × Lacks (AreLabels labels) beats_line rest
@@ -36,8 +37,8 @@ abbrev pub InPairs : List ℕ → ℕ → BoardKind → Type 0
 InPairs text line kind = (b : PlainBoard) × (rest : List ℕ) × IsBoard b × (text ≡ board_front b ++ rest) × (line ≡ 5 + length b.pairs)
     × PairFault b.labels b.pairs rest kind
 
--- All lines before this one are faultless, and this one has the fault and none before it in the table.
--- Memory may be wanting once the first three lines are faultless.
+-- All lines before this one are faultless, and this one has the fault and none before it in the
+-- table. Memory may run out once the first three lines are faultless.
 abbrev pub HasBoardFault : List ℕ → ℕ → BoardKind → Type 0
 HasBoardFault text line Version = (line ≡ 1) × Lacks (InRange 1 2) version_line text
 HasBoardFault text line Labels = (line ≡ 2) × (version : ℕ) × (rest : List ℕ) × InRange 1 2 version × (text ≡ version_line version ++ rest)

@@ -23,7 +23,7 @@ beats_line pair = numbers_line (codes "beats") (pair.0 ∷ pair.1 ∷ [])
 abbrev pub end_line : List ℕ
 end_line = closed (codes "end")
 
--- the text up to its last pair
+-- the prefix of the text up to its last pair
 abbrev pub board_front : PlainBoard → List ℕ
 board_front board =
     (version_line (version_of board.labels board.start) ++ (labels_line board.labels

@@ -1,4 +1,5 @@
--- Which pairs the bit rows of a board stand for: four words of 64 bits for each label, with a bit for each label that beats it.
+-- The pairs that the bit rows of a board stand for: four words of 64 bits for each label, with a
+-- bit for each label that beats it.
 use Rattle.std.specs.Prelude.{ℕ, ◌/◌, ◌%◌, ◌==◌, List, Bool, slice_index}
 use Rattle.std.specs.Int.{bit_at}
 
@@ -6,7 +7,7 @@ use Rattle.std.specs.Int.{bit_at}
 abbrev pub has_bit : List ℕ → ℕ → Bool
 has_bit row label = bit_at (slice_index row (label / 64)) (label % 64) == 1
 
--- what a set of pairs of labels is, as plain data
+-- a set of pairs of labels, as plain data
 pub record PairsOfLabels : Type 0 where
   pub labels : ℕ
   pub pairs : List (ℕ × ℕ)

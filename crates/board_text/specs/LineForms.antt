@@ -1,4 +1,5 @@
--- What a reader of texts takes from the front of the bytes that are left.
+-- The forms of lines, words and numbers that a reader takes from the start of the bytes that are
+-- left.
 use Rattle.std.specs.Prelude.{◌≡◌, ◌≢◌, ℕ, List, [], ◌∷◌, ◌++◌, Option, Some, None, slice_index}
 use Rattle.std.specs.Char.{IsAsciiDigit}
 use Rattle.std.specs.List.{flat_map}
@@ -25,7 +26,7 @@ numbers_line word ns = closed (word ++ spaced ns)
 abbrev pub Lacks : {X : Type 0} → (X → Type 0) → (X → List ℕ) → List ℕ → Type 0
 Lacks {X} P form bytes = (x : X) (more : List ℕ) → P x → bytes ≢ form x ++ more
 
--- What was taken from the front: the x whose form stands there, and nothing only where there is none.
+-- The x was taken whose form the bytes begin with, and nothing only if they begin with none.
 abbrev pub Takes : {X : Type 0} → (X → Type 0) → (X → List ℕ) → Option X → List ℕ → List ℕ → Type 0
 Takes P form None old new = Lacks P form old
 Takes P form (Some x) old new = P x × (old ≡ form x ++ new)
@@ -34,7 +35,7 @@ Takes P form (Some x) old new = P x × (old ≡ form x ++ new)
 abbrev pub NoDigit : List ℕ → Type 0
 NoDigit bytes = IsAsciiDigit (slice_index bytes 0) → ⊥
 
--- A number has no digit after it: what was taken is all the digits that stand there.
+-- A number was taken, with all digits that the bytes begin with: no digit comes after it.
 abbrev pub TakesNumber : ℕ → ℕ → Option ℕ → List ℕ → List ℕ → Type 0
 TakesNumber low high None old new = (n : ℕ) (more : List ℕ) → InRange low high n → NoDigit more → old ≢ decimal n ++ more
 TakesNumber low high (Some n) old new = InRange low high n × (old ≡ decimal n ++ new) × NoDigit new

@@ -7,7 +7,7 @@ use Rattle.board_text.specs.LineForms.{NoDigit}
 use Rattle.board_text.specs.declared.line_reader.Numeral.{Numeral}
 use Rattle.board_text.specs.declared.line_reader.Numeral.TheVariants.{Number, NoNumber}
 
--- what the digits say
+-- the number that the digits spell, if they spell one below 2 ^ 32
 abbrev pub Says : List ℕ → Numeral → Type 0
 Says digits (Number n) = (n < 2 ^ 32) × (digits ≡ decimal n)
 Says digits NoNumber = (n : ℕ) → n < 2 ^ 32 → digits ≢ decimal n
@@ -16,7 +16,7 @@ Says digits NoNumber = (n : ℕ) → n < 2 ^ 32 → digits ≢ decimal n
 abbrev pub IsNumberIn : ℕ → ℕ → Numeral → ℕ → Type 0
 IsNumberIn low high numeral n = (low ≤ n) × (n ≤ high) × (numeral ≡ Number n)
 
--- All the digits at the front, one or more, were taken; nothing only where there is none.
+-- All the digits that the text begins with, one or more, were taken; nothing only if there is none.
 abbrev pub TakesNumeral : Option Numeral → List ℕ → List ℕ → Type 0
 TakesNumeral None old new = (digits more : List ℕ) → IsNumeral 10 digits → old ≢ digits ++ more
 TakesNumeral (Some numeral) old new = (digits : List ℕ) × IsNumeral 10 digits × (old ≡ digits ++ new) × NoDigit new × Says digits numeral

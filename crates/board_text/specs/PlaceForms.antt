@@ -1,4 +1,4 @@
--- The texts of places: of each its label, or a hyphen where it holds none.
+-- The texts of places: the label of each, or a hyphen if it holds none.
 use Rattle.std.specs.Prelude.{◌≡◌, ◌≢◌, ℕ, ◌<◌, ◌==◌, ◌⊎◌, if◌then◌else◌, Bool, true, false, List, ◌++◌, length, map, All, Option, Some}
 use Rattle.std.specs.Prelude.{None, codes}
 use Rattle.std.specs.Fmt.{decimal}
@@ -6,7 +6,7 @@ use Rattle.std.specs.Str.Parse.{IsNumeral}
 use Rattle.board_text.specs.LineForms.{closed, NoDigit}
 use Rattle.board_text.specs.Numerals.{spaced_texts}
 
--- the text of a place, where the number of labels stands for none
+-- the text of a place; the number of labels stands for none
 abbrev pub place_word : ℕ → ℕ → List ℕ
 place_word labels place = if place == labels then codes "-" else decimal place
 

@@ -1,11 +1,12 @@
--- What a board is: labels, pebbles, which label beats which, and where the pebbles start.
+-- Boards as plain data: labels, pebbles, the domination among labels, and the places where the
+-- pebbles start.
 use Rattle.std.specs.Prelude.{◌≡◌, ℕ, ◌+◌, ◌<◌, ◌==◌, ◌⊎◌, if◌then◌else◌, Bool, List, [], ◌∷◌, ◌++◌, length, All, AllPairs, Contains}
 use Rattle.std.specs.List.{list_any}
 use Rattle.board_text.specs.Ranges.{InRange, AreNumbers}
 use Rattle.board_text.specs.declared.board.TheConstants.{MAX_LABELS, MAX_PEBBLES}
 
--- a board as plain data: numbers of labels and pebbles, the pairs (x, y) with x beating y, and a place for each pebble:
--- its label, or the number of labels where it holds none
+-- a board as plain data: numbers of labels and pebbles, the pairs (x, y) with x beating y, and a
+-- place for each pebble: its label, or the number of labels if it holds none
 pub record PlainBoard : Type 0 where
   pub labels : ℕ
   pub pebbles : ℕ
@@ -24,15 +25,16 @@ Beats board x y = Contains board.pairs (x, y)
 abbrev pub some_blank : ℕ → List ℕ → Bool
 some_blank labels configuration = list_any (λ place. place == labels) configuration
 
--- 2 where some pebble holds no label at the start, else 1
+-- 2 if some pebble holds no label at the start, else 1
 abbrev pub version_of : ℕ → List ℕ → ℕ
 version_of labels start = if some_blank labels start then 2 else 1
 
--- how many values the place of a pebble can have: the labels, and in version 2 the number of labels, which stands for none
+-- the number of values of a pebble's place: the labels, and in version 2 the number of labels,
+-- which stands for none
 unfoldable pub places : PlainBoard → ℕ
 places board = if some_blank board.labels board.start then board.labels + 1 else board.labels
 
--- the label dominates what a place holds: its label, if it holds one
+-- the label dominates the label of a place, if that holds one
 abbrev pub BeatsPlace : PlainBoard → ℕ → ℕ → Type 0
 BeatsPlace board label place = place < board.labels → Beats board label place
 

@@ -1,4 +1,4 @@
--- What a text is found to be: a board's, or faulty.
+-- The two kinds of texts: a board's, or faulty.
 use Rattle.std.specs.Prelude.{◌≡◌, ◌≢◌, ℕ, List}
 use Rattle.board_text.specs.PlainBoard.{PlainBoard, IsBoard}
 use Rattle.board_text.specs.BoardText.{board_text}
@@ -10,6 +10,6 @@ use Rattle.board_text.specs.declared.fault.BoardKind.TheVariants.{Memory}
 abbrev pub IsBoardText : List ℕ → Type 0
 IsBoardText text = (board : PlainBoard) × IsBoard board × (text ≡ board_text board)
 
--- a line of the text has a fault, want of memory aside
+-- a line of the text has a fault other than out of memory
 abbrev pub IsFaulty : List ℕ → Type 0
 IsFaulty text = (line : ℕ) × (kind : BoardKind) × (kind ≢ Memory) × HasBoardFault text line kind

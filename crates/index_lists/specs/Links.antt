@@ -1,7 +1,7 @@
 -- Lists kept by links.
 use Rattle.std.specs.Prelude.{ℕ, List}
 
--- what a caller sees of the links
+-- the links as a caller sees them
 pub record Chains : Type 0 where
   pub nodes : ℕ
   pub lists : ℕ

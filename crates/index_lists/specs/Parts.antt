@@ -1,7 +1,7 @@
 -- Lists kept one after the other.
 use Rattle.std.specs.Prelude.{ℕ, List}
 
--- what a caller sees of the lists: the first of them, up to the last that ever had a node
+-- the lists as a caller sees them: the first of them, up to the last that ever had a node
 pub record PlainParts : Type 0 where
   pub nodes : ℕ
   pub lists : ℕ

@@ -21,7 +21,7 @@ pub fn nodes_in_lists()
         → 0 < times node (s.list l) → m ≢ l → without_node node (s.list m) ≡ s.list m }
 {}
 
-/// What is left of a list without a node.
+/// A list without a node has lost that node, and nothing else.
 pub fn lists_without_a_node()
     ensures gone { (node : ℕ) → (xs : List ℕ) → times node (without_node node xs) ≡ 0 }
     ensures others { (node : ℕ) → (other : ℕ) → (xs : List ℕ) → other ≢ node → times other (without_node node xs) ≡ times other xs }

@@ -1,4 +1,4 @@
-//! Lists of nodes, plain and linked by index, behind one contract.
+//! Lists of nodes, plain and linked by index, under one contract.
 #![tactic(auto)]
 
 mod laws;

@@ -93,7 +93,7 @@ impl ListStore for LinkLists {
     }
 }
 
-/// A number, unless it stands for none.
+/// `number`, unless it is `none`.
 fn some_unless(none: u32, number: u32) -> Option<u32>
     ensures { result ≡ unless_none none number }
 {
@@ -103,16 +103,17 @@ fn some_unless(none: u32, number: u32) -> Option<u32>
 /// The links of all nodes and lists. Between two calls they may be those of no lists.
 #[derive(Drop)]
 struct Links {
-    /// Where each node stands. A node is read and written as one, so that it is in one place of memory.
+    /// The neighbours and the list of each node. A node is read and written as one, so that it is
+    /// in one place of memory.
     nodes: Vec<Node>,
     /// The ends of each list.
     ends: Vec<Ends>,
 }
 
-/// Where a node stands.
+/// The neighbours and the list of a node.
 #[derive(Clone, Copy)]
 struct Node {
-    /// The node behind it.
+    /// The node after it.
     next: u32,
     /// The node before it.
     prev: u32,
@@ -148,7 +149,7 @@ impl Model for Links {
 }
 
 impl Links {
-    /// Points the link of a node to the one behind it, or, where the node is none, the list to its first.
+    /// Makes `to` the node after `node`, or, if `node` is none, the first of `list`.
     fn point_next(&mut self, node: u32, list: u32, to: u32)
         requires node_in { node ≤ length self.old.next }
         requires list_in { list < length self.old.first }
@@ -161,7 +162,7 @@ impl Links {
         }
     }
 
-    /// Points the link of a node to the one before it, or, where the node is none, the list to its last.
+    /// Makes `to` the node before `node`, or, if `node` is none, the last of `list`.
     fn point_prev(&mut self, node: u32, list: u32, to: u32)
         requires node_in { node ≤ length self.old.prev }
         requires list_in { list < length self.old.last }
@@ -174,7 +175,7 @@ impl Links {
         }
     }
 
-    /// Notes the list of a node and the node before it.
+    /// Notes that `node` is in the list `home`, after the node `prev`.
     fn place(&mut self, node: u32, prev: u32, home: u32)
         requires { node < length self.old.home }
         ensures { self.new ≡ placed self.old node prev home }
@@ -184,7 +185,7 @@ impl Links {
         place.home = home;
     }
 
-    /// Notes that a node is in no list.
+    /// Notes that `node` is in no list.
     fn loosen(&mut self, node: u32, none: u32, nowhere: u32)
         requires { node < length self.old.home }
         ensures { self.new ≡ loosened self.old node none nowhere }
@@ -196,7 +197,7 @@ impl Links {
         };
     }
 
-    /// Notes that a list has one node more, which is its last.
+    /// Notes that `list` has one node more, with `node` as its last.
     fn append(&mut self, list: u32, node: u32)
         requires list_in { list < length self.old.len }
         requires room { slice_index self.old.len list < u32.MAX }
@@ -207,7 +208,7 @@ impl Links {
         ends.len += 1;
     }
 
-    /// Notes that a list has one node less.
+    /// Notes that `list` has one node less.
     fn shorten(&mut self, list: u32)
         requires list_in { list < length self.old.len }
         requires some { 0 < slice_index self.old.len list }

@@ -12,8 +12,9 @@ use std::marker::Model;
 
 /// The nodes of all lists in one vector, list by list, and beside it the length of each list.
 ///
-/// Where lists are filled in ascending order, a push writes four bytes at the end and counts them. The nodes of a list
-/// stand next to each other, so that they are copied as one block. To go from a node to another is to look for it.
+/// If lists are filled in ascending order, a push writes four bytes at the end and counts them. The
+/// nodes of a list stand next to each other, so that they are copied as one block. To go from a
+/// node to another is to look for it.
 #[derive(Drop)]
 pub struct PlainLists {
     /// The nodes of list 0, then those of list 1, and so on.
@@ -113,7 +114,8 @@ impl ListStore for PlainLists {
 }
 
 impl PlainLists {
-    /// Puts a node behind the others of any list. Most pushes are to the last list: this stays out of their way.
+    /// Appends `node` to the list `to`, whichever list that is. Most pushes are to the last list:
+    /// this stays out of their way.
     #[cold]
     #[inline(never)]
     fn insert(&mut self, to: u32, node: u32)
@@ -129,7 +131,7 @@ impl PlainLists {
         put(&mut self.nodes, end, node);
     }
 
-    /// The nodes of a list.
+    /// The nodes of the list `of`.
     fn nodes_of(&self, of: u32) -> &[u32]
         ensures nodes { result.now ≡ part self.now.parts of }
         ensures fits { length result.now < 2 ^ 32 }
@@ -143,7 +145,7 @@ impl PlainLists {
     }
 }
 
-/// Gives each list up to this one a length.
+/// Gives each list up to `list` a length.
 fn begin(lens: &mut Vec<u32>, list: u32)
     requires { list < vec_capacity lens.old }
     ensures lens { lens.new.items ≡ lens.old.items ++ replicate (list + 1 - length lens.old.items) 0 }
@@ -155,7 +157,7 @@ fn begin(lens: &mut Vec<u32>, list: u32)
     }
 }
 
-/// The place after the last node of a list.
+/// The place after the last node of the list `of`.
 fn end_of(nodes: &[u32], lens: &[u32], of: u32) -> usize
     requires begun { of < length lens.now }
     requires whole { sum lens.now ≡ length nodes.now }
@@ -165,7 +167,7 @@ fn end_of(nodes: &[u32], lens: &[u32], of: u32) -> usize
     nodes.len() - total(&lens[of as usize + 1..]) as usize
 }
 
-/// The sum of numbers.
+/// The sum of `numbers`.
 fn total(numbers: &[u32]) -> u32
     requires { sum numbers.now < 2 ^ 32 }
     ensures { result ≡ sum numbers.now }
@@ -173,7 +175,7 @@ fn total(numbers: &[u32]) -> u32
     numbers.iter().sum()
 }
 
-/// Puts a node at a place, for which there is room.
+/// Inserts `node` at `place`; there is room for it.
 fn put(nodes: &mut Vec<u32>, place: usize, node: u32)
     requires place { place ≤ length nodes.old.items }
     requires room { length nodes.old.items < vec_capacity nodes.old }
@@ -187,7 +189,7 @@ fn put(nodes: &mut Vec<u32>, place: usize, node: u32)
     }
 }
 
-/// The place of a node.
+/// The place of `node` in `nodes`.
 fn place_of(nodes: &[u32], node: u32) -> usize
     requires { 0 < times node nodes.now }
     ensures { slice_get nodes.now result ≡ Some node }
@@ -199,7 +201,7 @@ fn place_of(nodes: &[u32], node: u32) -> usize
     place
 }
 
-/// The node after a node of a list.
+/// The node after `node` in `nodes`.
 fn next_in(nodes: &[u32], node: u32) -> Option<u32>
     requires { 0 < times node nodes.now }
     ensures { (place : ℕ) × (slice_get nodes.now place ≡ Some node) × (result ≡ slice_get nodes.now (place + 1)) }
@@ -207,7 +209,7 @@ fn next_in(nodes: &[u32], node: u32) -> Option<u32>
     nodes.get(place_of(nodes, node) + 1).copied()
 }
 
-/// The node before a node of a list.
+/// The node before `node` in `nodes`.
 fn prev_in(nodes: &[u32], node: u32) -> Option<u32>
     requires { 0 < times node nodes.now }
     ensures { (place : ℕ) × (slice_get nodes.now place ≡ Some node)

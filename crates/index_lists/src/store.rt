@@ -1,4 +1,4 @@
-//! What a store of lists is.
+//! The contract of a store of lists.
 
 ghost use Rattle.std.specs.Prelude.{◌≡◌, ℕ, ◌+◌, ◌-◌, ◌++◌, ◌<◌, ◌≤◌, length, slice_get, vec_capacity, IfOk, IfSome, MatchOption};
 ghost use Rattle.index_lists.specs.Lists.{Lists, IsFree, IsIn, IsHome, AreLists, AreSame, empty, pushed, unlinked, node_moved};
@@ -11,12 +11,13 @@ pub trait ListStore {
     /// The lists that it holds.
     ghost state: { Self → Lists };
 
-    /// Lists with nothing in them. All memory that the store will ever need is taken here, or refused.
+    /// A store of `list_count` empty lists for `node_count` nodes. All memory that the store will
+    /// ever need is taken here, or refused.
     fn new(alloc: Global, node_count: u32, list_count: u32) -> Result<Self, Memory>
         ensures empty { IfOk result (λ store. AreSame (state store) (empty node_count list_count)) }
         ensures kept { IfOk result (λ store. AreLists (state store)) };
 
-    /// Appends a node that is in no list.
+    /// Appends `node`, which is in no list, to the list `to`.
     fn push_back(&mut self, to: u32, node: u32)
         requires to_in { to < (state self.old).lists }
         requires node_in { node < (state self.old).nodes }
@@ -24,28 +25,28 @@ pub trait ListStore {
         ensures pushed { AreSame (state self.new) (pushed (state self.old) to node) }
         ensures kept { AreLists (state self.new) };
 
-    /// Takes a node out of its list.
+    /// Takes `node` out of its list.
     fn unlink(&mut self, node: u32)
         requires node_in { node < (state self.old).nodes }
         requires stands { IsIn (state self.old) node }
         ensures unlinked { AreSame (state self.new) (unlinked (state self.old) node) }
         ensures kept { AreLists (state self.new) };
 
-    /// The first node of a list.
+    /// The first node of the list `of`.
     fn first(&self, of: u32) -> Option<u32>
         requires { of < (state self.now).lists }
         ensures first { result ≡ slice_get ((state self.now).list of) 0 }
         ensures below { IfSome result (λ node. node < (state self.now).nodes) }
         ensures kept { AreLists (state self.now) };
 
-    /// The last node of a list.
+    /// The last node of the list `of`.
     fn last(&self, of: u32) -> Option<u32>
         requires { of < (state self.now).lists }
         ensures last { result ≡ slice_get ((state self.now).list of) (length ((state self.now).list of) - 1) }
         ensures below { IfSome result (λ node. node < (state self.now).nodes) }
         ensures kept { AreLists (state self.now) };
 
-    /// The node behind a node in its list. The last node has none, nor has a node in no list.
+    /// The node after `node` in its list. The last node has none, nor has a node in no list.
     fn next(&self, node: u32) -> Option<u32>
         requires { node < (state self.now).nodes }
         ensures behind { (l : ℕ) → (place : ℕ) → slice_get ((state self.now).list l) place ≡ Some node
@@ -54,7 +55,7 @@ pub trait ListStore {
         ensures below { IfSome result (λ other. other < (state self.now).nodes) }
         ensures kept { AreLists (state self.now) };
 
-    /// The node before a node in its list. The first node has none, nor has a node in no list.
+    /// The node before `node` in its list. The first node has none, nor has a node in no list.
     fn prev(&self, node: u32) -> Option<u32>
         requires { node < (state self.now).nodes }
         ensures before { (l : ℕ) → (place : ℕ) → slice_get ((state self.now).list l) (place + 1) ≡ Some node
@@ -64,19 +65,19 @@ pub trait ListStore {
         ensures below { IfSome result (λ other. other < (state self.now).nodes) }
         ensures kept { AreLists (state self.now) };
 
-    /// The list that a node is in, if it is in one.
+    /// The list that `node` is in, if it is in one.
     fn home(&self, node: u32) -> Option<u32>
         requires { node < (state self.now).nodes }
         ensures home { MatchOption result (IsFree (state self.now) node) (λ home. IsHome (state self.now) node home) }
         ensures kept { AreLists (state self.now) };
 
-    /// How many nodes are in a list.
+    /// The number of nodes in the list `of`.
     fn len(&self, of: u32) -> u32
         requires { of < (state self.now).lists }
         ensures len { result ≡ length ((state self.now).list of) }
         ensures kept { AreLists (state self.now) };
 
-    /// Appends the nodes of a list, in order, to a vector that has room for them.
+    /// Appends the nodes of the list `of`, in order, to `to`, which has room for them.
     fn append_list(&self, of: u32, to: &mut Vec<u32>)
         requires of_in { of < (state self.now).lists }
         requires room { length to.old.items + length ((state self.now).list of) ≤ vec_capacity to.old }
@@ -91,7 +92,7 @@ pub trait ListStore {
         }
     }
 
-    /// Takes a node to the end of a list, from wherever it was.
+    /// Takes `node` to the end of the list `to`, from wherever it was.
     fn move_to(&mut self, node: u32, to: u32)
         requires to_in { to < (state self.old).lists }
         requires node_in { node < (state self.old).nodes }

@@ -1,4 +1,4 @@
--- In which copies words are.
+-- The copies that words are in.
 use Rattle.std.specs.Prelude.{◌≡◌, ℕ, ◌<◌, List, [], Contains}
 use Rattle.nested_cycles.specs.declared.copies.Copies.{Copies}
 use Rattle.nested_cycles.specs.declared.copies.Copies.TheVariants.{Empty, One, Two, Three}

@@ -1,4 +1,4 @@
--- Which label of a nested board dominates which.
+-- The domination among labels of a nested board.
 use Rattle.std.specs.Prelude.{◌≡◌, ℕ, ◌+◌, ◌-◌, ◌%◌, ◌^◌, ◌<◌, List, length, take, slice_index}
 use Rattle.nested_cycles.specs.Words.{word_of}
 
@@ -10,7 +10,7 @@ pub record WordDominates (word other : List ℕ) : Type 0 where
   pub same_before : take place word ≡ take place other
   pub next_there : slice_index word place ≡ (slice_index other place + 1) % 3
 
--- how many labels the nested board of a level has
+-- the number of labels of the nested board of a level
 abbrev pub labels_of : ℕ → ℕ
 labels_of levels = 3 ^ (levels - 1)
 

@@ -25,8 +25,8 @@ pub record AreInTwoCopies (digit : ℕ) (firsts : List ℕ) : Type 0 where
   pub some_here : Contains firsts digit
   pub some_next : Contains firsts (next_digit digit)
 
--- words of so many digits: none, or all in one copy, or in two of which the one that comes next has at most as many words as there
--- are digits, with good rests
+-- words of this number of digits: none, or all in one copy, or in two of which the one that comes
+-- next has at most as many words as there are digits, with good rests
 abbrev pub AreGood : ℕ → List (List ℕ) → Type 0
 AreGood zero words = Unit {0}
 AreGood (suc count) words =

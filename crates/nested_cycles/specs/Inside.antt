@@ -1,2 +1,2 @@
--- What the clauses of this crate's own functions cite, and no public contract.
+-- Definitions for the clauses of this crate's own functions; no public contract cites them.
 pub mod Pairs

@@ -2,7 +2,7 @@
 use Rattle.std.specs.Prelude.{ℕ, zero, suc, ◌+◌, ◌*◌, ◌/◌, ◌%◌, ◌^◌, List, [], ◌∷◌, length}
 use Rattle.board_text.specs.Ranges.{AreNumbers}
 
--- a list of so many ternary digits
+-- a list of `count` ternary digits
 abbrev pub IsWord : ℕ → List ℕ → Type 0
 IsWord count word = AreNumbers count 3 word
 
@@ -11,7 +11,7 @@ unfoldable pub word_number : List ℕ → ℕ
 word_number [] = 0
 word_number (digit ∷ others) = digit * 3 ^ length others + word_number others
 
--- the word of so many digits that has this number
+-- the word of this number of digits that has this number
 unfoldable pub word_of : ℕ → ℕ → List ℕ
 word_of zero number = []
 word_of (suc count) number = number / 3 ^ count ∷ word_of count (number % 3 ^ count)

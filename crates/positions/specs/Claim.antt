@@ -1,4 +1,4 @@
--- What a proof claims of the start, and when its tables show that.
+-- The claims of strategy documents on the start, and when their tables show them.
 use Rattle.std.specs.Prelude.{ℕ, ◌≤◌, ◌⊎◌, List}
 use Rattle.board_text.specs.PlainBoard.{PlainBoard}
 use Rattle.positions.specs.declared.claim.Claim.{Claim}
@@ -7,7 +7,8 @@ use Rattle.positions.specs.declared.value.Value.TheVariants.{Finite, Forever}
 use Rattle.positions.specs.Value.{HasValue, HasValueAtMost}
 use Rattle.positions.specs.Table.{AnswerRow, RequestRow, Answers, StopsAfter, IsClosed, IsListed}
 
--- the tables show the claim: the labeller's that so many requests are answered, the adversary's that no more are
+-- the tables show the claim: the labeller's that a number of requests is answered, the adversary's
+-- that no more are
 abbrev pub Shows : PlainBoard → List AnswerRow → List RequestRow → Claim → Type 0
 Shows board labeller adversary (claims.Exactly number) = Answers board labeller number board.start
     × StopsAfter board adversary number board.start

@@ -1,7 +1,7 @@
--- Facts about numbers: of how many they hold, and which is the smallest.
+-- Facts about numbers: the count and the smallest of the numbers that they hold of.
 use Rattle.std.specs.Prelude.{◌≡◌, ℕ, ◌<◌, ◌≤◌, ◌↔◌, List, length, Contains, AllPairs, Option, Some, None}
 
--- there are so many numbers of which the fact holds
+-- there are `size` numbers of which the fact holds
 pub record HasSize (P : ℕ → Type 0) (size : ℕ) : Type 0 where
   pub members : List ℕ
   pub ascending : AllPairs (λ first second. first < second) members

@@ -5,15 +5,16 @@ use Rattle.board_text.specs.PlainBoard.{PlainBoard, places}
 use Rattle.positions.specs.Game.{Legal, Dominates}
 use Rattle.positions.specs.Ranks.{number_of, digits_of}
 
--- how many gaps each pebble has
+-- the number of gaps of each pebble
 abbrev pub gaps_each : PlainBoard → ℕ
 gaps_each board = places board ^ (board.pebbles - 1)
 
--- how many gaps a board has
+-- the number of gaps of a board
 abbrev pub gaps : PlainBoard → ℕ
 gaps board = board.pebbles * gaps_each board
 
--- the gap of a pebble at a configuration: behind the pebble, the other pebbles' places, in order, read in base `places`
+-- the gap of a pebble at a configuration: after the pebble, the other pebbles' places, in order,
+-- read in base `places`
 abbrev pub gap_of : PlainBoard → List ℕ → ℕ → ℕ
 gap_of board configuration pebble = pebble * gaps_each board + number_of (places board) (remove configuration pebble)
 

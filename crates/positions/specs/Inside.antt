@@ -1,4 +1,4 @@
--- What the clauses of this crate's own functions cite, and no public contract.
+-- Definitions for the clauses of this crate's own functions; no public contract cites them.
 pub mod Game
 pub mod LabelWalk
 pub mod Position

@@ -4,7 +4,7 @@ use Rattle.board_text.specs.Domination.{has_bit}
 use Rattle.board_text.specs.declared.board.TheConstants.{MAX_LABELS}
 use Rattle.positions.specs.Counts.{IsSmallest}
 
--- the labels that are left, as words of bits, and a label from which on they are
+-- the remaining labels, as words of bits, and a lower bound of them
 pub record Walk : Type 0 where
   pub left : List ℕ
   pub from : ℕ

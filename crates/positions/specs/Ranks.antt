@@ -7,12 +7,12 @@ abbrev pub number_of : ℕ → List ℕ → ℕ
 number_of base [] = 0
 number_of base (place ∷ others) = place * base ^ length others + number_of base others
 
--- so many digits of a number in a base, the most significant first
+-- `count` digits of a number in a base, the most significant first
 abbrev pub digits_of : ℕ → ℕ → ℕ → List ℕ
 digits_of base zero number = []
 digits_of base (suc count) number = number / base ^ count ∷ digits_of base count (number % base ^ count)
 
--- how many configurations a board has
+-- the number of configurations of a board
 abbrev pub configurations : PlainBoard → ℕ
 configurations board = places board ^ board.pebbles
 

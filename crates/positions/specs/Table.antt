@@ -1,4 +1,5 @@
--- Strategies as tables, and the plays that they answer. The numbers of rows have no part in what a table achieves.
+-- Strategies as tables, and the plays that they answer. No definition here reads the numbers of
+-- rows.
 use Rattle.std.specs.Prelude.{◌≡◌, ℕ, ◌<◌, ◌≤◌, nat_eq, List, [], ◌∷◌, length, Option, Some, IsSome, slice_get}
 use Rattle.std.specs.List.{find, All}
 use Rattle.std.specs.Option.{option_and_then, option_map}
@@ -7,24 +8,26 @@ use Rattle.positions.specs.declared.turns.Turns.{Turns}
 use Rattle.positions.specs.Game.{Legal, moved}
 use lib.Pointwise.{pointwise}
 
--- a labeller's row: a configuration, for how many turns it is listed, and an answer for each pebble
+-- a labeller's row: a configuration, the number of turns that it is listed for, and an answer for
+-- each pebble
 pub record AnswerRow : Type 0 where
   pub at : List ℕ
   pub turns : Turns
   pub answers : List ℕ
 
--- an adversary's row: a configuration, how many answers are left at most, and the pebble that is requested there
+-- an adversary's row: a configuration, an upper bound on the answers that are left, and the pebble
+-- that is requested there
 pub record RequestRow : Type 0 where
   pub at : List ℕ
   pub left : ℕ
   pub request : ℕ
 
--- what the table answers to a request at a configuration, if that is listed
+-- the table's answer to a request at a configuration, if that is listed
 abbrev pub answer_at : List AnswerRow → List ℕ → ℕ → Option ℕ
 answer_at table configuration pebble =
     option_and_then (λ row. slice_get row.answers pebble) (find (λ row. pointwise nat_eq row.at configuration) table)
 
--- which pebble the table requests at a configuration, if that is listed
+-- the pebble that the table requests at a configuration, if that is listed
 abbrev pub request_at : List RequestRow → List ℕ → Option ℕ
 request_at table configuration = option_map (λ row. row.request) (find (λ row. pointwise nat_eq row.at configuration) table)
 
@@ -39,7 +42,7 @@ AnswersAll board table configuration [] = Unit {0}
 AnswersAll board table configuration (pebble ∷ requests) =
     (label : ℕ) × AnswersLegally board table configuration pebble label × AnswersAll board table (moved configuration pebble label) requests
 
--- each list of at most so many requests gets legal answers
+-- each list of at most `most` requests gets legal answers
 abbrev pub Answers : PlainBoard → List AnswerRow → ℕ → List ℕ → Type 0
 Answers board table most configuration =
     (requests : List ℕ) → length requests ≤ most → All (λ pebble. pebble < board.pebbles) requests
@@ -66,7 +69,7 @@ Leads board table from [] to = from ≡ to
 Leads board table from (label ∷ labels) to =
     (pebble : ℕ) × Requests board table from pebble × Legal board from pebble label × Leads board table (moved from pebble label) labels to
 
--- the table requests a pebble wherever a play leads, and a play has at most so many answers
+-- the table requests a pebble wherever a play leads, and a play has at most `most` answers
 abbrev pub StopsAfter : PlainBoard → List RequestRow → ℕ → List ℕ → Type 0
 StopsAfter board table most from =
     (labels : List ℕ) → (to : List ℕ) → Leads board table from labels to

@@ -1,4 +1,4 @@
-//! Repeated division by one number, without a machine division.
+//! Division by a number that many numbers are divided by.
 
 ghost use Rattle.std.specs.Prelude.{◌≡◌, ◌*◌, ◌/◌, ◌%◌, ◌<◌, ◌≤◌};
 

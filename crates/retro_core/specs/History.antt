@@ -1,4 +1,4 @@
--- What the steps of a round answered, place by place.
+-- The answers of the steps of a round, place by place.
 use Rattle.std.specs.Prelude.{◌≡◌, ℕ, List, map, slice_get, Option, Some}
 use Rattle.retro_core.specs.declared.step.Step.{Step}
 use Rattle.retro_core.specs.declared.step.Seen.{Seen}

@@ -1,4 +1,5 @@
--- A round at the value of a solver: its words and seats, when they are lawful, how it begins, and what its steps do.
+-- A round at the value of a solver: its words and seats, when they are lawful, how it begins, and
+-- the effects of its steps.
 use Rattle.std.specs.Prelude.{◌≡◌, ℕ, suc, ◌+◌, ◌-◌, ◌/◌, ◌<◌, ◌≤◌, ◌↔◌, ◌⊎◌, ◌==◌, Bool, cond, List, [], ◌∷◌, ◌++◌, length, take}
 use Rattle.std.specs.Prelude.{drop, slice_index, slice_index_or, slice_set, Option, Some, None}
 use Rattle.std.specs.Option.{is_none}
@@ -54,25 +55,27 @@ spent = record { width = 0; todo = []; owed = []; won = [] }
 abbrev pub seat_at : Round → ℕ → PlainSeat
 seat_at round seat = slice_index_or round.seats seat spent
 
--- what all seats have to strike
+-- the configurations that all seats have to strike
 abbrev pub all_todo : Round → List ℕ
 all_todo round = flat_map (λ seat. seat.todo) round.seats
 
--- what all seats owe
+-- the configurations that all seats owe
 abbrev pub all_owed : Round → List ℕ
 all_owed round = flat_map (λ seat. seat.owed) round.seats
 
--- what all seats have won
+-- the configurations that all seats have won
 abbrev pub all_won : Round → List ℕ
 all_won round = flat_map (λ seat. seat.won) round.seats
 
--- the configurations of a value that have a dominating pebble are to be struck in a round at that value
+-- the configurations of a value that have a dominating pebble must be struck in a round at that
+-- value
 pub record IsDue (board : PlainBoard) (rank value : ℕ) : Type 0 where
   pub worth : IsWorth board rank value
   pub pebble : ℕ
   pub dominates : IsDominator board (configuration_at board rank) pebble
 
--- a gap's answers that lead to a value above the round's, and those that lead to what is to be struck, are so many together
+-- `count` is the number of a gap's answers that lead to a value above the round's or to a
+-- configuration that a seat has to strike
 pub record IsCount (round : Round) (gap count : ℕ) : Type 0 where
   pub above : ℕ
   pub waiting : ℕ
@@ -85,7 +88,8 @@ pub record IsCount (round : Round) (gap count : ℕ) : Type 0 where
 pub record IsLawful (round : Round) : Type 0 where
   pub counts_length : length round.counts ≡ gaps (board_of round)
   pub values_length : length round.values ≡ configurations (board_of round)
-  -- a value is written where it is at most the round's, or where it is the next one and stands in a won list
+  -- a value is written if it is at most the round's, or if it is the next one and the rank is in a
+  -- won list
   pub values : (rank value : ℕ) → rank < configurations (board_of round)
       → (slice_index_or round.values rank None ≡ Some value)
       ↔ (((value ≤ value_of round) × HasValue (board_of round) (configuration_at (board_of round) rank) (Finite value))
@@ -120,7 +124,7 @@ pub record IsWorkedOff (round : Round) : Type 0 where
   pub no_todo : (seat : ℕ) → (seat_at round seat).todo ≡ []
   pub no_owed : (seat : ℕ) → (seat_at round seat).owed ≡ []
 
--- what is won is exactly what has the value behind the round's, each configuration once
+-- the won configurations are exactly those of the value after the round's, each once
 abbrev pub HasWonAll : Round → Type 0
 HasWonAll round = (rank : ℕ) → (times rank (all_won round) ≤ 1)
     × ((0 < times rank (all_won round)) ↔ IsWorth (board_of round) rank (next_value round))
@@ -137,7 +141,7 @@ seat_struck s gap count seat = record seat { todo = drop 1 seat.todo; owed = con
 abbrev pub seat_tried : Bool → PlainSeat → PlainSeat
 seat_tried is_open seat = record seat { owed = drop 1 seat.owed; won = cond is_open (seat.won ++ first_of seat.owed ∷ []) seat.won }
 
--- what a seat keeps of a split
+-- the half that a seat keeps when it is split
 abbrev pub seat_kept : PlainSeat → PlainSeat
 seat_kept seat = record seat { width = seat.width - seat.width / 2; todo = take (length seat.todo - length seat.todo / 2) seat.todo }
 

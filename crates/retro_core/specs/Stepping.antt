@@ -1,4 +1,4 @@
--- What a step of a round does and answers, and why it is refused.
+-- The effect and the answer of a step of a round, and the reasons why it is refused.
 use Rattle.std.specs.Prelude.{◌≡◌, ℕ, ◌<◌, ◌≤◌, ◌⊎◌, ◌==◌, Bool, true, cond, List, [], ◌∷◌, length, slice_index, Option, Some, None}
 use Rattle.positions.specs.Ranks.{configuration_at}
 use Rattle.positions.specs.Gaps.{gap_of, IsDominator}
@@ -61,7 +61,7 @@ LacksSeat round (steps.Try seat) = (seat_at round seat).width ≡ 0
 LacksSeat round (steps.Split seat) = (seat_at round seat).width ≡ 0
 LacksSeat round (steps.Join into from) = ((seat_at round into).width ≡ 0) ⊎ ((seat_at round from).width ≡ 0) ⊎ (into ≡ from)
 
--- nothing but want of memory keeps the step from being done
+-- only out of memory can keep the step from being done
 abbrev pub IsAllowed : Round → Step → Type 0
 IsAllowed round (steps.Strike seat) = 0 < length (seat_at round seat).todo
 IsAllowed round (steps.Try seat) = 0 < length (seat_at round seat).owed

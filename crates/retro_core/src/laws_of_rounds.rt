@@ -14,7 +14,8 @@ ghost use Rattle.retro_core.specs.declared.step.Step.{Step as Doing};
 ghost use Rattle.retro_core.specs.declared.step.Seen.{Seen as Answer};
 ghost use Rattle.retro_core.specs.declared.step.Seen.TheVariants as answers;
 
-/// A round opens lawfully with what a solver has counted and filed.
+/// A round opens lawfully with a solver's counts, its values and the configurations that it has to
+/// strike.
 pub fn rounds_open_lawfully()
     ensures { (s : Solving) → IsSolving s → (width : ℕ) → 0 < width → (counts : List ℕ) → (values : List (Option ℕ)) → (ranks : List ℕ)
         → length counts ≡ gaps s.board → length values ≡ configurations s.board
@@ -30,17 +31,19 @@ pub fn steps_keep_rounds_lawful()
         → IsSolving first.solving → IsLawful first → LeadTo first steps last → IsLawful last × (last.solving ≡ first.solving) }
 {}
 
-/// When no seat has work left, what is won is exactly what has the next value, each configuration once: in a lawful
-/// round, and so in each that was opened from a solver, whatever steps were made, and in whatever order.
+/// When no seat has work left, the won configurations are exactly those of the next value, each
+/// once: in a lawful round, and so in each that was opened from a solver, whatever steps were made,
+/// and in whatever order.
 pub fn worked_off_rounds_have_won_all()
     ensures lawful { (round : Round) → IsSolving round.solving → IsLawful round → IsWorkedOff round → HasWonAll round }
     ensures opened { (s : Solving) → (width : ℕ) → (first : Round) → (steps : List (Doing × Answer)) → (last : Round)
         → IsSolving s → IsOpening s width first → LeadTo first steps last → IsWorkedOff last → (last.solving ≡ s) × HasWonAll last }
 {}
 
-/// Lost tries and closed gaps have a cause among the steps that lead from one round to another. From an opening on, a try is
-/// lost only after a try that won the same configuration; what is answered as won stands in a won list at the end. A gap is
-/// answered as closed at most once, only if it had a count at first and has none at the end, and always then.
+/// Lost tries and closed gaps have a cause among the steps that lead from one round to another.
+/// From an opening on, a try is lost only after a try that won the same configuration; a
+/// configuration that is answered as won is in a won list at the end. A gap is answered as closed
+/// at most once, only if it had a count at first and has none at the end, and always then.
 pub fn answers_have_a_cause()
     ensures lost { (s : Solving) → (width : ℕ) → (first : Round) → (steps : List (Doing × Answer)) → (last : Round)
         → IsSolving s → IsOpening s width first → LeadTo first steps last

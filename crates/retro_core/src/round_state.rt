@@ -49,7 +49,7 @@ impl<'a, S: ListStore> Model for RoundState<'a, S> {
 }
 
 impl<'a, S: ListStore> RoundState<'a, S> {
-    /// The opening of a round at the value of a solver.
+    /// Opens a round of the width `width` at the value of `solver`.
     pub fn open(
         alloc: Global,
         solver: &'a Solver<S>,
@@ -74,7 +74,7 @@ impl<'a, S: ListStore> RoundState<'a, S> {
         })
     }
 
-    /// Makes a step, or tells the first reason why it can't be made and leaves all as it was.
+    /// Makes `step`, or returns the first reason why it can't be made and leaves all as it was.
     pub fn apply(&mut self, step: Step) -> Result<Seen, StepFault>
         ensures done { IfOk result (λ seen. Does self.old step seen self.new) }
         ensures refused { IfErr result (λ fault. Refuses self.old step fault × (self.new ≡ self.old)) }
@@ -91,7 +91,7 @@ impl<'a, S: ListStore> RoundState<'a, S> {
         }
     }
 
-    /// Whether a number of the step is that of no seat, or a seat would be joined with itself.
+    /// Whether a number in `step` is that of no seat, or a seat would be joined with itself.
     fn lacks_seat(&self, step: Step) -> bool
         ensures lacks { (result ≡ true) ↔ LacksSeat self.now step }
         ensures solving { IsSolving self.now.solving }
@@ -173,7 +173,8 @@ impl<'a, S: ListStore> RoundState<'a, S> {
         Ok(Seen::Joined)
     }
 
-    /// The width of a seat, 0 for one that was joined into another and for a number that no seat has.
+    /// The width of `seat`, 0 for one that was joined into another and for a number that no seat
+    /// has.
     fn seat_width(&self, seat: usize) -> u32
         ensures value { result ≡ (seat_at self.now seat).width }
         ensures solving { IsSolving self.now.solving }
@@ -186,14 +187,14 @@ impl<'a, S: ListStore> RoundState<'a, S> {
         }
     }
 
-    /// How many seats were ever made, those that were joined into others included.
+    /// The number of seats that were ever made, those that were joined into others included.
     pub fn seats(&self) -> usize
         ensures { result ≡ length self.now.seats }
     {
         self.seats.len()
     }
 
-    /// What a seat has to strike.
+    /// The configurations that `seat` has to strike.
     pub fn todo(&self, seat: usize) -> &[u32]
         requires { seat < length self.now.seats }
         ensures { result.now ≡ (seat_at self.now seat).todo }
@@ -201,7 +202,7 @@ impl<'a, S: ListStore> RoundState<'a, S> {
         self.seats[seat].todo()
     }
 
-    /// What a seat owes.
+    /// The configurations that `seat` owes.
     pub fn owed(&self, seat: usize) -> &[u32]
         requires { seat < length self.now.seats }
         ensures { result.now ≡ (seat_at self.now seat).owed }
@@ -209,7 +210,7 @@ impl<'a, S: ListStore> RoundState<'a, S> {
         self.seats[seat].owed()
     }
 
-    /// What a seat has won.
+    /// The configurations that `seat` has won.
     pub fn won(&self, seat: usize) -> &[u32]
         requires { seat < length self.now.seats }
         ensures { result.now ≡ (seat_at self.now seat).won }
@@ -217,7 +218,7 @@ impl<'a, S: ListStore> RoundState<'a, S> {
         self.seats[seat].won()
     }
 
-    /// The width of a seat, 0 for one that was joined into another.
+    /// The width of `seat`, 0 for one that was joined into another.
     pub fn width(&self, seat: usize) -> u32
         requires { seat < length self.now.seats }
         ensures value { result ≡ (seat_at self.now seat).width }
@@ -227,7 +228,8 @@ impl<'a, S: ListStore> RoundState<'a, S> {
         self.seats[seat].width()
     }
 
-    /// How many answers of a gap lead above the round's value or to what is to be struck.
+    /// The number of answers of `gap` that lead above the round's value or to a configuration that
+    /// a seat has to strike.
     pub fn count_of(&self, gap: u32) -> u32
         requires { gap < gaps (board_of self.now) }
         ensures { result ≡ slice_index self.now.counts gap }
@@ -235,7 +237,8 @@ impl<'a, S: ListStore> RoundState<'a, S> {
         self.counts[gap as usize]
     }
 
-    /// The value of a configuration, if it has one of at most the round's or has won the next one.
+    /// The value of the configuration of `rank`, if it has one of at most the round's or has won
+    /// the next one.
     pub fn value_at(&self, rank: u32) -> Option<u32>
         requires { rank < configurations (board_of self.now) }
         ensures { result ≡ slice_index_or self.now.values rank None }

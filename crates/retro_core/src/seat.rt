@@ -11,9 +11,10 @@ use solver::Solver;
 use std::alloc::Global;
 use std::marker::Model;
 
-/// A share of a round: a width, and what is to strike, owed and won.
+/// A share of a round: a width, and the configurations to strike, owed and won.
 ///
-/// Its lists are plain vectors, since callers read them as slices. Whoever takes the first of a list moves all others to the front.
+/// Its lists are plain vectors, since callers read them as slices. Taking the first of a list moves
+/// all others.
 #[derive(Drop)]
 pub(crate) struct Seat {
     width: u32,
@@ -31,7 +32,7 @@ impl Model for Seat {
 }
 
 impl Seat {
-    /// A seat with all of a round's width, and with this to strike.
+    /// A seat with all of a round's width, `width`, and the configurations `todo` to strike.
     pub(crate) fn first(alloc: Global, width: u32, todo: Vec<u32>) -> Seat
         ensures { result ≡ record { width = width; todo = todo.items; owed = []; won = [] } }
     {
@@ -43,7 +44,7 @@ impl Seat {
         }
     }
 
-    /// A seat with nothing.
+    /// A seat of width 0 with empty lists.
     pub(crate) fn spent(alloc: Global) -> Seat
         ensures { result ≡ spent }
     {
@@ -74,7 +75,8 @@ impl Seat {
         &self.won
     }
 
-    /// Takes off the first that is to strike, and owes the open members of its gap where that had this count left.
+    /// Strikes the first configuration to strike, and owes the open members of `gap` if `count` is
+    /// 1.
     pub(crate) fn strike<S: ListStore>(
         &mut self,
         solver: &Solver<S>,
@@ -93,7 +95,7 @@ impl Seat {
         Ok(())
     }
 
-    /// Takes off the first that is owed, and wins it if it is open.
+    /// Takes off the first owed configuration, and wins it if `is_open`.
     pub(crate) fn settle(&mut self, is_open: bool) -> Result<(), Memory>
         requires { 0 < length self.old.owed }
         ensures seat { self.new ≡ (if is_ok result then seat_tried is_open self.old else self.old) }
@@ -107,7 +109,7 @@ impl Seat {
         Ok(())
     }
 
-    /// What goes to a new seat when this one is split.
+    /// The new seat that takes its half when this one is split.
     pub(crate) fn new_half(&self, alloc: Global) -> Result<Seat, Memory>
         ensures { IfOk result (λ seat. seat ≡ seat_new self.now) }
     {
@@ -116,7 +118,7 @@ impl Seat {
         Ok(Seat::first(alloc, self.width / 2, half))
     }
 
-    /// Keeps what stays when this seat is split.
+    /// Keeps the half that stays when this seat is split.
     pub(crate) fn keep_half(&mut self)
         ensures { self.new ≡ seat_kept self.old }
     {
@@ -125,7 +127,7 @@ impl Seat {
         self.width -= self.width / 2;
     }
 
-    /// Takes over all that another seat has.
+    /// Takes over the width and the lists of `other`.
     pub(crate) fn absorb(&mut self, other: &Seat) -> Result<(), Memory>
         requires { self.old.width + other.now.width < 2 ^ 32 }
         ensures { self.new ≡ (if is_ok result then seat_joined self.old other.now else self.old) }
@@ -147,7 +149,7 @@ impl Seat {
     }
 }
 
-/// Appends the open members of a gap.
+/// Appends the open members of `gap` to `owed`.
 fn owe_members<S: ListStore>(
     owed: &mut Vec<u32>,
     solver: &Solver<S>,

@@ -13,16 +13,18 @@ pub enum Step {
     Strike(usize),
     /// The seat tries to win the first configuration that it owes.
     Try(usize),
-    /// The seat gives half of its width and of what it has to strike to a new seat.
+    /// The seat gives half of its width, and half of the configurations that it has to strike, to a
+    /// new seat.
     Split(usize),
     /// The seat `from` gives all that it has to the seat `into`, and is no seat any more.
     Join { into: usize, from: usize },
 }
 
-/// What a step did.
+/// The answer of a step that was made.
 #[derive(Clone, Copy, Debug, PartialEq, Eq)]
 pub enum Seen {
-    /// A configuration was struck; and where that was the last live answer of a gap, the gap, whose open members are now owed.
+    /// A configuration was struck; and if that was the last live answer of a gap, the gap, whose
+    /// open members are now owed.
     Struck { config: u32, closed: Option<u32> },
     /// A configuration that was owed is won, or was won before.
     Tried { config: u32, won: bool },
@@ -32,7 +34,7 @@ pub enum Seen {
     Joined,
 }
 
-/// Why a step was not done. The first that holds is answered.
+/// The reason why a step was not made: the first that holds.
 #[derive(Clone, Copy, Debug, Error, PartialEq, Eq)]
 pub enum StepFault {
     /// A number is that of no seat, or both are the same.

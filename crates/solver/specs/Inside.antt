@@ -1,4 +1,4 @@
--- What the clauses of this crate's own functions cite, and no public contract.
+-- Definitions for the clauses of this crate's own functions; no public contract cites them.
 pub mod Arena
 pub mod BoardArena
 pub mod Opening

@@ -1,4 +1,4 @@
--- How many configurations have a value.
+-- The number of configurations of a value.
 use Rattle.std.specs.Prelude.{ℕ, ◌<◌, ◌≤◌, Option, None, Some}
 use Rattle.board_text.specs.PlainBoard.{PlainBoard}
 use Rattle.positions.specs.declared.value.Value.{Value}
@@ -6,7 +6,7 @@ use Rattle.positions.specs.Counts.{HasSize}
 use Rattle.positions.specs.Ranks.{configurations, configuration_at}
 use Rattle.positions.specs.Value.{HasValue}
 
--- so many configurations have the value
+-- `count` configurations have the value
 abbrev pub HasCount : PlainBoard → Value → ℕ → Type 0
 HasCount board value count = HasSize (λ rank. (rank < configurations board) × HasValue board (configuration_at board rank) value) count
 

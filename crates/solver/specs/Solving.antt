@@ -1,4 +1,4 @@
--- A solver as plain data, and what it knows of the game.
+-- A solver as plain data, and its knowledge of the game.
 use Rattle.std.specs.Prelude.{◌≡◌, ℕ, suc, ◌+◌, ◌<◌, ◌≤◌, ◌↔◌, Bool, true, false, List, [], length, filter, AllPairs, slice_index_or}
 use Rattle.board_text.specs.PlainBoard.{PlainBoard, IsBoard, IsConfiguration, places}
 use Rattle.index_lists.specs.Lists.{times}
@@ -9,8 +9,9 @@ use Rattle.positions.specs.Ranks.{configurations, rank_of, configuration_at}
 use Rattle.positions.specs.Gaps.{gaps, member_of, IsAnswer, IsDominator}
 use Rattle.positions.specs.declared.space.TheConstants.{MAX_CONFIGURATIONS}
 
--- the board, the last round that filed something, whether a later one filed nothing; the configurations filed at each value,
--- the members of each gap that are not filed, and the configurations that are to be struck next
+-- the board, the last round that filed something, whether a later one filed nothing; the
+-- configurations filed at each value, the members of each gap that are not filed, and the
+-- configurations that must be struck next
 pub record Solving : Type 0 where
   pub board : PlainBoard
   pub rounds : ℕ
@@ -27,7 +28,8 @@ bucket s value = slice_index_or s.buckets value []
 abbrev pub source : Solving → ℕ → List ℕ
 source s gap = slice_index_or s.sources gap []
 
--- a rank is filed at a value exactly where it is the value of its configuration, and no round is still to come for it
+-- a rank is filed at a value exactly if that is the value of its configuration, and no round is
+-- still to come for it
 pub record AreBuckets (s : Solving) : Type 0 where
   pub filed : (value rank : ℕ) → rank < configurations s.board
       → (0 < times rank (bucket s value)) ↔ ((value ≤ s.rounds) × HasValue s.board (configuration_at s.board rank) (Finite value))
@@ -45,16 +47,17 @@ pub record AreOpenMembers (s : Solving) : Type 0 where
       → (place : ℕ) × (place < places s.board) × (rank ≡ rank_of s.board (member_of s.board gap place))
   pub ascending : (gap : ℕ) → gap < gaps s.board → AllPairs (λ first second. first < second) (source s gap)
 
--- the test tells which configurations have a dominating pebble
+-- the test holds exactly of the configurations that have a dominating pebble
 abbrev pub TellsDominated : PlainBoard → (ℕ → Bool) → Type 0
 TellsDominated board test = (rank : ℕ) → rank < configurations board
     → (test rank ≡ true) ↔ ((pebble : ℕ) × IsDominator board (configuration_at board rank) pebble)
 
--- these are to be struck in a round: what is filed at its value and has a dominating pebble, in order of filing
+-- a round strikes these: the configurations filed at its value that have a dominating pebble, in
+-- order of filing
 abbrev pub AreToStrike : Solving → List ℕ → Type 0
 AreToStrike s ranks = (test : ℕ → Bool) → TellsDominated s.board test → ranks ≡ filter test (bucket s s.rounds)
 
--- what a solver knows, whenever no call of it runs
+-- the knowledge of a solver, whenever no call of it runs
 pub record IsSolving (s : Solving) : Type 0 where
   pub is_board : IsBoard s.board
   pub few : configurations s.board ≤ MAX_CONFIGURATIONS
@@ -69,7 +72,7 @@ pub record IsSolving (s : Solving) : Type 0 where
 abbrev pub NoneHas : PlainBoard → ℕ → Type 0
 NoneHas board value = (configuration : List ℕ) → IsConfiguration board configuration → HasValue board configuration (Finite value) → ⊥
 
--- the configurations of the next value were filed, so many
+-- the configurations of the next value were filed, `n` of them
 abbrev pub HasFiled : Solving → Solving → ℕ → Type 0
 HasFiled before after n = (0 < n) × (n ≡ length (bucket after (suc before.rounds))) × (after.rounds ≡ before.rounds + 1)
     × (after.is_done ≡ false)
@@ -78,7 +81,7 @@ HasFiled before after n = (0 < n) × (n ≡ length (bucket after (suc before.rou
 abbrev pub HasFoundNone : Solving → Solving → Type 0
 HasFoundNone before after = NoneHas before.board (suc before.rounds) × (after.rounds ≡ before.rounds) × (after.is_done ≡ true)
 
--- the label is an answer, and a labeller lasts so many requests more after it
+-- the label is an answer, and a labeller lasts `depth` requests more after it
 abbrev pub AnswerLasts : PlainBoard → ℕ → ℕ → ℕ → Type 0
 AnswerLasts board gap depth label = IsAnswer board gap label × LabellerTree board depth (member_of board gap label)
 

@@ -1,4 +1,5 @@
--- What the words of a solver say: the values of configurations, and the counts of gaps.
+-- The meaning of a solver's words and counts: the values of configurations, and the numbers of
+-- lasting answers of gaps.
 use Rattle.std.specs.Prelude.{◌≡◌, ℕ, ◌<◌, ◌≤◌, ◌==◌, ◌↔◌, cond, List, slice_index, slice_index_or, Option, Some, None}
 use Rattle.positions.specs.declared.value.Value.TheVariants.{Finite}
 use Rattle.positions.specs.Value.{HasValue}
@@ -16,7 +17,7 @@ value_of_word word = cond (word == OPEN) None (Some word)
 abbrev pub AreFirstCounts : Solving → List ℕ → Type 0
 AreFirstCounts s counts = (gap : ℕ) → gap < gaps s.board → HasSize (AnswerLasts s.board gap s.rounds) (slice_index counts gap)
 
--- each configuration has its value, where that is at most the round's
+-- each configuration has its value, if that is at most the round's
 abbrev pub AreFirstValues : Solving → List (Option ℕ) → Type 0
 AreFirstValues s values = (rank value : ℕ) → rank < configurations s.board
     → (slice_index_or values rank None ≡ Some value)

@@ -1,10 +1,10 @@
-//! What a solver reads from a round that was worked off.
+//! The end of a round, as a solver reads it.
 
 ghost use Rattle.std.specs.Prelude.{◌≡◌, ℕ, ◌<◌, List, length, slice_index};
 
-/// A round that was worked off. Of which solver it is the end is a fact on its two lists, `IsRoundEnd`.
+/// A round that was worked off. The fact `IsRoundEnd` ties its two lists to a solver.
 pub trait RoundEnd {
-    /// What was won, and the counts of the gaps.
+    /// The won configurations, and the counts of the gaps.
     ghost won_list: { Self → List ℕ };
 
     ghost counts: { Self → List ℕ };
@@ -13,7 +13,7 @@ pub trait RoundEnd {
     fn won(&self) -> &[u32]
         ensures { result.now ≡ won_list self.now };
 
-    /// How many of the gap's answers have a result of a value above the round's.
+    /// The number of answers of `gap` that have a result of a value above the round's.
     fn count_of(&self, gap: u32) -> u32
         requires { gap < length (counts self.now) }
         ensures { result ≡ slice_index (counts self.now) gap };

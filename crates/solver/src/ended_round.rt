@@ -1,4 +1,4 @@
-//! Filing what a finished round has won.
+//! Filing the configurations that a finished round has won.
 
 ghost use Rattle.std.specs.Prelude.{◌≡◌, ℕ, ◌<◌, ◌≤◌, true, false, [], length, slice_set};
 ghost use Rattle.index_lists.specs.Lists.{times};
@@ -14,7 +14,8 @@ use crate::stage::Stage;
 use index_lists::ListStore;
 
 impl<S: ListStore> Stage<S> {
-    /// Files what a round that was worked off has won, and takes over its counts: all is struck then.
+    /// Files the configurations that the finished round `end` has won, and takes over its counts:
+    /// all is struck then.
     pub(crate) fn file_end<E: RoundEnd>(&mut self, end: &E)
         requires unstruck { IsUnstruck self.old }
         requires end { IsRoundEnd (as_solving self.old false) (E.won_list end.now) (E.counts end.now) }
@@ -25,7 +26,7 @@ impl<S: ListStore> Stage<S> {
         self.take_counts(end);
     }
 
-    /// Files open configurations at the value, each of which is listed once.
+    /// Files the open configurations `ranks` at the value, each of which is listed once.
     fn file_all(&mut self, ranks: &[u32])
         requires small { IsSmall self.old.board self.old.value }
         requires filed { IsFiled self.old }
@@ -39,7 +40,7 @@ impl<S: ListStore> Stage<S> {
         }
     }
 
-    /// Takes over the counts of a round that was worked off.
+    /// Takes over the counts of the finished round `end`.
     fn take_counts<E: RoundEnd>(&mut self, end: &E)
         requires wide { length (E.counts end.now) ≡ gaps self.old.board }
         requires counted { length self.old.counts ≡ gaps self.old.board }
@@ -50,7 +51,7 @@ impl<S: ListStore> Stage<S> {
         }
     }
 
-    /// Gives a gap this count.
+    /// Sets the count of `gap` to `count`.
     fn set_count(&mut self, gap: u32, count: u32)
         requires { gap < gaps self.old.board }
         ensures { self.new ≡ counting self.old (slice_set self.old.counts gap count) }

@@ -1,8 +1,8 @@
-//! Why values were not found.
+//! The faults of solving a board.
 
 use thiserror::Error;
 
-/// Why a board was not solved.
+/// The reason why a board was not solved.
 #[derive(Clone, Copy, Debug, Error, PartialEq, Eq)]
 pub enum SolveFault {
     /// The board has more than 1,048,576 configurations.

@@ -13,14 +13,14 @@ use board_text::{Board, MAX_LABELS, Memory};
 use positions::{AnswerSet, Space, TupleAnswers};
 use std::alloc::Global;
 
-/// How many answers each gap has, and which pebble dominates the others at each configuration.
+/// The number of answers of each gap, and the dominating pebble of each configuration.
 pub(crate) struct GapAnswers {
     pub(crate) counts: Vec<u32>,
     pub(crate) dominators: Vec<u8>,
 }
 
 impl GapAnswers {
-    /// The answers of the gaps of a board.
+    /// The answers of the gaps of `board`.
     pub(crate) fn of(alloc: Global, space: &Space, board: &Board) -> Result<GapAnswers, Memory>
         requires { space.now ≡ board.now }
         ensures counts { IfOk result (λ found. IsCounted (arena_of space.now) (lasts (arena_of space.now) 0) found.counts.items) }
@@ -39,7 +39,7 @@ impl GapAnswers {
     }
 }
 
-/// Notes the pebble of a gap as the dominator of each configuration that an answer leads to.
+/// Notes the pebble of `gap` as the dominator of each configuration that one of `answers` leads to.
 fn note_dominator(dominators: &mut [u8], space: &Space, gap: u32, answers: &AnswerSet)
     requires gap { gap < gaps space.now }
     requires answers { AreAnswers space.now gap answers.now }

@@ -11,7 +11,7 @@ use index_lists::ListStore;
 
 /// A way to find the configurations of the next value.
 pub(crate) trait NextValue {
-    /// It serves a solver that isn't done.
+    /// The condition on a solver that isn't done for this way to serve it.
     ghost serves: { Self → Solving → Type 0 };
 
     /// Files the configurations of the next value: all is struck then.
@@ -24,7 +24,7 @@ pub(crate) trait NextValue {
         ensures kept { IsKept stage.old stage.new };
 }
 
-/// By striking what the round has to strike.
+/// By striking the configurations that the round has to strike.
 pub(crate) struct ByStrikes;
 
 impl NextValue for ByStrikes {

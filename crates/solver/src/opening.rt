@@ -19,7 +19,7 @@ use positions::Space;
 use std::alloc::Global;
 
 impl<S: ListStore + Drop> Stage<S> {
-    /// A stage of a board of this space, in which all that has the value 0 is filed, in ascending rank.
+    /// A stage of `board`, in which the configurations of value 0 are filed, in ascending rank.
     pub(crate) fn open(alloc: Global, space: Space, board: &Board) -> Result<Stage<S>, Memory>
         requires { space ≡ board.now }
         ensures board { IfOk result (λ stage. stage.board ≡ board.now) }
@@ -45,7 +45,7 @@ impl<S: ListStore + Drop> Stage<S> {
 }
 
 impl<S: ListStore> Stage<S> {
-    /// Lists what has the word 0, in ascending rank.
+    /// Lists the configurations with the word 0, in ascending rank.
     fn list_zeros(&mut self)
         requires { IsUnlisted self.old }
         ensures board { self.new.board ≡ self.old.board }
@@ -59,7 +59,8 @@ impl<S: ListStore> Stage<S> {
     }
 }
 
-/// The word of each configuration before the first round: 0 where a request has no answer.
+/// The word of each configuration before the first round: 0 if a request has no answer, else
+/// `OPEN`.
 fn first_words(alloc: Global, space: &Space, counts: &[u32]) -> Result<Vec<u32>, Memory>
     requires { IsCounted (arena_of space.now) (lasts (arena_of space.now) 0) counts.now }
     ensures { IfOk result (λ words. AreFirstWords (arena_of space.now) words.items) }
@@ -80,7 +81,8 @@ fn first_words(alloc: Global, space: &Space, counts: &[u32]) -> Result<Vec<u32>,
     Ok(words)
 }
 
-/// Writes 0 as the word of each member of those gaps of a run that have no answer.
+/// Writes 0 as the word of each member of the gaps, from `gap` on, that have the count 0 in
+/// `counts`.
 fn stop_run(words: &mut [u32], space: &Space, gap: u32, counts: &[u32])
     requires gap { gap < gaps space.now }
     requires run { IsRun (arena_of space.now) gap (length counts.now) }
@@ -96,7 +98,7 @@ fn stop_run(words: &mut [u32], space: &Space, gap: u32, counts: &[u32])
     }
 }
 
-/// Writes 0, from a place on, where a count is 0.
+/// Writes 0 in `words`, from `first` on, at each place whose count is 0.
 fn stop(words: &mut [u32], first: usize, counts: &[u32])
     requires { first + length counts.now ≤ length words.old }
     ensures { IsWritten first counts.now (length counts.now) words.old words.new }
@@ -111,7 +113,7 @@ fn stop(words: &mut [u32], first: usize, counts: &[u32])
     }
 }
 
-/// What becomes of a word where there are so many answers.
+/// 0 if the gap has no answers, else the word unchanged.
 fn stopped(count: u32, word: u32) -> u32
     ensures { result ≡ (if count == 0 then 0 else word) }
 {

@@ -1,8 +1,8 @@
-/// What a round did.
+/// The outcome of a round.
 #[derive(Clone, Copy, Debug, PartialEq, Eq)]
 pub enum Progress {
-    /// It filed so many configurations, all that have the next value.
+    /// It filed this number of configurations, all that have the next value.
     Filed(u32),
-    /// No configuration has the next value, and what has no value is worth forever.
+    /// No configuration has the next value, and each without a value is worth forever.
     Done,
 }

@@ -28,8 +28,8 @@ use std::marker::Model;
 
 /// A board whose values are found round by round.
 ///
-/// It holds no board: contracts see it as the board that it was opened for, with what is filed and what is not.
-/// No call but `open` takes memory.
+/// It holds no board: contracts see it as the board that it was opened for, with the configurations
+/// that are filed and those that aren't. No call but `open` and `to_strike` takes memory.
 #[derive(Drop)]
 pub struct Solver<S: ListStore> {
     stage: Stage<S>,
@@ -53,7 +53,7 @@ impl<S: ListStore> Model for Solver<S> {
 }
 
 impl<S: ListStore + Drop> Solver<S> {
-    /// A solver of a board, which has filed the configurations of value 0, in ascending rank.
+    /// A solver of `board`, which has filed the configurations of value 0, in ascending rank.
     pub fn open(alloc: Global, board: &Board) -> Result<Solver<S>, SolveFault>
         ensures board { IfOk result (λ solver. solver.board ≡ board.now) }
         ensures start { IfOk result (λ solver. (solver.rounds ≡ 0) × (solver.is_done ≡ false)) }
@@ -70,7 +70,7 @@ impl<S: ListStore + Drop> Solver<S> {
         }
     }
 
-    /// A solver of a board of this space.
+    /// A solver of `board`, whose space is `space`.
     fn start(alloc: Global, space: Space, board: &Board) -> Result<Solver<S>, Memory>
         requires { space ≡ board.now }
         ensures board { IfOk result (λ solver. solver.board ≡ board.now) }
@@ -102,8 +102,8 @@ impl<S: ListStore> Solver<S> {
         self.file_next(&ByStrikes)
     }
 
-    /// Files what a round of this value that was worked off has won, and takes over its counts; or finds that no configuration has the next
-    /// value.
+    /// Files the configurations that the finished round `end` won, and takes over its counts;
+    /// `Done` if it won none.
     pub fn file_round<E: RoundEnd>(&mut self, end: &E) -> Progress
         requires { IsRoundEnd self.old (E.won_list end.now) (E.counts end.now) }
         ensures board { self.new.board ≡ self.old.board }
@@ -116,7 +116,7 @@ impl<S: ListStore> Solver<S> {
         self.file_next(&FromEnd(end))
     }
 
-    /// Files all configurations of the next value in this way, or finds that none has it.
+    /// Files all configurations of the next value in the way `by`, or finds that none has it.
     fn file_next<N: NextValue>(&mut self, by: &N) -> Progress
         requires { self.old.is_done ≡ false → N.serves by.now self.old }
         ensures board { self.new.board ≡ self.old.board }
@@ -147,7 +147,7 @@ impl<S: ListStore> Solver<S> {
         self.done
     }
 
-    /// How many rounds have filed something: each value of at most this number is filed.
+    /// The number of rounds that have filed something: each value of at most this number is filed.
     pub fn round_number(&self) -> u32
         ensures value { result ≡ self.now.rounds }
         ensures below { result < configurations self.now.board }
@@ -163,8 +163,8 @@ impl<S: ListStore> Solver<S> {
         self.stage.space()
     }
 
-    /// The smallest pebble that dominates all others at the configuration of a rank, if one does. A lone pebble does where it holds a
-    /// label.
+    /// The smallest pebble that dominates all others at the configuration of `rank`, if one does. A
+    /// lone pebble does if it holds a label.
     pub fn dominator(&self, rank: u32) -> Option<u8>
         requires { rank < configurations self.now.board }
         ensures { IsSmallest (IsDominator self.now.board (configuration_at self.now.board rank)) result }
@@ -172,7 +172,7 @@ impl<S: ListStore> Solver<S> {
         self.stage.dominator(rank)
     }
 
-    /// The value of a configuration, if it is at most the number of rounds.
+    /// The value of the configuration of `rank`, if it is at most the number of rounds.
     pub fn value_at(&self, rank: u32) -> Option<u32>
         requires { rank < configurations self.now.board }
         ensures { (value : ℕ) → (result ≡ Some value)
@@ -181,7 +181,8 @@ impl<S: ListStore> Solver<S> {
         value_of(self.stage.word(rank))
     }
 
-    /// How many answers of a gap lead to a value of at least the number of rounds; once the rounds are done, to the value Forever.
+    /// The number of answers of `gap` that lead to a value of at least the number of rounds; once
+    /// the rounds are done, to the value Forever.
     pub fn count_of(&self, gap: u32) -> u32
         requires { gap < gaps self.now.board }
         ensures before { self.now.is_done ≡ false → HasSize (AnswerLasts self.now.board gap self.now.rounds) result }
@@ -190,7 +191,7 @@ impl<S: ListStore> Solver<S> {
         self.stage.count(gap)
     }
 
-    /// The counts of all gaps, in their order: what a round begins with.
+    /// The counts of all gaps, in their order, with which a round begins.
     pub fn counts(&self) -> &[u32]
         requires { self.now.is_done ≡ false }
         ensures size { length result.now ≡ gaps self.now.board }
@@ -199,7 +200,8 @@ impl<S: ListStore> Solver<S> {
         self.stage.counts()
     }
 
-    /// The words of all configurations, by rank: what a round begins with. Each is the value that `value_of` reads from it.
+    /// The words of all configurations, by rank, with which a round begins. `value_of` reads the
+    /// value of each.
     pub fn words(&self) -> &[u32]
         ensures size { length result.now ≡ configurations self.now.board }
         ensures values { AreFirstValues self.now (map value_of_word result.now) }
@@ -207,7 +209,7 @@ impl<S: ListStore> Solver<S> {
         self.stage.words()
     }
 
-    /// The first configuration that is filed at a value.
+    /// The first configuration that is filed at `value`.
     pub fn first_filed(&self, value: u32) -> Option<u32>
         ensures first { result ≡ slice_get (bucket self.now value) 0 }
         ensures kept { IsSolving self.now }
@@ -215,7 +217,8 @@ impl<S: ListStore> Solver<S> {
         self.stage.first_filed(value)
     }
 
-    /// The configuration behind a filed one, among those of the same value. One that isn't filed has none.
+    /// The configuration after that of `rank`, among those filed at the same value. One that isn't
+    /// filed has none.
     pub fn next_filed(&self, rank: u32) -> Option<u32>
         requires { rank < configurations self.now.board }
         ensures behind { (value : ℕ) → (place : ℕ) → slice_get (bucket self.now value) place ≡ Some rank
@@ -225,7 +228,8 @@ impl<S: ListStore> Solver<S> {
         self.stage.next_filed(rank)
     }
 
-    /// What a round at the value of the solver strikes: the configurations of that value that have a dominator, in order of filing.
+    /// The configurations that a round at the solver's value strikes: those of that value that have
+    /// a dominator, in order of filing.
     pub fn to_strike(&self, alloc: Global) -> Result<Vec<u32>, Memory>
         ensures ranks { IfOk result (λ ranks. AreToStrike self.now ranks.items) }
         ensures kept { IsSolving self.now }
@@ -233,7 +237,8 @@ impl<S: ListStore> Solver<S> {
         self.stage.due(alloc)
     }
 
-    /// The members of a gap that have no value of at most the number of rounds, one after the other.
+    /// The members of `gap` that have no value of at most the number of rounds, one after the
+    /// other.
     pub fn sources(&self, gap: u32) -> SourceWalk<'_>
         requires { gap < gaps self.now.board }
         ensures { result ≡ source self.now gap }
@@ -241,7 +246,7 @@ impl<S: ListStore> Solver<S> {
         self.stage.sources(gap)
     }
 
-    /// The first configuration of a gap that has no value of at most the number of rounds.
+    /// The first member of `gap` that has no value of at most the number of rounds.
     pub fn first_source(&self, gap: u32) -> Option<u32>
         requires { gap < gaps self.now.board }
         ensures first { result ≡ slice_get (source self.now gap) 0 }
@@ -250,8 +255,8 @@ impl<S: ListStore> Solver<S> {
         members.take_next()
     }
 
-    /// The member behind one of a gap, among those that have no value of at most the number of rounds. What isn't such
-    /// a member of the gap has none.
+    /// The member of `gap` after that of `rank`, among those that have no value of at most the
+    /// number of rounds. A configuration that isn't one of these has none.
     pub fn next_source(&self, gap: u32, rank: u32) -> Option<u32>
         requires gap { gap < gaps self.now.board }
         requires rank { rank < configurations self.now.board }
@@ -295,7 +300,7 @@ impl<S: ListStore + Drop> Solver<S> {
         Ok(Values::new(space, values, dominators, sizes))
     }
 
-    /// The values of the board, by as many rounds as it takes.
+    /// The values of the board, after all rounds that it takes.
     pub fn solve(self) -> Values
         ensures { result ≡ self.board }
     {

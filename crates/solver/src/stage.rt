@@ -1,4 +1,4 @@
-//! A board's words and lists, and what a round does to them.
+//! A board's words and lists, and the changes that a round makes to them.
 
 ghost use Rattle.std.specs.Prelude.{◌≡◌, ℕ, ◌+◌, ◌-◌, ◌<◌, true, List, [], ◌∷◌, length, filter};
 ghost use Rattle.index_lists.specs.Lists.{times};
@@ -29,11 +29,11 @@ pub(crate) struct Stage<S: ListStore> {
     pub(crate) values: Vec<u32>,
     /// The pebble that dominates all others at each configuration, else `NO_PEBBLE`.
     pub(crate) dominators: Vec<u8>,
-    /// How many answers of each gap lead to what is not struck.
+    /// For each gap the number of live answers: those whose result is not struck.
     pub(crate) counts: Vec<u32>,
     /// For each value the ranks that are filed at it.
     pub(crate) buckets: S,
-    /// Room for what a round takes out of the store. Between two rounds nobody reads it.
+    /// Room for the ranks that a round copies from the store. Between two rounds nobody reads it.
     pub(crate) strikes: Vec<u32>,
 }
 
@@ -53,7 +53,7 @@ impl<S: ListStore> Model for Stage<S> {
 }
 
 impl<S: ListStore> Stage<S> {
-    /// Puts a configuration that stands in no list behind the others of the value.
+    /// Appends `rank`, which is in no list, to the list of the value.
     pub(crate) fn list(&mut self, rank: u32)
         requires rank_in { rank < configurations self.old.board }
         requires free { (v : ℕ) → times rank (filed_at self.old v) ≡ 0 }
@@ -62,7 +62,7 @@ impl<S: ListStore> Stage<S> {
         self.buckets.push_back(self.value, rank);
     }
 
-    /// Files an open configuration at the value.
+    /// Files the open configuration `rank` at the value.
     pub(crate) fn file(&mut self, rank: u32)
         requires rank_in { rank < configurations self.old.board }
         requires filed { IsFiled self.old }
@@ -73,7 +73,7 @@ impl<S: ListStore> Stage<S> {
         self.list(rank);
     }
 
-    /// Files the open members of a gap at the value.
+    /// Files the open members of `gap` at the value.
     fn close_gap(&mut self, gap: u32)
         requires gap_in { gap < gaps self.old.board }
         requires filed { IsFiled self.old }
@@ -89,7 +89,8 @@ impl<S: ListStore> Stage<S> {
         }
     }
 
-    /// Strikes a configuration: its dominator's gap loses an answer, and the open members of that gap are filed if none is left.
+    /// Strikes the configuration `rank`: its dominator's gap loses an answer, and the open members
+    /// of that gap are filed if none is left.
     fn strike(&mut self, rank: u32)
         requires { (rest : List ℕ) × IsStriking self.old (rank ∷ rest) }
         ensures struck { (rest : List ℕ) → IsStriking self.old (rank ∷ rest) → IsStriking self.new rest }
@@ -104,7 +105,7 @@ impl<S: ListStore> Stage<S> {
         }
     }
 
-    /// Strikes what is filed at the value before and has a dominator.
+    /// Strikes the configurations that are filed at the value before and have a dominator.
     pub(crate) fn strike_all(&mut self)
         requires round { 0 < self.old.value }
         requires striking { IsStriking self.old (due_now self.old) }
@@ -115,7 +116,7 @@ impl<S: ListStore> Stage<S> {
         self.strike_taken();
     }
 
-    /// Takes what is filed at the value before out of the store.
+    /// Copies the ranks that are filed at the value before into `strikes`.
     fn take_bucket(&mut self)
         requires { 0 < self.old.value }
         ensures { self.new ≡ taken self.old }
@@ -124,7 +125,7 @@ impl<S: ListStore> Stage<S> {
         self.buckets.append_list(self.value - 1, &mut self.strikes);
     }
 
-    /// Strikes those of the ranks that were taken which have a dominator.
+    /// Strikes those of the ranks in `strikes` that have a dominator.
     fn strike_taken(&mut self)
         requires ranks { (rank : ℕ) → 0 < times rank self.old.strikes → rank < configurations self.old.board }
         requires striking { IsStriking self.old (filter (dominated (arena_of self.old.board)) self.old.strikes) }
@@ -139,7 +140,7 @@ impl<S: ListStore> Stage<S> {
         }
     }
 
-    /// How many are filed at the value.
+    /// The number of configurations that are filed at the value.
     pub(crate) fn filed(&self) -> u32
         ensures { result ≡ length (filed_at self.now self.now.value) }
     {

@@ -1,4 +1,4 @@
-//! What is read of a stage.
+//! Reading a stage.
 
 ghost use Rattle.std.specs.Prelude.{◌≡◌, ℕ, ◌+◌, ◌-◌, ◌<◌, Some, None, slice_index, slice_get, filter, IfOk};
 ghost use Rattle.index_lists.specs.Lists.{times};
@@ -46,7 +46,7 @@ impl<S: ListStore> Stage<S> {
         &self.counts
     }
 
-    /// The word of a configuration.
+    /// The word of the configuration `rank`.
     pub(crate) fn word(&self, rank: u32) -> u32
         requires { rank < configurations self.now.board }
         ensures { result ≡ slice_index self.now.values rank }
@@ -54,7 +54,7 @@ impl<S: ListStore> Stage<S> {
         self.values[rank as usize]
     }
 
-    /// The count of a gap.
+    /// The count of `gap`.
     pub(crate) fn count(&self, gap: u32) -> u32
         requires { gap < gaps self.now.board }
         ensures { result ≡ slice_index self.now.counts gap }
@@ -62,7 +62,7 @@ impl<S: ListStore> Stage<S> {
         self.counts[gap as usize]
     }
 
-    /// The pebble that dominates all others at a configuration, if one does.
+    /// The pebble that dominates all others at the configuration `rank`, if one does.
     pub(crate) fn dominator(&self, rank: u32) -> Option<u8>
         requires { rank < configurations self.now.board }
         ensures { IsSmallest (IsDominator self.now.board (configuration_at self.now.board rank)) result }
@@ -75,7 +75,8 @@ impl<S: ListStore> Stage<S> {
         }
     }
 
-    /// What a round strikes: what is filed at the value before and has a dominator.
+    /// The configurations that a round strikes: those filed at the value before that have a
+    /// dominator.
     pub(crate) fn due(&self, alloc: Global) -> Result<Vec<u32>, Memory>
         requires { 0 < self.now.value }
         ensures { IfOk result (λ ranks. ranks.items ≡ due_now self.now) }
@@ -86,7 +87,7 @@ impl<S: ListStore> Stage<S> {
         self.with_dominator(alloc, &filed)
     }
 
-    /// Those of the ranks that have a dominator.
+    /// Those of `ranks` that have a dominator.
     fn with_dominator(&self, alloc: Global, ranks: &[u32]) -> Result<Vec<u32>, Memory>
         requires { (rank : ℕ) → 0 < times rank ranks.now → rank < configurations self.now.board }
         ensures { IfOk result (λ found. found.items ≡ filter (dominated (arena_of self.now.board)) ranks.now) }
@@ -100,7 +101,7 @@ impl<S: ListStore> Stage<S> {
         Ok(found)
     }
 
-    /// The first configuration that is filed at a value.
+    /// The first configuration that is filed at `value`.
     pub(crate) fn first_filed(&self, value: u32) -> Option<u32>
         ensures { result ≡ slice_get (filed_at self.now value) 0 }
     {
@@ -110,7 +111,8 @@ impl<S: ListStore> Stage<S> {
         self.buckets.first(value)
     }
 
-    /// The configuration behind a filed one, among those of the same value. One that isn't filed has none.
+    /// The configuration after `rank`, among those filed at the same value. One that isn't filed
+    /// has none.
     pub(crate) fn next_filed(&self, rank: u32) -> Option<u32>
         requires { rank < configurations self.now.board }
         ensures behind { (value : ℕ) → (place : ℕ) → slice_get (filed_at self.now value) place ≡ Some rank
@@ -120,7 +122,7 @@ impl<S: ListStore> Stage<S> {
         self.buckets.next(rank)
     }
 
-    /// A walk over the open members of a gap.
+    /// A walk over the open members of `gap`.
     pub(crate) fn sources(&self, gap: u32) -> SourceWalk<'_>
         requires { gap < gaps self.now.board }
         ensures { result ≡ open_members (arena_of self.now.board) self.now.values gap }

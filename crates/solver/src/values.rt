@@ -48,7 +48,8 @@ impl Model for Values {
 }
 
 impl Values {
-    /// The values in these words, with the number of configurations of each finite value.
+    /// The values in the words `values`, with the number of configurations of each finite value in
+    /// `sizes`.
     pub(crate) fn new(
         space: Space,
         values: Vec<u32>,
@@ -71,7 +72,7 @@ impl Values {
         }
     }
 
-    /// The value of the configuration of a rank.
+    /// The value of the configuration of `rank`.
     pub fn of(&self, rank: u32) -> Value
         requires { rank < configurations self.now }
         ensures { HasValue self.now (configuration_at self.now rank) result }
@@ -83,7 +84,7 @@ impl Values {
         Value::Finite(value)
     }
 
-    /// How many configurations have the value.
+    /// The number of configurations that have the value `value`.
     pub fn count(&self, value: Value) -> u32
         ensures { HasCount self.now value result }
     {
@@ -93,7 +94,7 @@ impl Values {
         }
     }
 
-    /// How many configurations have a finite value.
+    /// The number of configurations that have the finite value `number`.
     fn count_finite(&self, number: u32) -> u32
         ensures { HasCount self.now (Finite number) result }
     {
@@ -114,7 +115,7 @@ impl Values {
         }
     }
 
-    /// The smallest answer of a gap after which a labeller lasts forever, if there is one.
+    /// The smallest answer of `gap` after which a labeller lasts forever, if there is one.
     pub fn safe_answer(&self, gap: u32) -> Option<u16>
         requires { gap < gaps self.now }
         ensures { IsSmallest (AnswerForever self.now gap) result }
@@ -140,7 +141,7 @@ impl Values {
     }
 }
 
-/// The sum of numbers.
+/// The sum of `numbers`.
 fn total(numbers: &[u32]) -> u32
     requires { sum numbers.now < 2 ^ 32 }
     ensures { result ≡ sum numbers.now }

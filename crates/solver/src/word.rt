@@ -6,7 +6,7 @@ ghost use Rattle.solver.specs.Words.{value_of_word};
 /// The word of a configuration that has no value yet.
 pub const OPEN: u32 = u32::MAX;
 
-/// The value that a word stands for, unless it is `OPEN`.
+/// The value that `word` stands for, unless it is `OPEN`.
 pub fn value_of(word: u32) -> Option<u32>
     ensures { result ≡ value_of_word word }
 {

@@ -1,4 +1,4 @@
--- What this crate's own functions say beside `BoardText`.
+-- Definitions for this crate's own functions, beside `BoardText`.
 use Rattle.std.specs.Prelude.{ℕ, List, ◌++◌}
 use Rattle.board_text.specs.PlainBoard.{version_of}
 use Rattle.board_text.specs.BoardText.{version_line, labels_line, pebbles_line, start_line}

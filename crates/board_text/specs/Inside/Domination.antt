@@ -1,4 +1,4 @@
--- What this crate's own functions say beside `Domination`.
+-- Definitions for this crate's own functions, beside `Domination`.
 use Rattle.std.specs.Prelude.{◌≡◌, ℕ, zero, suc, ◌+◌, ◌*◌, ◌/◌, ◌%◌, ◌<◌, ◌≤◌, ◌==◌, ◌⊎◌, List, [], ◌∷◌, ◌++◌, Bool, true, false}
 use Rattle.std.specs.Prelude.{if◌then◌else◌, length, slice_index}
 use Rattle.std.specs.Int.{bit_at}
@@ -10,7 +10,7 @@ use Rattle.board_text.specs.declared.board.TheConstants.{MAX_LABELS}
 abbrev pub beats_in : List ℕ → ℕ → ℕ → Bool
 beats_in rows x y = bit_at (slice_index rows (4 * y + x / 64)) (x % 64) == 1
 
--- the pair at a place, where the pairs of labels are counted in ascending order
+-- the pair at a place among all pairs of labels in ascending order
 abbrev pub pair_at : ℕ → ℕ → ℕ × ℕ
 pair_at labels place = (place / labels, place % labels)
 
@@ -44,7 +44,7 @@ pub record AreBitRows (labels : ℕ) (rows : List ℕ) (next : ℕ) : Type 0 whe
   pub clear : ClearFrom labels rows next
   pub ends : EndsAt labels (pairs_of labels rows) next
 
--- the new rows say of one pair more that it is there
+-- the new rows have one pair more
 pub record SetsPair (labels : ℕ) (old new : List ℕ) (x y : ℕ) : Type 0 where
   pub size : length new ≡ length old
   pub here : beats_in new x y ≡ true

@@ -1,4 +1,4 @@
--- What this crate's own functions say beside `LineForms`.
+-- Definitions for this crate's own functions, beside `LineForms`.
 use Rattle.std.specs.Prelude.{◌≡◌, ◌≢◌, ℕ, List, ◌++◌, Option, Some, None}
 use Rattle.board_text.specs.Ranges.{AreNumbers}
 use Rattle.board_text.specs.LineForms.{spaced, NoDigit}

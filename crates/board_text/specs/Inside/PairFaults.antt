@@ -5,7 +5,8 @@ use Rattle.board_text.specs.declared.fault.BoardFault.{BoardFault}
 use Rattle.board_text.specs.declared.fault.BoardKind.{BoardKind}
 use Rattle.board_text.specs.declared.fault.BoardKind.TheVariants.{Beats, SelfBeat, TwoWay, Order}
 
--- what is wrong with a pair of numbers of 16 bits that can't follow these, where nothing before it in the table is
+-- the fault of a pair of numbers of 16 bits that can't follow these, if nothing before it in the
+-- table is one
 abbrev pub IsPairFault : ℕ → List (ℕ × ℕ) → ℕ × ℕ → BoardKind → Type 0
 IsPairFault labels pairs p Beats = AreLabels (2 ^ 16) p × (AreLabels labels p → ⊥)
 IsPairFault labels pairs p SelfBeat = AreLabels labels p × (p.0 ≡ p.1)

@@ -1,4 +1,4 @@
--- What each step of reading a board takes from the text.
+-- The bytes that each step of reading a board takes from the text.
 use Rattle.std.specs.Prelude.{◌≡◌, ◌≢◌, ℕ, ◌+◌, List, ◌++◌, length, Contains, Option, Some, None, Result, Ok, Err}
 use Rattle.std.specs.List.{flat_map}
 use Rattle.board_text.specs.Ranges.{InRange}
@@ -16,7 +16,7 @@ pub record CanFollow (labels : ℕ) (pairs : List (ℕ × ℕ)) (p : ℕ × ℕ)
   pub one_way : Contains pairs (p.1, p.0) → ⊥
   pub above : IsNext pairs p
 
--- What the next line says, after the `beats` lines of these pairs.
+-- The pair, the end or the fault of the next line, after the `beats` lines of these pairs.
 abbrev pub NextPair : ℕ → List (ℕ × ℕ) → Result (Option (ℕ × ℕ)) BoardKind → List ℕ → List ℕ → Type 0
 NextPair labels pairs (Ok None) old new = old ≡ end_line ++ new
 NextPair labels pairs (Ok (Some p)) old new = CanFollow labels pairs p × (old ≡ beats_line p ++ new)

@@ -1,4 +1,4 @@
--- What this crate's own functions say beside `Links`.
+-- Definitions for this crate's own functions, beside `Links`.
 use Rattle.std.specs.Prelude.{◌≡◌, ℕ, ◌+◌, ◌-◌, ◌<◌, ◌≤◌, ◌==◌, cond, List, [], ◌∷◌, zero, suc, length, slice_index, slice_set}
 use Rattle.std.specs.Prelude.{Option, None, Some}
 use Rattle.index_lists.specs.Lists.{Lists, times, lists_of}
@@ -14,7 +14,8 @@ abbrev pub IsLinked : ℕ → (ℕ → ℕ) → (ℕ → ℕ) → ℕ → ℕ �
 IsLinked none next prev last before at [] = (at ≡ none) × (before ≡ last)
 IsLinked none next prev last before at (x ∷ xs) = (at ≡ x) × (x < none) × (prev x ≡ before) × IsLinked none next prev last x (next x) xs
 
--- what is noted of each node (the node behind it, the one before it, its list), and of each list (its ends, its length)
+-- the notes of each node (the node after it, the one before it, its list), and of each list (its
+-- ends, its length)
 pub record PlainLinks : Type 0 where
   pub next : List ℕ
   pub prev : List ℕ
@@ -23,7 +24,7 @@ pub record PlainLinks : Type 0 where
   pub last : List ℕ
   pub len : List ℕ
 
--- what callers see of the links
+-- the links as callers see them
 abbrev pub chains_of : ℕ → ℕ → PlainLinks → Chains
 chains_of nodes lists s = record { nodes = nodes; lists = lists; next = s.next; first = s.first; len = s.len }
 
@@ -55,12 +56,12 @@ pub record IsLinks (nodes lists : ℕ) (s : PlainLinks) : Type 0 where
   pub len_length : length s.len ≡ lists
   pub store : AreLinksOf nodes lists s (chain_list (chains_of nodes lists s))
 
--- the link of a node leads to the one behind it, or, where the node is none, the list begins there
+-- the link of a node leads to the one after it, or, if the node is none, the list begins there
 abbrev pub next_pointed : PlainLinks → ℕ → ℕ → ℕ → PlainLinks
 next_pointed s node list to =
     record s { next = slice_set s.next node to; first = cond (node == length s.next) (slice_set s.first list to) s.first }
 
--- the link of a node leads to the one before it, or, where the node is none, the list ends there
+-- the link of a node leads to the one before it, or, if the node is none, the list ends there
 abbrev pub prev_pointed : PlainLinks → ℕ → ℕ → ℕ → PlainLinks
 prev_pointed s node list to =
     record s { prev = slice_set s.prev node to; last = cond (node == length s.prev) (slice_set s.last list to) s.last }

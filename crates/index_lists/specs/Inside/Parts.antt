@@ -1,10 +1,10 @@
--- What this crate's own functions say beside `PlainParts`.
+-- Definitions for this crate's own functions, beside `PlainParts`.
 use Rattle.std.specs.Prelude.{◌≡◌, ℕ, ◌^◌, ◌<◌, ◌≤◌, List, [], ◌∷◌, length, map, take, drop, slice_index_or}
 use Rattle.std.specs.List.{concat}
 use Rattle.index_lists.specs.Lists.{Lists, times, lists_of}
 use Rattle.index_lists.specs.Parts.{PlainParts}
 
--- a list that is cut into parts of these lengths, from the front
+-- a list that is cut into parts of these lengths, from the start
 abbrev pub parts_of : List ℕ → List ℕ → List (List ℕ)
 parts_of [] nodes = []
 parts_of (len ∷ lens) nodes = take len nodes ∷ parts_of lens (drop len nodes)

@@ -3,11 +3,12 @@ use Rattle.std.specs.Prelude.{ℕ, ◌+◌, ◌*◌, ◌<◌, List, All, AllPair
 use Rattle.board_text.specs.PlainBoard.{AreLabels, Precedes}
 use Rattle.nested_cycles.specs.Domination.{labels_of, NestedBeats}
 
--- a pair of labels is among the first so many, where the pairs of labels are counted in ascending order
+-- a pair of labels is among the first `places` pairs, in ascending order
 abbrev pub IsAmong : ℕ → ℕ → ℕ × ℕ → Type 0
 IsAmong labels places pair = pair.0 * labels + pair.1 < places
 
--- Among the first so many pairs of labels, those of which the first dominates the second, ascending.
+-- Among the first `places` pairs of labels, those of which the first dominates the second,
+-- ascending.
 pub record AreNestedPairs (levels places : ℕ) (pairs : List (ℕ × ℕ)) : Type 0 where
   pub ascending : AllPairs Precedes pairs
   pub only : All (λ pair. AreLabels (labels_of levels) pair × IsAmong (labels_of levels) places pair

@@ -1,4 +1,4 @@
--- What this crate's own functions say beside `Game`.
+-- Definitions for this crate's own functions, beside `Game`.
 use Rattle.std.specs.Prelude.{ℕ, List}
 use Rattle.board_text.specs.PlainBoard.{PlainBoard}
 use Rattle.positions.specs.Game.{Legal, moved, LabellerTree}

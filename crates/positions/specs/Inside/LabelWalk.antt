@@ -1,8 +1,9 @@
--- What this crate's own functions say beside `LabelWalk`.
+-- Definitions for this crate's own functions, beside `LabelWalk`.
 use Rattle.std.specs.Prelude.{◌≡◌, ℕ, ◌*◌, ◌<◌, true, List, length, slice_index, slice_set}
 use Rattle.board_text.specs.Domination.{has_bit}
 
--- the walk has come to the word at the place, of which so much is left; none behind it has a bit where the number is 0
+-- the walk has come to the word at the place, of which the bits `word` remain; none after it has a
+-- bit if `behind` is 0
 pub record HasCome (words : List ℕ) (place word behind : ℕ) : Type 0 where
   pub sized : length words ≡ 4
   pub inside : place < 4

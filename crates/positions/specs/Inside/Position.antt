@@ -1,4 +1,4 @@
--- What this crate's own functions say beside `Position`.
+-- Definitions for this crate's own functions, beside `Position`.
 use Rattle.std.specs.Prelude.{◌≡◌, ℕ, ◌<◌, List, slice_index}
 use Rattle.board_text.specs.PlainBoard.{PlainBoard, IsBoard}
 use Rattle.positions.specs.Ranks.{configurations, configuration_at}

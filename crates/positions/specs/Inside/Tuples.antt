@@ -1,4 +1,4 @@
--- What this crate's own functions say beside `Tuples`.
+-- Definitions for this crate's own functions, beside `Tuples`.
 use Rattle.std.specs.Prelude.{◌≡◌, ℕ, ◌+◌, ◌-◌, ◌*◌, ◌^◌, ◌<◌, ◌↔◌, List, length, slice_index_or}
 use Rattle.std.specs.Int.{bit_at}
 use Rattle.std.specs.List.{All}
@@ -6,25 +6,26 @@ use Rattle.board_text.specs.PlainBoard.{PlainBoard, BeatsPlace, places}
 use Rattle.positions.specs.Ranks.{digits_of}
 use Rattle.positions.specs.Gaps.{gaps_each}
 
--- the label is one of the board, and beats what all these places hold
+-- the label is one of the board, and dominates all these places
 abbrev pub BeatsAll : PlainBoard → List ℕ → ℕ → Type 0
 BeatsAll board held label = (label < board.labels) × All (BeatsPlace board label) held
 
--- the bits of the word are those of 64 labels, from 64 times a number on, that dominate what all these places hold
+-- the bits of the word are those of 64 labels, from 64 times a number on, that dominate all these
+-- places
 abbrev pub AreBeating : PlainBoard → ℕ → List ℕ → ℕ → Type 0
 AreBeating board number held word = (bit : ℕ) → bit < 64 → (bit_at word bit ≡ 1) ↔ BeatsAll board held (64 * number + bit)
 
--- the first words are those of tuples of so many places, in order
+-- the first words are those of tuples of `count` places, in order
 abbrev pub AreTupleWords : PlainBoard → ℕ → ℕ → List ℕ → Type 0
 AreTupleWords board number count words = (tuple : ℕ) → tuple < length words
     → AreBeating board number (digits_of (places board) count tuple) (slice_index_or words tuple 0)
 
--- there is a word for each tuple of so many places
+-- there is a word for each tuple of `count` places
 pub record AreAllWords (board : PlainBoard) (number count : ℕ) (words : List ℕ) : Type 0 where
   pub each : AreTupleWords board number count words
   pub so_many : length words ≡ places board ^ count
 
--- the words, or 0 where there is none, are those of all tuples of the pebbles but one
+-- the words, or 0 if there is none, are those of all tuples of the pebbles but one
 abbrev pub IsColumn : PlainBoard → ℕ → List ℕ → Type 0
 IsColumn board number words = (tuple : ℕ) → tuple < gaps_each board
     → AreBeating board number (digits_of (places board) (board.pebbles - 1) tuple) (slice_index_or words tuple 0)

@@ -1,4 +1,4 @@
--- What is kept of a board to turn ranks and gaps.
+-- The numbers that a space keeps of its board to turn ranks and gaps.
 use Rattle.std.specs.Prelude.{◌≡◌, ℕ, ◌+◌, ◌-◌, ◌/◌, ◌^◌, ◌<◌, ◌≤◌, ◌↔◌, List, true, slice_index}
 use Rattle.board_text.specs.PlainBoard.{PlainBoard, IsBoard, places}
 use Rattle.board_text.specs.Domination.{has_bit}
@@ -6,7 +6,7 @@ use Rattle.board_text.specs.declared.board.TheConstants.{MAX_LABELS}
 use Rattle.positions.specs.Ranks.{configurations}
 use Rattle.positions.specs.declared.space.TheConstants.{MAX_CONFIGURATIONS}
 
--- what one step of a pebble's place adds to a rank
+-- the difference in rank that one step of a pebble's place makes
 abbrev pub weight_of : PlainBoard → ℕ → ℕ
 weight_of board pebble = places board ^ (board.pebbles - 1 - pebble)
 

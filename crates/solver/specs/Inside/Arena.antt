@@ -1,4 +1,4 @@
--- The game on numbers: what rounds need of a board, and how long a labeller lasts.
+-- The game on numbers: the parts of a board that rounds need, and how long a labeller lasts.
 use Rattle.std.specs.Prelude.{◌≡◌, ℕ, ◌+◌, ◌<◌, ◌==◌, ◌&&◌, not, Bool, true, cond, zero, suc}
 
 -- numbers of places, pebbles, configurations and gaps; the gap and the place of a pebble at a configuration; the pebble of a gap,
@@ -14,16 +14,16 @@ pub record Arena : Type 0 where
   pub member : ℕ → ℕ → ℕ
   pub is_answer : ℕ → ℕ → Bool
 
--- how many numbers below a bound pass the test
+-- the number of numbers below a bound that pass the test
 abbrev pub count_below : ℕ → (ℕ → Bool) → ℕ
 count_below zero test = 0
 count_below (suc n) test = count_below n test + cond (test n) 1 0
 
--- how many answers of a gap lead to where the test holds
+-- the number of answers of a gap whose result passes the test
 abbrev pub live : Arena → (ℕ → Bool) → ℕ → ℕ
 live a test g = count_below a.places (λ v. a.is_answer g v && test (a.member g v))
 
--- each pebble has an answer that leads to where the test holds
+-- each pebble has an answer whose result passes the test
 abbrev pub next : Arena → (ℕ → Bool) → ℕ → Bool
 next a test c = count_below a.pebbles (λ p. live a test (a.gap c p) == 0) == 0
 

@@ -10,7 +10,7 @@ use Rattle.solver.specs.Inside.Arena.{Arena}
 abbrev pub beats : PlainBoard → ℕ → ℕ → Bool
 beats board x y = list_any (λ pair. pair.0 == x && pair.1 == y) board.pairs
 
--- whether the label dominates what a place holds
+-- whether the label dominates the label of a place, if that holds one
 abbrev pub beats_place : PlainBoard → ℕ → ℕ → Bool
 beats_place board label place = not (nat_lt place board.labels) || beats board label place
 

@@ -1,4 +1,4 @@
--- What is known while a solver is opened.
+-- Facts that hold while a solver is opened.
 use Rattle.std.specs.Prelude.{◌≡◌, ◌≢◌, ℕ, ◌+◌, ◌*◌, ◌<◌, ◌≤◌, ◌==◌, ◌↔◌, ◌⊎◌, cond, true, List, length, slice_index}
 use Rattle.board_text.specs.Domination.{has_bit}
 use Rattle.board_text.specs.PlainBoard.{PlainBoard, IsBoard}
@@ -14,7 +14,8 @@ pub record AreAnswers (board : PlainBoard) (gap : ℕ) (words : List ℕ) : Type
   pub bits : (label : ℕ) → label < MAX_LABELS → (has_bit words label ≡ true) ↔ IsAnswer board gap label
   pub is_board : IsBoard board
 
--- the bytes are those of the dominators of the configurations that the first answers lead to, where answers are in the order of their gaps
+-- the bytes are those of the dominators of the configurations that the first answers lead to, in
+-- the order of their gaps
 pub record AreNoted (board : PlainBoard) (mark : ℕ) (dominators : List ℕ) : Type 0 where
   pub noted_length : length dominators ≡ configurations board
   pub sound : (c : ℕ) → c < configurations board → slice_index dominators c ≢ NO_PEBBLE
@@ -22,7 +23,7 @@ pub record AreNoted (board : PlainBoard) (mark : ℕ) (dominators : List ℕ) : 
   pub found : (c p : ℕ) → c < configurations board → Dominant (arena_of board) c p
       → MAX_LABELS * (arena_of board).gap c p + (arena_of board).place c p < mark → slice_index dominators c ≡ p
 
--- the members of so many gaps from one on are next to each other, place by place
+-- the members of `run` gaps from `gap` on are next to each other, place by place
 pub record IsRun (a : Arena) (gap run : ℕ) : Type 0 where
   pub inside : gap + run ≤ a.gaps
   pub ranks : (more place : ℕ) → more < run → place < a.places → a.member (gap + more) place ≡ a.member gap place + more

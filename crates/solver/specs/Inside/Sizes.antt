@@ -1,4 +1,4 @@
--- What this crate's own functions say beside `Sizes`.
+-- Definitions for this crate's own functions, beside `Sizes`.
 use Rattle.std.specs.Prelude.{◌≡◌, ℕ, ◌+◌, ◌<◌, ◌≤◌, ◌==◌, false, List, length, slice_index}
 use Rattle.board_text.specs.PlainBoard.{PlainBoard, IsBoard}
 use Rattle.positions.specs.Ranks.{configurations}

@@ -1,9 +1,10 @@
--- What a walk over the open members of a gap has left.
+-- The ranks that a walk over the open members of a gap has left.
 use Rattle.std.specs.Prelude.{ℕ, ◌+◌, ◌*◌, ◌^◌, ◌<◌, ◌≤◌, List, length, map, filter}
 use Rattle.std.specs.List.{range_with_len}
 use Rattle.solver.specs.Inside.Tables.{is_open}
 
--- of so many members from a place on, the ranks of those that have no value yet, where each place is a step behind the one before
+-- of `count` members from a place on, the ranks of those that have no value yet, if each place is a
+-- step after the one before
 abbrev pub open_from : List ℕ → ℕ → ℕ → ℕ → ℕ → List ℕ
 open_from values first step from count = filter (is_open values) (map (λ place. first + place * step) (range_with_len from count))
 

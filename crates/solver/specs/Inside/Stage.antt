@@ -1,4 +1,4 @@
--- A stage as plain data, and what a round does to it.
+-- A stage as plain data, and the changes that a round makes to it.
 use Rattle.std.specs.Prelude.{◌≡◌, ◌≢◌, ℕ, suc, ◌+◌, ◌-◌, ◌<◌, ◌≤◌, ◌==◌, Bool, true, false, cond}
 use Rattle.std.specs.Prelude.{List, [], ◌∷◌, ◌++◌, length, map, filter, AllPairs, slice_index, slice_index_or, slice_set}
 use Rattle.std.specs.List.{range_with_len}
@@ -13,8 +13,8 @@ use Rattle.solver.specs.Solving.{Solving}
 use Rattle.solver.specs.Inside.Stored.{IsSmall}
 use Rattle.solver.specs.Inside.Tables.{is_unstruck, struck_rounds, open_members, IsCounted, AreWords, AreFirstWords, GapIsClosed}
 
--- a board, the value that configurations are filed at, a word for each configuration, a count for each gap,
--- the configurations filed at each value, and those that a round took out of the store
+-- a board, the value that configurations are filed at, a word for each configuration, a count for
+-- each gap, the configurations filed at each value, and those that a round copied from the store
 pub record PlainStage : Type 0 where
   pub board : PlainBoard
   pub value : ℕ
@@ -23,7 +23,7 @@ pub record PlainStage : Type 0 where
   pub buckets : List (List ℕ)
   pub strikes : List ℕ
 
--- the first so many lists
+-- the first `count` lists
 abbrev pub first_lists : ℕ → (ℕ → List ℕ) → List (List ℕ)
 first_lists count list = map list (range_with_len 0 count)
 
@@ -38,11 +38,11 @@ stage_of board value values counts stored strikes = record {
   strikes = strikes;
 }
 
--- what is filed at a value, in order of filing
+-- the configurations filed at a value, in order of filing
 abbrev pub filed_at : PlainStage → ℕ → List ℕ
 filed_at s value = slice_index_or s.buckets value []
 
--- the stage in which a configuration stands behind the others of the value
+-- the stage in which a configuration is appended to the list of the value
 abbrev pub listed : PlainStage → ℕ → PlainStage
 listed s rank = record s { buckets = slice_set s.buckets s.value (filed_at s s.value ++ rank ∷ []) }
 
@@ -58,11 +58,11 @@ counting s counts = record s { counts = counts }
 abbrev pub turned : PlainStage → PlainStage
 turned s = record s { value = s.value + 1 }
 
--- what a round strikes: what is filed at the value before and has a dominator
+-- the configurations that a round strikes: those filed at the value before that have a dominator
 abbrev pub due_now : PlainStage → List ℕ
 due_now s = filter (dominated (arena_of s.board)) (filed_at s (s.value - 1))
 
--- the stage that has taken what is filed at the value before out of the store
+-- the stage that has copied the configurations filed at the value before from the store
 abbrev pub taken : PlainStage → PlainStage
 taken s = record s { strikes = filed_at s (s.value - 1) }
 
@@ -74,7 +74,7 @@ pub record IsFiled (s : PlainStage) : Type 0 where
   pub once : (v x : ℕ) → v ≤ configurations s.board → x < configurations s.board
       → times x (filed_at s v) ≡ cond (slice_index s.values x == v) 1 0
 
--- words and lists together, where the test holds of what is not struck yet
+-- words and lists together, if the test holds of the configurations that are not struck yet
 pub record IsStage (test : ℕ → Bool) (s : PlainStage) : Type 0 where
   pub counts_are : IsCounted (arena_of s.board) test s.counts
   pub words_are : AreWords (arena_of s.board) test s.values
@@ -138,7 +138,7 @@ pub record IsUnlisted (s : PlainStage) : Type 0 where
   pub lists_length : length s.buckets ≡ configurations s.board + 1
   pub lists_are : (v : ℕ) → filed_at s v ≡ []
 
--- what a stage is when it is opened: what has value 0 is filed, in ascending rank
+-- a stage that is opened: the configurations of value 0 are filed, in ascending rank
 pub record IsOpened (s : PlainStage) : Type 0 where
   pub value_is : s.value ≡ 0
   pub stage : IsStage (lasts (arena_of s.board) 0) s

@@ -1,4 +1,4 @@
--- What a stage keeps of its board, its dominators and its lists, whatever it does.
+-- The facts of a stage's board, dominators and lists that nothing changes.
 use Rattle.std.specs.Prelude.{◌≡◌, ℕ, ◌+◌, ◌<◌, ◌≤◌, ◌==◌, cond, List, length, Option, Some, None, slice_index}
 use Rattle.index_lists.specs.Lists.{Lists, AreLists}
 use Rattle.board_text.specs.PlainBoard.{PlainBoard, IsBoard}

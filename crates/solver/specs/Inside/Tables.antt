@@ -1,4 +1,4 @@
--- What a solver's tables and lists say of the game.
+-- The meaning of a solver's tables and lists in the game.
 use Rattle.std.specs.Prelude.{◌≡◌, ℕ, ◌<◌, ◌≢◌, ◌==◌, not, Bool, true, false, cond, suc, List, length, slice_index, map, filter}
 use Rattle.std.specs.List.{range_with_len}
 use Rattle.index_lists.specs.Lists.{times}
@@ -13,7 +13,7 @@ use Rattle.solver.specs.declared.word.TheConstants.{OPEN}
 abbrev pub is_open : List ℕ → ℕ → Bool
 is_open values x = slice_index values x == OPEN
 
--- the members of a gap that pass the test, for so many places from one on
+-- the members of a gap that pass the test, for `count` places from `from` on
 abbrev pub members_from : Arena → (ℕ → Bool) → ℕ → ℕ → ℕ → List ℕ
 members_from a test g from count = filter test (map (a.member g) (range_with_len from count))
 
@@ -21,24 +21,25 @@ members_from a test g from count = filter test (map (a.member g) (range_with_len
 abbrev pub open_members : Arena → List ℕ → ℕ → List ℕ
 open_members a values g = members_from a (is_open values) g 0 a.places
 
--- each gap's count is the number of its answers that lead to where the test holds
+-- each gap's count is the number of its answers whose result passes the test
 pub record IsCounted (a : Arena) (test : ℕ → Bool) (counts : List ℕ) : Type 0 where
   pub counts_length : length counts ≡ a.gaps
   pub counted : (g : ℕ) → g < a.gaps → slice_index counts g ≡ live a test g
 
--- a configuration is open exactly where each pebble has an answer that leads to where the test holds, and any other word is a value
+-- a configuration is open exactly if each pebble has an answer whose result passes the test, and
+-- any other word is a value
 pub record AreWords (a : Arena) (test : ℕ → Bool) (values : List ℕ) : Type 0 where
   pub values_length : length values ≡ a.configurations
   pub opened : (x : ℕ) → x < a.configurations → is_open values x ≡ next a test x
   pub lasting : (x : ℕ) → x < a.configurations → is_open values x ≡ false → lasts a (slice_index values x) x ≡ true
   pub stopping : (x : ℕ) → x < a.configurations → is_open values x ≡ false → lasts a (suc (slice_index values x)) x ≡ false
 
--- a configuration is open where each request has an answer, and has the value 0 elsewhere
+-- a configuration is open if each request has an answer, and else has the value 0
 pub record AreFirstWords (a : Arena) (words : List ℕ) : Type 0 where
   pub words_length : length words ≡ a.configurations
   pub each : (x : ℕ) → x < a.configurations → slice_index words x ≡ cond (next a (lasts a 0) x) OPEN 0
 
--- it lasts more than r requests, or stands in the list of what is to strike
+-- it lasts more than r requests, or is in the list of configurations to strike
 abbrev pub is_unstruck : Arena → ℕ → List ℕ → ℕ → Bool
 is_unstruck a r todo x = cond (lasts a (suc r) x) true (not (times x todo == 0))
 
@@ -49,11 +50,11 @@ pub record GapIsClosed (a : Arena) (g value : ℕ) (values values' : List ℕ) :
   pub outside : (x : ℕ) → x < a.configurations → a.gap x (a.pebble g) ≢ g → slice_index values' x ≡ slice_index values x
   pub kept : (x : ℕ) → x < a.configurations → is_open values x ≡ false → slice_index values' x ≡ slice_index values x
 
--- how many rounds have struck their value
+-- the number of rounds that have struck their value
 abbrev pub struck_rounds : Bool → ℕ → ℕ
 struck_rounds is_done round = cond is_done (suc round) round
 
--- each word is a value or the word of what is worth forever
+-- each word is a value or the word of a configuration that is worth forever
 pub record AreValues (board : PlainBoard) (values : List ℕ) : Type 0 where
   pub values_length : length values ≡ configurations board
   pub finite : (x : ℕ) → x < configurations board → is_open values x ≡ false
