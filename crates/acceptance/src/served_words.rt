@@ -6,7 +6,7 @@ use board_text::Failed;
 use fakes::boards::CHAIN_OF_THREE;
 use fakes::documents::CHAIN_LEAST_TWO;
 use fakes::{Drip, Failing, Outcome, Trickle, comes_right};
-use runs::{Folder, Words, serve};
+use runs::{Folder, Terminals, Trouble, Words, serve};
 use std::alloc::Global;
 use std::sync::Wait;
 use std::thread::Threads;
@@ -32,7 +32,23 @@ impl Folder for Shelf {
             _ => Err(Failed),
         }
     }
+
+    fn trouble(&self, path: &str) -> Trouble {
+        Trouble::Missing
+    }
 }
+
+/// Streams that are no terminals.
+const NO_TERMINALS: Terminals = Terminals {
+    input: false,
+    errors: false,
+};
+
+/// Streams that are terminals.
+const TERMINALS: Terminals = Terminals {
+    input: true,
+    errors: true,
+};
 
 /// The status, and the texts on standard output and standard error.
 #[derive(Clone, Copy)]
@@ -47,6 +63,7 @@ fn outcome(
     rt: &(impl Threads + Wait + Sync),
     alloc: Global,
     words: &Words<'_, '_>,
+    terminals: Terminals,
     input: &str,
     wanted: Served,
 ) -> Outcome {
@@ -57,12 +74,13 @@ fn outcome(
         rt,
         alloc,
         words,
+        terminals,
         &Shelf,
         &mut input,
         &mut output,
         &mut errors,
     );
-    let is_refused = status == 4 && errors.taken() == OUT_OF_MEMORY.as_bytes();
+    let is_refused = status == 4 && errors.taken().starts_with(OUT_OF_MEMORY.as_bytes());
     let is_right = status == wanted.status
         && output.taken() == wanted.output.as_bytes()
         && errors.taken() == wanted.errors.as_bytes();
@@ -77,7 +95,7 @@ fn comes_to(
     input: &str,
     wanted: Served,
 ) -> bool {
-    comes_right(|| outcome(rt, alloc, &Words::Given(words), input, wanted))
+    comes_right(|| outcome(rt, alloc, &Words::Given(words), NO_TERMINALS, input, wanted))
 }
 
 #[test]
@@ -126,12 +144,36 @@ fn no_words(rt: HostRuntime) {
         output: "",
         errors: "error: a word on the command line is not text\n",
     };
-    let comes = comes_right(|| outcome(&rt, alloc, &Words::NotText, "", no_text));
+    let comes = comes_right(|| outcome(&rt, alloc, &Words::NotText, NO_TERMINALS, "", no_text));
     assert!(rt; comes);
     let no_memory = Served {
         status: 4,
         output: "",
         errors: OUT_OF_MEMORY,
     };
-    assert!(rt; outcome(&rt, alloc, &Words::OutOfMemory, "", no_memory) == Outcome::Refused);
+    assert!(rt;
+        outcome(&rt, alloc, &Words::OutOfMemory, NO_TERMINALS, "", no_memory) == Outcome::Refused
+    );
+}
+
+#[test]
+fn a_missing_file_at_a_terminal(rt: HostRuntime) {
+    let alloc = rt.alloc();
+    let missing = Served {
+        status: 5,
+        output: "",
+        errors: "read fault\nother.board: there is no such file; look for its spelling and its folder\n",
+    };
+    let words = ["pebbles", "solve", "other.board"];
+    let comes = comes_right(|| {
+        outcome(
+            &rt,
+            alloc,
+            &Words::Given(words.as_slice()),
+            TERMINALS,
+            "",
+            missing,
+        )
+    });
+    assert!(rt; comes);
 }

@@ -9,14 +9,19 @@
 #![tactic(auto)]
 
 use board_text::Through;
-use runs::{System, Words, serve};
+use runs::{System, Terminals, Words, serve};
 use std::alloc::Global;
+use std::io::IsTerminal;
 use std::process::ExitCode;
 use std::{env, io};
 
 fn main(rt: HostRuntime) -> ExitCode {
     let alloc = rt.alloc();
     let folder = System::new(&rt);
+    let terminals = Terminals {
+        input: rt.stdin().is_terminal(),
+        errors: rt.stderr().is_terminal(),
+    };
     let mut input = Through::new(rt.stdin());
     let mut output = Through::new(rt.stdout());
     let mut errors = Through::new(rt.stderr());
@@ -26,6 +31,7 @@ fn main(rt: HostRuntime) -> ExitCode {
             &rt,
             alloc,
             &Words::Given(words.as_slice()),
+            terminals,
             &folder,
             &mut input,
             &mut output,
@@ -35,6 +41,7 @@ fn main(rt: HostRuntime) -> ExitCode {
             &rt,
             alloc,
             &none,
+            terminals,
             &folder,
             &mut input,
             &mut output,

@@ -1,7 +1,7 @@
 -- How the ends of runs are told.
 use Rattle.std.proofs.Common.{◌≡◌, ◌≢◌, ◌↔◌, ℕ, List, sym, ap, ◌∙◌, inl, inr}
 use Rattle.std.proofs.lemmas.Result.{MatchResult-from_both, IfErr-at_err, IfErr-weaker, IfOk-weaker}
-use Rattle.std.specs.Prelude.{Result, Ok, Err, IfOk, IfErr, Option}
+use Rattle.std.specs.Prelude.{Result, Ok, Err, IfOk, IfErr}
 use Rattle.player.specs.declared.end.PlayEnd.{PlayEnd}
 use Rattle.positions.specs.declared.side.Side.{Side}
 use Rattle.positions.specs.declared.value.Value.{Value}

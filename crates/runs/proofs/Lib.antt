@@ -11,3 +11,4 @@ pub mod Solutions
 pub mod OneOutcome
 pub mod Endings
 pub mod Served
+pub mod MoreTexts

@@ -1,5 +1,5 @@
 -- How words are served.
-use Rattle.std.proofs.Common.{◌≡◌, ◌↔◌, ◌<◌, ◌≤◌, ◌⊎◌, ℕ, List, [], length, ap, sym, subst, map, ◌∙◌, inl, inr}
+use Rattle.std.proofs.Common.{◌≡◌, ◌↔◌, ◌<◌, ◌≤◌, ◌⊎◌, ℕ, List, [], length, ap, sym, subst, ◌∙◌, inl, inr}
 use Rattle.std.proofs.lemmas.Bool.{cases_lt}
 use Rattle.std.proofs.lemmas.List.{length-map}
 use Rattle.std.specs.Prelude.{Result, Ok, Err, IfErr, OnOk, OnErr}
@@ -15,7 +15,8 @@ use Rattle.command_line.specs.declared.asked.Job.TheVariants.{Joined}
 use Rattle.command_line.specs.declared.asked.JobFault.{JobFault}
 use Rattle.runs.specs.Jobs.{Stream}
 use Rattle.runs.specs.Outcomes.{outcome_of_run}
-use Rattle.runs.specs.Serving.{Asks, EndsWith, IsWritten}
+use Rattle.runs.specs.Serving.{Asks, IsWritten}
+use Rattle.runs.specs.declared.outcome.Outcome.{Outcome}
 use Rattle.runs.specs.declared.fault.RunFault.{RunFault}
 use Rattle.runs.specs.declared.fault.RunFault.TheVariants.{Write}
 use Rattle.runs.specs.declared.outcome.Outcome.TheVariants.{Broken, Done}
@@ -30,13 +31,13 @@ written stream text (Ok done) appends front told failed =
 written stream text (Err fault) appends front told failed = inr (failed.1 (ap (λ f. Err f) told), front)
 
 -- what a write of help tells
-pub helped : (output errors : Stream) (status : ℕ) (r : Result (Unit {0}) RunFault) → IfErr r (λ f. f ≡ Write)
-    → (output.HasFailed ↔ (r ≡ Err Write)) → EndsWith errors status (outcome_of_run r)
-    → ((output.HasFailed → ⊥) × EndsWith errors status Done) ⊎ (output.HasFailed × EndsWith errors status (Broken Write))
-helped output errors status (Ok done) told failed ends =
+pub helped : (output : Stream) (r : Result (Unit {0}) RunFault) → IfErr r (λ f. f ≡ Write)
+    → (output.HasFailed ↔ (r ≡ Err Write)) → (Ends : Outcome → Type 0) → Ends (outcome_of_run r)
+    → ((output.HasFailed → ⊥) × Ends Done) ⊎ (output.HasFailed × Ends (Broken Write))
+helped output (Ok done) told failed Ends ends =
     inl ((λ has. let bad : Ok done ≡ Err Write = failed.0 has in cc), ends)
-helped output errors status (Err fault) told failed ends =
-    inr (failed.1 (ap (λ f. Err f) told), subst (λ f. EndsWith errors status (Broken f)) told ends)
+helped output (Err fault) told failed Ends ends =
+    inr (failed.1 (ap (λ f. Err f) told), subst (λ f. Ends (Broken f)) told ends)
 
 -- what the words ask for
 module _ (words : List (Bor Text)) (r : Result Job JobFault) (joined : (r ≡ Ok Joined) ↔ (length words ≤ 1)) where

@@ -2,3 +2,4 @@
 pub mod Verdicts
 pub mod Faults
 pub mod SolveRun
+pub mod Writing

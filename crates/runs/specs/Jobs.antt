@@ -1,6 +1,5 @@
 -- What is done for each job, from the files and standard input to standard output.
 use Rattle.std.specs.Prelude.{◌≡◌, ◌≢◌, ℕ, Bool, true, ◌⊎◌, ◌↔◌, List, Option}
-use Rattle.board_text.specs.Ranges.{InRange}
 use Rattle.command_line.specs.declared.asked.Job.{Job}
 use Rattle.command_line.specs.declared.asked.Job.TheVariants.{Joined, Check, Nested, Solve, Report}
 use Rattle.command_line.specs.declared.asked.Job.TheVariants.{Play, Climb}

@@ -1,5 +1,6 @@
 -- What the program does with its words, from its files and streams to its exit status.
-use Rattle.std.specs.Prelude.{◌≡◌, ℕ, ◌<◌, ◌≤◌, ◌⊎◌, true, List, [], length, codes, string_bytes}
+use Rattle.std.specs.Prelude.{◌≡◌, ℕ, ◌<◌, ◌≤◌, ◌⊎◌, Bool, true, false, ◌&&◌, List, [], ◌++◌, length, codes}
+use Rattle.std.specs.Prelude.{string_bytes}
 use Rattle.std.specs.Io.KnownBytes.{Appends}
 use Rattle.clap.specs.Walk.{Text, texts}
 use Rattle.clap.specs.Words.{fault_of, subcommand_of, takes}
@@ -8,7 +9,7 @@ use Rattle.board_text.specs.Streams.{AppendsFront}
 use Rattle.command_line.specs.Commands.{program}
 use Rattle.command_line.specs.Reading.{IsReadAs, Shows}
 use Rattle.command_line.specs.declared.asked.Job.{Job}
-use Rattle.command_line.specs.declared.asked.Job.TheVariants.{Joined}
+use Rattle.command_line.specs.declared.asked.Job.TheVariants.{Joined, Play, Climb}
 use Rattle.command_line.specs.declared.asked.JobFault.{JobFault}
 use Rattle.command_line.specs.declared.asked.JobFault.TheVariants.{Help, Usage, Memory as NoMemory}
 use Rattle.runs.specs.FaultLines.{line_of_fault}
@@ -18,6 +19,7 @@ use Rattle.runs.specs.Outcomes.{status_of}
 use Rattle.runs.specs.declared.fault.RunFault.TheVariants.{Memory, Write}
 use Rattle.runs.specs.declared.outcome.Outcome.{Outcome}
 use Rattle.runs.specs.declared.outcome.Outcome.TheVariants.{Broken, Done, Refused}
+use Rattle.runs.specs.declared.serving.Terminals.{Terminals}
 use Rattle.runs.specs.declared.serving.Words.{Words}
 use Rattle.runs.specs.declared.serving.Words.TheVariants.{Given, NotText, OutOfMemory}
 
@@ -34,30 +36,61 @@ IsWritten stream text =
     ((stream.HasFailed → ⊥) × Appends stream.bytes.old stream.bytes.new text)
     ⊎ (stream.HasFailed × AppendsFront stream.bytes.old stream.bytes.new text)
 
--- the line of a fault was written, and of no fault none
-abbrev pub Tells : Stream → Outcome → Type 0
-Tells errors Done = errors.IsKept
-Tells errors Refused = errors.IsKept
-Tells errors (Broken fault) = IsWritten errors (line_of_fault fault)
+-- a line for a person, where a terminal is; elsewhere nothing
+abbrev pub IsForPerson : Bool → List ℕ → Type 0
+IsForPerson true text = (words : List ℕ) × (text ≡ closed words)
+IsForPerson false text = text ≡ []
 
--- the outcome was told on standard error and by the exit status
-abbrev pub EndsWith : Stream → ℕ → Outcome → Type 0
-EndsWith errors status outcome = Tells errors outcome × (status ≡ status_of outcome)
+-- the text, and at a terminal one line after it that explains it
+abbrev pub IsExplained : Bool → List ℕ → List ℕ → Type 0
+IsExplained terminal text said =
+    (note : List ℕ) × IsForPerson terminal note × (said ≡ text ++ note)
 
-module _ (at : List ℕ → File) (input output errors : Stream) (status : ℕ) where
+-- the line of a fault, explained; without a fault nothing
+abbrev pub IsEnding : Bool → Outcome → List ℕ → Type 0
+IsEnding terminal Done said = said ≡ []
+IsEnding terminal Refused said = said ≡ []
+IsEnding terminal (Broken fault) said = IsExplained terminal (line_of_fault fault) said
+
+-- the job reads lines from standard input that a person may type
+abbrev pub is_typed : Job → Bool
+is_typed Joined = true
+is_typed (Play side board) = true
+is_typed (Climb levels) = true
+is_typed job = false
+
+-- before such a job a line, if standard input and standard error are terminals
+abbrev pub IsGreeting : Terminals → Job → List ℕ → Type 0
+IsGreeting terminals job text =
+    IsForPerson (terminals.input && terminals.errors && is_typed job) text
+
+-- the text was written; if it is empty, the stream is as it was
+abbrev pub IsSaid : Stream → List ℕ → Type 0
+IsSaid stream text = IsWritten stream text × (text ≡ [] → stream.IsKept)
+
+module _ (at : List ℕ → File) (terminals : Terminals) (input output errors : Stream)
+    (status : ℕ) where
+  -- after this greeting the outcome was told on standard error, and by the exit status
+  abbrev pub EndsWith : List ℕ → Outcome → Type 0
+  EndsWith greeting outcome =
+      ((said : List ℕ) × IsEnding terminals.errors outcome said
+      × IsSaid errors (greeting ++ said)) × (status ≡ status_of outcome)
+
   -- a text was written on standard output
   abbrev pub IsHelped : List ℕ → Type 0
   IsHelped text = IsWritten output text × input.IsKept
-      × (((output.HasFailed → ⊥) × EndsWith errors status Done)
-      ⊎ (output.HasFailed × EndsWith errors status (Broken Write)))
+      × (((output.HasFailed → ⊥) × EndsWith [] Done)
+      ⊎ (output.HasFailed × EndsWith [] (Broken Write)))
 
   -- a text was written on standard error, for wrong use
   abbrev pub IsRefusedWith : List ℕ → Type 0
-  IsRefusedWith text = IsWritten errors text × input.IsKept × output.IsKept × (status ≡ 2)
+  IsRefusedWith text =
+      ((said : List ℕ) × IsExplained terminals.errors text said × IsWritten errors said)
+      × input.IsKept × output.IsKept × (status ≡ 2)
 
   -- memory to read the words in was refused
   abbrev pub HasNoMemory : Type 0
-  HasNoMemory = input.IsKept × output.IsKept × EndsWith errors status (Broken Memory)
+  HasNoMemory = input.IsKept × output.IsKept × EndsWith [] (Broken Memory)
 
   -- words that ask for no job are answered, by help or the version or as wrong use
   abbrev pub Answers : JobFault → Type 0
@@ -68,8 +101,8 @@ module _ (at : List ℕ → File) (input output errors : Stream) (status : ℕ) 
   -- the words ask for a job, which is done or broken off; or for none, and that is answered
   abbrev pub ServesWords : List Text → Type 0
   ServesWords words =
-      ((job : Job) × Asks words job
-      × (outcome : Outcome) × IsDone at input output job outcome × EndsWith errors status outcome)
+      ((job : Job) × Asks words job × (greeting : List ℕ) × IsGreeting terminals job greeting
+      × (outcome : Outcome) × IsDone at input output job outcome × EndsWith greeting outcome)
       ⊎ ((fault : JobFault) × (1 < length words) × Shows (fault_of program words) fault
       × (takes program words ≡ true → fault ≡ NoMemory) × Answers fault)
 

@@ -6,6 +6,20 @@ ghost use Rattle.runs.specs.Folders.{File, Unknown, Opens, StaysShut};
 use board_text::{Failed, Source, Through};
 use std::fs;
 use std::fs::Files;
+use std::io::ErrorKind;
+
+/// Why a path can't be read.
+#[derive(Clone, Copy, Debug, PartialEq, Eq)]
+pub enum Trouble {
+    /// There is no such file.
+    Missing,
+    /// Reading it is not permitted.
+    Forbidden,
+    /// It is a folder.
+    Folder,
+    /// Anything else.
+    Other,
+}
 
 /// A place where paths are opened for reading.
 pub trait Folder {
@@ -21,6 +35,10 @@ pub trait Folder {
         ensures ready { IfOk result (λ reader. Self.Reader.has_failed reader ≡ false) }
         ensures unended { IfOk result (λ reader. Self.Reader.has_ended reader ≡ false) }
         ensures shut { OnErr result (StaysShut (at self.now path.now)) };
+
+    /// Why a path that couldn't be opened or read can't be, as far as the folder knows. A person is
+    /// told; nothing else depends on it.
+    fn trouble(&self, path: &str) -> Trouble;
 }
 
 /// The files of the system, of which no contract knows the bytes.
@@ -44,6 +62,21 @@ impl<R: Files> Folder for System<'_, R> {
         match fs::open(self.rt, path) {
             Ok(file) => Ok(Through::new(file)),
             Err(_) => Err(Failed),
+        }
+    }
+
+    fn trouble(&self, path: &str) -> Trouble {
+        match fs::open(self.rt, path) {
+            Ok(_) => match fs::metadata(self.rt, path) {
+                Ok(found) if found.is_dir() => Trouble::Folder,
+                _ => Trouble::Other,
+            },
+            Err(error) => match error.kind() {
+                ErrorKind::NotFound => Trouble::Missing,
+                ErrorKind::PermissionDenied => Trouble::Forbidden,
+                ErrorKind::IsADirectory => Trouble::Folder,
+                _ => Trouble::Other,
+            },
         }
     }
 }

@@ -8,14 +8,17 @@ ghost use Rattle.command_line.specs.Reading.{IsInRange};
 ghost use Rattle.runs.specs.Jobs.{IsDone, Checks, ChecksJoined, Climbs, Counts, Plays, Solves};
 ghost use Rattle.runs.specs.Jobs.{TellsWrites, WritesNested, stream_of};
 
-use crate::checking::{run_check, run_joined};
+use crate::checking::{MAX_PROOF_BYTES, run_check, run_joined};
 use crate::fault::RunFault;
 use crate::folder::Folder;
 use crate::nesting::run_nested;
+use crate::notes::{BOARD_LIMITS, LINE_LIMITS, Note, Origin, PROOF_LIMITS, unread};
 use crate::outcome::Outcome;
 use crate::playing::{run_climb, run_play};
+use crate::reading::MAX_BOARD_BYTES;
 use crate::reporting::{run_report, run_report_by};
 use crate::solving::{run_solve, run_solve_by};
+use crate::watched::Watched;
 use board_text::{MAX_PEBBLES, Sink, Source};
 use command_line::{Job, MAX_WORKERS};
 use nested_cycles::{MAX_BOARD_LEVELS, MAX_LEVELS};
@@ -24,23 +27,78 @@ use std::alloc::Global;
 use std::sync::Wait;
 use std::thread::Threads;
 
+/// How a job ended, and the explanation of its fault, which is empty if it was not broken off.
+#[derive(Clone, Copy, Debug, PartialEq, Eq)]
+pub struct Ended<'a> {
+    pub outcome: Outcome,
+    pub note: Note<'a>,
+}
+
+/// The end of a job whose file at `path` couldn't be opened.
+fn unopened<'a, F: Folder>(folder: &F, path: &'a str) -> Ended<'a>
+    ensures { result.outcome ≡ Broken Read }
+{
+    Ended {
+        outcome: Outcome::Broken(RunFault::Read),
+        note: unread(path, folder.trouble(path)),
+    }
+}
+
+/// The end of a job that reads the board at `path` alone.
+fn on_board<'a, F: Folder>(
+    outcome: Outcome,
+    folder: &F,
+    path: &'a str,
+    reader: &Watched<F::Reader>,
+) -> Ended<'a>
+    ensures { result.outcome ≡ outcome }
+{
+    let text = file(folder, path, reader, MAX_BOARD_BYTES, BOARD_LIMITS);
+    Ended {
+        outcome,
+        note: Note::of(outcome, &text, &text),
+    }
+}
+
+/// A file that was read.
+fn file<'a, 'h, F: Folder>(
+    folder: &F,
+    path: &'a str,
+    reader: &'h Watched<F::Reader>,
+    limit: usize,
+    limits: &'static str,
+) -> Origin<'a, 'h> {
+    let trouble = if reader.failed() {
+        Some(folder.trouble(path))
+    } else {
+        None
+    };
+    Origin {
+        name: path,
+        head: Some(reader.head()),
+        trouble,
+        is_too_long: reader.count() > limit,
+        limits,
+    }
+}
+
 /// Does the job, and says how it ended.
 ///
 /// The streams must not have failed before. With several workers it may wait for them.
-pub fn carry_out<F: Folder, I: Source, O: Sink>(
+pub fn carry_out<'a, F: Folder, I: Source, O: Sink>(
     rt: &(impl Threads + Wait + Sync),
     alloc: Global,
-    job: &Job<'_>,
+    job: &Job<'a>,
     folder: &F,
     input: &mut I,
     output: &mut O,
-) -> Outcome
+) -> Ended<'a>
     requires numbers { IsInRange job.now }
     requires input_ready { I.has_failed input.old ≡ false }
     requires input_unended { I.has_ended input.old ≡ false }
     requires output_ready { O.has_failed output.old ≡ false }
     ensures { IsDone (F.at folder.now) (stream_of I.remaining I.has_failed input.old input.new)
-        (stream_of O.contents O.has_failed output.old output.new) job.now result }
+        (stream_of O.contents O.has_failed output.old output.new) job.now result.outcome }
 {
     match *job {
         Job::Joined => check_joined(rt, alloc, input, output),
@@ -59,135 +117,173 @@ fn check_joined<I: Source, O: Sink>(
     alloc: Global,
     input: &mut I,
     output: &mut O,
-) -> Outcome
+) -> Ended<'static>
     requires input_ready { I.has_failed input.old ≡ false }
     requires input_unended { I.has_ended input.old ≡ false }
     requires output_ready { O.has_failed output.old ≡ false }
     ensures done { ChecksJoined (stream_of I.remaining I.has_failed input.old input.new)
-        (stream_of O.contents O.has_failed output.old output.new) result }
-    ensures writes { TellsWrites (stream_of O.contents O.has_failed output.old output.new) result }
-    ensures reads { I.has_failed input.new ≡ true → result ≡ Broken Read }
+        (stream_of O.contents O.has_failed output.old output.new) result.outcome }
+    ensures writes { TellsWrites (stream_of O.contents O.has_failed output.old output.new) result.outcome }
+    ensures reads { I.has_failed input.new ≡ true → result.outcome ≡ Broken Read }
 {
-    Outcome::of_check(run_joined(rt, alloc, input, output))
+    let outcome = Outcome::of_check(run_joined(rt, alloc, input, output));
+    let text = Origin::standard_input(PROOF_LIMITS);
+    Ended {
+        outcome,
+        note: Note::of(outcome, &text, &text),
+    }
 }
 
 /// Checks the document at a path for the board at another. Both are opened before one is read.
-fn check<F: Folder, O: Sink>(
+fn check<'a, F: Folder, O: Sink>(
     rt: &(impl Threads + Sync),
     alloc: Global,
     folder: &F,
-    board: &str,
-    proof: &str,
+    board: &'a str,
+    proof: &'a str,
     output: &mut O,
-) -> Outcome
+) -> Ended<'a>
     requires output_ready { O.has_failed output.old ≡ false }
     ensures done { Checks (F.at folder.now board.now) (F.at folder.now proof.now)
-        (stream_of O.contents O.has_failed output.old output.new) result }
-    ensures writes { TellsWrites (stream_of O.contents O.has_failed output.old output.new) result }
+        (stream_of O.contents O.has_failed output.old output.new) result.outcome }
+    ensures writes { TellsWrites (stream_of O.contents O.has_failed output.old output.new) result.outcome }
 {
-    let Ok(mut reader) = folder.open(board) else {
-        return Outcome::Broken(RunFault::Read);
+    let Ok(file_of_board) = folder.open(board) else {
+        return unopened(folder, board);
     };
-    let Ok(mut other) = folder.open(proof) else {
-        return Outcome::Broken(RunFault::Read);
+    let Ok(file_of_proof) = folder.open(proof) else {
+        return unopened(folder, proof);
     };
-    Outcome::of_check(run_check(rt, alloc, &mut reader, &mut other, output))
+    let mut reader = Watched::new(file_of_board);
+    let mut other = Watched::new(file_of_proof);
+    let outcome = Outcome::of_check(run_check(rt, alloc, &mut reader, &mut other, output));
+    let first = file(folder, board, &reader, MAX_BOARD_BYTES, BOARD_LIMITS);
+    let second = file(folder, proof, &other, MAX_PROOF_BYTES, PROOF_LIMITS);
+    Ended {
+        outcome,
+        note: Note::of(outcome, &first, &second),
+    }
 }
 
 /// Writes the text of a nested board.
-fn write_nested<O: Sink>(alloc: Global, levels: u8, pebbles: u8, output: &mut O) -> Outcome
+fn write_nested<O: Sink>(alloc: Global, levels: u8, pebbles: u8, output: &mut O) -> Ended<'static>
     requires levels { InRange 1 MAX_BOARD_LEVELS levels }
     requires pebbles { InRange 1 MAX_PEBBLES pebbles }
     requires output_ready { O.has_failed output.old ≡ false }
     ensures done { WritesNested levels pebbles
-        (stream_of O.contents O.has_failed output.old output.new) result }
-    ensures writes { TellsWrites (stream_of O.contents O.has_failed output.old output.new) result }
+        (stream_of O.contents O.has_failed output.old output.new) result.outcome }
+    ensures writes { TellsWrites (stream_of O.contents O.has_failed output.old output.new) result.outcome }
 {
-    Outcome::of_run(run_nested(alloc, levels, pebbles, output))
+    let outcome = Outcome::of_run(run_nested(alloc, levels, pebbles, output));
+    Ended {
+        outcome,
+        note: Note::without_files(outcome),
+    }
 }
 
 /// Solves the board at a path, by this number of workers. One is this thread.
-fn solve<F: Folder, O: Sink>(
+fn solve<'a, F: Folder, O: Sink>(
     rt: &(impl Threads + Wait + Sync),
     alloc: Global,
     folder: &F,
     workers: u8,
-    board: &str,
+    board: &'a str,
     output: &mut O,
-) -> Outcome
+) -> Ended<'a>
     requires workers { InRange 1 MAX_WORKERS workers }
     requires output_ready { O.has_failed output.old ≡ false }
     ensures done { Solves workers (F.at folder.now board.now)
-        (stream_of O.contents O.has_failed output.old output.new) result }
-    ensures writes { TellsWrites (stream_of O.contents O.has_failed output.old output.new) result }
+        (stream_of O.contents O.has_failed output.old output.new) result.outcome }
+    ensures writes { TellsWrites (stream_of O.contents O.has_failed output.old output.new) result.outcome }
 {
-    let Ok(mut reader) = folder.open(board) else {
-        return Outcome::Broken(RunFault::Read);
+    let Ok(file_of_board) = folder.open(board) else {
+        return unopened(folder, board);
     };
+    let mut reader = Watched::new(file_of_board);
     if workers == 1 {
-        return Outcome::of_run(run_solve(alloc, &mut reader, output));
+        let outcome = Outcome::of_run(run_solve(alloc, &mut reader, output));
+        return on_board(outcome, folder, board, &reader);
     }
-    Outcome::of_run(run_solve_by(rt, alloc, workers, &mut reader, output))
+    let outcome = Outcome::of_run(run_solve_by(rt, alloc, workers, &mut reader, output));
+    on_board(outcome, folder, board, &reader)
 }
 
 /// Reports on the board at a path, by this number of workers. One is this thread.
-fn report<F: Folder, O: Sink>(
+fn report<'a, F: Folder, O: Sink>(
     rt: &(impl Threads + Wait + Sync),
     alloc: Global,
     folder: &F,
     workers: u8,
-    board: &str,
+    board: &'a str,
     output: &mut O,
-) -> Outcome
+) -> Ended<'a>
     requires workers { InRange 1 MAX_WORKERS workers }
     requires output_ready { O.has_failed output.old ≡ false }
     ensures done { Counts workers (F.at folder.now board.now)
-        (stream_of O.contents O.has_failed output.old output.new) result }
-    ensures writes { TellsWrites (stream_of O.contents O.has_failed output.old output.new) result }
+        (stream_of O.contents O.has_failed output.old output.new) result.outcome }
+    ensures writes { TellsWrites (stream_of O.contents O.has_failed output.old output.new) result.outcome }
 {
-    let Ok(mut reader) = folder.open(board) else {
-        return Outcome::Broken(RunFault::Read);
+    let Ok(file_of_board) = folder.open(board) else {
+        return unopened(folder, board);
     };
+    let mut reader = Watched::new(file_of_board);
     if workers == 1 {
-        return Outcome::of_run(run_report(alloc, &mut reader, output));
+        let outcome = Outcome::of_run(run_report(alloc, &mut reader, output));
+        return on_board(outcome, folder, board, &reader);
     }
-    Outcome::of_run(run_report_by(rt, alloc, workers, &mut reader, output))
+    let outcome = Outcome::of_run(run_report_by(rt, alloc, workers, &mut reader, output));
+    on_board(outcome, folder, board, &reader)
 }
 
 /// Plays on the board at a path with a person, who is this side and writes to standard input.
-fn play<F: Folder, I: Source, O: Sink>(
+fn play<'a, F: Folder, I: Source, O: Sink>(
     alloc: Global,
     folder: &F,
     side: Side,
-    board: &str,
+    board: &'a str,
     input: &mut I,
     output: &mut O,
-) -> Outcome
+) -> Ended<'a>
     requires input_ready { I.has_failed input.old ≡ false }
     requires input_unended { I.has_ended input.old ≡ false }
     requires output_ready { O.has_failed output.old ≡ false }
     ensures done { Plays side (F.at folder.now board.now)
         (stream_of I.remaining I.has_failed input.old input.new)
-        (stream_of O.contents O.has_failed output.old output.new) result }
-    ensures writes { TellsWrites (stream_of O.contents O.has_failed output.old output.new) result }
-    ensures reads { I.has_failed input.new ≡ true → result ≡ Broken Read }
+        (stream_of O.contents O.has_failed output.old output.new) result.outcome }
+    ensures writes { TellsWrites (stream_of O.contents O.has_failed output.old output.new) result.outcome }
+    ensures reads { I.has_failed input.new ≡ true → result.outcome ≡ Broken Read }
 {
-    let Ok(mut reader) = folder.open(board) else {
-        return Outcome::Broken(RunFault::Read);
+    let Ok(file_of_board) = folder.open(board) else {
+        return unopened(folder, board);
     };
-    Outcome::of_run(run_play(alloc, side, &mut reader, input, output))
+    let mut reader = Watched::new(file_of_board);
+    let outcome = Outcome::of_run(run_play(alloc, side, &mut reader, input, output));
+    let text = file(folder, board, &reader, MAX_BOARD_BYTES, BOARD_LIMITS);
+    Ended {
+        outcome,
+        note: Note::of(outcome, &text, &Origin::standard_input(LINE_LIMITS)),
+    }
 }
 
 /// Plays on the nested board of a level with a person, who asks by the lines of standard input.
-fn climb<I: Source, O: Sink>(alloc: Global, levels: u8, input: &mut I, output: &mut O) -> Outcome
+fn climb<I: Source, O: Sink>(
+    alloc: Global,
+    levels: u8,
+    input: &mut I,
+    output: &mut O,
+) -> Ended<'static>
     requires levels { InRange 1 MAX_LEVELS levels }
     requires input_ready { I.has_failed input.old ≡ false }
     requires input_unended { I.has_ended input.old ≡ false }
     requires output_ready { O.has_failed output.old ≡ false }
     ensures done { Climbs levels (stream_of I.remaining I.has_failed input.old input.new)
-        (stream_of O.contents O.has_failed output.old output.new) result }
-    ensures writes { TellsWrites (stream_of O.contents O.has_failed output.old output.new) result }
-    ensures reads { I.has_failed input.new ≡ true → result ≡ Broken Read }
+        (stream_of O.contents O.has_failed output.old output.new) result.outcome }
+    ensures writes { TellsWrites (stream_of O.contents O.has_failed output.old output.new) result.outcome }
+    ensures reads { I.has_failed input.new ≡ true → result.outcome ≡ Broken Read }
 {
-    Outcome::of_run(run_climb(alloc, levels, input, output))
+    let outcome = Outcome::of_run(run_climb(alloc, levels, input, output));
+    Ended {
+        outcome,
+        note: Note::without_files(outcome),
+    }
 }

@@ -6,10 +6,12 @@ mod checking;
 mod fault;
 mod fault_lines;
 mod folder;
+mod hints;
 mod jobs;
 mod joined;
 mod laws;
 mod nesting;
+mod notes;
 mod outcome;
 mod output;
 mod playing;
@@ -18,24 +20,26 @@ mod reporting;
 mod serving;
 mod solving;
 mod verdicts;
+mod watched;
 mod writing;
 
 pub use boards::small_board;
 pub use checking::{MAX_JOINED_BYTES, MAX_PROOF_BYTES, run_check, run_joined};
 pub use fault::RunFault;
 pub use fault_lines::{FaultLine, MAX_LINE_BYTES, fault_line};
-pub use folder::{Folder, System};
-pub use jobs::carry_out;
+pub use folder::{Folder, System, Trouble};
+pub use jobs::{Ended, carry_out};
 pub use joined::{front_len, one_front};
 pub use laws::{
     accepted_claims_hold, limits, printed_documents_are_accepted, report_or_fault, reports_add_up,
     solution_or_fault, solved_boards_show_their_value, written_documents_mean_the_value,
 };
 pub use nesting::{nested_text, run_nested};
+pub use notes::Note;
 pub use outcome::Outcome;
 pub use playing::{run_climb, run_play};
 pub use reading::MAX_BOARD_BYTES;
 pub use reporting::{report_text, report_text_by, run_report, run_report_by};
-pub use serving::{Words, serve};
+pub use serving::{Terminals, Words, serve};
 pub use solving::{Solved, run_solve, run_solve_by, solve_text, solve_text_by};
 pub use verdicts::{Verdict, VerdictLine, check_joined_text, check_text};

@@ -1,22 +1,38 @@
 //! The program, from its words to its exit status.
 
-ghost use Rattle.std.specs.Prelude.{◌≡◌, false};
+ghost use Rattle.std.specs.Prelude.{◌≡◌, ◌&&◌, ℕ, List, true, false};
 ghost use Rattle.clap.specs.Walk.{texts};
 ghost use Rattle.runs.specs.Jobs.{stream_of};
-ghost use Rattle.runs.specs.Serving.{IsWritten, Serves, ServesWords, Tells};
+ghost use Rattle.runs.specs.Inside.Writing.{IsMore};
+ghost use Rattle.runs.specs.Serving.{IsEnding, IsExplained, IsForPerson, IsGreeting, Serves, ServesWords};
+ghost use Rattle.runs.specs.declared.fault.RunFault.TheVariants.{Memory};
+ghost use Rattle.runs.specs.declared.outcome.Outcome.TheVariants.{Broken};
 ghost use Rattle.runs.specs.Outcomes.{status_of};
 
 use crate::fault::RunFault;
 use crate::fault_lines::fault_line;
 use crate::folder::Folder;
 use crate::jobs::carry_out;
+use crate::notes::{Note, greeting};
 use crate::outcome::Outcome;
-use crate::writing::write_text;
+use crate::writing::{write_more, write_text};
 use board_text::{Sink, Source};
-use command_line::{JobFault, job};
+use command_line::{Job, JobFault, job};
+use itoa::Buffer;
 use std::alloc::Global;
 use std::sync::Wait;
 use std::thread::Threads;
+
+/// The text for a word that isn't text.
+const NOT_TEXT: &str = "error: a word on the command line is not text\n";
+
+/// The explanation of a word that isn't text.
+const NOT_TEXT_NOTE: &str =
+    "a path must be UTF-8; rename the file, or give it as standard input (/dev/stdin)";
+
+/// The explanation of wrong use.
+const USAGE_NOTE: &str =
+    "`pebbles --help` lists the commands, and `pebbles help COMMAND` the words of one";
 
 /// The words of a command line, the program's name first, or why there are none.
 #[derive(Clone, Copy, Debug)]
@@ -28,15 +44,32 @@ pub enum Words<'a, 'w> {
     OutOfMemory,
 }
 
+/// The standard streams that are terminals.
+#[derive(Clone, Copy, Debug, PartialEq, Eq)]
+pub struct Terminals {
+    pub input: bool,
+    pub errors: bool,
+}
+
+impl Terminals {
+    /// Whether standard input and standard error are terminals.
+    fn are_both(self) -> bool
+        ensures { result ≡ (self.input && self.errors) }
+    {
+        self.input && self.errors
+    }
+}
+
 /// Does what the words ask for, and gives the exit status.
 ///
 /// Paths are opened in the folder. Results, transcripts and help go to `output`, fault lines and
-/// usage texts to `errors`.
+/// usage texts to `errors`, and if that is a terminal, an explanation after each.
 /// The streams must not have failed before. With several workers it may wait for them.
 pub fn serve<F: Folder, I: Source, O: Sink, E: Sink>(
     rt: &(impl Threads + Wait + Sync),
     alloc: Global,
     words: &Words<'_, '_>,
+    terminals: Terminals,
     folder: &F,
     input: &mut I,
     output: &mut O,
@@ -46,16 +79,18 @@ pub fn serve<F: Folder, I: Source, O: Sink, E: Sink>(
     requires input_unended { I.has_ended input.old ≡ false }
     requires output_ready { O.has_failed output.old ≡ false }
     requires errors_ready { E.has_failed errors.old ≡ false }
-    ensures { Serves (F.at folder.now)
+    ensures { Serves (F.at folder.now) terminals
         (stream_of I.remaining I.has_failed input.old input.new)
         (stream_of O.contents O.has_failed output.old output.new)
         (stream_of E.contents E.has_failed errors.old errors.new)
         result words.now }
 {
     match *words {
-        Words::Given(words) => serve_words(rt, alloc, words, folder, input, output, errors),
-        Words::NotText => refuse("error: a word on the command line is not text\n", errors),
-        Words::OutOfMemory => tell(Outcome::Broken(RunFault::Memory), errors),
+        Words::Given(words) => {
+            serve_words(rt, alloc, words, terminals, folder, input, output, errors)
+        }
+        Words::NotText => refuse(NOT_TEXT, NOT_TEXT_NOTE, terminals, errors),
+        Words::OutOfMemory => tell_no_memory(terminals, errors),
     }
 }
 
@@ -64,6 +99,7 @@ fn serve_words<F: Folder, I: Source, O: Sink, E: Sink>(
     rt: &(impl Threads + Wait + Sync),
     alloc: Global,
     words: &[&str],
+    terminals: Terminals,
     folder: &F,
     input: &mut I,
     output: &mut O,
@@ -73,50 +109,118 @@ fn serve_words<F: Folder, I: Source, O: Sink, E: Sink>(
     requires input_unended { I.has_ended input.old ≡ false }
     requires output_ready { O.has_failed output.old ≡ false }
     requires errors_ready { E.has_failed errors.old ≡ false }
-    ensures { ServesWords (F.at folder.now)
+    ensures { ServesWords (F.at folder.now) terminals
         (stream_of I.remaining I.has_failed input.old input.new)
         (stream_of O.contents O.has_failed output.old output.new)
         (stream_of E.contents E.has_failed errors.old errors.new)
         result (texts words.now) }
 {
     match job(alloc, words) {
-        Ok(job) => tell(carry_out(rt, alloc, &job, folder, input, output), errors),
-        Err(JobFault::Help { text }) => tell(Outcome::of_run(write_text(output, &text)), errors),
-        Err(JobFault::Usage { text }) => refuse(&text, errors),
-        Err(JobFault::Memory) => tell(Outcome::Broken(RunFault::Memory), errors),
+        Ok(job) => {
+            greet(&job, terminals, errors);
+            let ended = carry_out(rt, alloc, &job, folder, input, output);
+            tell(ended.outcome, ended.note, terminals, errors)
+        }
+        Err(JobFault::Help { text }) => {
+            let outcome = Outcome::of_run(write_text(output, &text));
+            tell(outcome, Note::without_files(outcome), terminals, errors)
+        }
+        Err(JobFault::Usage { text }) => refuse(&text, USAGE_NOTE, terminals, errors),
+        Err(JobFault::Memory) => tell_no_memory(terminals, errors),
+    }
+}
+
+/// Says that memory to read the words in was refused, and gives the exit status.
+fn tell_no_memory<E: Sink>(terminals: Terminals, errors: &mut E) -> u8
+    ensures told { (said : List ℕ) × IsEnding terminals.errors (Broken Memory) said
+        × IsMore E.contents E.has_failed errors.old errors.new said }
+    ensures status { result ≡ status_of (Broken Memory) }
+{
+    let outcome = Outcome::Broken(RunFault::Memory);
+    tell(outcome, Note::without_files(outcome), terminals, errors)
+}
+
+/// Tells a person at a terminal what the job reads there, if it reads what is typed.
+fn greet<E: Sink>(job: &Job<'_>, terminals: Terminals, errors: &mut E)
+    ensures { (line : List ℕ) × IsGreeting terminals job.now line
+        × IsMore E.contents E.has_failed errors.old errors.new line }
+{
+    if !terminals.are_both() {
+        return;
+    }
+    if let Some(words) = greeting(job) {
+        write_more(errors, words);
+        write_more(errors, "\n");
     }
 }
 
 /// Says on standard error how a job was broken off, if it was, and gives the exit status.
-fn tell<E: Sink>(outcome: Outcome, errors: &mut E) -> u8
-    requires ready { E.has_failed errors.old ≡ false }
-    ensures told { Tells (stream_of E.contents E.has_failed errors.old errors.new) outcome }
+fn tell<E: Sink>(outcome: Outcome, note: Note<'_>, terminals: Terminals, errors: &mut E) -> u8
+    ensures told { (said : List ℕ) × IsEnding terminals.errors outcome said
+        × IsMore E.contents E.has_failed errors.old errors.new said }
     ensures status { result ≡ status_of outcome }
 {
-    write_line(outcome, errors);
+    write_ending(outcome, note, terminals, errors);
     outcome.status()
 }
 
 /// Writes the line of the fault that broke a job off, if one did.
-fn write_line<E: Sink>(outcome: Outcome, errors: &mut E)
-    requires ready { E.has_failed errors.old ≡ false }
-    ensures { Tells (stream_of E.contents E.has_failed errors.old errors.new) outcome }
+fn write_ending<E: Sink>(outcome: Outcome, note: Note<'_>, terminals: Terminals, errors: &mut E)
+    ensures { (said : List ℕ) × IsEnding terminals.errors outcome said
+        × IsMore E.contents E.has_failed errors.old errors.new said }
 {
     match outcome {
         Outcome::Done | Outcome::Refused => {}
         Outcome::Broken(fault) => {
             let line = fault_line(fault);
-            let _ = write_text(errors, line.as_str());
+            say(line.as_str(), note, terminals, errors);
         }
     }
 }
 
+/// Writes a text, and at a terminal its explanation.
+fn say<E: Sink>(text: &str, note: Note<'_>, terminals: Terminals, errors: &mut E)
+    ensures { (said : List ℕ) × IsExplained terminals.errors text.now said
+        × IsMore E.contents E.has_failed errors.old errors.new said }
+{
+    write_more(errors, text);
+    if !terminals.errors {
+        return;
+    }
+    write_note(note, errors);
+}
+
+/// Writes an explanation, as a line.
+fn write_note<E: Sink>(note: Note<'_>, errors: &mut E)
+    ensures { (line : List ℕ) × IsForPerson true line
+        × IsMore E.contents E.has_failed errors.old errors.new line }
+{
+    write_more(errors, note.about);
+    write_more(errors, ": ");
+    write_number(note.number, errors);
+    write_more(errors, note.words);
+    write_more(errors, "\n");
+}
+
+/// Writes the digits of a number, if there is one.
+fn write_number<E: Sink>(number: Option<u64>, errors: &mut E)
+    ensures { (text : List ℕ) × IsMore E.contents E.has_failed errors.old errors.new text }
+{
+    match number {
+        Some(number) => {
+            let mut digits = Buffer::new();
+            write_more(errors, digits.format(number));
+        }
+        None => {}
+    }
+}
+
 /// Writes a text that says that the use was wrong, and gives the exit status.
-fn refuse<E: Sink>(text: &str, errors: &mut E) -> u8
-    requires ready { E.has_failed errors.old ≡ false }
-    ensures said { IsWritten (stream_of E.contents E.has_failed errors.old errors.new) text.now }
+fn refuse<E: Sink>(text: &str, words: &'static str, terminals: Terminals, errors: &mut E) -> u8
+    ensures said { (said : List ℕ) × IsExplained terminals.errors text.now said
+        × IsMore E.contents E.has_failed errors.old errors.new said }
     ensures status { result ≡ 2 }
 {
-    let _ = write_text(errors, text);
+    say(text, Note::new("pebbles", words), terminals, errors);
     2
 }

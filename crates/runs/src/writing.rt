@@ -3,6 +3,7 @@
 ghost use Rattle.std.specs.Prelude.{◌≡◌, ◌↔◌, true, false, Err, IfErr, OnOk, OnErr};
 ghost use Rattle.std.specs.Io.KnownBytes.{Appends};
 ghost use Rattle.board_text.specs.Streams.{AppendsFront};
+ghost use Rattle.runs.specs.Inside.Writing.{IsMore};
 ghost use Rattle.runs.specs.declared.fault.RunFault.TheVariants.{Write};
 
 use crate::fault::RunFault;
@@ -19,5 +20,14 @@ pub(crate) fn write_text<W: Sink>(writer: &mut W, text: &str) -> Result<(), RunF
     match write_all(writer, text.as_bytes()) {
         Ok(()) => Ok(()),
         Err(Failed) => Err(RunFault::Write),
+    }
+}
+
+/// Writes the text, unless the writer has failed before. Nothing else is done after a failure.
+pub(crate) fn write_more<W: Sink>(writer: &mut W, text: &str)
+    ensures { IsMore W.contents W.has_failed writer.old writer.new text.now }
+{
+    if !writer.failed() && !text.is_empty() {
+        let _ = write_text(writer, text);
     }
 }

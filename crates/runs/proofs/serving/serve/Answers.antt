@@ -1,11 +1,31 @@
+use Rattle.std.specs.Prelude.{codes}
+use Rattle.board_text.specs.LineForms.{closed}
+use Rattle.runs.specs.declared.fault.RunFault.TheVariants.{Memory}
+use Rattle.runs.specs.declared.outcome.Outcome.TheVariants.{Broken}
 use Rattle.std.proofs.Common.{refl}
+use Rattle.runs.proofs.MoreTexts.{ended, refused}
 use Rattle.runs.proofs.serving.serve.Goals as goal
 
 pub returns-in-Given : goal.returns-in-Given
 returns-in-Given g c = rw c.in-Given.is c.serve_words.ensures
 
 pub returns-in-NotText : goal.returns-in-NotText
-returns-in-NotText g c = rw c.in-NotText.is (c.refuse.ensures.said, refl, refl, c.refuse.ensures.status)
+returns-in-NotText g c =
+    rw c.in-NotText.is (
+      refused g.E.Sink.contents g.E.Sink.has_failed c.args.errors.now c.requires.errors_ready c.refuse.new.errors c.args.terminals.errors (closed (codes "error: a word on the command line is not text")) c.refuse.ensures.said,
+      refl,
+      refl,
+      c.refuse.ensures.status,
+    )
 
 pub returns-in-OutOfMemory : goal.returns-in-OutOfMemory
-returns-in-OutOfMemory g c = rw c.in-OutOfMemory.is (refl, refl, (c.tell.ensures.told, c.tell.ensures.status))
+returns-in-OutOfMemory g c =
+    rw c.in-OutOfMemory.is (
+      refl,
+      refl,
+      (
+        ended g.E.Sink.contents g.E.Sink.has_failed c.args.errors.now c.requires.errors_ready c.tell_no_memory.new.errors
+            c.args.terminals.errors (Broken Memory) c.tell_no_memory.ensures.told,
+        c.tell_no_memory.ensures.status,
+      ),
+    )

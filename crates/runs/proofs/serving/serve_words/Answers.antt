@@ -1,5 +1,9 @@
-use Rattle.std.proofs.Common.{inl, inr, refl, string_bytes}
+use Rattle.runs.specs.declared.fault.RunFault.TheVariants.{Memory}
+use Rattle.runs.specs.declared.outcome.Outcome.TheVariants.{Broken}
+use Rattle.std.proofs.Common.{inl, inr, refl, [], string_bytes}
 use Rattle.runs.specs.Jobs.{stream_of}
+use Rattle.runs.specs.Serving.{EndsWith}
+use Rattle.runs.proofs.MoreTexts.{ended, greeted, refused}
 use Rattle.runs.proofs.Served.{asked, helped, more_words, written}
 use Rattle.runs.proofs.serving.serve_words.Goals as goal
 
@@ -7,19 +11,26 @@ pub returns-in-Ok : goal.returns-in-Ok
 returns-in-Ok g c = inl (
   c.in-Ok.job,
   asked c.args.words.now c.job.result c.job.ensures.joined c.in-Ok.job c.in-Ok.is c.in-Ok.ensures.job c.in-Ok.ensures.faultless,
-  c.carry_out.result,
-  c.carry_out.ensures,
-  (c.tell.ensures.told, c.tell.ensures.status),
+  c.greet.ensures.0,
+  c.greet.ensures.1,
+  c.carry_out-ended.result.outcome,
+  c.carry_out-ended.ensures,
+  (
+    greeted g.E.Sink.contents g.E.Sink.has_failed c.args.errors.now c.requires.errors_ready c.greet.new.errors c.tell.new.errors
+        c.greet.ensures.0 c.args.terminals.errors c.carry_out-ended.result.outcome c.greet.ensures.2 c.tell.ensures.told,
+    c.tell.ensures.status,
+  ),
 )
 
 pub returns-in-Err-Help : goal.returns-in-Err-Help
 returns-in-Err-Help g c =
     let fault = c.in-Err-Help.field-0 in
     let output = stream_of g.O.Sink.contents g.O.Sink.has_failed c.args.output.now c.write_text.new.writer in
+    let input = stream_of g.I.Source.remaining g.I.Source.has_failed c.args.input.now c.args.input.now in
     let errors = stream_of g.E.Sink.contents g.E.Sink.has_failed c.args.errors.now c.tell-in-Err-Help.new.errors in
     let w = c.write_text.ensures in
-    let told = rw c.of_run.ensures at c.tell-in-Err-Help.ensures.told in
-    let status = rw c.of_run.ensures at c.tell-in-Err-Help.ensures.status in
+    let told = rw c.of_run-outcome.ensures at c.tell-in-Err-Help.ensures.told in
+    let status = rw c.of_run-outcome.ensures at c.tell-in-Err-Help.ensures.status in
     inr (
       fault,
       more_words c.args.words.now c.job.result c.job.ensures.joined fault c.in-Err-Help.is,
@@ -29,7 +40,11 @@ returns-in-Err-Help g c =
         written output (string_bytes c.in-Err-Help.text) c.write_text.result
             (rw (c.deref.ensures, c.in-Err-Help.field-0-is) at w.ok) (rw (c.deref.ensures, c.in-Err-Help.field-0-is) at w.front) w.fault w.failed,
         refl,
-        helped output errors c.tell-in-Err-Help.result c.write_text.result w.fault w.failed (told, status),
+        helped output c.write_text.result w.fault w.failed (λ o. EndsWith (g.F.Folder.at c.args.folder.now) c.args.terminals input output errors c.tell-in-Err-Help.result [] o) (
+          ended g.E.Sink.contents g.E.Sink.has_failed c.args.errors.now c.requires.errors_ready c.tell-in-Err-Help.new.errors
+              c.args.terminals.errors _ told,
+          status,
+        ),
       ),
     )
 
@@ -42,7 +57,8 @@ returns-in-Err-Usage g c =
       c.in-Err-Usage.ensures.shows,
       c.in-Err-Usage.ensures.takes,
       rw c.in-Err-Usage.field-0-is (
-        rw (c.deref-in-Err-Usage.ensures, c.in-Err-Usage.field-0-is) at c.refuse.ensures.said,
+        refused g.E.Sink.contents g.E.Sink.has_failed c.args.errors.now c.requires.errors_ready c.refuse.new.errors c.args.terminals.errors
+            (string_bytes c.in-Err-Usage.text) (rw (c.deref-in-Err-Usage.ensures, c.in-Err-Usage.field-0-is) at c.refuse.ensures.said),
         refl,
         refl,
         c.refuse.ensures.status,
@@ -60,6 +76,10 @@ returns-in-Err-Memory g c =
       rw c.in-Err-Memory.field-0-is (
         refl,
         refl,
-        (c.tell-in-Err-Memory.ensures.told, c.tell-in-Err-Memory.ensures.status),
+        (
+          ended g.E.Sink.contents g.E.Sink.has_failed c.args.errors.now c.requires.errors_ready c.tell_no_memory.new.errors
+              c.args.terminals.errors (Broken Memory) c.tell_no_memory.ensures.told,
+          c.tell_no_memory.ensures.status,
+        ),
       ),
     )

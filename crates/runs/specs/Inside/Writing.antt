@@ -1,0 +1,10 @@
+-- Texts that are written one after the other.
+use Rattle.std.specs.Prelude.{◌≡◌, ℕ, Bool, true, false, List, Option}
+use Rattle.runs.specs.Jobs.{stream_of}
+use Rattle.runs.specs.Serving.{IsSaid}
+
+-- the text was written, unless the writer had failed: then it is as it was
+abbrev pub IsMore : {W : Type 0} → (W → Option (List ℕ)) → (W → Bool) → W → W → List ℕ → Type 0
+IsMore known has_failed before after text =
+    (has_failed before ≡ true → after ≡ before)
+    × (has_failed before ≡ false → IsSaid (stream_of known has_failed before after) text)

@@ -1,0 +1,178 @@
+//! The lines that are written for a person at a terminal: before a job that reads what is typed,
+//! and after the line of a fault.
+
+ghost use Rattle.std.specs.Prelude.{◌≡◌, true, false, MatchOption};
+ghost use Rattle.runs.specs.Serving.{is_typed};
+
+use crate::fault::RunFault;
+use crate::folder::Trouble;
+use crate::hints::{board_hint, proof_hint, trouble_hint};
+use crate::outcome::Outcome;
+use board_text::line_reader::LineReader;
+use board_text::{MAX_LABELS, MAX_PEBBLES};
+use command_line::Job;
+use positions::Side;
+
+/// The limits of a board, in words.
+pub(crate) const BOARD_LIMITS: &str = "a board has at most 1048576 bytes";
+
+/// The limits of a document and of a joined input, in words.
+pub(crate) const PROOF_LIMITS: &str = "an input has at most 134217728 bytes";
+
+/// The limits of the lines of a play, in words.
+pub(crate) const LINE_LIMITS: &str =
+    "a line of a play has at most 64 bytes, and a play at most 1000000 lines";
+
+/// The name of standard input in explanations.
+pub(crate) const STANDARD_INPUT: &str = "standard input";
+
+/// The explanation of a fault: the name of a file or of a stream, and what to look for there.
+#[derive(Clone, Copy, Debug, PartialEq, Eq)]
+pub struct Note<'a> {
+    pub about: &'a str,
+    /// The number that `words` begin with, if they begin with one.
+    pub number: Option<u64>,
+    pub words: &'static str,
+}
+
+impl<'a> Note<'a> {
+    /// The explanation of `outcome` in a job that reads `board`, and after it `other`. It is empty
+    /// if the job was not broken off.
+    pub(crate) fn of(outcome: Outcome, board: &Origin<'a, '_>, other: &Origin<'a, '_>) -> Note<'a> {
+        match outcome {
+            Outcome::Done | Outcome::Refused => Note::new("", ""),
+            Outcome::Broken(fault) => explain(fault, board, other),
+        }
+    }
+
+    /// An explanation without a number.
+    pub(crate) fn new(about: &'a str, words: &'static str) -> Note<'a> {
+        Note {
+            about,
+            number: None,
+            words,
+        }
+    }
+}
+
+impl Note<'static> {
+    /// The explanation of `outcome` in a job that reads no file.
+    pub(crate) fn without_files(outcome: Outcome) -> Note<'static> {
+        let input = Origin::standard_input(LINE_LIMITS);
+        Note::of(outcome, &input, &input)
+    }
+}
+
+/// An input of a job, as far as it explains a fault.
+#[derive(Clone, Copy, Debug)]
+pub(crate) struct Origin<'a, 'h> {
+    /// Its path, or the name of standard input.
+    pub(crate) name: &'a str,
+    /// Its first bytes, if they are known.
+    pub(crate) head: Option<&'h [u8]>,
+    /// Why it couldn't be read, if it couldn't.
+    pub(crate) trouble: Option<Trouble>,
+    /// Whether more bytes came than it may have.
+    pub(crate) is_too_long: bool,
+    /// Its limits, in words.
+    pub(crate) limits: &'static str,
+}
+
+impl Origin<'static, 'static> {
+    /// Standard input, of which no byte is known.
+    pub(crate) fn standard_input(limits: &'static str) -> Origin<'static, 'static> {
+        Origin {
+            name: STANDARD_INPUT,
+            head: None,
+            trouble: None,
+            is_too_long: false,
+            limits,
+        }
+    }
+}
+
+/// The explanation of `fault` in a job that reads `board`, and after it `other`.
+fn explain<'a>(fault: RunFault, board: &Origin<'a, '_>, other: &Origin<'a, '_>) -> Note<'a> {
+    match fault {
+        RunFault::Board(fault) => Note::new(board.name, board_hint(fault.kind, board.head)),
+        RunFault::TooLarge => too_large(board),
+        RunFault::Proof(fault) => Note::new(other.name, proof_hint(fault.kind, other.head)),
+        RunFault::Memory => Note::new(
+            "memory",
+            "the system gave no more; one worker takes least, and a smaller board less",
+        ),
+        RunFault::Worker => Note::new(
+            "threads",
+            "the system started no more of them; one worker, the default, needs none",
+        ),
+        RunFault::Read => match board.trouble {
+            Some(trouble) => unread(board.name, trouble),
+            None => unread(other.name, other.trouble.unwrap_or(Trouble::Other)),
+        },
+        RunFault::Write => Note::new(
+            "standard output",
+            "it took no more; was it closed, as by `head`, or is the disk full?",
+        ),
+        RunFault::Limit if board.is_too_long => Note::new(board.name, board.limits),
+        RunFault::Limit => Note::new(other.name, other.limits),
+    }
+}
+
+/// The explanation of an input that couldn't be opened or read.
+pub(crate) fn unread(name: &str, trouble: Trouble) -> Note<'_> {
+    Note::new(name, trouble_hint(name, trouble))
+}
+
+/// The explanation of a board that has too many configurations.
+fn too_large<'a>(board: &Origin<'a, '_>) -> Note<'a> {
+    let number = match board.head {
+        Some(head) => configurations(head),
+        None => None,
+    };
+    let words = match number {
+        Some(_) => {
+            " configurations, labels to the power of pebbles (in `board 2` with one label more); the most is 1048576"
+        }
+        None => {
+            "labels to the power of pebbles (in `board 2` with one label more) is more than 1048576, the most configurations of a board"
+        }
+    };
+    Note {
+        about: board.name,
+        number,
+        words,
+    }
+}
+
+/// The number of configurations of a board with these first bytes.
+fn configurations(head: &[u8]) -> Option<u64> {
+    let mut text = LineReader::new(head);
+    let version = text.number_line("board".as_bytes(), 1, 2)?;
+    let labels = text.number_line("labels".as_bytes(), 1, MAX_LABELS as u32)?;
+    let pebbles = text.number_line("pebbles".as_bytes(), 1, MAX_PEBBLES as u32)?;
+    let places = (labels + version - 1) as u64;
+    Some(places.saturating_pow(pebbles))
+}
+
+/// The words that tell a person what to type for `job`; none if it reads nothing that is typed.
+pub(crate) fn greeting(job: &Job<'_>) -> Option<&'static str>
+    ensures { MatchOption result (is_typed job.now ≡ false) (λ _. is_typed job.now ≡ true) }
+{
+    match *job {
+        Job::Joined => Some(
+            "type or paste a board and a strategy document, and Ctrl-D; `pebbles --help` lists the commands",
+        ),
+        Job::Play {
+            side: Side::Labeller,
+            ..
+        } => Some("type a label for the pebble that is asked for; `quit` or Ctrl-D ends the play"),
+        Job::Play {
+            side: Side::Adversary,
+            ..
+        }
+        | Job::Climb { .. } => Some(
+            "type the number of a pebble, of which the first is 0; `quit` or Ctrl-D ends the play",
+        ),
+        Job::Check { .. } | Job::Nested { .. } | Job::Solve { .. } | Job::Report { .. } => None,
+    }
+}
