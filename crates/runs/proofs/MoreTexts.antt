@@ -1,5 +1,28 @@
 -- Texts that are written one after the other are one text.
-use Rattle.std.proofs.Common.{◌≡◌, ◌+◌, ℕ, Bool, not, true, false, ◌&&◌, List, [], ◌∷◌, ◌++◌, length, take, refl, sym, ap, subst, ◌∙◌, inl, inr, arith}
+use Rattle.std.proofs.Common.{
+  ◌≡◌,
+  ◌+◌,
+  ℕ,
+  Bool,
+  not,
+  true,
+  false,
+  ◌&&◌,
+  List,
+  [],
+  ◌∷◌,
+  ◌++◌,
+  length,
+  take,
+  refl,
+  sym,
+  ap,
+  subst,
+  ◌∙◌,
+  inl,
+  inr,
+  arith,
+}
 use Rattle.std.proofs.lemmas.List.{append_assoc, append-nil, length-append, take-append-le}
 use Rattle.std.proofs.Math.Seq.{take-append-add}
 use Rattle.std.specs.Prelude.{Option, None, Some}
@@ -23,8 +46,12 @@ wider a b s t (n, low, part) =
     (n, omega (arith, low, length-append s t), subst (Appends a b) (sym (take-append-le n s t low)) part)
 
 then_front : (a b c : Option (List ℕ)) (s t : List ℕ) → Appends a b s → AppendsFront b c t → AppendsFront a c (s ++ t)
-then_front a b c s t first (n, low, part) =
-    (length s + n, omega (arith, low, length-append s t), subst (Appends a c) (sym (take-append-add s t n)) (both a b c s (take n t) first part))
+then_front a b c s t first (n, low, part) = (
+  length s + n,
+  omega (arith, low, length-append s t),
+  subst (Appends a c) (sym (take-append-add s t n)) (both a b
+      c s (take n t) first part),
+)
 
 grows_by_none : (a : Option (List ℕ)) → Appends a a []
 grows_by_none None = tt
@@ -38,7 +65,8 @@ module _ {W : Type 0} (known : W → Option (List ℕ)) (failed : W → Bool) wh
   abbrev between : W → W → List ℕ → Type 0
   between before after text = IsSaid (stream_of known failed before after) text
 
-  after_written : (a b c : W) (s t : List ℕ) (was : Bool) → failed b ≡ was → between a b s → IsMore known failed b c t → between a c (s ++ t)
+  after_written : (a b c : W) (s t : List ℕ) (was : Bool) → failed b ≡ was → between a b s → IsMore known failed b c
+      t → between a c (s ++ t)
   after_written a b c s t true is ((inl (sound, all)), kept) more = absurd (sound is)
   after_written a b c s t false is ((inl (sound, all)), kept) (same, more) =
       let next = more is in (
@@ -50,12 +78,17 @@ module _ {W : Type 0} (known : W → Option (List ℕ)) (failed : W → Bool) wh
       )
   after_written a b c s t was is ((inr (broke, front)), kept) (same, more) =
       let rest : c ≡ b = same broke in (
-        inr (ap failed rest ∙ broke, subst (λ (o : Option (List ℕ)). AppendsFront (known a) o (s ++ t)) (sym (ap known rest)) (wider (known a) (known b) s t front)),
+        inr (
+          ap failed rest ∙ broke,
+          subst (λ (o : Option (List ℕ)). AppendsFront (known a) o (s ++ t)) (sym (ap
+              known rest)) (wider (known a) (known b) s t front),
+        ),
         (λ none. rest ∙ kept (nothing s t none).0),
       )
 
   -- a text and then another
-  pub then_more : (a b c : W) (s t : List ℕ) → IsMore known failed a b s → IsMore known failed b c t → IsMore known failed a c (s ++ t)
+  pub then_more : (a b c : W) (s t : List ℕ) → IsMore known failed a b s → IsMore known failed b c t → IsMore known
+      failed a c (s ++ t)
   then_more a b c s t (same, first) second = (
     (λ broke. let rest : b ≡ a = same broke in second.0 (ap failed rest ∙ broke) ∙ rest),
     (λ sound. after_written a b c s t (failed b) refl (first sound) second),
@@ -65,7 +98,11 @@ module _ {W : Type 0} (known : W → Option (List ℕ)) (failed : W → Bool) wh
   pub none_more : (a : W) → IsMore known failed a a []
   none_more a = (
     (λ broke. refl),
-    (λ sound. (inl ((λ broke. let bad : true ≡ false = sym broke ∙ sound in cc), grows_by_none (known a)), (λ none. refl))),
+    (λ sound. (
+      inl ((λ broke. let bad : true ≡ false = sym broke ∙ sound in cc), grows_by_none (known a)),
+      (λ none.
+          refl),
+    )),
   )
 
   -- a text without its explanation, and with it
@@ -78,7 +115,12 @@ module _ {W : Type 0} (known : W → Option (List ℕ)) (failed : W → Bool) wh
       → ((line : List ℕ) × IsForPerson true line × IsMore known failed b c line)
       → (said : List ℕ) × IsExplained terminal text said × IsMore known failed a c said
   explained false a b c text is more note = cc
-  explained true a b c text is more (line, for, then) = (text ++ line, (line, for, refl), then_more a b c text line more then)
+  explained true a b c text is more (line, for, then) = (
+    text ++ line,
+    (line, for, refl),
+    then_more a b c text line
+        more then,
+  )
 
   -- what serves says, of a writer that hasn't failed before
   module _ (a : W) (ready : failed a ≡ false) where
@@ -90,7 +132,12 @@ module _ {W : Type 0} (known : W → Option (List ℕ)) (failed : W → Bool) wh
     pub greeted : (b c : W) (line : List ℕ) (terminal : Bool) (outcome : Outcome) → IsMore known failed a b line
         → ((said : List ℕ) × IsEnding terminal outcome said × IsMore known failed b c said)
         → (said : List ℕ) × IsEnding terminal outcome said × IsSaid (stream_of known failed a c) (line ++ said)
-    greeted b c line terminal outcome first (said, is, more) = (said, is, (then_more a b c line said first more).1 ready)
+    greeted b c line terminal outcome first (said, is, more) = (
+      said,
+      is,
+      (then_more a b c line said first more).1
+          ready,
+    )
 
     pub refused : (b : W) (terminal : Bool) (text : List ℕ)
         → ((said : List ℕ) × IsExplained terminal text said × IsMore known failed a b said)

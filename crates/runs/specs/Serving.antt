@@ -1,6 +1,6 @@
 -- What the program does with its words, from its files and streams to its exit status.
-use Rattle.std.specs.Prelude.{◌≡◌, ℕ, ◌<◌, ◌≤◌, ◌⊎◌, Bool, true, false, ◌&&◌, List, [], ◌++◌, length, codes}
-use Rattle.std.specs.Prelude.{string_bytes}
+use Rattle.std.specs.Prelude.{◌≡◌, ℕ, ◌<◌, ◌≤◌, ◌⊎◌, Bool, true, false, ◌&&◌, List, [], ◌++◌}
+use Rattle.std.specs.Prelude.{length, codes, string_bytes}
 use Rattle.std.specs.Io.KnownBytes.{Appends}
 use Rattle.clap.specs.Walk.{Text, texts}
 use Rattle.clap.specs.Words.{fault_of, subcommand_of, takes}
@@ -46,10 +46,10 @@ abbrev pub IsExplained : Bool → List ℕ → List ℕ → Type 0
 IsExplained terminal text said =
     (note : List ℕ) × IsForPerson terminal note × (said ≡ text ++ note)
 
--- the line of a fault, explained; without a fault nothing
+-- the line of a fault, explained; of a refused document the explanation alone
 abbrev pub IsEnding : Bool → Outcome → List ℕ → Type 0
 IsEnding terminal Done said = said ≡ []
-IsEnding terminal Refused said = said ≡ []
+IsEnding terminal Refused said = IsExplained terminal [] said
 IsEnding terminal (Broken fault) said = IsExplained terminal (line_of_fault fault) said
 
 -- the job reads lines from standard input that a person may type

@@ -12,30 +12,39 @@ pub(crate) fn board_hint(kind: BoardKind, head: Option<&[u8]>) -> &'static str {
                 "it is a strategy document and no board; are the two files exchanged?"
             }
             Some(head) => first_line_hint(head).unwrap_or(
-                "line 1 must be `board 1`, or `board 2` if some pebble has no label, and nothing may come before it",
+                "line 1 must be `board 1`, or `board 2` if some pebble has no label, and nothing \
+                may come before it",
             ),
             None => {
-                "line 1 must be `board 1`, or `board 2` if some pebble has no label; look for an empty input, Windows line ends, a byte order mark, a document without its board"
+                "line 1 must be `board 1`, or `board 2` if some pebble has no label; look for an \
+                empty input, Windows line ends, a byte order mark, a document without its board"
             }
         },
         BoardKind::Labels => {
-            "line 2 must be `labels V`, with V from 1 to 256, no leading zero and no space at the end"
+            "line 2 must be `labels V`, with V from 1 to 256, no leading zero and no space at the \
+            end"
         }
         BoardKind::Pebbles => {
-            "line 3 must be `pebbles P`, with P from 1 to 6, no leading zero and no space at the end"
+            "line 3 must be `pebbles P`, with P from 1 to 6, no leading zero and no space at the \
+            end"
         }
         BoardKind::Start => {
-            "line 4 must be `start` and a place for each pebble: a label below V, or `-` (in `board 2`, once at least, and never in `board 1`), with single spaces and none at the end"
+            "line 4 must be `start` and a place for each pebble: a label below V, or `-` (in \
+            `board 2`, once at least, and never in `board 1`), with single spaces and none at the \
+            end"
         }
         BoardKind::Beats => {
-            "the line must be `beats X Y`, with labels X and Y below V and single spaces, or `end`; look for a tab, a space at the end, an empty line"
+            "the line must be `beats X Y`, with labels X and Y below V and single spaces, or \
+            `end`; look for a tab, a space at the end, an empty line"
         }
         BoardKind::SelfBeat => "no label dominates itself: the two labels of the line must differ",
         BoardKind::TwoWay => {
-            "an earlier line has the same two labels the other way round; only one of the two may dominate the other"
+            "an earlier line has the same two labels the other way round; only one of the two may \
+            dominate the other"
         }
         BoardKind::Order => {
-            "lines `beats X Y` must ascend by X and then by Y, as numbers, each once; `sort -n -k2 -k3 -u` sorts them"
+            "lines `beats X Y` must ascend by X and then by Y, as numbers, each once; `sort -n -k2 \
+            -k3 -u` sorts them"
         }
         BoardKind::End => "the last line must be `end`, with its line feed",
         BoardKind::Trailing => "nothing may follow the line `end`, no empty line either",
@@ -55,22 +64,26 @@ pub(crate) fn proof_hint(kind: ProofKind, head: Option<&[u8]>) -> &'static str {
                 "line 1 must be `proof 1`, and nothing may come before it",
             ),
             None => {
-                "after the line `end` of the board a strategy document must follow, with `proof 1` as its first line"
+                "after the line `end` of the board a strategy document must follow, with `proof 1` \
+                as its first line"
             }
         },
         ProofKind::Claim => {
             "line 2 must be `value k`, `least k`, `most k` or `forever`, with k at most 1000000000"
         }
         ProofKind::Section => {
-            "the line must be `labeller n` or `adversary n`, as the claim asks for; or the section before has more rows than its first line says"
+            "the line must be `labeller n` or `adversary n`, as the claim asks for; or the section \
+            before has more rows than its first line says"
         }
         ProofKind::Row => {
-            "the line must be a row for as many pebbles as the board has; if it is the next section or `end`, the section has fewer rows than its first line says"
+            "the line must be a row for as many pebbles as the board has; if it is the next \
+            section or `end`, the section has fewer rows than its first line says"
         }
         ProofKind::Label => "a label must be below the board's V, without a leading zero",
         ProofKind::Pebble => "a pebble must be below the board's P, without a leading zero",
         ProofKind::Number => {
-            "a row has `*` in a `forever` document, and in any other a number: from 1 for the labeller, from 0 for the adversary, to 1000000000"
+            "a row has `*` in a `forever` document, and in any other a number: from 1 for the \
+            labeller, from 0 for the adversary, to 1000000000"
         }
         ProofKind::Order => {
             "the rows of a section must ascend by their labels, as numbers, each configuration once"
@@ -85,7 +98,8 @@ pub(crate) fn proof_hint(kind: ProofKind, head: Option<&[u8]>) -> &'static str {
 pub(crate) fn trouble_hint(name: &str, trouble: Trouble) -> &'static str {
     match trouble {
         Trouble::Missing if name == "-" => {
-            "there is no file of this name; standard input is /dev/stdin, or is read when there are no words"
+            "there is no file of this name; standard input is /dev/stdin, or is read when there \
+            are no words"
         }
         Trouble::Missing => "there is no such file; look for its spelling and its folder",
         Trouble::Forbidden => "you may not read it; `chmod +r` permits it",

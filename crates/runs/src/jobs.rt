@@ -27,7 +27,8 @@ use std::alloc::Global;
 use std::sync::Wait;
 use std::thread::Threads;
 
-/// How a job ended, and the explanation of its fault, which is empty if it was not broken off.
+/// How a job ended, and the explanation of its fault or of a refusal, which is empty if it was
+/// done.
 #[derive(Clone, Copy, Debug, PartialEq, Eq)]
 pub struct Ended<'a> {
     pub outcome: Outcome,
@@ -123,7 +124,8 @@ fn check_joined<I: Source, O: Sink>(
     requires output_ready { O.has_failed output.old ≡ false }
     ensures done { ChecksJoined (stream_of I.remaining I.has_failed input.old input.new)
         (stream_of O.contents O.has_failed output.old output.new) result.outcome }
-    ensures writes { TellsWrites (stream_of O.contents O.has_failed output.old output.new) result.outcome }
+    ensures writes { TellsWrites (stream_of O.contents O.has_failed output.old output.new)
+        result.outcome }
     ensures reads { I.has_failed input.new ≡ true → result.outcome ≡ Broken Read }
 {
     let outcome = Outcome::of_check(run_joined(rt, alloc, input, output));
@@ -146,7 +148,8 @@ fn check<'a, F: Folder, O: Sink>(
     requires output_ready { O.has_failed output.old ≡ false }
     ensures done { Checks (F.at folder.now board.now) (F.at folder.now proof.now)
         (stream_of O.contents O.has_failed output.old output.new) result.outcome }
-    ensures writes { TellsWrites (stream_of O.contents O.has_failed output.old output.new) result.outcome }
+    ensures writes { TellsWrites (stream_of O.contents O.has_failed output.old output.new)
+        result.outcome }
 {
     let Ok(file_of_board) = folder.open(board) else {
         return unopened(folder, board);
@@ -172,7 +175,8 @@ fn write_nested<O: Sink>(alloc: Global, levels: u8, pebbles: u8, output: &mut O)
     requires output_ready { O.has_failed output.old ≡ false }
     ensures done { WritesNested levels pebbles
         (stream_of O.contents O.has_failed output.old output.new) result.outcome }
-    ensures writes { TellsWrites (stream_of O.contents O.has_failed output.old output.new) result.outcome }
+    ensures writes { TellsWrites (stream_of O.contents O.has_failed output.old output.new)
+        result.outcome }
 {
     let outcome = Outcome::of_run(run_nested(alloc, levels, pebbles, output));
     Ended {
@@ -194,7 +198,8 @@ fn solve<'a, F: Folder, O: Sink>(
     requires output_ready { O.has_failed output.old ≡ false }
     ensures done { Solves workers (F.at folder.now board.now)
         (stream_of O.contents O.has_failed output.old output.new) result.outcome }
-    ensures writes { TellsWrites (stream_of O.contents O.has_failed output.old output.new) result.outcome }
+    ensures writes { TellsWrites (stream_of O.contents O.has_failed output.old output.new)
+        result.outcome }
 {
     let Ok(file_of_board) = folder.open(board) else {
         return unopened(folder, board);
@@ -221,7 +226,8 @@ fn report<'a, F: Folder, O: Sink>(
     requires output_ready { O.has_failed output.old ≡ false }
     ensures done { Counts workers (F.at folder.now board.now)
         (stream_of O.contents O.has_failed output.old output.new) result.outcome }
-    ensures writes { TellsWrites (stream_of O.contents O.has_failed output.old output.new) result.outcome }
+    ensures writes { TellsWrites (stream_of O.contents O.has_failed output.old output.new)
+        result.outcome }
 {
     let Ok(file_of_board) = folder.open(board) else {
         return unopened(folder, board);
@@ -250,7 +256,8 @@ fn play<'a, F: Folder, I: Source, O: Sink>(
     ensures done { Plays side (F.at folder.now board.now)
         (stream_of I.remaining I.has_failed input.old input.new)
         (stream_of O.contents O.has_failed output.old output.new) result.outcome }
-    ensures writes { TellsWrites (stream_of O.contents O.has_failed output.old output.new) result.outcome }
+    ensures writes { TellsWrites (stream_of O.contents O.has_failed output.old output.new)
+        result.outcome }
     ensures reads { I.has_failed input.new ≡ true → result.outcome ≡ Broken Read }
 {
     let Ok(file_of_board) = folder.open(board) else {
@@ -278,7 +285,8 @@ fn climb<I: Source, O: Sink>(
     requires output_ready { O.has_failed output.old ≡ false }
     ensures done { Climbs levels (stream_of I.remaining I.has_failed input.old input.new)
         (stream_of O.contents O.has_failed output.old output.new) result.outcome }
-    ensures writes { TellsWrites (stream_of O.contents O.has_failed output.old output.new) result.outcome }
+    ensures writes { TellsWrites (stream_of O.contents O.has_failed output.old output.new)
+        result.outcome }
     ensures reads { I.has_failed input.new ≡ true → result.outcome ≡ Broken Read }
 {
     let outcome = Outcome::of_run(run_climb(alloc, levels, input, output));

@@ -37,10 +37,15 @@ pub struct Note<'a> {
 
 impl<'a> Note<'a> {
     /// The explanation of `outcome` in a job that reads `board`, and after it `other`. It is empty
-    /// if the job was not broken off.
+    /// if the job was done.
     pub(crate) fn of(outcome: Outcome, board: &Origin<'a, '_>, other: &Origin<'a, '_>) -> Note<'a> {
         match outcome {
-            Outcome::Done | Outcome::Refused => Note::new("", ""),
+            Outcome::Done => Note::new("", ""),
+            Outcome::Refused => Note::new(
+                other.name,
+                "its tables do not show its claim for this board; the line says where; is it the \
+                document of another board?",
+            ),
             Outcome::Broken(fault) => explain(fault, board, other),
         }
     }
@@ -131,10 +136,12 @@ fn too_large<'a>(board: &Origin<'a, '_>) -> Note<'a> {
     };
     let words = match number {
         Some(_) => {
-            " configurations, labels to the power of pebbles (in `board 2` with one label more); the most is 1048576"
+            "configurations, labels to the power of pebbles (in `board 2` with one label more); \
+            the most is 1048576"
         }
         None => {
-            "labels to the power of pebbles (in `board 2` with one label more) is more than 1048576, the most configurations of a board"
+            "labels to the power of pebbles (in `board 2` with one label more) is more than \
+            1048576, the most configurations of a board"
         }
     };
     Note {
@@ -160,7 +167,8 @@ pub(crate) fn greeting(job: &Job<'_>) -> Option<&'static str>
 {
     match *job {
         Job::Joined => Some(
-            "type or paste a board and a strategy document, and Ctrl-D; `pebbles --help` lists the commands",
+            "type or paste a board and a strategy document, and Ctrl-D; `pebbles --help` lists the \
+            commands",
         ),
         Job::Play {
             side: Side::Labeller,

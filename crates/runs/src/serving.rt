@@ -4,7 +4,8 @@ ghost use Rattle.std.specs.Prelude.{◌≡◌, ◌&&◌, ℕ, List, true, false}
 ghost use Rattle.clap.specs.Walk.{texts};
 ghost use Rattle.runs.specs.Jobs.{stream_of};
 ghost use Rattle.runs.specs.Inside.Writing.{IsMore};
-ghost use Rattle.runs.specs.Serving.{IsEnding, IsExplained, IsForPerson, IsGreeting, Serves, ServesWords};
+ghost use Rattle.runs.specs.Serving.{IsEnding, IsExplained, IsForPerson, IsGreeting};
+ghost use Rattle.runs.specs.Serving.{Serves, ServesWords};
 ghost use Rattle.runs.specs.declared.fault.RunFault.TheVariants.{Memory};
 ghost use Rattle.runs.specs.declared.outcome.Outcome.TheVariants.{Broken};
 ghost use Rattle.runs.specs.Outcomes.{status_of};
@@ -164,13 +165,14 @@ fn tell<E: Sink>(outcome: Outcome, note: Note<'_>, terminals: Terminals, errors:
     outcome.status()
 }
 
-/// Writes the line of the fault that broke a job off, if one did.
+/// Writes the line of the fault that broke a job off, and explains it or a refusal.
 fn write_ending<E: Sink>(outcome: Outcome, note: Note<'_>, terminals: Terminals, errors: &mut E)
     ensures { (said : List ℕ) × IsEnding terminals.errors outcome said
         × IsMore E.contents E.has_failed errors.old errors.new said }
 {
     match outcome {
-        Outcome::Done | Outcome::Refused => {}
+        Outcome::Done => {}
+        Outcome::Refused => say("", note, terminals, errors),
         Outcome::Broken(fault) => {
             let line = fault_line(fault);
             say(line.as_str(), note, terminals, errors);

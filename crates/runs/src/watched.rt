@@ -1,4 +1,5 @@
-//! A source that keeps the first bytes that it gave and counts all of them, so that a fault of an input can be explained.
+//! A source that keeps the first bytes that it gave and counts all of them, so that a fault of an
+//! input can be explained.
 
 ghost use Rattle.std.specs.Prelude.{◌≡◌};
 

@@ -7,7 +7,8 @@ use Rattle.runs.proofs.serving.greet.Goals as goal
 pub returns-then-not-are_both : goal.returns-then-not-are_both
 returns-then-not-are_both g c = (
   [],
-  no_greeting c.args.terminals.input c.args.terminals.errors (is_typed c.args.job.now) (sym c.are_both.ensures ∙ c.if-not-are_both.true),
+  no_greeting c.args.terminals.input c.args.terminals.errors (is_typed c.args.job.now) (sym c.are_both.ensures ∙
+      c.if-not-are_both.true),
   none_more g.E.Sink.contents g.E.Sink.has_failed c.args.errors.now,
 )
 
@@ -21,7 +22,9 @@ returns-in_default g c = (
 pub returns-in-Some : goal.returns-in-Some
 returns-in-Some g c = (
   closed c.in-Some.words.now,
-  typed_line c.args.terminals.input c.args.terminals.errors (is_typed c.args.job.now) c.in-Some.words.now (sym c.are_both.ensures ∙ c.if-not-are_both.false) c.in-Some.ensures,
-  then_more g.E.Sink.contents g.E.Sink.has_failed c.args.errors.now c.write_more.new.writer c.write_more-in-Some.new.writer
+  typed_line c.args.terminals.input c.args.terminals.errors (is_typed c.args.job.now) c.in-Some.words.now (sym
+      c.are_both.ensures ∙ c.if-not-are_both.false) c.in-Some.ensures,
+  then_more g.E.Sink.contents g.E.Sink.has_failed c.args.errors.now c.write_more.new.writer
+      c.write_more-in-Some.new.writer
       c.in-Some.words.now (closed []) c.write_more.ensures c.write_more-in-Some.ensures,
 )

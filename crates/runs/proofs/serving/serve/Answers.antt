@@ -12,7 +12,9 @@ returns-in-Given g c = rw c.in-Given.is c.serve_words.ensures
 pub returns-in-NotText : goal.returns-in-NotText
 returns-in-NotText g c =
     rw c.in-NotText.is (
-      refused g.E.Sink.contents g.E.Sink.has_failed c.args.errors.now c.requires.errors_ready c.refuse.new.errors c.args.terminals.errors (closed (codes "error: a word on the command line is not text")) c.refuse.ensures.said,
+      refused g.E.Sink.contents g.E.Sink.has_failed c.args.errors.now c.requires.errors_ready c.refuse.new.errors
+          c.args.terminals.errors (closed (codes "error: a word on the command line is not text"))
+          c.refuse.ensures.said,
       refl,
       refl,
       c.refuse.ensures.status,
@@ -24,7 +26,8 @@ returns-in-OutOfMemory g c =
       refl,
       refl,
       (
-        ended g.E.Sink.contents g.E.Sink.has_failed c.args.errors.now c.requires.errors_ready c.tell_no_memory.new.errors
+        ended g.E.Sink.contents g.E.Sink.has_failed c.args.errors.now c.requires.errors_ready
+            c.tell_no_memory.new.errors
             c.args.terminals.errors (Broken Memory) c.tell_no_memory.ensures.told,
         c.tell_no_memory.ensures.status,
       ),

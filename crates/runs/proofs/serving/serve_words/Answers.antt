@@ -10,14 +10,17 @@ use Rattle.runs.proofs.serving.serve_words.Goals as goal
 pub returns-in-Ok : goal.returns-in-Ok
 returns-in-Ok g c = inl (
   c.in-Ok.job,
-  asked c.args.words.now c.job.result c.job.ensures.joined c.in-Ok.job c.in-Ok.is c.in-Ok.ensures.job c.in-Ok.ensures.faultless,
+  asked c.args.words.now c.job.result c.job.ensures.joined c.in-Ok.job c.in-Ok.is c.in-Ok.ensures.job
+      c.in-Ok.ensures.faultless,
   c.greet.ensures.0,
   c.greet.ensures.1,
   c.carry_out-ended.result.outcome,
   c.carry_out-ended.ensures,
   (
-    greeted g.E.Sink.contents g.E.Sink.has_failed c.args.errors.now c.requires.errors_ready c.greet.new.errors c.tell.new.errors
-        c.greet.ensures.0 c.args.terminals.errors c.carry_out-ended.result.outcome c.greet.ensures.2 c.tell.ensures.told,
+    greeted g.E.Sink.contents g.E.Sink.has_failed c.args.errors.now c.requires.errors_ready c.greet.new.errors
+        c.tell.new.errors
+        c.greet.ensures.0 c.args.terminals.errors c.carry_out-ended.result.outcome c.greet.ensures.2
+        c.tell.ensures.told,
     c.tell.ensures.status,
   ),
 )
@@ -38,13 +41,16 @@ returns-in-Err-Help g c =
       c.in-Err-Help.ensures.takes,
       rw c.in-Err-Help.field-0-is (
         written output (string_bytes c.in-Err-Help.text) c.write_text.result
-            (rw (c.deref.ensures, c.in-Err-Help.field-0-is) at w.ok) (rw (c.deref.ensures, c.in-Err-Help.field-0-is) at w.front) w.fault w.failed,
+            (rw (c.deref.ensures, c.in-Err-Help.field-0-is) at w.ok) (rw (c.deref.ensures, c.in-Err-Help.field-0-is)
+            at w.front) w.fault w.failed,
         refl,
-        helped output c.write_text.result w.fault w.failed (λ o. EndsWith (g.F.Folder.at c.args.folder.now) c.args.terminals input output errors c.tell-in-Err-Help.result [] o) (
-          ended g.E.Sink.contents g.E.Sink.has_failed c.args.errors.now c.requires.errors_ready c.tell-in-Err-Help.new.errors
-              c.args.terminals.errors _ told,
-          status,
-        ),
+        helped output c.write_text.result w.fault w.failed (λ o. EndsWith (g.F.Folder.at c.args.folder.now)
+            c.args.terminals input output errors c.tell-in-Err-Help.result [] o) (
+              ended g.E.Sink.contents g.E.Sink.has_failed c.args.errors.now c.requires.errors_ready
+                  c.tell-in-Err-Help.new.errors
+                  c.args.terminals.errors _ told,
+              status,
+            ),
       ),
     )
 
@@ -57,8 +63,10 @@ returns-in-Err-Usage g c =
       c.in-Err-Usage.ensures.shows,
       c.in-Err-Usage.ensures.takes,
       rw c.in-Err-Usage.field-0-is (
-        refused g.E.Sink.contents g.E.Sink.has_failed c.args.errors.now c.requires.errors_ready c.refuse.new.errors c.args.terminals.errors
-            (string_bytes c.in-Err-Usage.text) (rw (c.deref-in-Err-Usage.ensures, c.in-Err-Usage.field-0-is) at c.refuse.ensures.said),
+        refused g.E.Sink.contents g.E.Sink.has_failed c.args.errors.now c.requires.errors_ready c.refuse.new.errors
+            c.args.terminals.errors
+            (string_bytes c.in-Err-Usage.text) (rw (c.deref-in-Err-Usage.ensures, c.in-Err-Usage.field-0-is) at
+            c.refuse.ensures.said),
         refl,
         refl,
         c.refuse.ensures.status,
@@ -77,7 +85,8 @@ returns-in-Err-Memory g c =
         refl,
         refl,
         (
-          ended g.E.Sink.contents g.E.Sink.has_failed c.args.errors.now c.requires.errors_ready c.tell_no_memory.new.errors
+          ended g.E.Sink.contents g.E.Sink.has_failed c.args.errors.now c.requires.errors_ready
+              c.tell_no_memory.new.errors
               c.args.terminals.errors (Broken Memory) c.tell_no_memory.ensures.told,
           c.tell_no_memory.ensures.status,
         ),

@@ -21,7 +21,8 @@ returns g c =
     let four = then_more known failed e3 e4 e5 words (closed []) c.write_more-3.ensures c.write_more-4.ensures in
     let three = then_more known failed e2 e3 e5 number.0 (words ++ closed []) number.1 four in
     let two = then_more known failed e1 e2 e5 colon (number.0 ++ (words ++ closed [])) c.write_more-2.ensures three in
-    let all = then_more known failed e0 e1 e5 about (colon ++ (number.0 ++ (words ++ closed []))) c.write_more.ensures two in (
+    let all = then_more known failed e0 e1 e5 about (colon ++ (number.0 ++ (words ++ closed [])))
+    c.write_more.ensures two in (
       closed (about ++ (colon ++ (number.0 ++ words))),
       (about ++ (colon ++ (number.0 ++ words)), refl),
       subst (IsMore known failed e0 e5) (line_of_parts about colon number.0 words) all,
