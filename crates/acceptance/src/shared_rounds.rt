@@ -4,7 +4,7 @@
 
 ghost use Rattle.std.specs.Prelude.{◌≡◌, ◌<◌, ◌≤◌, false};
 ghost use Rattle.claim_round.specs.Shared.{IsOf};
-ghost use Rattle.retro_core.specs.Ending.{IsRoundEnd};
+ghost use Rattle.solver.specs.Ending.{IsRoundEnd};
 
 use crate::assertions::assert_same;
 use crate::rounds::{NINE, Tally, has_each, opened};
