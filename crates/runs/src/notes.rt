@@ -136,7 +136,7 @@ fn too_large<'a>(board: &Origin<'a, '_>) -> Note<'a> {
     };
     let words = match number {
         Some(_) => {
-            "configurations, labels to the power of pebbles (in `board 2` with one label more); \
+            " configurations, labels to the power of pebbles (in `board 2` with one label more); \
             the most is 1048576"
         }
         None => {
