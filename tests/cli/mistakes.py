@@ -184,10 +184,25 @@ def of_streams(work):
         board = file.read()
     yield Mistake('a board without a document', [], fault(1, 'proof fault line 1 Version'), 'standard input', 'must follow', given=board)
     yield Mistake('no input', [], fault(1, 'board fault line 1 Version'), 'standard input', 'empty input')
+    large = written(work, 'mistake-memory.board', empty(32))
+    little = ['sh', '-c', 'ulimit -v 12288; exec "$0" "$@"']
+    yield Mistake('too little memory', ['solve', large], fault(4, 'out of memory'), 'memory', 'smaller board', before=little)
     full = ['sh', '-c', 'exec "$0" "$@" > /dev/full']
     yield Mistake('a full disk', ['solve', CHAIN], fault(5, 'write fault'), 'standard output', 'full', before=full)
     yield Mistake('a long line in a play', ['play', '--side', 'adversary', CHAIN],
                   Ran(5, b'value 2\nat 0 0\n', b'input too long\n'), 'standard input', '64 bytes', given=b'1' * 200)
+
+
+def of_permissions(work):
+    """A file that may not be read: by no one but root, who runs the program as another user."""
+    locked = written(work, 'mistake-locked.board', empty(2))
+    os.chmod(locked, 0)
+    os.chmod(work, 0o711)
+    before = ['setpriv', '--reuid', '65534', '--clear-groups'] if os.geteuid() == 0 else []
+    if before and subprocess.run([*before, PROGRAM, '--version'], capture_output=True, check=False).returncode:
+        print('skipped: a mistake about permissions, since root runs nothing as another user here')
+        return
+    yield Mistake('no permission', ['solve', locked], fault(5, 'read fault'), locked, 'may not read', before=before)
 
 
 def of_words(work):
@@ -203,7 +218,7 @@ def of_words(work):
 
 def checks(work):
     """All checks, which write what they need into `work`."""
-    for subject in (of_boards, of_files, of_documents, of_streams, of_words):
+    for subject in (of_boards, of_files, of_documents, of_streams, of_permissions, of_words):
         for mistake in subject(work):
             yield Check(f'a mistake: {mistake.name}', partial(explained, mistake))
     yield Check('a terminal without words', partial(greeted, [], 'Ctrl-D', b'\x04'))
