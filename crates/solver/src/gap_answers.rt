@@ -10,7 +10,7 @@ ghost use Rattle.solver.specs.Inside.Tables.{IsCounted};
 
 use crate::stage::NO_PEBBLE;
 use board_text::{Board, MAX_LABELS, Memory};
-use positions::{AnswerSet, Space, TupleAnswers};
+use positions::{LabelSet, Space, TupleAnswers};
 use std::alloc::Global;
 
 /// The number of answers of each gap, and the dominating pebble of each configuration.
@@ -40,7 +40,7 @@ impl GapAnswers {
 }
 
 /// Notes the pebble of `gap` as the dominator of each configuration that one of `answers` leads to.
-fn note_dominator(dominators: &mut [u8], space: &Space, gap: u32, answers: &AnswerSet)
+fn note_dominator(dominators: &mut [u8], space: &Space, gap: u32, answers: &LabelSet)
     requires gap { gap < gaps space.now }
     requires answers { AreAnswers space.now gap answers.now }
     requires noted { AreNoted space.now (MAX_LABELS * gap) dominators.old }

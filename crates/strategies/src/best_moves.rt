@@ -105,7 +105,7 @@ impl<'a> BestMoves<'a> {
     {
         match self.listed.get(gap as usize) {
             Some(listed) => listed.best(),
-            None => best_of_gap(self.values, gap, self.space().answer_set(self.board, gap)),
+            None => best_of_gap(self.values, gap, self.space().answers(self.board, gap)),
         }
     }
 

@@ -8,7 +8,7 @@ ghost use Rattle.strategies.specs.Inside.GapBest.{IsBetter, IsGapBest, AreGapsBe
 
 use crate::listed::Listed;
 use board_text::{Board, MAX_LABELS, Memory};
-use positions::{AnswerSet, TupleAnswers, Value};
+use positions::{LabelSet, TupleAnswers, Value};
 use solver::Values;
 use std::alloc::Global;
 
@@ -40,7 +40,7 @@ pub(crate) fn best_of_gaps(
 }
 
 /// The best answer of `gap`, if it has an answer. The `answers` are those of the gap.
-pub(crate) fn best_of_gap(values: &Values, gap: u32, answers: AnswerSet) -> Option<Best>
+pub(crate) fn best_of_gap(values: &Values, gap: u32, answers: LabelSet) -> Option<Best>
     requires gap { gap < gaps values.now }
     requires answers { (label : ℕ) → label < MAX_LABELS → (has_bit answers label ≡ true) ↔ IsAnswer values.now gap label }
     ensures { IsGapBest values.now gap result }

@@ -65,7 +65,7 @@ impl BestMoves<'_> {
         ensures added { IfOk result (λ _. IsWithAll reached.old.ranks (IsAnswerOf self.now gap) reached.new.ranks) }
     {
         let space = self.space();
-        let mut answers = space.answer_set(self.board(), gap).walk();
+        let mut answers = space.answers(self.board(), gap).walk();
         let members = space.members(gap);
         while let Some(label) = answers.take_next() {
             reached.add(members.rank(label))?;
