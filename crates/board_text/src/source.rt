@@ -33,19 +33,3 @@ pub trait Source {
     fn failed(&self) -> bool
         ensures { result ≡ has_failed self.now };
 }
-
-impl<S: Source> Source for &mut S {
-    ghost remaining = { λ source. S.remaining source.now };
-
-    ghost has_failed = { λ source. S.has_failed source.now };
-
-    ghost has_ended = { λ source. S.has_ended source.now };
-
-    fn read(&mut self, into: &mut [u8]) -> Result<usize, Failed> {
-        (**self).read(into)
-    }
-
-    fn failed(&self) -> bool {
-        (**self).failed()
-    }
-}

@@ -33,7 +33,7 @@ pub use members::Members;
 pub use moves::Moves;
 pub use side::Side;
 pub use slow::{is_legal, labeller_lasts, value_of};
-pub use space::{MAX_CONFIGURATIONS, Space};
+pub use space::{MAX_CONFIGURATIONS, Space, is_small};
 pub use too_large::TooLarge;
 pub use tuple_answers::TupleAnswers;
 pub use turns::Turns;
