@@ -18,11 +18,11 @@ use Rattle.proof_check.specs.declared.fault.CheckFault.{CheckFault}
 
 -- the labeller's row is for enough turns or too few
 pub turns_tested : (rows : List AnswerRow) (configuration : List ℕ) (row : AnswerRow) (wanted : Turns) (missing short : CheckFault)
-    (answer : Bool) → IsRowFor (λ r. r.at) rows configuration row → IsWanted wanted → IsTrue answer ↔ IsEnough wanted row.turns
-    → MatchOption (then_some (not answer) short) (Serves rows configuration wanted) (IsUnservedFor rows configuration wanted missing short)
-turns_tested rows configuration row wanted missing short true is some answers =
+    (less : Bool) → IsRowFor (λ r. r.at) rows configuration row → IsWanted wanted → IsTrue (not less) ↔ IsEnough wanted row.turns
+    → MatchOption (then_some less short) (Serves rows configuration wanted) (IsUnservedFor rows configuration wanted missing short)
+turns_tested rows configuration row wanted missing short false is some answers =
     λ _. record { row = row; among = is.among; at = is.at_is; enough = answers.0 refl }
-turns_tested rows configuration row wanted missing short false is some answers = (some, inr ((row, is.among, is.at_is), fails, refl))
+turns_tested rows configuration row wanted missing short true is some answers = (some, inr ((row, is.among, is.at_is), fails, refl))
   where
     fails : IsListedFor rows configuration wanted → ⊥
     fails listed =

@@ -1,10 +1,10 @@
 //! The labeller's rows of a document, checked.
 
-ghost use Rattle.std.specs.Prelude.{◌≡◌, ◌↔◌, ◌<◌, IsTrue, MatchOption};
+ghost use Rattle.std.specs.Prelude.{◌≡◌, ◌<◌, MatchOption};
 ghost use Rattle.positions.specs.Position.{position_at};
 ghost use Rattle.proof_text.specs.Proof.{answer_row};
 ghost use Rattle.proof_text.specs.Rules as rules;
-ghost use Rattle.proof_text.specs.Rules.{IsEnough, IsWanted, one_less, Serves, MeetsRequest, MeetsRequests};
+ghost use Rattle.proof_text.specs.Rules.{one_less, Serves, MeetsRequest, MeetsRequests};
 ghost use Rattle.proof_check.specs.CheckFaults.{IsWrongAnswer, IsWrongAt, IsWrongStart};
 ghost use Rattle.proof_check.specs.Inside.Checker.{IsAnswering, AtRank, IsUnservedFor};
 
@@ -14,17 +14,6 @@ use crate::fault::CheckFault;
 use positions::{Moves, Side, Turns};
 use proof_text::{Claim, LabellerRow};
 
-/// Whether `turns` is at least `wanted`.
-fn is_enough(wanted: Turns, turns: Turns) -> bool
-    ensures { IsTrue result ↔ IsEnough wanted turns }
-{
-    match (wanted, turns) {
-        (Turns::Count(wanted), Turns::Count(turns)) => wanted <= turns,
-        (_, Turns::Always) => true,
-        (Turns::Always, Turns::Count(_)) => false,
-    }
-}
-
 /// The turns that are left after one of `turns`.
 fn after_one(turns: Turns) -> Turns
     ensures { result ≡ one_less turns }
@@ -33,13 +22,6 @@ fn after_one(turns: Turns) -> Turns
         Turns::Count(turns) => Turns::Count(turns.saturating_sub(1)),
         Turns::Always => Turns::Always,
     }
-}
-
-/// Whether `turns` isn't 0.
-fn is_wanted(turns: Turns) -> bool
-    ensures { IsTrue result ↔ IsWanted turns }
-{
-    turns != Turns::Count(0)
 }
 
 /// The turns that `claim` wants of the start.
@@ -122,12 +104,12 @@ impl Checker<'_> {
             (Serves self.now.proof.labeller configuration wanted)
             (IsUnservedFor self.now.proof.labeller configuration wanted missing short)) }
     {
-        if !is_wanted(wanted) {
+        if wanted == Turns::Count(0) {
             return None;
         }
         let Some(row) = self.labeller().find(rank) else {
             return Some(missing);
         };
-        (!is_enough(wanted, row.turns)).then_some(short)
+        (row.turns < wanted).then_some(short)
     }
 }

@@ -1,36 +1,11 @@
 //! The rows of a document by the ranks of their configurations.
 
-ghost use Rattle.std.specs.Prelude.{◌≡◌, ℕ, List, IfOk, MatchOption};
+ghost use Rattle.std.specs.Prelude.{◌≡◌, List, IfOk, MatchOption};
 ghost use Rattle.proof_check.specs.Inside.RowIndex.{AreAscending, AreRanked, IsIndex, HasNone, IsRowOf};
 
-use proof_text::{AdversaryRow, LabellerRow};
+use proof_text::Ranked;
 use std::alloc::{AllocError, Global};
 use std::marker::Model;
-
-/// A row of a document.
-pub(crate) trait Ranked {
-    ghost rank: { Self → ℕ };
-
-    /// The rank of the row's configuration.
-    fn rank(&self) -> u32
-        ensures { result ≡ rank self.now };
-}
-
-impl Ranked for LabellerRow {
-    ghost rank = { λ row. row.at };
-
-    fn rank(&self) -> u32 {
-        self.at
-    }
-}
-
-impl Ranked for AdversaryRow {
-    ghost rank = { λ row. row.at };
-
-    fn rank(&self) -> u32 {
-        self.at
-    }
-}
 
 /// The entry of an index at a rank that no row has. It is no place.
 const NO_PLACE: u32 = u32::MAX;

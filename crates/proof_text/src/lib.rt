@@ -18,4 +18,4 @@ pub use laws::{documents_have_no_fault, limits, one_document, one_fault, one_row
 pub use parsing::parse;
 pub use positions::{Claim, Turns};
 pub use printing::print;
-pub use proof::{AdversaryRow, LabellerRow, MOST_TURNS, Proof};
+pub use proof::{AdversaryRow, LabellerRow, MOST_TURNS, Proof, Ranked};

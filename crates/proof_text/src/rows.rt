@@ -1,13 +1,13 @@
 //! The rows of a document, of either side: how they are read and written.
 
-ghost use Rattle.std.specs.Prelude.{◌≡◌, ◌<◌, ◌++◌, OnOk, string_bytes};
+ghost use Rattle.std.specs.Prelude.{◌≡◌, ◌<◌, ◌++◌, OnOk, refl, string_bytes};
 ghost use Rattle.board_text.specs.PlainBoard.{PlainBoard};
 ghost use Rattle.positions.specs.Ranks.{configurations};
 ghost use Rattle.positions.specs.declared.claim.Claim.{Claim as Claimed};
 ghost use Rattle.proof_text.specs.Inside.RowForm.{RowForm, NextRow, labeller_form, adversary_form};
 
 use crate::fault::ProofKind;
-use crate::proof::{AdversaryRow, LabellerRow};
+use crate::proof::{AdversaryRow, LabellerRow, Ranked};
 use crate::row_words::{answer_words, request_words};
 use board_text::line_reader::LineReader;
 use board_text::{MAX_PEBBLES, write_number, write_places};
@@ -15,12 +15,8 @@ use positions::{Claim, Space, Turns, write_labels};
 use std::alloc::AllocError;
 
 /// A row of one side's section.
-pub(crate) trait Row: Copy {
+pub(crate) trait Row: Ranked + Copy {
     ghost form: { PlainBoard → Claimed → RowForm Self };
-
-    /// The rank of the row's configuration.
-    fn rank(&self) -> u32
-        ensures { (board : PlainBoard) → (claim : Claimed) → result ≡ (form board claim).rank self.now };
 
     /// The word at the head of the section.
     fn word() -> &'static str
@@ -43,14 +39,14 @@ pub(crate) trait Row: Copy {
     fn write(&self, text: &mut String, space: &Space) -> Result<(), AllocError>
         requires { (claim : Claimed) → (form space.now claim).rank self.now < configurations space.now }
         ensures { OnOk result ((claim : Claimed) → string_bytes text.new ≡ string_bytes text.old ++ (form space.now claim).line self.now) };
+
+    ghost same_rank: { (board : PlainBoard) → (claim : Claimed) → (row : Self) → (form board claim).rank row ≡ Self.rank row };
 }
 
 impl Row for LabellerRow {
     ghost form = { labeller_form };
 
-    fn rank(&self) -> u32 {
-        self.at
-    }
+    ghost same_rank = { λ board claim row. refl };
 
     fn word() -> &'static str {
         "labeller"
@@ -114,9 +110,7 @@ impl Row for LabellerRow {
 impl Row for AdversaryRow {
     ghost form = { adversary_form };
 
-    fn rank(&self) -> u32 {
-        self.at
-    }
+    ghost same_rank = { λ board claim row. refl };
 
     fn word() -> &'static str {
         "adversary"

@@ -1,7 +1,6 @@
 //! The values of a board, by workers that share each round.
 #![tactic(auto)]
 
-mod fault;
 mod gate;
 mod laws;
 mod shared_seats;

@@ -1,14 +1,14 @@
 //! A round whose seats can be split, worked and joined, without the lifetime that the type of a
 //! shared round names: a closure that captures it by a bound keeps its clauses.
 
-ghost use Rattle.std.specs.Prelude.{◌≤◌, IfOk};
+ghost use Rattle.std.specs.Prelude.{◌≢◌, ◌≤◌, IfOk, IfErr};
 ghost use Rattle.claim_round.specs.Shared.{IsOf, RoundId, IsSplit, IsJoined};
 ghost use Rattle.round_workers.specs.Work.{IsWorked};
 
-use crate::fault::WorkFault;
 use crate::worker::work;
 use claim_round::{RoundSeat, SharedRound};
 use index_lists::ListStore;
+use solver::SolveFault;
 
 /// A round that workers share.
 pub trait Sharing {
@@ -19,15 +19,17 @@ pub trait Sharing {
         requires { IsOf (id self.now) seat.old }
         ensures { IsWorked seat.old seat.new };
 
-    fn split(&self, seat: RoundSeat) -> Result<(RoundSeat, RoundSeat), WorkFault>
+    fn split(&self, seat: RoundSeat) -> Result<(RoundSeat, RoundSeat), SolveFault>
         requires mine { IsOf (id self.now) seat }
         requires width { 2 ≤ seat.view.has.width }
-        ensures { IfOk result (λ r. IsSplit seat r.0 r.1) };
+        ensures split { IfOk result (λ r. IsSplit seat r.0 r.1) }
+        ensures fault { IfErr result (λ f. f ≢ SolveFault.TooLarge) };
 
-    fn join(&self, into: RoundSeat, from: RoundSeat) -> Result<RoundSeat, WorkFault>
+    fn join(&self, into: RoundSeat, from: RoundSeat) -> Result<RoundSeat, SolveFault>
         requires into { IsOf (id self.now) into }
         requires from { IsOf (id self.now) from }
-        ensures { IfOk result (λ r. IsJoined into from r) };
+        ensures joined { IfOk result (λ r. IsJoined into from r) }
+        ensures fault { IfErr result (λ f. f ≢ SolveFault.TooLarge) };
 }
 
 impl<'a, S: ListStore> Sharing for SharedRound<'a, S> {
@@ -37,17 +39,17 @@ impl<'a, S: ListStore> Sharing for SharedRound<'a, S> {
         work(self, seat)
     }
 
-    fn split(&self, seat: RoundSeat) -> Result<(RoundSeat, RoundSeat), WorkFault> {
+    fn split(&self, seat: RoundSeat) -> Result<(RoundSeat, RoundSeat), SolveFault> {
         match self.split(seat) {
             Ok(both) => Ok(both),
-            Err(_) => Err(WorkFault::Memory),
+            Err(_) => Err(SolveFault::Memory),
         }
     }
 
-    fn join(&self, into: RoundSeat, from: RoundSeat) -> Result<RoundSeat, WorkFault> {
+    fn join(&self, into: RoundSeat, from: RoundSeat) -> Result<RoundSeat, SolveFault> {
         match self.join(into, from) {
             Ok(seat) => Ok(seat),
-            Err(_) => Err(WorkFault::Memory),
+            Err(_) => Err(SolveFault::Memory),
         }
     }
 }

@@ -1,10 +1,9 @@
 //! Solving a board round by round, each round shared by all workers.
 
-ghost use Rattle.std.specs.Prelude.{◌≡◌, ◌<◌, ◌≤◌, ◌↔◌, false, Err, IfOk};
+ghost use Rattle.std.specs.Prelude.{◌≡◌, ◌<◌, ◌≤◌, ◌↔◌, ◌≢◌, false, Err, IfOk, IfErr};
 ghost use Rattle.positions.specs.Ranks.{configurations};
 ghost use Rattle.solver.specs.Ending.{IsRoundEnd};
 
-use crate::fault::WorkFault;
 use crate::gate::Gate;
 use crate::tree::share;
 use board_text::Board;
@@ -27,13 +26,16 @@ fn work_round<S: ListStore + Sync, G: Gate, R: Threads + Wait + Sync>(
     solver: &Solver<S>,
     workers: u32,
     gate: &G,
-) -> Result<Closed, WorkFault>
+) -> Result<Closed, SolveFault>
     requires going { solver.now.is_done ≡ false }
     requires workers { (1 ≤ workers) × (workers ≤ MAX_WORKERS) }
     ensures end { IfOk result (λ c. IsRoundEnd solver.now c.won c.counts) }
-    ensures worker { result ≡ Err WorkFault.Worker → 1 < workers }
+    ensures fault { IfErr result (λ f. f ≢ SolveFault.TooLarge) }
+    ensures worker { result ≡ Err SolveFault.Worker → 1 < workers }
 {
-    let (round, seat) = SharedRound::open(alloc, solver, workers)?;
+    let Ok((round, seat)) = SharedRound::open(alloc, solver, workers) else {
+        return Err(SolveFault::Memory);
+    };
     let seat = share(rt, &round, gate, 0, solver.round_number(), seat)?;
     let Ok(closed) = round.close(seat) else {
         unreachable!();
@@ -66,11 +68,7 @@ pub fn solve_values<G: Gate, R: Threads + Wait + Sync>(
             Ok(values) => return Ok(values),
             Err(unfinished) => solver = unfinished.solver,
         }
-        let closed = match work_round(rt, alloc, &solver, workers, gate) {
-            Ok(closed) => closed,
-            Err(WorkFault::Memory) => return Err(SolveFault::Memory),
-            Err(WorkFault::Worker) => return Err(SolveFault::Worker),
-        };
+        let closed = work_round(rt, alloc, &solver, workers, gate)?;
         solver.file_round(&closed);
     }
 }

@@ -2,14 +2,14 @@
 //! one part.
 
 ghost use Rattle.std.specs.Thread.{IsSync};
-ghost use Rattle.std.specs.Prelude.{◌≡◌, ◌<◌, ◌+◌, ◌^◌, Err, IfOk};
+ghost use Rattle.std.specs.Prelude.{◌≡◌, ◌≢◌, ◌<◌, ◌+◌, ◌^◌, Err, IfOk, IfErr};
 ghost use Rattle.claim_round.specs.Shared.{IsOf};
 ghost use Rattle.round_workers.specs.Work.{IsWorked};
 
-use crate::fault::WorkFault;
 use crate::gate::Gate;
 use crate::shared_seats::Sharing;
 use claim_round::RoundSeat;
+use solver::SolveFault;
 use std::snapshot::Snapshot;
 use std::sync::Wait;
 use std::thread;
@@ -19,11 +19,12 @@ use std::thread::{Promise, Threads};
 #[derive(Drop)]
 struct Worked(Snapshot<RoundSeat>);
 
-impl Promise<Result<RoundSeat, WorkFault>> for Worked {
-    ghost use Rattle.std.specs.Prelude.{IfOk};
+impl Promise<Result<RoundSeat, SolveFault>> for Worked {
+    ghost use Rattle.std.specs.Prelude.{◌≢◌, IfOk, IfErr};
     ghost use Rattle.round_workers.specs.Work.{IsWorked};
+    ghost use Rattle.solver.specs.declared.fault.SolveFault.TheVariants.{TooLarge};
 
-    ghost kept_by = { λ p r. IfOk r (λ s. IsWorked p.0.value s) };
+    ghost kept_by = { λ p r. IfOk r (λ s. IsWorked p.0.value s) × IfErr r (λ f. f ≢ TooLarge) };
 }
 
 /// One worker's part of a round: it passes `gate`, works `seat` to the end, and leaves.
@@ -54,11 +55,12 @@ pub fn share<W: Sharing + Sync, G: Gate, R: Threads + Wait + Sync>(
     first: u32,
     number: u32,
     seat: RoundSeat,
-) -> Result<RoundSeat, WorkFault>
+) -> Result<RoundSeat, SolveFault>
     requires mine { IsOf (W.id round.now) seat }
     requires workers { first + seat.view.has.width < 2 ^ 32 }
     ensures worked { IfOk result (λ r. IsWorked seat r) }
-    ensures worker { result ≡ Err WorkFault.Worker → 1 < seat.view.has.width }
+    ensures fault { IfErr result (λ f. f ≢ SolveFault.TooLarge) }
+    ensures worker { result ≡ Err SolveFault.Worker → 1 < seat.view.has.width }
 {
     if seat.width() == 1 {
         return Ok(worker(round, gate, first, number, seat));
@@ -78,35 +80,38 @@ fn apart<W: Sharing + Sync, G: Gate, R: Threads + Wait + Sync>(
     number: u32,
     left: RoundSeat,
     right: RoundSeat,
-) -> Result<(RoundSeat, RoundSeat), WorkFault>
+) -> Result<(RoundSeat, RoundSeat), SolveFault>
     requires left { IsOf (W.id round.now) left }
     requires right { IsOf (W.id round.now) right }
     requires workers { first + left.view.has.width + right.view.has.width < 2 ^ 32 }
-    ensures { IfOk result (λ r. IsWorked left r.0 × IsWorked right r.1) }
+    ensures worked { IfOk result (λ r. IsWorked left r.0 × IsWorked right r.1) }
+    ensures fault { IfErr result (λ f. f ≢ SolveFault.TooLarge) }
 {
     thread::scope(
         thread::scope_env(),
         rt,
-        move |scope| -> Result<(RoundSeat, RoundSeat), WorkFault>
+        move |scope| -> Result<(RoundSeat, RoundSeat), SolveFault>
             requires sync { IsSync R.row }
             requires left { IsOf (W.id round.now) left }
             requires right { IsOf (W.id round.now) right }
             requires workers { first + left.view.has.width + right.view.has.width < 2 ^ 32 }
-            ensures { IfOk result (λ r. IsWorked left r.0 × IsWorked right r.1) }
+            ensures worked { IfOk result (λ r. IsWorked left r.0 × IsWorked right r.1) }
+            ensures fault { IfErr result (λ f. f ≢ SolveFault.TooLarge) }
         {
             let other = first + left.width();
             let promise = Worked(Snapshot::of(&right));
             let started = scope.spawn_with(
                 promise,
-                move || -> Result<RoundSeat, WorkFault>
+                move || -> Result<RoundSeat, SolveFault>
                     requires sync { IsSync R.row }
                     requires mine { IsOf (W.id round.now) right }
                     requires workers { other + right.view.has.width < 2 ^ 32 }
-                    ensures { IfOk result (λ r. IsWorked right r) }
+                    ensures worked { IfOk result (λ r. IsWorked right r) }
+                    ensures fault { IfErr result (λ f. f ≢ SolveFault.TooLarge) }
                 { share(rt, round, gate, other, number, right) },
             );
             let Ok(child) = started else {
-                return Err(WorkFault::Worker);
+                return Err(SolveFault::Worker);
             };
             let mine = share(rt, round, gate, first, number, left);
             let theirs = child.join(rt);

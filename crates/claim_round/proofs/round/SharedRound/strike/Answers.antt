@@ -7,32 +7,40 @@ use Rattle.solver.specs.Solving.{Solving, source}
 use Rattle.retro_core.specs.Round.{first_of}
 use Rattle.claim_round.specs.Shared.{Key, View}
 use Rattle.claim_round.specs.Rule.{most}
-use Rattle.claim_round.proofs.FirstEntries.{strikes_next, in_gaps}
+use Rattle.claim_round.proofs.FirstEntries.{StrikesNext, strikes_next, in_gaps}
 use Rattle.claim_round.proofs.Loads.{few_members}
 use Rattle.claim_round.proofs.TableSteps.{strike_allowed}
 use Rattle.claim_round.proofs.Seats.{struck_seat}
+use Rattle.claim_round.proofs.round.SharedRound.strike.Given.{Over}
 use Rattle.claim_round.proofs.round.SharedRound.strike.Goals as goal
+use Rattle.claim_round.proofs.round.SharedRound.strike.Goals.{After-self}
+
+-- the seat, and the configuration that it strikes next
+strikes : (g : Over) (c : After-self g) → StrikesNext c.self.inside.table.shared.table_id c.self.inside.table.shared.key c.self.inside.solver.now c.seat.inside c.in-Some.config
+strikes g c =
+    strikes_next _ _ _ _ _ c.seat.inside _ c.in-Some.config _ c.self.view_is c.seat.view_is c.self.invariant c.seat.invariant c.requires.mine c.requires.todo
+    c.requires.owed c.in-Some.ensures.items
 
 pub dominator-requires : goal.dominator-requires
 dominator-requires g c =
-    let next = strikes_next _ _ _ _ _ c.seat.inside _ c.in-Some.config _ c.self.view_is c.seat.view_is c.self.invariant c.seat.invariant c.requires.mine c.requires.todo c.requires.owed c.in-Some.ensures.items in
+    let next = strikes g (goal.at.dominator-requires g c).After-self in
     next.due.worth.is_rank
 
 pub unreachable-requires-in_default-dominator : goal.unreachable-requires-in_default-dominator
 unreachable-requires-in_default-dominator g c =
-    let next = strikes_next _ _ _ _ _ c.seat.inside _ c.in-Some.config _ c.self.view_is c.seat.view_is c.self.invariant c.seat.invariant c.requires.mine c.requires.todo c.requires.owed c.in-Some.ensures.items in
+    let next = strikes g (goal.at.unreachable-requires-in_default-dominator g c).After-self in
     c.in_default-dominator.ensures next.due.pebble next.due.dominates
 
 pub gap-gap-requires-clause-rank : goal.gap-gap-requires-clause-rank
 gap-gap-requires-clause-rank g c =
-    let next = strikes_next _ _ _ _ _ c.seat.inside _ c.in-Some.config _ c.self.view_is c.seat.view_is c.self.invariant c.seat.invariant c.requires.mine c.requires.todo c.requires.owed c.in-Some.ensures.items in
+    let next = strikes g (goal.at.gap-gap-requires-clause-rank g c).After-self in
     subst (λ b. c.in-Some.config < configurations b) (sym c.space.ensures) next.due.worth.is_rank
 
 pub fetch_sub-found-requires : goal.fetch_sub-found-requires
 fetch_sub-found-requires g c =
     let v : View = c.seat.inside.seat.me.0 in
     let k : Key = c.self.inside.table.shared.key in
-    let next = strikes_next _ _ _ _ _ c.seat.inside _ c.in-Some.config _ c.self.view_is c.seat.view_is c.self.invariant c.seat.invariant c.requires.mine c.requires.todo c.requires.owed c.in-Some.ensures.items in
+    let next = strikes g (goal.at.fetch_sub-found-requires g c).After-self in
     let low = in_gaps k _ _ c.gap-gap.result next.solving c.space.ensures c.gap-gap.ensures.below in
     let pebble : ℕ = c.in-Some-dominator.pebble in
     let dominates : IsDominator k.solving.board (configuration_at k.solving.board (first_of v.has.todo)) pebble =
@@ -47,7 +55,7 @@ pub owe_members-requires-clause-room : goal.owe_members-requires-clause-room
 owe_members-requires-clause-room g c =
     let v : View = c.seat.inside.seat.me.0 in
     let k : Key = c.self.inside.table.shared.key in
-    let next = strikes_next _ _ _ _ _ c.seat.inside _ c.in-Some.config _ c.self.view_is c.seat.view_is c.self.invariant c.seat.invariant c.requires.mine c.requires.todo c.requires.owed c.in-Some.ensures.items in
+    let next = strikes g (goal.at.owe_members-requires-clause-room g c).After-self in
     let low = in_gaps k _ _ c.gap-gap.result next.solving c.space.ensures c.gap-gap.ensures.below in
     let empty : length c.seat.inside.owed.items ≡ 0 = ap length (c.seat.invariant.owed ∙ next.none_owed) in
     let room = c.seat.invariant.room_owed in
@@ -59,7 +67,7 @@ owe_members-requires-clause-room g c =
 pub invariant_of-seat : goal.invariant_of-seat
 invariant_of-seat g c =
     let k : Key = c.self.inside.table.shared.key in
-    let next = strikes_next _ _ _ _ _ c.seat.inside _ c.in-Some.config _ c.self.view_is c.seat.view_is c.self.invariant c.seat.invariant c.requires.mine c.requires.todo c.requires.owed c.in-Some.ensures.items in
+    let next = strikes g (goal.at.invariant_of-seat g c).After-self in
     let low = in_gaps k _ _ c.gap-gap.result next.solving c.space.ensures c.gap-gap.ensures.below in
     let e = c.fetch_sub-found.ensures.2 in
     let members : source c.self.inside.solver.now c.gap-gap.result ≡ source k.solving c.gap-gap.result = ap (λ (s : Solving). source s c.gap-gap.result) (sym next.solving) in
@@ -69,7 +77,7 @@ invariant_of-seat g c =
 pub invariant_of-seat-else-found-eq1 : goal.invariant_of-seat-else-found-eq1
 invariant_of-seat-else-found-eq1 g c =
     let k : Key = c.self.inside.table.shared.key in
-    let next = strikes_next _ _ _ _ _ c.seat.inside _ c.in-Some.config _ c.self.view_is c.seat.view_is c.self.invariant c.seat.invariant c.requires.mine c.requires.todo c.requires.owed c.in-Some.ensures.items in
+    let next = strikes g (goal.at.invariant_of-seat-else-found-eq1 g c).After-self in
     let low = in_gaps k _ _ c.gap-gap.result next.solving c.space.ensures c.gap-gap.ensures.below in
     let e = c.fetch_sub-found.ensures.2 in
     struck_seat c.seat.inside _ c.fetch_sub-found.result c.gap-gap.result e.0 k c.seat.invariant c.self.invariant.sound low next.of.1 next.some_todo next.none_owed e.2 e.3 (ap (drop 1) (sym c.in-Some.ensures.items))

@@ -1,9 +1,30 @@
-use Rattle.std.proofs.Common.{◌+◌, List, ℕ, sym, get_or, set, rules}
+use Rattle.std.proofs.Common.{◌≡◌, ◌+◌, ◌==◌, cond, List, ℕ, map, sym, get_or, set, rules}
 use Rattle.std.proofs.lemmas.List.{places}
 use Rattle.index_lists.proofs.Cited.{cond_same, cond_other}
 use Rattle.solver.specs.declared.word.TheConstants.{OPEN}
-use Rattle.retro_core.proofs.Machine.{some-of, owed-word, settling}
+use Rattle.solver.specs.Words.{value_of_word}
+use Rattle.retro_core.specs.Round.{seat_tried}
+use Rattle.retro_core.proofs.Machine.{some-of, owed-word, IsTrying, settling}
+use Rattle.retro_core.proofs.round_state.RoundState.settle.Given.{Over}
 use Rattle.retro_core.proofs.round_state.RoundState.settle.Goals as goal
+use Rattle.retro_core.proofs.round_state.RoundState.settle.Goals.{After-settle}
+
+-- the round after a try
+module _ (g : Over) (c : After-settle g) where
+  abbrev words : List ℕ
+  words = c.self.inside.words.items
+
+  abbrev ranks : List ℕ
+  ranks = c.owed-owed.result.now
+
+  made : (after : List ℕ) → after ≡ cond (c.index-2.result.now == OPEN) (set words (get_or ranks 0 0) (c.round_number-next.result + 1)) words
+      → c.settle.new.self ≡ seat_tried (c.index-2.result.now == OPEN) c.index_mut.result.now
+      → IsTrying c.self.inside.solver.now c.self.inside.width c.self.inside.counts.items (map value_of_word words) c.self.inside.seats.items c.args.self.now
+      c.self.view_is c.self.invariant.0 c.self.invariant.1 c.args.seat c.requires ranks (c.index-2.result.now == OPEN) (map value_of_word after) c.settle.new.self
+  made after words_are tried_is =
+      settling _ _ _ words _ _ c.self.view_is c.self.invariant.0 c.self.invariant.1 c.args.seat c.requires
+      c.index.result.now ranks c.index-2.result.now c.round_number-next.result after c.index_mut.result.now c.settle.new.self c.index.ensures c.owed-owed.ensures
+      (some-of _ _ c.is_empty.ensures c.if-is_empty.false) c.index-2.ensures c.round_number-next.ensures.value words_are c.index_mut.ensures.value tried_is
 
 pub index-requires-2 : goal.index-requires-2
 index-requires-2 g c =
@@ -19,40 +40,16 @@ index_mut-requires-then-won g c =
 
 pub invariant_of-self-then-won : goal.invariant_of-self-then-won
 invariant_of-self-then-won g c =
-    let some = some-of _ _ c.is_empty.ensures c.if-is_empty.false in
-    let words : List ℕ = c.self.inside.words.items in
-    let made = settling _ _ _ words _ _ c.self.view_is c.self.invariant.0 c.self.invariant.1 c.args.seat c.requires
-    c.index.result.now c.owed-owed.result.now c.index-2.result.now c.round_number-next.result _ c.index_mut.result.now c.settle.new.self c.index.ensures c.owed-owed.ensures some
-    c.index-2.ensures c.round_number-next.ensures.value (sym (cond_same c.index-2.result.now OPEN (set words (get_or c.owed-owed.result.now 0 0) (c.round_number-next.result + 1)) words c.if-won.true))
-    c.index_mut.ensures.value (search rules) in
-    (c.self.invariant.0, made.lawful)
+    (c.self.invariant.0, (made g (goal.at.invariant_of-self-then-won g c).After-settle _ (sym (cond_same _ OPEN _ _ c.if-won.true)) (search rules)).lawful)
 
 pub invariant_of-self-else-won : goal.invariant_of-self-else-won
 invariant_of-self-else-won g c =
-    let some = some-of _ _ c.is_empty.ensures c.if-is_empty.false in
-    let words : List ℕ = c.self.inside.words.items in
-    let made = settling _ _ _ words _ _ c.self.view_is c.self.invariant.0 c.self.invariant.1 c.args.seat c.requires
-    c.index.result.now c.owed-owed.result.now c.index-2.result.now c.round_number-next.result _ c.index_mut.result.now c.settle.new.self c.index.ensures c.owed-owed.ensures some
-    c.index-2.ensures c.round_number-next.ensures.value (sym (cond_other c.index-2.result.now OPEN (set words (get_or c.owed-owed.result.now 0 0) (c.round_number-next.result + 1)) words c.if-won.false))
-    c.index_mut.ensures.value (search rules) in
-    (c.self.invariant.0, made.lawful)
+    (c.self.invariant.0, (made g (goal.at.invariant_of-self-else-won g c).After-settle _ (sym (cond_other _ OPEN _ _ c.if-won.false)) (search rules)).lawful)
 
 pub returns-then-won-clause-done : goal.returns-then-won-clause-done
 returns-then-won-clause-done g c =
-    let some = some-of _ _ c.is_empty.ensures c.if-is_empty.false in
-    let words : List ℕ = c.self.inside.words.items in
-    let made = settling _ _ _ words _ _ c.self.view_is c.self.invariant.0 c.self.invariant.1 c.args.seat c.requires
-    c.index.result.now c.owed-owed.result.now c.index-2.result.now c.round_number-next.result _ c.index_mut.result.now c.settle.new.self c.index.ensures c.owed-owed.ensures some
-    c.index-2.ensures c.round_number-next.ensures.value (sym (cond_same c.index-2.result.now OPEN (set words (get_or c.owed-owed.result.now 0 0) (c.round_number-next.result + 1)) words c.if-won.true))
-    c.index_mut.ensures.value (search rules) in
-    made.tries
+    (made g (goal.at.returns-then-won-clause-done g c).After-settle _ (sym (cond_same _ OPEN _ _ c.if-won.true)) (search rules)).tries
 
 pub returns-else-won-clause-done : goal.returns-else-won-clause-done
 returns-else-won-clause-done g c =
-    let some = some-of _ _ c.is_empty.ensures c.if-is_empty.false in
-    let words : List ℕ = c.self.inside.words.items in
-    let made = settling _ _ _ words _ _ c.self.view_is c.self.invariant.0 c.self.invariant.1 c.args.seat c.requires
-    c.index.result.now c.owed-owed.result.now c.index-2.result.now c.round_number-next.result _ c.index_mut.result.now c.settle.new.self c.index.ensures c.owed-owed.ensures some
-    c.index-2.ensures c.round_number-next.ensures.value (sym (cond_other c.index-2.result.now OPEN (set words (get_or c.owed-owed.result.now 0 0) (c.round_number-next.result + 1)) words c.if-won.false))
-    c.index_mut.ensures.value (search rules) in
-    made.tries
+    (made g (goal.at.returns-else-won-clause-done g c).After-settle _ (sym (cond_other _ OPEN _ _ c.if-won.false)) (search rules)).tries
