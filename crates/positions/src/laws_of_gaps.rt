@@ -3,7 +3,10 @@
 ghost use Rattle.std.specs.Prelude.{◌≡◌, ℕ, ◌<◌, ◌↔◌, List, slice_index};
 ghost use Rattle.board_text.specs.PlainBoard.{PlainBoard, IsAntisymmetric, IsConfiguration, places};
 ghost use Rattle.positions.specs.Game.{Legal, moved};
+ghost use Rattle.positions.specs.declared.value.Value.{Value as Worth};
 ghost use Rattle.positions.specs.Gaps.{gaps, gap_of, pebble_of, member_of, IsAnswer, IsDominator};
+ghost use Rattle.positions.specs.Tuples.{tuple_of};
+ghost use Rattle.positions.specs.Value.{HasValue};
 
 /// The gap of a pebble at a configuration is a gap of that pebble, and its members are the configurations
 /// that differ in that pebble's label alone.
@@ -43,4 +46,16 @@ pub fn answers_of_gaps()
     ensures one_gap { (board : PlainBoard) → (first : ℕ) → (second : ℕ) → (one : ℕ) → (other : ℕ) → IsAntisymmetric board
         → first < gaps board → second < gaps board → IsAnswer board first one → IsAnswer board second other
         → member_of board first one ≡ member_of board second other → first ≡ second }
+{}
+
+/// Pebbles are alike: two gaps of one tuple have the same answers, and members of them with the same
+/// place for the gap's pebble have the same value.
+pub fn pebbles_are_alike()
+    ensures answers { (board : PlainBoard) → (first : ℕ) → (second : ℕ) → (label : ℕ)
+        → first < gaps board → second < gaps board → tuple_of board first ≡ tuple_of board second
+        → IsAnswer board first label → IsAnswer board second label }
+    ensures values { (board : PlainBoard) → (first : ℕ) → (second : ℕ) → (place : ℕ) → (value : Worth)
+        → first < gaps board → second < gaps board → tuple_of board first ≡ tuple_of board second
+        → HasValue board (member_of board first place) value
+        → HasValue board (member_of board second place) value }
 {}

@@ -27,7 +27,9 @@ pub use laws::{
     lasts_less, limits, one_dominator, one_has_a_tree, one_value_at_most, shown_claims_hold,
     tables_give_trees, values_by_requests, values_occur,
 };
-pub use laws_of_gaps::{answers_of_gaps, gaps_of_configurations, members_of_gaps};
+pub use laws_of_gaps::{
+    answers_of_gaps, gaps_of_configurations, members_of_gaps, pebbles_are_alike,
+};
 pub use laws_of_ranks::{ranks_and_configurations, ranks_are_in_order};
 pub use members::Members;
 pub use moves::Moves;
