@@ -7,7 +7,6 @@ ghost use Rattle.proof_text.specs.Rules.{BreaksNoRule};
 ghost use Rattle.strategies.specs.Document.{IsDocumentOf, claim_of};
 
 use crate::best_moves::BestMoves;
-use crate::gap_best::best_of_gaps;
 use board_text::{Board, Memory};
 use positions::{Claim, Value};
 use proof_text::Proof;
@@ -26,8 +25,9 @@ pub fn document(alloc: Global, board: &Board, values: &Values) -> Result<Proof, 
     ensures shows { IfOk result (λ proof. Shows board.now (answer_rows board.now proof.labeller.items)
         (request_rows board.now proof.adversary.items) proof.claim) }
 {
-    let listed = best_of_gaps(alloc, board, values)?;
-    let moves = BestMoves::new(board, values, &listed);
+    let moves = BestMoves::new(board, values);
+    let listed = moves.list_answers(alloc)?;
+    let moves = moves.with_listed(&listed);
     let value = moves.value(moves.start());
     let labeller = moves.section(alloc, value)?;
     // A start that lasts forever has no rows for the adversary.

@@ -1,42 +1,20 @@
 //! The best answer of a gap, which is that of each of its members.
 
-ghost use Rattle.std.specs.Prelude.{◌≡◌, ℕ, ◌<◌, ◌↔◌, true, IfOk, IsTrue};
+ghost use Rattle.std.specs.Prelude.{◌≡◌, ℕ, ◌<◌, ◌↔◌, true, IsTrue};
 ghost use Rattle.board_text.specs.Domination.{has_bit};
 ghost use Rattle.positions.specs.Gaps.{gaps, IsAnswer};
 ghost use Rattle.strategies.specs.Best.{IsLess};
-ghost use Rattle.strategies.specs.Inside.GapBest.{IsBetter, IsGapBest, AreGapsBest};
+ghost use Rattle.strategies.specs.Inside.GapBest.{IsBetter, IsGapBest};
 
-use crate::listed::Listed;
-use board_text::{Board, MAX_LABELS, Memory};
-use positions::{AnswerSet, TupleAnswers, Value};
+use board_text::MAX_LABELS;
+use positions::{AnswerSet, Value};
 use solver::Values;
-use std::alloc::Global;
 
 /// The best answer to a request, and the value of the configuration after it.
 #[derive(Clone, Copy)]
 pub(crate) struct Best {
     pub(crate) label: u16,
     pub(crate) value: Value,
-}
-
-/// The best answer of each gap, by `values`, which are those of `board`.
-pub(crate) fn best_of_gaps(
-    alloc: Global,
-    board: &Board,
-    values: &Values,
-) -> Result<Vec<Listed>, Memory>
-    requires same_board { values.now ≡ board.now }
-    ensures { IfOk result (λ answers. AreGapsBest board.now answers.items) }
-{
-    let space = values.space();
-    let gaps = space.gaps();
-    let tuples = TupleAnswers::of(alloc, space, board)?;
-    let mut best = Vec::with_capacity(alloc, gaps as usize)?;
-    for gap in 0..gaps {
-        let answers = tuples.answers(space.gap_tuple(gap));
-        best.push_reserved(Listed::of(best_of_gap(values, gap, answers)));
-    }
-    Ok(best)
 }
 
 /// The best answer of `gap`, if it has an answer. The `answers` are those of the gap.

@@ -2,7 +2,6 @@
 #![tactic(auto)]
 
 mod best_moves;
-mod best_of_position;
 mod documents;
 mod gap_best;
 mod laws;
@@ -13,7 +12,7 @@ mod reached;
 mod reached_ranks;
 mod sections;
 
-pub use best_of_position::{best_answer, best_request};
+pub use best_moves::{BestMoves, best_answer, best_request};
 pub use documents::{claim, document};
 pub use laws::{best_answers_last, best_requests_end, one_best_answer, one_best_request};
 pub use laws_of_documents::{

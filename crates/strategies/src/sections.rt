@@ -55,7 +55,7 @@ impl SectionRow for LabellerRow {
     fn at(moves: &BestMoves<'_>, start: Value, rank: u32) -> Option<LabellerRow> {
         let mut take = [0; MAX_PEBBLES];
         for pebble in 0..moves.space().pebbles() {
-            if let Some(best) = moves.answer(rank, pebble) {
+            if let Some(best) = moves.valued_answer(rank, pebble) {
                 take[pebble as usize] = best.label;
             }
         }

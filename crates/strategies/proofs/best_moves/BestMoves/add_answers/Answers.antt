@@ -10,7 +10,7 @@ loop-pebble-preserved c =
     let b = c.args.self.now in
     let step = IsAnswerStep b c.args.rank in
     let pebble = c.loop-pebble.pebble in
-    elim c.match-answer.branch [
+    elim c.match-valued_answer.branch [
       | in-Some+then-is_less+in_ok-add w ↦ rw w.reached-is (record {
         size = w.in_ok-add.ensures.size ∙ c.loop-pebble.invariant.size;
         added = added_more _ _ _ step pebble c.loop-pebble.invariant.added
