@@ -86,7 +86,7 @@ impl<'a> AdversarySide<'a> {
     /// `rank`.
     fn new(moves: BestMoves<'a>, rank: u32) -> AdversarySide<'a>
         requires { rank < configurations moves }
-        ensures { result ≡ record { board = moves; rank = rank; requests = 0 } }
+        ensures { result ≡ record { board = moves.entry; rank = rank; requests = 0 } }
     {
         AdversarySide {
             moves,

@@ -156,7 +156,7 @@ impl<'a> LabellerSide<'a> {
     /// configuration of `rank`.
     fn new(moves: BestMoves<'a>, rank: u32, asked: u8) -> LabellerSide<'a>
         requires { IsPlayState moves rank asked }
-        ensures { result ≡ record { board = moves; rank = rank; requests = 0 } }
+        ensures { result ≡ record { board = moves.entry; rank = rank; requests = 0 } }
     {
         LabellerSide {
             moves,
@@ -168,6 +168,7 @@ impl<'a> LabellerSide<'a> {
 
     /// Whether `label` is legal for the pebble that is asked for.
     fn is_legal(&self, label: u16) -> bool
+        requires { label < self.now.board.labels }
         ensures { IsTrue result ↔ IsLegalAt self.now label }
     {
         self.moves.is_legal(self.rank, self.asked, label)

@@ -3,9 +3,15 @@ use Rattle.std.specs.Prelude.{ℕ, ◌≤◌, ◌⊎◌, List}
 use Rattle.board_text.specs.PlainBoard.{PlainBoard}
 use Rattle.positions.specs.declared.claim.Claim.{Claim}
 use Rattle.positions.specs.declared.claim.Claim.TheVariants as claims
+use Rattle.positions.specs.declared.value.Value.{Value}
 use Rattle.positions.specs.declared.value.Value.TheVariants.{Finite, Forever}
 use Rattle.positions.specs.Value.{HasValue, HasValueAtMost}
 use Rattle.positions.specs.Table.{AnswerRow, RequestRow, Answers, StopsAfter, IsClosed, IsListed}
+
+-- the claim on a start of the value
+abbrev pub claim_of : Value → Claim
+claim_of (Finite number) = claims.Exactly number
+claim_of Forever = claims.Forever
 
 -- the tables show the claim: the labeller's that a number of requests is answered, the adversary's
 -- that no more are

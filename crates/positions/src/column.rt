@@ -47,7 +47,7 @@ impl Column {
                 words: Vec::new(alloc),
             });
         }
-        let mut words = vec![in alloc; LabelSet::below(board.labels()).words[number]; 1]?;
+        let mut words = vec![in alloc; LabelSet::below(board.labels()).word(number); 1]?;
         for _ in 1..board.pebbles() {
             words = with_one_more(alloc, board, number, &words)?;
         }
@@ -95,7 +95,7 @@ fn word_beating(board: &Board, number: usize, place: u16) -> u64
     ensures { (bit : ℕ) → bit < 64
         → (bit_at result bit ≡ 1) ↔ ((64 * number + bit < board.now.labels) × BeatsPlace board.now (64 * number + bit) place) }
 {
-    let every_label = LabelSet::below(board.labels()).words[number];
+    let every_label = LabelSet::below(board.labels()).word(number);
     if place < board.labels() {
         every_label & board.dominators(place)[number]
     } else {

@@ -1,24 +1,44 @@
 //! Sets of labels, as bits.
 
-ghost use Rattle.std.specs.Prelude.{◌≡◌, ℕ, ◌+◌, ◌*◌, ◌<◌, ◌≤◌, ◌↔◌, true, length};
+ghost use Rattle.std.specs.Prelude.{◌≡◌, ℕ, ◌+◌, ◌*◌, ◌<◌, ◌≤◌, ◌↔◌, true, length, slice_index};
 ghost use Rattle.std.specs.Int.{bit_at};
 ghost use Rattle.board_text.specs.Domination.{has_bit};
 ghost use Rattle.positions.specs.Counts.{HasSize, IsSmallest};
 
 use crate::label_walk::LabelWalk;
 use board_text::{MAX_LABELS, ROW_WORDS};
+use std::marker::Model;
 
-/// A set of labels: the label x is bit `x % 64` of word `x / 64`.
+/// A set of labels, which are found once and then read one after the other.
+///
+/// Contracts see it as words of bits: the label x is bit `x % 64` of word `x / 64`.
 #[derive(Clone, Copy)]
-pub(crate) struct LabelSet {
-    pub(crate) words: [u64; ROW_WORDS],
+pub struct LabelSet {
+    words: [u64; ROW_WORDS],
+}
+
+impl Model for LabelSet {
+    ghost use Rattle.std.specs.Prelude.{ℕ, List};
+
+    ghost Value = { List ℕ };
+
+    ghost view = { λ s. s.words };
+
+    ghost inverse = { λ words. record { words = words } };
 }
 
 impl LabelSet {
+    /// The labels whose bits are set in `words`.
+    pub(crate) fn new(words: [u64; ROW_WORDS]) -> LabelSet
+        ensures { result ≡ words }
+    {
+        LabelSet { words }
+    }
+
     /// The labels below `labels`.
     pub(crate) fn below(labels: u16) -> LabelSet
         requires { labels ≤ MAX_LABELS }
-        ensures { (x : ℕ) → x < MAX_LABELS → (has_bit result.words x ≡ true) ↔ (x < labels) }
+        ensures { (x : ℕ) → x < MAX_LABELS → (has_bit result x ≡ true) ↔ (x < labels) }
     {
         let mut words = [0; ROW_WORDS];
         for label in 0..labels {
@@ -31,7 +51,7 @@ impl LabelSet {
     pub(crate) fn intersection(self, row: &[u64]) -> LabelSet
         requires { length row.now ≡ ROW_WORDS }
         ensures { (x : ℕ) → x < MAX_LABELS
-            → (has_bit result.words x ≡ true) ↔ ((has_bit self.words x ≡ true) × (has_bit row.now x ≡ true)) }
+            → (has_bit result x ≡ true) ↔ ((has_bit self x ≡ true) × (has_bit row.now x ≡ true)) }
     {
         LabelSet {
             words: [
@@ -43,9 +63,26 @@ impl LabelSet {
         }
     }
 
+    /// The bits of the labels from `64 * number` on.
+    pub(crate) fn word(self, number: usize) -> u64
+        requires { number < ROW_WORDS }
+        ensures { result ≡ slice_index self number }
+    {
+        self.words[number]
+    }
+
+    /// Whether `label` is in the set.
+    pub fn contains(&self, label: u16) -> bool
+        requires { label < MAX_LABELS }
+        ensures { result ≡ has_bit self.now label }
+    {
+        let word = self.words[label as usize / 64];
+        (word >> (label % 64)) & 1 == 1
+    }
+
     /// How many labels are in the set.
-    pub(crate) fn len(&self) -> u32
-        ensures { HasSize (λ x. (x < MAX_LABELS) × (has_bit self.now.words x ≡ true)) result }
+    pub fn len(&self) -> u32
+        ensures { HasSize (λ x. (x < MAX_LABELS) × (has_bit self.now x ≡ true)) result }
     {
         let mut count = 0;
         for word in &self.words {
@@ -55,15 +92,15 @@ impl LabelSet {
     }
 
     /// A walk over the labels.
-    pub(crate) fn walk(&self) -> LabelWalk
-        ensures { result ≡ record { left = self.now.words; from = 0 } }
+    pub fn walk(&self) -> LabelWalk
+        ensures { result ≡ record { left = self.now; from = 0 } }
     {
         LabelWalk::new(self.words)
     }
 
     /// The smallest label of the set that is at least `bound`, if there is one.
     pub(crate) fn first_from(&self, bound: u16) -> Option<u16>
-        ensures { IsSmallest (λ x. (bound ≤ x) × (x < MAX_LABELS) × (has_bit self.now.words x ≡ true)) result }
+        ensures { IsSmallest (λ x. (bound ≤ x) × (x < MAX_LABELS) × (has_bit self.now x ≡ true)) result }
     {
         let bound = bound as usize;
         // Each word has its own step, so that the words can be kept in registers.

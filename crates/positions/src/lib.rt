@@ -1,7 +1,6 @@
 //! Configurations of the pebble game, their moves, gaps and values.
 #![tactic(auto)]
 
-mod answer_set;
 mod claim;
 mod column;
 mod divisor;
@@ -21,8 +20,8 @@ mod turns;
 mod value;
 mod writing;
 
-pub use answer_set::AnswerSet;
 pub use claim::Claim;
+pub use label_set::LabelSet;
 pub use label_walk::LabelWalk;
 pub use laws::{
     lasts_less, limits, one_dominator, one_has_a_tree, one_value_at_most, shown_claims_hold,

@@ -7,7 +7,7 @@ ghost use Rattle.positions.specs.Gaps.{IsDominator};
 ghost use Rattle.positions.specs.Position.{position_at};
 ghost use Rattle.positions.specs.Ranks.{configurations, rank_of};
 
-use crate::answer_set::AnswerSet;
+use crate::label_set::LabelSet;
 use crate::members::Members;
 use crate::space::{MAX_CONFIGURATIONS, Space};
 use board_text::{Board, MAX_LABELS, MAX_PEBBLES};
@@ -86,7 +86,7 @@ impl<'a> Moves<'a> {
     }
 
     /// The labels that a request of `pebble` may be answered with.
-    pub fn answers(&self, pebble: u8) -> AnswerSet
+    pub fn answers(&self, pebble: u8) -> LabelSet
         ensures bits { (label : ℕ) → label < MAX_LABELS
             → (has_bit result label ≡ true) ↔ Legal self.now.board self.now.configuration pebble label }
         ensures few { self.now.board.labels ≤ MAX_LABELS }
@@ -98,7 +98,7 @@ impl<'a> Moves<'a> {
                 answers = answers.intersection(self.board.dominators(held));
             }
         }
-        AnswerSet::new(answers)
+        answers
     }
 
     /// The ranks of the configurations after a request of `pebble`, by the label of the answer.

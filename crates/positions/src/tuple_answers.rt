@@ -5,7 +5,6 @@ ghost use Rattle.board_text.specs.Domination.{has_bit};
 ghost use Rattle.positions.specs.Gaps.{gaps, gaps_each, IsAnswer};
 ghost use Rattle.positions.specs.Tuples.{tuple_of};
 
-use crate::answer_set::AnswerSet;
 use crate::column::Column;
 use crate::label_set::LabelSet;
 use crate::space::Space;
@@ -55,18 +54,16 @@ impl TupleAnswers {
     }
 
     /// The answers of the gaps of `tuple`.
-    pub fn answers(&self, tuple: u32) -> AnswerSet
+    pub fn answers(&self, tuple: u32) -> LabelSet
         requires { tuple < gaps_each self.now }
         ensures { (gap : ℕ) → gap < gaps self.now → tuple_of self.now gap ≡ tuple
             → (label : ℕ) → label < MAX_LABELS → (has_bit result label ≡ true) ↔ IsAnswer self.now gap label }
     {
-        AnswerSet::new(LabelSet {
-            words: [
-                self.columns[0].word(tuple),
-                self.columns[1].word(tuple),
-                self.columns[2].word(tuple),
-                self.columns[3].word(tuple),
-            ],
-        })
+        LabelSet::new([
+            self.columns[0].word(tuple),
+            self.columns[1].word(tuple),
+            self.columns[2].word(tuple),
+            self.columns[3].word(tuple),
+        ])
     }
 }

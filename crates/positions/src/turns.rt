@@ -1,5 +1,5 @@
 /// The number of turns that a labeller's row is listed for.
-#[derive(Clone, Copy, Debug, PartialEq, Eq)]
+#[derive(Clone, Copy, Debug, PartialEq, Eq, PartialOrd, Ord)]
 pub enum Turns {
     /// This number of requests.
     Count(u32),

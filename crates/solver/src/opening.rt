@@ -15,7 +15,7 @@ use crate::stage::Stage;
 use crate::word::OPEN;
 use board_text::{Board, Memory};
 use index_lists::ListStore;
-use positions::Space;
+use positions::{Space, TupleAnswers};
 use std::alloc::Global;
 
 impl<S: ListStore + Drop> Stage<S> {
@@ -26,12 +26,14 @@ impl<S: ListStore + Drop> Stage<S> {
         ensures opened { IfOk result (λ stage. IsOpened stage) }
     {
         let size = space.configurations();
-        let GapAnswers { counts, dominators } = GapAnswers::of(alloc, &space, board)?;
+        let answers = TupleAnswers::of(alloc, &space, board)?;
+        let GapAnswers { counts, dominators } = GapAnswers::of(alloc, &space, &answers)?;
         let values = first_words(alloc, &space, &counts)?;
         let buckets = S::new(alloc, size, size + 1)?;
         let strikes = Vec::with_capacity(alloc, size as usize)?;
         let mut stage = Stage {
             space,
+            answers,
             value: 0,
             values,
             dominators,

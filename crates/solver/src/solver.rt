@@ -293,11 +293,12 @@ impl<S: ListStore + Drop> Solver<S> {
         let Solver { stage, sizes, .. } = self;
         let Stage {
             space,
+            answers,
             values,
             dominators,
             ..
         } = stage;
-        Ok(Values::new(space, values, dominators, sizes))
+        Ok(Values::new(space, answers, values, dominators, sizes))
     }
 
     /// The values of the board, after all rounds that it takes.

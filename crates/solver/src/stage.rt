@@ -12,7 +12,7 @@ ghost use Rattle.solver.specs.Inside.Stage.{PlainStage, filed_at, due_now, liste
 
 use crate::word::OPEN;
 use index_lists::ListStore;
-use positions::Space;
+use positions::{Space, TupleAnswers};
 use std::marker::Model;
 
 /// The byte of a configuration at which no pebble dominates all others.
@@ -23,6 +23,8 @@ pub(crate) const NO_PEBBLE: u8 = u8::MAX;
 #[derive(Drop)]
 pub(crate) struct Stage<S: ListStore> {
     pub(crate) space: Space,
+    /// The answers of all gaps.
+    pub(crate) answers: TupleAnswers,
     /// The value that configurations are filed at now.
     pub(crate) value: u32,
     /// The value of each configuration that has one, else `OPEN`.
@@ -38,7 +40,7 @@ pub(crate) struct Stage<S: ListStore> {
 }
 
 impl<S: ListStore> Model for Stage<S> {
-    ghost use Rattle.std.specs.Prelude.{◌≤◌, vec_capacity};
+    ghost use Rattle.std.specs.Prelude.{◌≡◌, ◌≤◌, vec_capacity};
     ghost use Rattle.positions.specs.Ranks.{configurations};
     ghost use Rattle.solver.specs.Inside.Stage.{PlainStage, stage_of};
     ghost use Rattle.solver.specs.Inside.Stored.{IsSmall, AreWide, AreDominators, AreStored};
@@ -49,7 +51,7 @@ impl<S: ListStore> Model for Stage<S> {
 
     ghost invariant = { λ s. IsSmall s.space s.value × AreWide s.space s.values.items s.counts.items
         × AreDominators s.space s.dominators.items × AreStored s.space (S.state s.buckets)
-        × (configurations s.space ≤ vec_capacity s.strikes) };
+        × (configurations s.space ≤ vec_capacity s.strikes) × (s.answers ≡ s.space) };
 }
 
 impl<S: ListStore> Stage<S> {

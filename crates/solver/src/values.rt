@@ -17,7 +17,7 @@ ghost use Rattle.solver.specs.Inside.Stored.{AreDominators};
 ghost use Rattle.solver.specs.Inside.Tables.{is_open, AreValues};
 
 use crate::word::OPEN;
-use positions::{Space, Value};
+use positions::{Space, TupleAnswers, Value};
 use std::marker::Model;
 
 /// The value of each configuration of a board.
@@ -26,6 +26,7 @@ use std::marker::Model;
 #[derive(Drop)]
 pub struct Values {
     space: Space,
+    answers: TupleAnswers,
     /// The value of each configuration, or `OPEN` for Forever.
     values: Vec<u32>,
     /// The pebble that dominates all others at each configuration, else `NO_PEBBLE`.
@@ -44,18 +45,20 @@ impl Model for Values {
 
     ghost view = { λ s. s.space };
 
-    ghost invariant = { λ s. AreValuesOf s.space s.values.items s.dominators.items s.sizes.items s.forever };
+    ghost invariant = { λ s. AreValuesOf s.space s.answers s.values.items s.dominators.items s.sizes.items s.forever };
 }
 
 impl Values {
     /// The values in the words `values`, with the number of configurations of each finite value in
-    /// `sizes`.
+    /// `sizes`, and the `answers` of all gaps.
     pub(crate) fn new(
         space: Space,
+        answers: TupleAnswers,
         values: Vec<u32>,
         dominators: Vec<u8>,
         sizes: Vec<u32>,
     ) -> Values
+        requires answers { answers ≡ space }
         requires values { AreValues space values.items }
         requires dominators { AreDominators space dominators.items }
         requires counts { AreValueSizes (configurations space) values.items sizes.items
@@ -65,6 +68,7 @@ impl Values {
         let forever = space.configurations() - total(&sizes);
         Values {
             space,
+            answers,
             values,
             dominators,
             sizes,
@@ -138,6 +142,13 @@ impl Values {
         ensures few { configurations self.now ≤ MAX_CONFIGURATIONS }
     {
         &self.space
+    }
+
+    /// The answers of all gaps of the board, as the opening found them.
+    pub fn answers(&self) -> &TupleAnswers
+        ensures { result.now ≡ self.now }
+    {
+        &self.answers
     }
 }
 

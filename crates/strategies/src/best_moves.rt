@@ -1,6 +1,6 @@
 //! The best answers to requests and the best requests of a board.
 
-ghost use Rattle.std.specs.Prelude.{◌≡◌, ℕ, ◌<◌, ◌≤◌, ◌↔◌, true, None, IfOk, IsTrue};
+ghost use Rattle.std.specs.Prelude.{◌≡◌, ℕ, ◌<◌, ◌≤◌, ◌↔◌, true, None, IsTrue};
 ghost use Rattle.board_text.specs.Domination.{has_bit};
 ghost use Rattle.board_text.specs.PlainBoard.{IsBoard};
 ghost use Rattle.positions.specs.Counts.{IsSmallest};
@@ -12,12 +12,11 @@ ghost use Rattle.positions.specs.declared.value.Value.TheVariants.{Forever};
 ghost use Rattle.strategies.specs.Best.{HasGreatestResult, LowersValue};
 ghost use Rattle.strategies.specs.Inside.GapBest.{IsBestFor, IsGapBest, AreGapsBest, LeadsBelow};
 
-use crate::gap_best::{Best, best_of_gap, is_less};
+use crate::gap_best::{Best, answers_of_gap, best_of_gap};
 use crate::listed::Listed;
-use board_text::{Board, MAX_LABELS, Memory};
-use positions::{AnswerSet, MAX_CONFIGURATIONS, Space, TupleAnswers, Value};
+use board_text::{Board, MAX_LABELS};
+use positions::{LabelSet, MAX_CONFIGURATIONS, Space, Value};
 use solver::Values;
-use std::alloc::Global;
 use std::marker::Model;
 
 /// The best moves on a board, by its values.
@@ -98,10 +97,12 @@ impl<'a> BestMoves<'a> {
 
     /// Whether `label` is legal for `pebble` at the configuration of `rank`.
     pub fn is_legal(&self, rank: u32, pebble: u8, label: u16) -> bool
-        requires { rank < configurations self.now }
+        requires rank { rank < configurations self.now }
+        requires pebble { pebble < self.now.pebbles }
+        requires label { label < self.now.labels }
         ensures { IsTrue result ↔ Legal self.now (configuration_at self.now rank) pebble label }
     {
-        self.space().legal(self.board, rank, pebble, label)
+        self.answers(self.space().gap(rank, pebble)).contains(label)
     }
 
     /// The best answer to a request of `pebble` at the configuration of `rank`, if a label is
@@ -133,32 +134,16 @@ impl<'a> BestMoves<'a> {
     {
         match self.listed {
             Some(listed) => listed[gap as usize].best(),
-            None => best_of_gap(self.values, gap, self.answers(gap)),
+            None => best_of_gap(self.values, gap),
         }
-    }
-
-    /// The best answers of all gaps.
-    pub(crate) fn list_answers(&self, alloc: Global) -> Result<Vec<Listed>, Memory>
-        ensures { IfOk result (λ answers. AreGapsBest self.now answers.items) }
-    {
-        let space = self.space();
-        let gaps = space.gaps();
-        let tuples = TupleAnswers::of(alloc, space, self.board)?;
-        let mut best = Vec::with_capacity(alloc, gaps as usize)?;
-        for gap in 0..gaps {
-            let answers = tuples.answers(space.gap_tuple(gap));
-            best.push_reserved(Listed::of(best_of_gap(self.values, gap, answers)));
-        }
-        Ok(best)
     }
 
     /// The answers of `gap`.
-    pub(crate) fn answers(&self, gap: u32) -> AnswerSet
+    pub(crate) fn answers(&self, gap: u32) -> LabelSet
         requires { gap < gaps self.now }
-        ensures bits { (label : ℕ) → label < MAX_LABELS → (has_bit result label ≡ true) ↔ IsAnswer self.now gap label }
-        ensures few { self.now.labels ≤ MAX_LABELS }
+        ensures { (label : ℕ) → label < MAX_LABELS → (has_bit result label ≡ true) ↔ IsAnswer self.now gap label }
     {
-        self.space().answer_set(self.board, gap)
+        answers_of_gap(self.values, gap)
     }
 
     /// The best request at the configuration of `rank`, if its value is finite: the smallest pebble
@@ -210,7 +195,7 @@ fn leads_below(best: Option<Best>, value: Value) -> bool
     ensures { IsTrue result ↔ LeadsBelow best value }
 {
     match best {
-        Some(best) => is_less(best.value, value),
+        Some(best) => best.value < value,
         None => true,
     }
 }

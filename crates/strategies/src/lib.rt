@@ -13,7 +13,7 @@ mod reached_ranks;
 mod sections;
 
 pub use best_moves::{BestMoves, best_answer, best_request};
-pub use documents::{claim, document};
+pub use documents::document;
 pub use laws::{best_answers_last, best_requests_end, one_best_answer, one_best_request};
 pub use laws_of_documents::{
     documents_break_no_rule, documents_claim_what_holds, documents_have_their_form,

@@ -6,7 +6,6 @@ ghost use Rattle.positions.specs.Gaps.{gaps};
 ghost use Rattle.strategies.specs.Inside.ReachedRanks.{AnswerLeads, RequestLeads, IsWithAll, AreExpanded, IsAnswerOf};
 
 use crate::best_moves::BestMoves;
-use crate::gap_best::is_less;
 use crate::marks::Marks;
 use crate::reached::Reached;
 use board_text::Memory;
@@ -23,7 +22,7 @@ impl BestMoves<'_> {
     {
         for pebble in 0..self.space().pebbles() {
             if let Some(best) = self.valued_answer(rank, pebble) {
-                if is_less(Value::Finite(0), best.value) {
+                if Value::Finite(0) < best.value {
                     reached.add(self.space().with(rank, pebble, best.label))?;
                 }
             }

@@ -24,10 +24,12 @@ pub record AreValueSizes (n : ℕ) (values sizes : List ℕ) (forever : ℕ) : T
   pub inside : (x : ℕ) → x < n → is_open values x ≡ false → slice_index values x < length sizes
   pub forever_is : forever ≡ count_below n (is_open values)
 
--- the words and the dominators of a small board's configurations, and how many have each value
-pub record AreValuesOf (board : PlainBoard) (words dominators sizes : List ℕ) (forever : ℕ) : Type 0 where
+-- the answers that a small board has, the words and the dominators of its configurations, and how
+-- many have each value
+pub record AreValuesOf (board answered : PlainBoard) (words dominators sizes : List ℕ) (forever : ℕ) : Type 0 where
   pub is_board : IsBoard board
   pub few : configurations board ≤ MAX_CONFIGURATIONS
+  pub same_board : answered ≡ board
   pub valued : AreValues board words
   pub dominated : AreDominators board dominators
   pub counted : AreValueSizes (configurations board) words sizes forever

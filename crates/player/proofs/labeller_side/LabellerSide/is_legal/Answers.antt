@@ -1,5 +1,9 @@
+use Rattle.std.proofs.Common.{ap}
 use Rattle.player.proofs.AnswerLines.{legal_at, legal_there}
 use Rattle.player.proofs.labeller_side.LabellerSide.is_legal.Goals as goal
+
+pub is_legal-requires-clause-label : goal.is_legal-requires-clause-label
+is_legal-requires-clause-label c = rw (ap (λ s. s.board) c.self.view_is) c.requires
 
 pub returns : goal.returns
 returns c =

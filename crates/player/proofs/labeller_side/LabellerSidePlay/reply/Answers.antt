@@ -10,6 +10,11 @@ use Rattle.player.proofs.MovedRanks.{says_line}
 use Rattle.player.proofs.labeller_side.LabellerSidePlay.reply.Goals as goal
 use Rattle.player.proofs.labeller_side.LabellerSidePlay.reply.Goals.{else-number-labels-via-else-number-labels, else-number-labels-via-then-number-labels+else-is_legal}
 
+pub is_legal-requires : goal.is_legal-requires
+is_legal-requires c =
+    let of_seat = c.space.ensures.value ∙ ap (λ s. s.board) c.self.view_is in
+    omega (arith, c.if-number-labels.true, c.from-labels.ensures, c.labels.ensures.value, ap (λ b. b.labels) of_seat)
+
 pub returns-then-is_legal-clause-said : goal.returns-then-is_legal-clause-said
 returns-then-is_legal-clause-said c = says_all c.move_to_label.result _ _ _ _ c.move_to_label.ensures.said (λ end said asks line spells. asks line (rw c.in-Number.is at spells).1)
 

@@ -4,4 +4,4 @@ use Rattle.positions.proofs.CountsBelow.{count_below}
 use Rattle.positions.proofs.label_set.LabelSet.len.Given as goal
 
 abbrev pub invariant-loop-word : goal.invariant-loop-word
-invariant-loop-word l = l.count ≡ count_below (has_bit l.self.words) (64 * l.word-index)
+invariant-loop-word l = l.count ≡ count_below (has_bit l.self) (64 * l.word-index)

@@ -22,7 +22,7 @@ loop-gap-preserved c =
     let b = c.args.space.now in
     let i = c.loop-gap.invariant in
     let in_gaps : c.loop-gap.gap < gaps b = omega (arith, c.gaps-gaps.ensures.value, c.loop-gap-test.true) in
-    let found = answers_of b c.in_ok-table.table (c.requires ∙ sym c.in_ok-table.ensures) c.configurations.ensures.is_board c.loop-gap.gap c.gap_tuple.result c.answers-answers.result in_gaps c.gap_tuple.ensures.tuple c.answers-answers.ensures in
+    let found = answers_of b c.args.tuples.now (sym c.requires) c.configurations.ensures.is_board c.loop-gap.gap c.gap_tuple.result c.answers-answers.result in_gaps c.gap_tuple.ensures.tuple c.answers-answers.ensures in
     record {
       len = ap length c.push_reserved.ensures.items ∙ length_push c.loop-gap.counts.items c.len.result ∙ ap (λ n. n + 1) i.len;
       room = rw c.push_reserved.ensures.capacity i.room;

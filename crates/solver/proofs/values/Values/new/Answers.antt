@@ -31,6 +31,7 @@ invariant_of-result c =
     record {
       is_board = e.is_board;
       few = e.few;
+      same_board = c.requires.answers;
       valued = c.requires.values;
       dominated = c.requires.dominators;
       counted = subst (AreValueSizes (configurations b) c.args.values.items c.args.sizes.items) rest c.requires.counts;
