@@ -6,12 +6,11 @@ use Rattle.board_text.specs.PlainBoard.{PlainBoard, plain_board, IsConfiguration
 use Rattle.board_text.proofs.Cited.{start_from_numbers, labels_and_places}
 use Rattle.positions.specs.Value.{HasValue}
 use Rattle.positions.specs.Table.{AnswerRow, IsClosed, IsListed}
-use Rattle.positions.specs.Claim.{Shows}
+use Rattle.positions.specs.Claim.{Shows, claim_of}
 use Rattle.positions.specs.Ranks.{configurations}
 use Rattle.positions.specs.declared.claim.Claim.TheVariants as claims
 use Rattle.positions.specs.declared.value.Value.TheVariants.{Finite, Forever}
 use Rattle.positions.proofs.Cited.{claim_holds, forever_from_count, lasts_at_most, not_both_trees, same_value}
-use Rattle.strategies.specs.Document.{claim_of}
 use Rattle.strategies.proofs.Cited.{document_exists, shows_claim}
 use Rattle.domains.proofs.ComparedValues.{LastsAsLong}
 use Rattle.domains.proofs.Following.{itself, led_lasts}

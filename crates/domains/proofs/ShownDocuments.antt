@@ -8,7 +8,7 @@ use Rattle.std.proofs.lemmas.List.Elements.{All-contains, All-map, All-nil, All-
 use Rattle.board_text.specs.PlainBoard.{PlainBoard, IsConfiguration}
 use Rattle.positions.specs.Game.{Legal, moved}
 use Rattle.positions.specs.Table.{AnswerRow}
-use Rattle.positions.specs.Claim.{Holds}
+use Rattle.positions.specs.Claim.{Holds, claim_of}
 use Rattle.positions.specs.Ranks.{configurations}
 use Rattle.positions.specs.Value.{HasValue}
 use Rattle.positions.specs.declared.claim.Claim.{Claim}
@@ -25,7 +25,6 @@ use Rattle.proof_text.specs.Proof.{AreRequestRows, AreTurns, IsBefore}
 use Rattle.proof_text.specs.Rules.{BreaksNoRule, IsEnough, IsListedBelow, IsListedFor, MeetsRequests, Serves}
 use Rattle.proof_text.specs.Rules.{StartIsBelow, one_less, wanted_of}
 use Rattle.nested_cycles.proofs.Cited.{contains_map, each_of}
-use Rattle.strategies.specs.Document.{claim_of}
 use Rattle.strategies.proofs.Cited.{breaks_no_rule, document_exists, is_formed}
 
 -- a document of the format that breaks no rule and makes the claim

@@ -1,13 +1,13 @@
 //! Solving a board as plain data: the value of its start and its document, with no text between.
 
 ghost use Rattle.std.specs.Prelude.{◌≡◌, ◌↔◌, ◌<◌, Err, IfOk};
-ghost use Rattle.positions.specs.Claim.{Shows};
+ghost use Rattle.positions.specs.Claim.{Shows, claim_of};
 ghost use Rattle.positions.specs.Ranks.{configurations};
 ghost use Rattle.positions.specs.Value.{HasValue};
 ghost use Rattle.proof_text.specs.Proof.{IsDocument, plain_proof, answer_rows, request_rows};
 ghost use Rattle.proof_text.specs.Rules.{BreaksNoRule};
 ghost use Rattle.solver.specs.declared.fault.SolveFault.TheVariants as SolveFault;
-ghost use Rattle.strategies.specs.Document.{IsDocumentOf, claim_of};
+ghost use Rattle.strategies.specs.Document.{IsDocumentOf};
 ghost use Rattle.strategies.specs.Meaning.{Means};
 
 use board_text::{Board, Memory};

@@ -8,11 +8,11 @@ use Rattle.board_text.proofs.Cited.{Appends-trans, Appends-kept, front_taken}
 use Rattle.player.specs.Transcript.{Game, Standing, Going, Over, Brings, BringInTurn, stopped_line}
 use Rattle.player.specs.Inside.Steps.{BringsAll, FailsToWrite}
 use Rattle.player.specs.Play.{Came, GoesOnOrEnds, HasEnded, BreaksOff}
-use Rattle.player.specs.Inside.LineInput.{Unread}
+use Rattle.player.specs.Inside.LineInput.{Unread, GivesNoLine}
 use Rattle.player.specs.declared.word.Word.{Word}
 use Rattle.player.specs.declared.end.PlayFault.{PlayFault}
 use Rattle.player.specs.declared.end.PlayFault.TheVariants.{Read, Write, Memory, Limit}
-use Rattle.player.proofs.ReadLines.{ComesNext, came_of}
+use Rattle.player.proofs.ReadLines.{HasCome, ComesNext, came_of, came_with}
 use Rattle.player.specs.declared.end.PlayEnd.{PlayEnd}
 use Rattle.player.specs.declared.end.PlayEnd.TheVariants.{Stopped}
 use Rattle.player.specs.declared.play.TheConstants.{MOST_LINES}
@@ -48,6 +48,39 @@ front_behind a b c front more written begun =
 -- nothing was written behind what was
 pub front_kept : (a b c : Option (List ℕ)) (front tail : List ℕ) → Appends a b front → Keeps b c → AppendsFront a c (front ++ tail)
 front_kept a b c front tail written kept = front_taken a c (front ++ tail) front tail refl (Appends-kept a b c front written kept)
+
+-- no line came
+pub no_line : (game : Game) (from : Standing) (left_old left_now left_new taken_old taken_now : Option (List ℕ)) (lines : List (List ℕ))
+    (unread : Unread) (text at : List ℕ) (requests : ℕ) (fault : PlayFault)
+    → BringInTurn game from lines text (Going at requests) → Appends taken_old taken_now text
+    → HasCome left_old left_now lines unread → length lines < MOST_LINES → GivesNoLine unread left_now left_new fault
+    → BreaksOff (BringInTurn game from) left_old left_new taken_old taken_now fault
+no_line game from left_old left_now left_new taken_old taken_now lines unread text at requests Read brought written come few gives = (
+  lines,
+  unread.bytes ++ gives.0,
+  text,
+  at,
+  requests,
+  came_with left_old left_now left_new lines unread gives.0 (omega (arith, few)) come gives.1 gives.2,
+  (gives.3, few),
+  brought,
+  written,
+)
+no_line game from left_old left_now left_new taken_old taken_now lines unread text at requests Limit brought written come few gives = (
+  lines,
+  unread.bytes ++ gives.0,
+  text,
+  at,
+  requests,
+  came_with left_old left_now left_new lines unread gives.0 (omega (arith, few)) come gives.1 gives.2,
+  inr gives.3,
+  brought,
+  written,
+)
+no_line game from left_old left_now left_new taken_old taken_now lines unread text at requests Write brought written come few gives =
+    absurd gives
+no_line game from left_old left_now left_new taken_old taken_now lines unread text at requests Memory brought written come few gives =
+    absurd gives
 
 -- ---- one turn
 

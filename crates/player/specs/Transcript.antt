@@ -15,7 +15,7 @@ use Rattle.nested_cycles.specs.NestedGame.{other_words}
 use Rattle.nested_cycles.specs.Reply.{NestedReply}
 use Rattle.proof_text.specs.ProofText.{claim_line}
 use Rattle.strategies.specs.Best.{IsBestAnswer, IsBestRequest}
-use Rattle.strategies.specs.Document.{claim_of}
+use Rattle.positions.specs.Claim.{claim_of}
 use Rattle.player.specs.Words.{quit}
 use Rattle.player.specs.declared.end.PlayEnd.{PlayEnd}
 use Rattle.player.specs.declared.end.PlayEnd.TheVariants.{Stuck, Stopped, NoStrategy}

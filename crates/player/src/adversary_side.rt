@@ -11,15 +11,14 @@ ghost use Rattle.player.specs.Inside.Steps.{AddsText};
 ghost use Rattle.player.specs.declared.end.PlayFault.TheVariants.{Read, Write};
 
 use crate::end::{PlayEnd, PlayFault};
-use crate::play::{Play, play_on};
-use crate::text_buffer::flush;
+use crate::play::{Play, flush, play_on};
 use crate::word::Word;
 use crate::writing::{refused, stopped, write_opening, write_reply, write_stuck};
 use board_text::{Board, Sink, Source};
 use solver::Values;
 use std::alloc::{AllocError, Global};
 use std::marker::Model;
-use strategies::best_answer;
+use strategies::BestMoves;
 
 /// Plays with a person who is the adversary: each line names a pebble, which is put on the label of
 /// the best answer.
@@ -50,21 +49,20 @@ pub fn play_adversary_side<R: Source, W: Sink>(
     ensures write { (W.has_failed writer.new ≡ true) ↔ (result ≡ Err Write) }
 {
     let mut text = String::new(alloc);
-    let space = values.space();
-    let start = space.rank(board.start());
-    let Ok(()) = write_opening(&mut text, space, values.of(start), start) else {
+    let moves = BestMoves::new(board, values);
+    let start = moves.start();
+    let Ok(()) = write_opening(&mut text, moves.space(), moves.value(start), start) else {
         return Err(PlayFault::Memory);
     };
     flush(&mut text, writer)?;
-    let mut play = AdversarySide::new(board, values, start);
+    let mut play = AdversarySide::new(moves, start);
     play_on(&mut play, &mut text, reader, writer)
 }
 
 /// A play in which the person is the adversary.
 #[derive(Drop)]
 struct AdversarySide<'a> {
-    board: &'a Board,
-    values: &'a Values,
+    moves: BestMoves<'a>,
     /// The rank of the configuration.
     rank: u32,
     /// The number of answered requests.
@@ -72,28 +70,26 @@ struct AdversarySide<'a> {
 }
 
 impl<'a> Model for AdversarySide<'a> {
-    ghost use Rattle.std.specs.Prelude.{◌≡◌, ◌<◌};
+    ghost use Rattle.std.specs.Prelude.{◌<◌};
     ghost use Rattle.positions.specs.Ranks.{configurations};
     ghost use Rattle.player.specs.Inside.PlayState.{PlayState};
 
     ghost Value = { PlayState };
 
-    ghost view = { λ s. record { board = s.board.now; rank = s.rank; requests = s.requests } };
+    ghost view = { λ s. record { board = s.moves; rank = s.rank; requests = s.requests } };
 
-    ghost invariant = { λ s. (s.values.now ≡ s.board.now) × (s.rank < configurations s.board.now) };
+    ghost invariant = { λ s. s.rank < configurations s.moves };
 }
 
 impl<'a> AdversarySide<'a> {
     /// A play in which no request was answered yet, and the pebbles are at the configuration of
     /// `rank`.
-    fn new(board: &'a Board, values: &'a Values, rank: u32) -> AdversarySide<'a>
-        requires same_board { values.now ≡ board.now }
-        requires rank { rank < configurations board.now }
-        ensures { result ≡ record { board = board.now; rank = rank; requests = 0 } }
+    fn new(moves: BestMoves<'a>, rank: u32) -> AdversarySide<'a>
+        requires { rank < configurations moves }
+        ensures { result ≡ record { board = moves.entry; rank = rank; requests = 0 } }
     {
         AdversarySide {
-            board,
-            values,
+            moves,
             rank,
             requests: 0,
         }
@@ -108,8 +104,8 @@ impl<'a> AdversarySide<'a> {
         ensures said { IfOk result (λ end. AddsText (string_bytes text.old) (string_bytes text.new)
             (λ said. Replies self.old.board (at self.old) self.old.requests pebble said (standing end (at self.new) self.new.requests))) }
     {
-        let space = self.values.space();
-        match best_answer(self.board, self.values, self.rank, pebble) {
+        let space = self.moves.space();
+        match self.moves.answer(self.rank, pebble) {
             Some(label) => {
                 self.rank = space.with(self.rank, pebble, label);
                 self.requests += 1;
@@ -134,7 +130,7 @@ impl Play for AdversarySide<'_> {
     ghost requests = { λ s. s.requests };
 
     fn reply(&mut self, word: Word, text: &mut String) -> Result<Option<PlayEnd>, AllocError> {
-        let pebbles = u32::from(self.values.space().pebbles());
+        let pebbles = u32::from(self.moves.space().pebbles());
         match word {
             Word::Number(number) => {
                 if number < pebbles {

@@ -12,8 +12,7 @@ ghost use Rattle.player.specs.declared.end.PlayFault.TheVariants.{Read, Write};
 
 use crate::end::{PlayEnd, PlayFault};
 use crate::nested_writing::{write_levels, write_nested_reply};
-use crate::play::{Play, play_on};
-use crate::text_buffer::flush;
+use crate::play::{Play, flush, play_on};
 use crate::word::Word;
 use crate::writing::{refused, stopped};
 use board_text::{Memory, Sink, Source};

@@ -2,7 +2,6 @@
 
 ghost use Rattle.std.specs.Prelude.{◌≡◌, ◌↔◌, ◌+◌, ◌<◌, ◌≤◌, ◌^◌, ◌++◌, ℕ, List, true, false, None, Err, IfOk, IfErr, IsTrue, string_bytes};
 ghost use Rattle.std.specs.Fmt.{decimal};
-ghost use Rattle.board_text.specs.PlainBoard.{IsBoard};
 ghost use Rattle.positions.specs.Ranks.{configurations, configuration_at, rank_of};
 ghost use Rattle.positions.specs.Value.{HasValue};
 ghost use Rattle.positions.specs.declared.value.Value.TheVariants.{Finite};
@@ -15,8 +14,7 @@ ghost use Rattle.player.specs.Inside.Steps.{AddsText};
 ghost use Rattle.player.specs.declared.end.PlayFault.TheVariants.{Read, Write};
 
 use crate::end::{PlayEnd, PlayFault};
-use crate::play::{Play, play_on};
-use crate::text_buffer::flush;
+use crate::play::{Play, flush, play_on};
 use crate::word::Word;
 use crate::writing::{stopped, write_at, write_opening, write_stuck};
 use board_text::{Board, Sink, Source};
@@ -25,7 +23,7 @@ use solver::Values;
 use std::alloc::{AllocError, Global};
 use std::fmt::Write;
 use std::marker::Model;
-use strategies::{best_answer, best_request};
+use strategies::BestMoves;
 
 /// Plays with a person who is the labeller: best requests are made, and each line answers one with
 /// a label.
@@ -56,14 +54,15 @@ pub fn play_labeller_side<R: Source, W: Sink>(
     ensures write { (W.has_failed writer.new ≡ true) ↔ (result ≡ Err Write) }
 {
     let mut text = String::new(alloc);
-    let start = values.space().rank(board.start());
-    let Ok(next) = open(&mut text, board, values, start) else {
+    let moves = BestMoves::new(board, values);
+    let start = moves.start();
+    let Ok(next) = open(&mut text, &moves, start) else {
         return Err(PlayFault::Memory);
     };
     flush(&mut text, writer)?;
     match next {
         Next::Asks(pebble) => {
-            let mut play = LabellerSide::new(board, values, start, pebble);
+            let mut play = LabellerSide::new(moves, start, pebble);
             play_on(&mut play, &mut text, reader, writer)
         }
         Next::Ends(end) => Ok(end),
@@ -89,19 +88,17 @@ struct Request {
 
 /// Appends the value and the labels of the start, and the first request or that there is no
 /// strategy; returns the next turn.
-fn open(text: &mut String, board: &Board, values: &Values, start: u32) -> Result<Next, AllocError>
-    requires same_board { values.now ≡ board.now }
-    requires board { IsBoard board.now }
-    requires start { start ≡ rank_of board.now board.now.start }
-    requires rank { start < configurations board.now }
+fn open(text: &mut String, moves: &BestMoves<'_>, start: u32) -> Result<Next, AllocError>
+    requires start { start ≡ rank_of moves.now moves.now.start }
+    requires rank { start < configurations moves.now }
     ensures { IfOk result (λ next. AddsText (string_bytes text.old) (string_bytes text.new)
-        (λ said. (to : Standing) × BeginsPlay (PersonAnswers board.now) said to
-        × NextStands board.now (configuration_at board.now start) 0 next to)) }
+        (λ said. (to : Standing) × BeginsPlay (PersonAnswers moves.now) said to
+        × NextStands moves.now (configuration_at moves.now start) 0 next to)) }
 {
-    let value = values.of(start);
-    write_opening(text, values.space(), value, start)?;
+    let value = moves.value(start);
+    write_opening(text, moves.space(), value, start)?;
     match value {
-        Value::Finite(_) => write_request(text, request_at(board, values, start), 0),
+        Value::Finite(_) => write_request(text, request_at(moves, start), 0),
         Value::Forever => {
             text.push_str("no strategy\n")?;
             Ok(Next::Ends(PlayEnd::NoStrategy))
@@ -110,14 +107,13 @@ fn open(text: &mut String, board: &Board, values: &Values, start: u32) -> Result
 }
 
 /// The best request at the configuration of `rank`, whose value is finite.
-fn request_at(board: &Board, values: &Values, rank: u32) -> Request
-    requires same_board { values.now ≡ board.now }
-    requires rank { rank < configurations board.now }
-    requires finite { (number : ℕ) × HasValue board.now (configuration_at board.now rank) (Finite number) }
-    ensures { IsRequestAt board.now (configuration_at board.now rank) result }
+fn request_at(moves: &BestMoves<'_>, rank: u32) -> Request
+    requires rank { rank < configurations moves.now }
+    requires finite { (number : ℕ) × HasValue moves.now (configuration_at moves.now rank) (Finite number) }
+    ensures { IsRequestAt moves.now (configuration_at moves.now rank) result }
 {
-    let pebble = best_request(board, values, rank).unwrap();
-    let is_stuck = best_answer(board, values, rank, pebble).is_none();
+    let pebble = moves.request(rank).unwrap();
+    let is_stuck = moves.answer(rank, pebble).is_none();
     Request { pebble, is_stuck }
 }
 
@@ -136,8 +132,7 @@ fn write_request(text: &mut String, request: Request, requests: u32) -> Result<N
 /// A play in which the person is the labeller.
 #[derive(Drop)]
 struct LabellerSide<'a> {
-    board: &'a Board,
-    values: &'a Values,
+    moves: BestMoves<'a>,
     /// The rank of the configuration.
     rank: u32,
     /// The pebble that is asked for, which is the best request.
@@ -151,21 +146,20 @@ impl<'a> Model for LabellerSide<'a> {
 
     ghost Value = { PlayState };
 
-    ghost view = { λ s. record { board = s.board.now; rank = s.rank; requests = s.requests } };
+    ghost view = { λ s. record { board = s.moves; rank = s.rank; requests = s.requests } };
 
-    ghost invariant = { λ s. IsPlayState s.board.now s.values.now s.rank s.asked };
+    ghost invariant = { λ s. IsPlayState s.moves s.rank s.asked };
 }
 
 impl<'a> LabellerSide<'a> {
     /// A play in which no request was answered yet, and pebble `asked` is asked for at the
     /// configuration of `rank`.
-    fn new(board: &'a Board, values: &'a Values, rank: u32, asked: u8) -> LabellerSide<'a>
-        requires { IsPlayState board.now values.now rank asked }
-        ensures { result ≡ record { board = board.now; rank = rank; requests = 0 } }
+    fn new(moves: BestMoves<'a>, rank: u32, asked: u8) -> LabellerSide<'a>
+        requires { IsPlayState moves rank asked }
+        ensures { result ≡ record { board = moves.entry; rank = rank; requests = 0 } }
     {
         LabellerSide {
-            board,
-            values,
+            moves,
             rank,
             asked,
             requests: 0,
@@ -174,11 +168,10 @@ impl<'a> LabellerSide<'a> {
 
     /// Whether `label` is legal for the pebble that is asked for.
     fn is_legal(&self, label: u16) -> bool
+        requires { label < self.now.board.labels }
         ensures { IsTrue result ↔ IsLegalAt self.now label }
     {
-        self.values
-            .space()
-            .legal(self.board, self.rank, self.asked, label)
+        self.moves.is_legal(self.rank, self.asked, label)
     }
 
     /// Puts the pebble that is asked for on the legal `label`, and makes the next request.
@@ -195,9 +188,9 @@ impl<'a> LabellerSide<'a> {
             (λ said. (line : List ℕ) → line ≡ decimal label → AsksAfterLine self.old.board (at self.old) self.old.requests line said
             (standing end (at self.new) self.new.requests))) }
     {
-        let space = self.values.space();
+        let space = self.moves.space();
         let rank = space.with(self.rank, self.asked, label);
-        let request = request_at(self.board, self.values, rank);
+        let request = request_at(&self.moves, rank);
         let requests = self.requests + 1;
         write_at(text, space, rank)?;
         match write_request(text, request, requests)? {
@@ -220,7 +213,7 @@ impl Play for LabellerSide<'_> {
     ghost requests = { λ s. s.requests };
 
     fn reply(&mut self, word: Word, text: &mut String) -> Result<Option<PlayEnd>, AllocError> {
-        let labels = u32::from(self.values.space().labels());
+        let labels = u32::from(self.moves.space().labels());
         match word {
             Word::Number(number) => {
                 if number < labels && self.is_legal(number as u16) {

@@ -11,7 +11,6 @@ mod lines;
 mod nested_laws;
 mod nested_writing;
 mod play;
-mod text_buffer;
 mod word;
 mod writing;
 

@@ -6,8 +6,9 @@ ghost use Rattle.std.specs.Io.KnownBytes.{Keeps};
 ghost use Rattle.player.specs.Words.{HasNoFeed};
 ghost use Rattle.player.specs.Inside.Words.{Spells};
 ghost use Rattle.player.specs.Inside.LineInput.{IsEmptyAtEnd, GivesLine, GivesNoLine, IsFilled};
-ghost use Rattle.player.specs.declared.lines.LineFault.TheVariants.{Read};
+ghost use Rattle.player.specs.declared.end.PlayFault.TheVariants.{Read};
 
+use crate::end::PlayFault;
 use crate::word::Word;
 use board_text::{Failed, Source};
 use std::marker::Model;
@@ -17,15 +18,6 @@ pub(crate) const MOST_BYTES: usize = 64;
 
 /// The largest number of bytes that are read at a time.
 const SIZE: usize = 4096;
-
-/// Why there is no next line.
-#[derive(Clone, Copy, Debug, PartialEq, Eq)]
-pub(crate) enum LineFault {
-    /// The reader failed.
-    Read,
-    /// The line is too long.
-    Limit,
-}
 
 /// The bytes that were read and aren't taken yet.
 ///
@@ -63,8 +55,8 @@ impl Lines {
     }
 
     /// The word of the next line, or `None` at the end. `reader` is asked only if no whole line is
-    /// left.
-    pub(crate) fn next<R: Source>(&mut self, reader: &mut R) -> Result<Option<Word>, LineFault>
+    /// left. The fault is `Read` if it failed, and `Limit` if the line is too long.
+    pub(crate) fn next<R: Source>(&mut self, reader: &mut R) -> Result<Option<Word>, PlayFault>
         requires ready { R.has_failed reader.old ≡ false }
         requires ended { R.has_ended reader.old ≡ self.old.has_ended }
         requires end { IsEmptyAtEnd self.old (R.remaining reader.old) }
@@ -80,15 +72,13 @@ impl Lines {
         loop {
             let size = line_size(self.unread());
             if size > MOST_BYTES {
-                return Err(LineFault::Limit);
+                return Err(PlayFault::Limit);
             }
             if size < self.unread().len() {
                 return Ok(Some(self.take_line(size)));
             }
-            match self.fill(reader) {
-                Ok(true) => {}
-                Ok(false) => return Ok(self.take_last()),
-                Err(fault) => return Err(fault),
+            if !self.fill(reader)? {
+                return Ok(self.take_last());
             }
         }
     }
@@ -127,7 +117,7 @@ impl Lines {
     }
 
     /// Reads once from `reader`, after the bytes that aren't taken yet; `false` at the end.
-    fn fill<R: Source>(&mut self, reader: &mut R) -> Result<bool, LineFault>
+    fn fill<R: Source>(&mut self, reader: &mut R) -> Result<bool, PlayFault>
         requires short { length self.old.bytes ≤ MOST_BYTES }
         requires goes_on { self.old.has_ended ≡ false }
         requires unfailed { R.has_failed reader.old ≡ false }
@@ -150,7 +140,7 @@ impl Lines {
                 self.to += count;
                 Ok(true)
             }
-            Err(Failed) => Err(LineFault::Read),
+            Err(Failed) => Err(PlayFault::Read),
         }
     }
 }

@@ -1,7 +1,8 @@
 //! The loop of every play: it reads a line, answers it, and writes the answer.
 
-ghost use Rattle.std.specs.Prelude.{◌≡◌, ◌↔◌, ◌+◌, ◌≤◌, ◌<◌, ◌^◌, ℕ, List, [], true, false, Err, IfOk, IfErr, OnOk, string_bytes};
+ghost use Rattle.std.specs.Prelude.{◌≡◌, ◌↔◌, ◌+◌, ◌≤◌, ◌<◌, ◌^◌, ℕ, List, [], true, false, Err, IfOk, IfErr, OnOk, OnErr, string_bytes};
 ghost use Rattle.std.specs.Io.KnownBytes.{Appends};
+ghost use Rattle.board_text.specs.Streams.{AppendsFront};
 ghost use Rattle.player.specs.Transcript.{Game, Standing, Going, BringInTurn, stopped_line};
 ghost use Rattle.player.specs.Inside.Transcript.{standing};
 ghost use Rattle.player.specs.Play.{HasEnded, BreaksOff};
@@ -10,11 +11,10 @@ ghost use Rattle.player.specs.declared.end.PlayEnd.TheVariants.{Stopped};
 ghost use Rattle.player.specs.declared.end.PlayFault.TheVariants.{Read, Write};
 
 use crate::end::{PlayEnd, PlayFault};
-use crate::lines::{LineFault, Lines};
-use crate::text_buffer::flush;
+use crate::lines::Lines;
 use crate::word::Word;
 use crate::writing::write_stopped;
-use board_text::{Sink, Source};
+use board_text::{Failed, Sink, Source, write_all};
 use std::alloc::AllocError;
 
 /// The largest number of lines that a play reads.
@@ -67,16 +67,11 @@ pub(crate) fn play_on<P: Play, R: Source, W: Sink>(
 {
     let mut lines = Lines::new();
     for _ in 0..MOST_LINES {
-        let word = match lines.next(reader) {
-            Ok(Some(word)) => word,
-            Ok(None) => return stop(play, text, writer),
-            Err(LineFault::Read) => return Err(PlayFault::Read),
-            Err(LineFault::Limit) => return Err(PlayFault::Limit),
+        let Some(word) = lines.next(reader)? else {
+            return stop(play, text, writer);
         };
-        match turn(play, word, text, writer) {
-            Ok(None) => {}
-            Ok(Some(end)) => return Ok(end),
-            Err(fault) => return Err(fault),
+        if let Some(end) = turn(play, word, text, writer)? {
+            return Ok(end);
         }
     }
     Err(PlayFault::Limit)
@@ -124,4 +119,22 @@ fn stop<P: Play, W: Sink>(play: &P, text: &mut String, writer: &mut W) -> Result
     write_stopped(text, requests)?;
     flush(text, writer)?;
     Ok(PlayEnd::Stopped { requests })
+}
+
+/// Writes `text` to `writer`, and empties it.
+pub(crate) fn flush<W: Sink>(text: &mut String, writer: &mut W) -> Result<(), PlayFault>
+    requires { W.has_failed writer.old ≡ false }
+    ensures written { OnOk result (Appends (W.contents writer.old) (W.contents writer.new) (string_bytes text.old)) }
+    ensures unfailed { OnOk result (W.has_failed writer.new ≡ false) }
+    ensures empty { OnOk result (string_bytes text.new ≡ []) }
+    ensures front { OnErr result (AppendsFront (W.contents writer.old) (W.contents writer.new) (string_bytes text.old)) }
+    ensures fault { IfErr result (λ fault. (fault ≡ Write) × (W.has_failed writer.new ≡ true)) }
+{
+    match write_all(writer, text.as_bytes()) {
+        Ok(()) => {
+            text.clear();
+            Ok(())
+        }
+        Err(Failed) => Err(PlayFault::Write),
+    }
 }

@@ -7,11 +7,10 @@ ghost use Rattle.player.specs.Transcript.{at_line, no_request_line, opening_line
 ghost use Rattle.player.specs.declared.end.PlayEnd.TheVariants.{Stopped};
 
 use crate::end::PlayEnd;
-use positions::{Space, Value, write_labels};
+use positions::{Claim, Space, Value, write_labels};
 use proof_text::write_claim;
 use std::alloc::AllocError;
 use std::fmt::Write;
-use strategies::claim;
 
 /// Appends the `value` and the labels of the start.
 pub(crate) fn write_opening(
@@ -24,7 +23,7 @@ pub(crate) fn write_opening(
     ensures { OnOk result (string_bytes text.new ≡ string_bytes text.old
         ++ opening_lines space.now value (configuration_at space.now start)) }
 {
-    write_claim(text, claim(value))?;
+    write_claim(text, Claim::from(value))?;
     text.push_str("\n")?;
     write_at(text, space, start)
 }

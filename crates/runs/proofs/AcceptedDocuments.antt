@@ -13,7 +13,7 @@ use Rattle.proof_text.specs.Proof.{PlainProof, IsProof}
 use Rattle.proof_text.specs.ProofText.{proof_text}
 use Rattle.proof_text.specs.Rules.{BreaksNoRule}
 use Rattle.proof_text.proofs.Cited.{one_document, no_fault as faultless_document}
-use Rattle.strategies.specs.Document.{claim_of}
+use Rattle.positions.specs.Claim.{claim_of}
 use Rattle.strategies.proofs.Cited.{is_formed, breaks_no_rule}
 use Rattle.runs.specs.CheckRun.{RanCheck}
 use Rattle.runs.specs.Verdicts.{IsChecked, IsVerdict}

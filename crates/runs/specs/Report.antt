@@ -10,7 +10,7 @@ use Rattle.positions.specs.Ranks.{configurations}
 use Rattle.positions.specs.Value.{HasValue}
 use Rattle.proof_text.specs.ProofText.{claim_words}
 use Rattle.solver.specs.Sizes.{HasCount}
-use Rattle.strategies.specs.Document.{claim_of}
+use Rattle.positions.specs.Claim.{claim_of}
 use Rattle.runs.specs.Texts.{IsSmallBoard}
 
 -- the value of the start, how many configurations have each finite value from 0 on, and how many last forever

@@ -4,10 +4,9 @@ ghost use Rattle.std.specs.Prelude.{◌≡◌, ℕ, ◌+◌, ◌≤◌, ◌⊎�
 ghost use Rattle.positions.specs.Ranks.{configurations};
 ghost use Rattle.board_text.specs.PlainBoard.{PlainBoard, IsBoard, IsConfiguration};
 ghost use Rattle.board_text.specs.BoardText.{board_text};
-ghost use Rattle.positions.specs.Claim.{Holds};
+ghost use Rattle.positions.specs.Claim.{Holds, claim_of};
 ghost use Rattle.proof_text.specs.Proof.{PlainProof, IsProof};
 ghost use Rattle.proof_text.specs.ProofText.{proof_text};
-ghost use Rattle.strategies.specs.Document.{claim_of};
 ghost use Rattle.proof_check.specs.declared.checking.Shown.{Shown as ShownClaim};
 ghost use Rattle.positions.specs.declared.value.Value.{Value as Worth};
 ghost use Rattle.runs.specs.Verdicts.{IsChecked, IsVerdict};

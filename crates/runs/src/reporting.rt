@@ -16,7 +16,7 @@ use crate::reading::{MAX_BOARD_BYTES, read_text};
 use crate::solving::{values_by, values_of};
 use crate::writing::write_text;
 use board_text::{Board, Sink, Source};
-use positions::{MAX_CONFIGURATIONS, Space, Value};
+use positions::{Claim, MAX_CONFIGURATIONS, Space, Value};
 use proof_text::write_claim;
 use round_workers::MAX_WORKERS;
 use solver::Values;
@@ -24,7 +24,6 @@ use std::alloc::{AllocError, Global};
 use std::fmt::Write;
 use std::sync::Wait;
 use std::thread::Threads;
-use strategies::claim;
 
 /// Reads a board, finds its values on this thread and writes how many of its configurations have each value.
 ///
@@ -159,7 +158,7 @@ fn write_start(text: &mut String, start: Value) -> Result<(), AllocError>
     ensures { OnOk result (string_bytes text.new ≡ string_bytes text.old ++ start_value_line start) }
 {
     text.push_str("start ")?;
-    write_claim(text, claim(start))?;
+    write_claim(text, Claim::from(start))?;
     text.push_str("\n")
 }
 

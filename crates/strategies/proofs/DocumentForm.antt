@@ -15,7 +15,8 @@ use Rattle.positions.specs.declared.space.TheConstants.{MAX_CONFIGURATIONS}
 use Rattle.positions.proofs.Cited.{lasts_at_most, same_value, forever_from_count, rank_below}
 use Rattle.proof_text.specs.Proof.{PlainProof, IsClaim, AreTurns, IsAnswerRow, IsRequestRow, AreRows, AreAnswerRows, asks_labeller, asks_adversary, IsProof}
 use Rattle.strategies.specs.Best.{IsLess}
-use Rattle.strategies.specs.Document.{IsAnswerable, IsAnswerMove, LeadsBy, IsLabellerRow, IsAdversaryRow, AsksAdversary, AreExactly, IsDocumentOf, claim_of, turns_of}
+use Rattle.strategies.specs.Document.{IsAnswerable, IsAnswerMove, LeadsBy, IsLabellerRow, IsAdversaryRow, AsksAdversary, AreExactly, IsDocumentOf, turns_of}
+use Rattle.positions.specs.Claim.{claim_of}
 use Rattle.strategies.proofs.ValueOrder.{worthless}
 use Rattle.strategies.proofs.ReachedByMoves.{answers_lead_to, requests_lead_to}
 

@@ -1,5 +1,5 @@
 -- The answers of a gap: a walk over them, and the best one, which is that of each member.
-use Rattle.std.proofs.Common.{◌≡◌, ℕ, ◌+◌, ◌<◌, ◌≤◌, ◌↔◌, ◌⊎◌, true, List, [], ◌∷◌, ◌++◌, length, Option, None, Some, option_map, inl, inr, refl, sym, ◌∙◌, ap, subst, arith}
+use Rattle.std.proofs.Common.{◌≡◌, ℕ, ◌+◌, ◌<◌, ◌≤◌, ◌↔◌, ◌⊎◌, true, List, [], ◌∷◌, ◌++◌, length, Option, None, Some, slice_index_or, option_map, inl, inr, refl, sym, ◌∙◌, ap, subst, arith}
 use Rattle.std.proofs.lemmas.Bool.{cases_lt}
 use Rattle.std.proofs.lemmas.List.{get_or_append_left, get_or_at, length-append}
 use Rattle.board_text.specs.Domination.{has_bit}
@@ -12,7 +12,7 @@ use Rattle.positions.specs.Counts.{IsSmallest}
 use Rattle.positions.specs.Game.{Legal, moved}
 use Rattle.positions.specs.Value.{HasValue}
 use Rattle.positions.specs.Ranks.{rank_of, configuration_at}
-use Rattle.positions.specs.Gaps.{gap_of, member_of, IsAnswer}
+use Rattle.positions.specs.Gaps.{gaps, gap_of, member_of, IsAnswer}
 use Rattle.positions.specs.LabelWalk.{Walk, IsStep}
 use Rattle.positions.proofs.Cited.{AreFrom, next_of, after_step, none_left}
 use Rattle.positions.proofs.Cited.{moved_is_configuration, member_of-gap_of, legal_is_answer, configuration_at-rank_of, some_value}
@@ -129,8 +129,11 @@ module _ (board : PlainBoard) (configuration : List ℕ) (pebble : ℕ) where
 
 -- ---- the best answers of the first gaps
 
-pub listed_more : (board : PlainBoard) (answers : List (Option Best)) (best : Option Best) → AreGapsBest board answers
-    → IsGapBest board (length answers) best → AreGapsBest board (answers ++ best ∷ [])
+abbrev pub AreFirstBest : PlainBoard → List (Option Best) → Type 0
+AreFirstBest board answers = (gap : ℕ) → gap < length answers → IsGapBest board gap (slice_index_or answers gap None)
+
+pub listed_more : (board : PlainBoard) (answers : List (Option Best)) (best : Option Best) → AreFirstBest board answers
+    → IsGapBest board (length answers) best → AreFirstBest board (answers ++ best ∷ [])
 listed_more board answers best are is gap below = elim (cases_lt gap (length answers)) [
   | inl early ↦ subst (IsGapBest board gap) (sym (get_or_append_left answers (best ∷ []) None gap early)) (are gap early)
   | inr late ↦
@@ -138,3 +141,7 @@ listed_more board answers best are is gap below = elim (cases_lt gap (length ans
       subst (λ (o : Option Best). IsGapBest board gap o) (sym (get_or_at answers best [] None gap last))
       (subst (λ (g : ℕ). IsGapBest board g best) last is)
 ]
+
+pub all_listed : (board : PlainBoard) (answers : List (Option Best)) → length answers ≡ gaps board → AreFirstBest board answers
+    → AreGapsBest board answers
+all_listed board answers one_each are = record { one_each = one_each; best = λ gap below. are gap (omega (arith, one_each, below)) }

@@ -9,13 +9,13 @@ use Rattle.positions.specs.declared.claim.Claim.{Claim}
 use Rattle.positions.specs.declared.turns.Turns.{Turns}
 use Rattle.positions.specs.Game.{LabellerTree, moved}
 use Rattle.positions.specs.Value.{HasValue}
-use Rattle.positions.specs.Claim.{Holds}
+use Rattle.positions.specs.Claim.{Holds, claim_of}
 use Rattle.positions.specs.Table.{AnswerRow, RequestRow}
 use Rattle.positions.proofs.Cited.{moved_is_configuration, some_value, same_value}
 use Rattle.proof_text.specs.Proof.{PlainProof}
 use Rattle.proof_text.specs.Rules.{IsEnough, one_less, IsListedFor, Serves, MeetsRequests, IsListedBelow, MeetsAnswers, wanted_of, StartIsBelow, BreaksNoRule}
 use Rattle.strategies.specs.Best.{IsLess}
-use Rattle.strategies.specs.Document.{IsAnswerMove, IsRequestMove, LeadsBy, IsLabellerRow, IsAdversaryRow, AsksAdversary, IsDocumentOf, claim_of, turns_of}
+use Rattle.strategies.specs.Document.{IsAnswerMove, IsRequestMove, LeadsBy, IsLabellerRow, IsAdversaryRow, AsksAdversary, IsDocumentOf, turns_of}
 use Rattle.strategies.proofs.ValueOrder.{at_least, less_than_finite}
 use Rattle.strategies.proofs.BestAnswers.{lasts_after}
 use Rattle.strategies.proofs.ReachedByMoves.{one_more, answers_lead_to, stays_forever}

@@ -4,11 +4,11 @@ use Rattle.board_text.specs.PlainBoard.{PlainBoard, IsConfiguration}
 use Rattle.positions.specs.declared.value.Value.{Value}
 use Rattle.positions.specs.declared.value.Value.TheVariants.{Finite, Forever}
 use Rattle.positions.specs.declared.claim.Claim.TheVariants as claims
-use Rattle.positions.specs.Claim.{Shows}
+use Rattle.positions.specs.Claim.{Shows, claim_of}
 use Rattle.positions.specs.Value.{HasValue}
 use Rattle.positions.proofs.Cited.{not_both_trees, same_value}
 use Rattle.proof_text.specs.Proof.{PlainProof}
-use Rattle.strategies.specs.Document.{IsDocumentOf, claim_of}
+use Rattle.strategies.specs.Document.{IsDocumentOf}
 use Rattle.strategies.specs.Meaning.{Means}
 use Rattle.strategies.proofs.ShownClaims.{shows_claim}
 

@@ -13,7 +13,8 @@ use Rattle.positions.specs.Ranks.{rank_of}
 use Rattle.positions.proofs.Cited.{same_value}
 use Rattle.proof_text.specs.Proof.{PlainProof}
 use Rattle.strategies.specs.Best.{IsBestAnswer, IsBestRequest}
-use Rattle.strategies.specs.Document.{IsLabellerRow, IsAdversaryRow, AsksAdversary, AreExactly, IsDocumentOf, claim_of, turns_of}
+use Rattle.strategies.specs.Document.{IsLabellerRow, IsAdversaryRow, AsksAdversary, AreExactly, IsDocumentOf, turns_of}
+use Rattle.positions.specs.Claim.{claim_of}
 use Rattle.strategies.proofs.BestAnswers.{same_answer}
 use Rattle.strategies.proofs.BestRequests as requests
 

@@ -9,12 +9,12 @@ use Rattle.positions.specs.declared.value.Value.{Value}
 use Rattle.positions.specs.declared.value.Value.TheVariants.{Finite, Forever}
 use Rattle.positions.specs.Game.{LabellerTree, moved}
 use Rattle.positions.specs.Value.{HasValue}
-use Rattle.positions.specs.Claim.{Shows}
+use Rattle.positions.specs.Claim.{Shows, claim_of}
 use Rattle.positions.specs.Table.{AnswerRow, RequestRow, AnswersLegally, AnswersAll, Answers, IsListed, IsClosed, Requests, Leads, StopsAfter, request_at}
 use Rattle.positions.proofs.Cited.{lasts_at_most, some_value}
 use Rattle.proof_text.specs.Proof.{PlainProof}
 use Rattle.strategies.specs.Best.{IsLess, IsBestAnswer, IsBestRequest}
-use Rattle.strategies.specs.Document.{IsAnswerable, IsAnswerMove, IsRequestMove, LeadsBy, IsLabellerRow, AsksAdversary, IsDocumentOf, claim_of}
+use Rattle.strategies.specs.Document.{IsAnswerable, IsAnswerMove, IsRequestMove, LeadsBy, IsLabellerRow, AsksAdversary, IsDocumentOf}
 use Rattle.strategies.proofs.ValueOrder.{at_least, less_than_finite}
 use Rattle.strategies.proofs.BestAnswers.{lasts_after}
 use Rattle.strategies.proofs.ReachedByMoves.{one_more, answers_lead_to, stays_forever}

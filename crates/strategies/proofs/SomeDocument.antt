@@ -8,7 +8,8 @@ use Rattle.positions.specs.Ranks.{configurations, rank_of, configuration_at}
 use Rattle.positions.specs.Table.{AnswerRow, RequestRow}
 use Rattle.positions.proofs.Cited.{some_value, configuration_at_is, rank_below}
 use Rattle.proof_text.specs.Proof.{PlainProof}
-use Rattle.strategies.specs.Document.{IsLabellerRow, IsAdversaryRow, AsksAdversary, AreExactly, IsDocumentOf, claim_of}
+use Rattle.strategies.specs.Document.{IsLabellerRow, IsAdversaryRow, AsksAdversary, AreExactly, IsDocumentOf}
+use Rattle.positions.specs.Claim.{claim_of}
 use Rattle.strategies.specs.Inside.Side.{Side, AreOfReached, labeller_side, adversary_side}
 use Rattle.strategies.specs.Inside.ReachedRanks.{IsReachedByAnswers, IsReachedByRequests, AreRanksOf}
 use Rattle.strategies.proofs.AddedRanks.{contains_or_not}

@@ -3,12 +3,11 @@ use Rattle.std.specs.Prelude.{◌≡◌, ℕ, ◌<◌, ◌↔◌, min, List, [],
 use Rattle.board_text.specs.PlainBoard.{PlainBoard}
 use Rattle.positions.specs.declared.value.Value.{Value}
 use Rattle.positions.specs.declared.value.Value.TheVariants.{Finite, Forever}
-use Rattle.positions.specs.declared.claim.Claim.{Claim}
-use Rattle.positions.specs.declared.claim.Claim.TheVariants as claims
 use Rattle.positions.specs.declared.turns.Turns.{Turns}
 use Rattle.positions.specs.declared.turns.Turns.TheVariants.{Count, Always}
 use Rattle.positions.specs.Game.{Legal, moved}
 use Rattle.positions.specs.Value.{HasValue}
+use Rattle.positions.specs.Claim.{claim_of}
 use Rattle.positions.specs.Table.{AnswerRow, RequestRow}
 use Rattle.proof_text.specs.Proof.{PlainProof, IsBefore}
 use Rattle.strategies.specs.Best.{IsLess, IsBestAnswer, IsBestRequest}
@@ -34,11 +33,6 @@ pub record IsRequestMove (board : PlainBoard) (configuration : List ℕ) (pebble
 abbrev pub LeadsBy : (List ℕ → ℕ → ℕ → Type 0) → List ℕ → List (ℕ × ℕ) → List ℕ → Type 0
 LeadsBy IsMove from [] to = from ≡ to
 LeadsBy IsMove from ((pebble, label) ∷ moves) to = IsMove from pebble label × LeadsBy IsMove (moved from pebble label) moves to
-
--- the claim of a document of a board whose start has the value
-abbrev pub claim_of : Value → Claim
-claim_of (Finite number) = claims.Exactly number
-claim_of Forever = claims.Forever
 
 -- the turns for which a configuration of the second value is listed, if the start has the first:
 -- always if the start lasts forever, and else the smaller of the two values

@@ -1,35 +1,37 @@
 //! The best answers to requests and the best requests of a board.
 
-ghost use Rattle.std.specs.Prelude.{◌≡◌, ◌<◌, ◌≤◌, ◌↔◌, None, IsTrue};
+ghost use Rattle.std.specs.Prelude.{◌≡◌, ℕ, ◌<◌, ◌≤◌, ◌↔◌, true, None, IsTrue};
+ghost use Rattle.board_text.specs.Domination.{has_bit};
 ghost use Rattle.board_text.specs.PlainBoard.{IsBoard};
 ghost use Rattle.positions.specs.Counts.{IsSmallest};
-ghost use Rattle.positions.specs.Gaps.{gaps};
+ghost use Rattle.positions.specs.Game.{Legal};
+ghost use Rattle.positions.specs.Gaps.{gaps, IsAnswer};
 ghost use Rattle.positions.specs.Ranks.{configurations, rank_of, configuration_at};
 ghost use Rattle.positions.specs.Value.{HasValue};
 ghost use Rattle.positions.specs.declared.value.Value.TheVariants.{Forever};
-ghost use Rattle.strategies.specs.Best.{LowersValue};
+ghost use Rattle.strategies.specs.Best.{HasGreatestResult, LowersValue};
 ghost use Rattle.strategies.specs.Inside.GapBest.{IsBestFor, IsGapBest, AreGapsBest, LeadsBelow};
 
-use crate::gap_best::{Best, best_of_gap, is_less};
+use crate::gap_best::{Best, answers_of_gap, best_of_gap};
 use crate::listed::Listed;
-use board_text::Board;
-use positions::{MAX_CONFIGURATIONS, Space, Value};
+use board_text::{Board, MAX_LABELS};
+use positions::{LabelSet, MAX_CONFIGURATIONS, Space, Value};
 use solver::Values;
 use std::marker::Model;
 
-/// The best moves on a board. The best answers of the first gaps are listed, and those of all
-/// others are found when they are asked for.
+/// The best moves on a board, by its values.
 ///
 /// Contracts see the board.
 #[derive(Drop)]
-pub(crate) struct BestMoves<'a> {
+pub struct BestMoves<'a> {
     board: &'a Board,
     values: &'a Values,
-    listed: &'a [Listed],
+    /// The best answer of each gap, or `None` if it is found whenever it is asked for.
+    listed: Option<&'a [Listed]>,
 }
 
 impl<'a> Model for BestMoves<'a> {
-    ghost use Rattle.std.specs.Prelude.{◌≡◌};
+    ghost use Rattle.std.specs.Prelude.{◌≡◌, MatchOption};
     ghost use Rattle.board_text.specs.PlainBoard.{PlainBoard};
     ghost use Rattle.strategies.specs.Inside.GapBest.{AreGapsBest};
 
@@ -37,25 +39,37 @@ impl<'a> Model for BestMoves<'a> {
 
     ghost view = { λ m. m.board.now };
 
-    ghost invariant = { λ m. (m.values.now ≡ m.board.now) × AreGapsBest m.board.now m.listed.now };
+    ghost invariant = { λ m. (m.values.now ≡ m.board.now)
+        × MatchOption m.listed (Unit {0}) (λ listed. AreGapsBest m.board.now listed.now) };
 }
 
 impl<'a> BestMoves<'a> {
-    /// The best moves on `board`, by its `values` and the `listed` best answers of its first gaps.
-    pub(crate) fn new(board: &'a Board, values: &'a Values, listed: &'a [Listed]) -> BestMoves<'a>
+    /// The best moves on `board`, whose values are `values`.
+    pub fn new(board: &'a Board, values: &'a Values) -> BestMoves<'a>
         requires same_board { values.now ≡ board.now }
-        requires listed { AreGapsBest board.now listed.now }
         ensures { result ≡ board.now }
     {
         BestMoves {
             board,
             values,
-            listed,
+            listed: None,
+        }
+    }
+
+    /// The same moves, with the best answers of all gaps in `listed`.
+    pub(crate) fn with_listed(self, listed: &'a [Listed]) -> BestMoves<'a>
+        requires { AreGapsBest self listed.now }
+        ensures { result ≡ self.entry }
+    {
+        BestMoves {
+            board: self.board,
+            values: self.values,
+            listed: Some(listed),
         }
     }
 
     /// The configurations and gaps of the board.
-    pub(crate) fn space(&self) -> &'a Space
+    pub fn space(&self) -> &'a Space
         ensures value { result.now ≡ self.now }
         ensures is_board { IsBoard self.now }
         ensures few { configurations self.now ≤ MAX_CONFIGURATIONS }
@@ -63,15 +77,8 @@ impl<'a> BestMoves<'a> {
         self.values.space()
     }
 
-    /// The board.
-    pub(crate) fn board(&self) -> &'a Board
-        ensures { result.now ≡ self.now }
-    {
-        self.board
-    }
-
     /// The rank of the start.
-    pub(crate) fn start(&self) -> u32
+    pub fn start(&self) -> u32
         ensures rank { result ≡ rank_of self.now self.now.start }
         ensures below { result < configurations self.now }
         ensures is_board { IsBoard self.now }
@@ -81,16 +88,38 @@ impl<'a> BestMoves<'a> {
     }
 
     /// The value of the configuration of `rank`.
-    pub(crate) fn value(&self, rank: u32) -> Value
+    pub fn value(&self, rank: u32) -> Value
         requires { rank < configurations self.now }
         ensures { HasValue self.now (configuration_at self.now rank) result }
     {
         self.values.of(rank)
     }
 
-    /// The best answer to a request of `pebble` at the configuration of `rank`, with its value, if
-    /// a label is legal.
-    pub(crate) fn answer(&self, rank: u32, pebble: u8) -> Option<Best>
+    /// Whether `label` is legal for `pebble` at the configuration of `rank`.
+    pub fn is_legal(&self, rank: u32, pebble: u8, label: u16) -> bool
+        requires rank { rank < configurations self.now }
+        requires pebble { pebble < self.now.pebbles }
+        requires label { label < self.now.labels }
+        ensures { IsTrue result ↔ Legal self.now (configuration_at self.now rank) pebble label }
+    {
+        self.answers(self.space().gap(rank, pebble)).contains(label)
+    }
+
+    /// The best answer to a request of `pebble` at the configuration of `rank`, if a label is
+    /// legal: the smallest legal label whose result has the greatest value.
+    pub fn answer(&self, rank: u32, pebble: u8) -> Option<u16>
+        requires rank { rank < configurations self.now }
+        requires pebble { pebble < self.now.pebbles }
+        ensures best { IsSmallest (HasGreatestResult self.now (configuration_at self.now rank) pebble) result }
+        ensures none { (result ≡ None) ↔ ((label : ℕ) → Legal self.now (configuration_at self.now rank) pebble label → ⊥) }
+    {
+        let best = self.valued_answer(rank, pebble)?;
+        Some(best.label)
+    }
+
+    /// The best answer to a request of `pebble` at the configuration of `rank`, with the value of
+    /// its result, if a label is legal.
+    pub(crate) fn valued_answer(&self, rank: u32, pebble: u8) -> Option<Best>
         requires rank { rank < configurations self.now }
         requires pebble { pebble < self.now.pebbles }
         ensures { IsBestFor self.now (configuration_at self.now rank) pebble result }
@@ -103,21 +132,30 @@ impl<'a> BestMoves<'a> {
         requires { gap < gaps self.now }
         ensures { IsGapBest self.now gap result }
     {
-        match self.listed.get(gap as usize) {
-            Some(listed) => listed.best(),
-            None => best_of_gap(self.values, gap, self.space().answers(self.board, gap)),
+        match self.listed {
+            Some(listed) => listed[gap as usize].best(),
+            None => best_of_gap(self.values, gap),
         }
     }
 
-    /// The best request at the configuration of `rank`, if its value is finite.
-    pub(crate) fn request(&self, rank: u32) -> Option<u8>
+    /// The answers of `gap`.
+    pub(crate) fn answers(&self, gap: u32) -> LabelSet
+        requires { gap < gaps self.now }
+        ensures { (label : ℕ) → label < MAX_LABELS → (has_bit result label ≡ true) ↔ IsAnswer self.now gap label }
+    {
+        answers_of_gap(self.values, gap)
+    }
+
+    /// The best request at the configuration of `rank`, if its value is finite: the smallest pebble
+    /// all of whose legal results have a smaller value.
+    pub fn request(&self, rank: u32) -> Option<u8>
         requires { rank < configurations self.now }
         ensures best { IsSmallest (LowersValue self.now (configuration_at self.now rank)) result }
         ensures none { (result ≡ None) ↔ HasValue self.now (configuration_at self.now rank) Forever }
     {
         let value = self.value(rank);
         for pebble in 0..self.space().pebbles() {
-            if leads_below(self.answer(rank, pebble), value) {
+            if leads_below(self.valued_answer(rank, pebble), value) {
                 return Some(pebble);
             }
         }
@@ -125,12 +163,39 @@ impl<'a> BestMoves<'a> {
     }
 }
 
+/// The best answer to a request of `pebble` at the configuration of `rank`, if a label is legal:
+/// the smallest legal label whose result has the greatest value.
+///
+/// The `values` are those of `board`.
+pub fn best_answer(board: &Board, values: &Values, rank: u32, pebble: u8) -> Option<u16>
+    requires same_board { values.now ≡ board.now }
+    requires rank { rank < configurations board.now }
+    requires pebble { pebble < board.now.pebbles }
+    ensures best { IsSmallest (HasGreatestResult board.now (configuration_at board.now rank) pebble) result }
+    ensures none { (result ≡ None) ↔ ((label : ℕ) → Legal board.now (configuration_at board.now rank) pebble label → ⊥) }
+{
+    BestMoves::new(board, values).answer(rank, pebble)
+}
+
+/// The best request at the configuration of `rank`, if its value is finite:
+/// the smallest pebble all of whose legal results have a smaller value.
+///
+/// The `values` are those of `board`.
+pub fn best_request(board: &Board, values: &Values, rank: u32) -> Option<u8>
+    requires same_board { values.now ≡ board.now }
+    requires rank { rank < configurations board.now }
+    ensures best { IsSmallest (LowersValue board.now (configuration_at board.now rank)) result }
+    ensures none { (result ≡ None) ↔ HasValue board.now (configuration_at board.now rank) Forever }
+{
+    BestMoves::new(board, values).request(rank)
+}
+
 /// Whether a request with the best answer `best` leads below `value`, whatever the answer.
 fn leads_below(best: Option<Best>, value: Value) -> bool
     ensures { IsTrue result ↔ LeadsBelow best value }
 {
     match best {
-        Some(best) => is_less(best.value, value),
+        Some(best) => best.value < value,
         None => true,
     }
 }

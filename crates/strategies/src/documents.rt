@@ -4,7 +4,7 @@ ghost use Rattle.std.specs.Prelude.{◌≡◌, IfOk};
 ghost use Rattle.positions.specs.Claim.{Shows};
 ghost use Rattle.proof_text.specs.Proof.{IsDocument, answer_rows, plain_proof, request_rows};
 ghost use Rattle.proof_text.specs.Rules.{BreaksNoRule};
-ghost use Rattle.strategies.specs.Document.{IsDocumentOf, claim_of};
+ghost use Rattle.strategies.specs.Document.{IsDocumentOf};
 
 use crate::best_moves::BestMoves;
 use crate::gap_best::best_of_gaps;
@@ -26,8 +26,8 @@ pub fn document(alloc: Global, board: &Board, values: &Values) -> Result<Proof, 
     ensures shows { IfOk result (λ proof. Shows board.now (answer_rows board.now proof.labeller.items)
         (request_rows board.now proof.adversary.items) proof.claim) }
 {
-    let listed = best_of_gaps(alloc, board, values)?;
-    let moves = BestMoves::new(board, values, &listed);
+    let listed = best_of_gaps(alloc, values)?;
+    let moves = BestMoves::new(board, values).with_listed(&listed);
     let value = moves.value(moves.start());
     let labeller = moves.section(alloc, value)?;
     // A start that lasts forever has no rows for the adversary.
@@ -36,18 +36,8 @@ pub fn document(alloc: Global, board: &Board, values: &Values) -> Result<Proof, 
         Value::Forever => Vec::new(alloc),
     };
     Ok(Proof {
-        claim: claim(value),
+        claim: Claim::from(value),
         labeller,
         adversary,
     })
-}
-
-/// The claim of a document of a board whose start has `value`.
-pub fn claim(value: Value) -> Claim
-    ensures { result ≡ claim_of value }
-{
-    match value {
-        Value::Finite(number) => Claim::Exactly(number),
-        Value::Forever => Claim::Forever,
-    }
 }

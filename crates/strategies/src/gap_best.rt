@@ -1,14 +1,13 @@
 //! The best answer of a gap, which is that of each of its members.
 
-ghost use Rattle.std.specs.Prelude.{◌≡◌, ℕ, ◌<◌, ◌↔◌, true, IfOk, IsTrue};
+ghost use Rattle.std.specs.Prelude.{◌≡◌, ℕ, ◌<◌, ◌↔◌, true, IfOk};
 ghost use Rattle.board_text.specs.Domination.{has_bit};
 ghost use Rattle.positions.specs.Gaps.{gaps, IsAnswer};
-ghost use Rattle.strategies.specs.Best.{IsLess};
 ghost use Rattle.strategies.specs.Inside.GapBest.{IsBetter, IsGapBest, AreGapsBest};
 
 use crate::listed::Listed;
-use board_text::{Board, MAX_LABELS, Memory};
-use positions::{LabelSet, TupleAnswers, Value};
+use board_text::{MAX_LABELS, Memory};
+use positions::{LabelSet, Value};
 use solver::Values;
 use std::alloc::Global;
 
@@ -19,35 +18,25 @@ pub(crate) struct Best {
     pub(crate) value: Value,
 }
 
-/// The best answer of each gap, by `values`, which are those of `board`.
-pub(crate) fn best_of_gaps(
-    alloc: Global,
-    board: &Board,
-    values: &Values,
-) -> Result<Vec<Listed>, Memory>
-    requires same_board { values.now ≡ board.now }
-    ensures { IfOk result (λ answers. AreGapsBest board.now answers.items) }
+/// The best answers of all gaps, by `values`.
+pub(crate) fn best_of_gaps(alloc: Global, values: &Values) -> Result<Vec<Listed>, Memory>
+    ensures { IfOk result (λ answers. AreGapsBest values.now answers.items) }
 {
-    let space = values.space();
-    let gaps = space.gaps();
-    let tuples = TupleAnswers::of(alloc, space, board)?;
+    let gaps = values.space().gaps();
     let mut best = Vec::with_capacity(alloc, gaps as usize)?;
     for gap in 0..gaps {
-        let answers = tuples.answers(space.gap_tuple(gap));
-        best.push_reserved(Listed::of(best_of_gap(values, gap, answers)));
+        best.push_reserved(Listed::of(best_of_gap(values, gap)));
     }
     Ok(best)
 }
 
-/// The best answer of `gap`, if it has an answer. The `answers` are those of the gap.
-pub(crate) fn best_of_gap(values: &Values, gap: u32, answers: LabelSet) -> Option<Best>
-    requires gap { gap < gaps values.now }
-    requires answers { (label : ℕ) → label < MAX_LABELS → (has_bit answers label ≡ true) ↔ IsAnswer values.now gap label }
+/// The best answer of `gap`, if it has an answer, by `values`.
+pub(crate) fn best_of_gap(values: &Values, gap: u32) -> Option<Best>
+    requires { gap < gaps values.now }
     ensures { IsGapBest values.now gap result }
 {
-    let space = values.space();
-    let members = space.members(gap);
-    let mut labels = answers.walk();
+    let members = values.space().members(gap);
+    let mut labels = answers_of_gap(values, gap).walk();
     let mut best = None;
     while let Some(label) = labels.take_next() {
         let value = values.of(members.rank(label));
@@ -66,18 +55,16 @@ fn better(best: Option<Best>, later: Best) -> Best
     ensures { IsBetter best later result }
 {
     match best {
-        Some(first) if !is_less(first.value, later.value) => first,
+        Some(first) if first.value >= later.value => first,
         _ => later,
     }
 }
 
-/// Whether `first` is smaller than `second`. Forever is greater than all numbers.
-pub(crate) fn is_less(first: Value, second: Value) -> bool
-    ensures { IsTrue result ↔ IsLess first second }
+/// The answers of `gap`, as `values` have them.
+pub(crate) fn answers_of_gap(values: &Values, gap: u32) -> LabelSet
+    requires { gap < gaps values.now }
+    ensures { (label : ℕ) → label < MAX_LABELS → (has_bit result label ≡ true) ↔ IsAnswer values.now gap label }
 {
-    match (first, second) {
-        (Value::Finite(first), Value::Finite(second)) => first < second,
-        (Value::Finite(_), Value::Forever) => true,
-        (Value::Forever, _) => false,
-    }
+    let tuple = values.space().gap_tuple(gap);
+    values.answers().answers(tuple)
 }

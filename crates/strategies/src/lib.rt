@@ -2,7 +2,6 @@
 #![tactic(auto)]
 
 mod best_moves;
-mod best_of_position;
 mod documents;
 mod gap_best;
 mod laws;
@@ -13,8 +12,8 @@ mod reached;
 mod reached_ranks;
 mod sections;
 
-pub use best_of_position::{best_answer, best_request};
-pub use documents::{claim, document};
+pub use best_moves::{BestMoves, best_answer, best_request};
+pub use documents::document;
 pub use laws::{best_answers_last, best_requests_end, one_best_answer, one_best_request};
 pub use laws_of_documents::{
     documents_break_no_rule, documents_claim_what_holds, documents_have_their_form,

@@ -6,7 +6,6 @@ ghost use Rattle.positions.specs.Gaps.{gaps};
 ghost use Rattle.strategies.specs.Inside.ReachedRanks.{AnswerLeads, RequestLeads, IsWithAll, AreExpanded, IsAnswerOf};
 
 use crate::best_moves::BestMoves;
-use crate::gap_best::is_less;
 use crate::marks::Marks;
 use crate::reached::Reached;
 use board_text::Memory;
@@ -22,8 +21,8 @@ impl BestMoves<'_> {
         ensures added { IfOk result (λ _. IsWithAll reached.old.ranks (AnswerLeads self.now rank) reached.new.ranks) }
     {
         for pebble in 0..self.space().pebbles() {
-            if let Some(best) = self.answer(rank, pebble) {
-                if is_less(Value::Finite(0), best.value) {
+            if let Some(best) = self.valued_answer(rank, pebble) {
+                if Value::Finite(0) < best.value {
                     reached.add(self.space().with(rank, pebble, best.label))?;
                 }
             }
@@ -65,7 +64,7 @@ impl BestMoves<'_> {
         ensures added { IfOk result (λ _. IsWithAll reached.old.ranks (IsAnswerOf self.now gap) reached.new.ranks) }
     {
         let space = self.space();
-        let mut answers = space.answers(self.board(), gap).walk();
+        let mut answers = self.answers(gap).walk();
         let members = space.members(gap);
         while let Some(label) = answers.take_next() {
             reached.add(members.rank(label))?;

@@ -8,7 +8,6 @@ ghost use Rattle.strategies.specs.Document.{turns_of};
 ghost use Rattle.strategies.specs.Inside.Side.{Side, AreReached, AreSection, IsRowAt, adversary_side, labeller_side};
 
 use crate::best_moves::BestMoves;
-use crate::gap_best::is_less;
 use crate::marks::Marks;
 use crate::reached::Reached;
 use board_text::{MAX_PEBBLES, Memory};
@@ -41,7 +40,7 @@ impl SectionRow for LabellerRow {
     fn reached(moves: &BestMoves<'_>, alloc: Global) -> Result<Reached, Memory> {
         let mut reached = Reached::new(alloc, moves.space().configurations())?;
         let start = moves.start();
-        if is_less(Value::Finite(0), moves.value(start)) {
+        if Value::Finite(0) < moves.value(start) {
             reached.add(start)?;
         }
         let mut place = 0;
@@ -55,7 +54,7 @@ impl SectionRow for LabellerRow {
     fn at(moves: &BestMoves<'_>, start: Value, rank: u32) -> Option<LabellerRow> {
         let mut take = [0; MAX_PEBBLES];
         for pebble in 0..moves.space().pebbles() {
-            if let Some(best) = moves.answer(rank, pebble) {
+            if let Some(best) = moves.valued_answer(rank, pebble) {
                 take[pebble as usize] = best.label;
             }
         }

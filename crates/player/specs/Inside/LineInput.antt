@@ -6,8 +6,8 @@ use Rattle.board_text.specs.LineForms.{closed}
 use Rattle.player.specs.Words.{IsLine, BeginsTooLong}
 use Rattle.player.specs.Inside.Words.{Spells}
 use Rattle.player.specs.declared.word.Word.{Word}
-use Rattle.player.specs.declared.lines.LineFault.{LineFault}
-use Rattle.player.specs.declared.lines.LineFault.TheVariants.{Read, Limit}
+use Rattle.player.specs.declared.end.PlayFault.{PlayFault}
+use Rattle.player.specs.declared.end.PlayFault.TheVariants.{Read, Limit}
 
 -- the bytes that were read and aren't taken yet, and whether the end of the input was seen
 pub record Unread : Type 0 where
@@ -40,11 +40,12 @@ GivesLine old new left_old left_new (Some word) = (line : List ℕ) × (old.has_
 GivesLine old new left_old left_new None = IsLastLine old new left_old left_new []
 
 -- why there is no next line
-abbrev pub GivesNoLine : Unread → Option (List ℕ) → Option (List ℕ) → LineFault → Type 0
+abbrev pub GivesNoLine : Unread → Option (List ℕ) → Option (List ℕ) → PlayFault → Type 0
 GivesNoLine old left_old left_new Read = (more : List ℕ) × (old.has_ended ≡ false) × Consumes left_old left_new more
     × IsLine (old.bytes ++ more)
 GivesNoLine old left_old left_new Limit = (more : List ℕ) × (old.has_ended ≡ false) × Consumes left_old left_new more
     × BeginsTooLong (old.bytes ++ more)
+GivesNoLine old left_old left_new fault = ⊥
 
 -- more bytes came, or the end was seen
 abbrev pub IsFilled : Unread → Unread → Option (List ℕ) → Option (List ℕ) → Bool → Type 0

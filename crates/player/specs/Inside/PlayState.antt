@@ -1,6 +1,6 @@
 -- The state of a play with a person, and the request in it.
 use Rattle.std.specs.Prelude.{◌≡◌, ℕ, ◌<◌, true, false, List, ◌++◌}
-use Rattle.board_text.specs.PlainBoard.{PlainBoard, IsBoard}
+use Rattle.board_text.specs.PlainBoard.{PlainBoard}
 use Rattle.positions.specs.Ranks.{configurations, configuration_at}
 use Rattle.positions.specs.Game.{Legal}
 use Rattle.strategies.specs.Best.{IsBestRequest}
@@ -43,9 +43,7 @@ NextStands board configuration requests (next.Asks pebble) to = IsBestRequest bo
     × (to ≡ Going configuration requests)
 NextStands board configuration requests (next.Ends end) to = to ≡ Over end
 
--- the values are the board's, and the pebble is the best request at the configuration of the rank
-pub record IsPlayState (board values : PlainBoard) (rank asked : ℕ) : Type 0 where
-  pub is_board : IsBoard board
-  pub same_board : values ≡ board
+-- the pebble is the best request at the configuration of the rank
+pub record IsPlayState (board : PlainBoard) (rank asked : ℕ) : Type 0 where
   pub inside : rank < configurations board
   pub best : IsBestRequest board (configuration_at board rank) asked

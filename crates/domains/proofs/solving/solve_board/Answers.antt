@@ -2,7 +2,7 @@ use Rattle.std.proofs.Common.{rules, ◌∙◌, ap}
 use Rattle.positions.specs.Value.{HasValue}
 use Rattle.positions.proofs.Cited.{same_value}
 use Rattle.strategies.proofs.Cited.{start_value, means_value}
-use Rattle.strategies.specs.Document.{claim_of}
+use Rattle.positions.specs.Claim.{claim_of}
 use Rattle.domains.proofs.solving.solve_board.Goals as goal
 
 pub returns-in-Ok-clause-value : goal.returns-in-Ok-clause-value

@@ -1,8 +1,9 @@
 use Rattle.std.proofs.Common.{refl, [], ◌++◌, ◌+◌, ◌∷◌, ap, ◌∙◌, arith, inl}
 use Rattle.std.proofs.lemmas.List.{length_push}
+use Rattle.std.proofs.lemmas.Result.{err_from_is_err_and}
 use Rattle.board_text.proofs.Cited.{Appends-trans}
 use Rattle.player.proofs.ReadLines.{none_yet, line_came, all_came, came_of}
-use Rattle.player.proofs.WrittenPlay.{brings_more, stopped, not_stopped, ended, broken, Appends-none}
+use Rattle.player.proofs.WrittenPlay.{brings_more, no_line, stopped, not_stopped, ended, broken, Appends-none}
 use Rattle.player.proofs.play.play_on.Goals as goal
 
 pub loop-init : goal.loop-init
@@ -21,37 +22,51 @@ loop-init g c = record {
   writer = c.requires.writer_ready;
 }
 
-pub returns-in-Ok-None-clause-ok : goal.returns-in-Ok-None-clause-ok
-returns-in-Ok-None-clause-ok g c =
+pub returns-in_err-word-clause-fault : goal.returns-in_err-word-clause-fault
+returns-in_err-word-clause-fault g c =
     let i = c.loop.invariant in
-    let gives = rw c.in-Ok-None.field-0-is at c.in-Ok-None.ensures.line in
-    stopped _ _ _ _ _ _ _ i.said i.text _ _ i.brought i.written c.stop.result (all_came _ _ _ i.said _ _ (omega (arith, i.few, c.loop-test.true)) i.come gives) c.stop.ensures.end c.stop.ensures.written
+    let p = err_from_is_err_and c.from_residual.result c.from_residual.ensures.1 in
+    rw (p.1, p.2)
+    (no_line _ _ _ _ _ _ _ i.said c.loop.lines i.text _ _ c.in_err-word.field-0.0 i.brought i.written i.come
+    (omega (arith, i.few, c.loop-test.true)) c.in_err-word.ensures.fault)
 
-pub returns-in-Ok-None-clause-fault : goal.returns-in-Ok-None-clause-fault
-returns-in-Ok-None-clause-fault g c =
+pub returns-in_default-clause-ok : goal.returns-in_default-clause-ok
+returns-in_default-clause-ok g c =
     let i = c.loop.invariant in
-    let gives = rw c.in-Ok-None.field-0-is at c.in-Ok-None.ensures.line in
-    not_stopped _ _ _ _ _ _ _ i.said i.text _ _ i.brought i.written c.stop.result (all_came _ _ _ i.said _ _ (omega (arith, i.few, c.loop-test.true)) i.come gives) c.stop.ensures.fault
+    let gives = rw c.in_default.is at c.in_ok-word.ensures.line in
+    stopped _ _ _ _ _ _ _ i.said i.text _ _ i.brought i.written c.stop.result
+    (all_came _ _ _ i.said _ _ (omega (arith, i.few, c.loop-test.true)) i.come gives) c.stop.ensures.end c.stop.ensures.written
 
-pub returns-in-Ok-Some-turn-clause-ok : goal.returns-in-Ok-Some-turn-clause-ok
-returns-in-Ok-Some-turn-clause-ok g c =
+pub returns-in_default-clause-fault : goal.returns-in_default-clause-fault
+returns-in_default-clause-fault g c =
     let i = c.loop.invariant in
-    let next = line_came _ _ _ i.said _ _ _ i.come (rw c.in-Ok-Some.field-0-is at c.in-Ok-Some.ensures.line) in
-    let wrote = rw (i.same, c.in-Ok-Some-turn.field-0-is) at c.in-Ok-Some-turn.ensures.written in
-    ended _ _ _ _ _ _ _ i.said i.text _ _ i.brought i.written _ _ next (omega (arith, i.few, c.loop-test.true)) c.in-Ok-Some-turn.end wrote.0 wrote.2 wrote.1
+    let gives = rw c.in_default.is at c.in_ok-word.ensures.line in
+    not_stopped _ _ _ _ _ _ _ i.said i.text _ _ i.brought i.written c.stop.result
+    (all_came _ _ _ i.said _ _ (omega (arith, i.few, c.loop-test.true)) i.come gives) c.stop.ensures.fault
 
-pub returns-in-Err-clause-fault : goal.returns-in-Err-clause-fault
-returns-in-Err-clause-fault g c =
+pub returns-in_err-end-clause-fault : goal.returns-in_err-end-clause-fault
+returns-in_err-end-clause-fault g c =
     let i = c.loop.invariant in
-    let next = line_came _ _ _ i.said _ _ _ i.come (rw c.in-Ok-Some.field-0-is at c.in-Ok-Some.ensures.line) in
-    let fails = rw i.same at c.in-Err.ensures.fault in
-    broken _ _ _ _ _ _ _ i.said i.text _ _ i.brought i.written _ _ next (omega (arith, i.few, c.loop-test.true)) c.in-Err.fault fails
+    let next = line_came _ _ _ i.said _ _ _ i.come (rw c.in-Some.is at c.in_ok-word.ensures.line) in
+    let fails = rw i.same at c.in_err-end.ensures.fault in
+    let p = err_from_is_err_and c.from_residual-in_err-end.result c.from_residual-in_err-end.ensures.1 in
+    rw (p.1, p.2)
+    (broken _ _ _ _ _ _ _ i.said i.text _ _ i.brought i.written _ _ next (omega (arith, i.few, c.loop-test.true))
+    c.in_err-end.field-0.0 fails)
+
+pub returns-in-Some-2-clause-ok : goal.returns-in-Some-2-clause-ok
+returns-in-Some-2-clause-ok g c =
+    let i = c.loop.invariant in
+    let next = line_came _ _ _ i.said _ _ _ i.come (rw c.in-Some.is at c.in_ok-word.ensures.line) in
+    let wrote = rw (i.same, c.in-Some-2.is) at c.in_ok-end.ensures.written in
+    ended _ _ _ _ _ _ _ i.said i.text _ _ i.brought i.written _ _ next (omega (arith, i.few, c.loop-test.true))
+    c.in-Some-2.end wrote.0 wrote.2 wrote.1
 
 pub loop-preserved : goal.loop-preserved
 loop-preserved g c =
     let i = c.loop.invariant in
-    let next = line_came _ _ _ i.said _ _ _ i.come (rw c.in-Ok-Some.field-0-is at c.in-Ok-Some.ensures.line) in
-    let wrote = rw (i.same, c.in-Ok-None-turn.field-0-is) at c.in-Ok-None-turn.ensures.written in
+    let next = line_came _ _ _ i.said _ _ _ i.come (rw c.in-Some.is at c.in_ok-word.ensures.line) in
+    let wrote = rw (i.same, c.in_default-2.is) at c.in_ok-end.ensures.written in
     record {
       said = i.said ++ next.line ∷ [];
       text = i.text ++ wrote.0;
@@ -59,12 +74,12 @@ loop-preserved g c =
       few = length_push i.said next.line ∙ ap (λ n. n + 1) i.few;
       brought = brings_more _ _ i.said next.line i.text wrote.0 _ _ i.brought (wrote.2 next.line next.spells);
       written = Appends-trans _ _ _ i.text wrote.0 i.written wrote.1;
-      same = c.in-Ok-None-turn.ensures.game ∙ i.same;
-      requests = omega (arith, length_push i.said next.line, i.requests, c.in-Ok-None-turn.ensures.count);
-      empty = c.in-Ok-None-turn.ensures.empty;
-      reader = c.in-Ok-Some.ensures.unfailed;
-      ended = c.in-Ok-Some.ensures.ended;
-      writer = c.in-Ok-None-turn.ensures.unfailed;
+      same = c.in_ok-end.ensures.game ∙ i.same;
+      requests = omega (arith, length_push i.said next.line, i.requests, c.in_ok-end.ensures.count);
+      empty = c.in_ok-end.ensures.empty;
+      reader = c.in_ok-word.ensures.unfailed;
+      ended = c.in_ok-word.ensures.ended;
+      writer = c.in_ok-end.ensures.unfailed;
     }
 
 pub returns-clause-fault : goal.returns-clause-fault

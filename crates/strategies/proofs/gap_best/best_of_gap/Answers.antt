@@ -4,14 +4,14 @@ use Rattle.strategies.proofs.gap_best.best_of_gap.Goals as goal
 
 pub rank-requires : goal.rank-requires
 rank-requires c =
-    let space = c.space-space.ensures in
+    let space = c.space.ensures in
     let members = rw space.value at c.members-members.ensures in
     let place = answer_place _ c.args.gap space.is_board.labels.1 _ _ _ c.loop-label.invariant.left c.in-Some.ensures in
     omega (arith, members.below c.in-Some.label place, members.few)
 
 pub of-value-requires : goal.of-value-requires
 of-value-requires c =
-    let space = c.space-space.ensures in
+    let space = c.space.ensures in
     let members = rw space.value at c.members-members.ensures in
     let place = answer_place _ c.args.gap space.is_board.labels.1 _ _ _ c.loop-label.invariant.left c.in-Some.ensures in
     rw c.rank.ensures (members.below c.in-Some.label place)
@@ -19,8 +19,8 @@ of-value-requires c =
 pub loop-label-preserved : goal.loop-label-preserved
 loop-label-preserved c =
     let b = c.args.values.now in
-    let few = c.space-space.ensures.is_board.labels.1 in
-    let members = rw c.space-space.ensures.value at c.members-members.ensures in
+    let few = c.space.ensures.is_board.labels.1 in
+    let members = rw c.space.ensures.value at c.members-members.ensures in
     let left = c.loop-label.invariant.left in
     let step = c.in-Some.ensures in
     let rank = members.ranks c.in-Some.label (answer_place b c.args.gap few _ _ _ left step) in
@@ -34,8 +34,8 @@ loop-label-preserved c =
 pub returns-in-Forever : goal.returns-in-Forever
 returns-in-Forever c = λ configuration pebble is is_pebble its_gap.
     let b = c.args.values.now in
-    let few = c.space-space.ensures.is_board.labels.1 in
-    let members = rw c.space-space.ensures.value at c.members-members.ensures in
+    let few = c.space.ensures.is_board.labels.1 in
+    let members = rw c.space.ensures.value at c.members-members.ensures in
     let left = c.loop-label.invariant.left in
     let step = c.in-Some.ensures in
     let rank = members.ranks c.in-Some.label (answer_place b c.args.gap few _ _ _ left step) in
@@ -51,5 +51,5 @@ returns c = λ configuration pebble is is_pebble its_gap.
     let here : IsMemberOf b configuration pebble c.args.gap = record { is_configuration = is; is_pebble = is_pebble; its_gap = its_gap } in
     found_all b configuration pebble c.args.gap here c.loop-label.labels.from c.loop-label.best
     (c.loop-label.invariant.found configuration pebble here)
-    (no_answer_left b c.args.gap c.space-space.ensures.is_board.labels.1 c.loop-label.labels
+    (no_answer_left b c.args.gap c.space.ensures.is_board.labels.1 c.loop-label.labels
     c.loop-label.invariant.left c.in_default.ensures)

@@ -1,12 +1,12 @@
 use Rattle.std.proofs.Common.{◌≡◌, ◌≤◌, length}
 use Rattle.std.specs.Vec.{vec_capacity}
 use Rattle.positions.specs.Gaps.{gaps}
-use Rattle.strategies.specs.Inside.GapBest.{AreGapsBest}
+use Rattle.strategies.proofs.GapAnswers.{AreFirstBest}
 use Rattle.strategies.proofs.gap_best.best_of_gaps.Given as goal
 
 abbrev pub invariant-loop-gap : goal.invariant-loop-gap
 invariant-loop-gap l = record {
   so_many : length l.best.items ≡ l.gap;
-  room : gaps l.board ≤ vec_capacity l.best;
-  best : AreGapsBest l.board l.best.items;
+  room : gaps l.values ≤ vec_capacity l.best;
+  best : AreFirstBest l.values l.best.items;
 }

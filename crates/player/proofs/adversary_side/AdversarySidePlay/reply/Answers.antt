@@ -10,7 +10,7 @@ use Rattle.player.proofs.adversary_side.AdversarySidePlay.reply.Goals as goal
 pub returns-else-number-pebbles-clause-said : goal.returns-else-number-pebbles-clause-said
 returns-else-number-pebbles-clause-said c =
     let seat = c.args.self.now in
-    let of_seat = c.space.ensures.value ∙ c.self.invariant.0 ∙ ap (λ s. s.board) c.self.view_is in
+    let of_seat = c.space.ensures.value ∙ ap (λ s. s.board) c.self.view_is in
     says_line c.refused.result _ _ no_request_line None (λ end said. BringsAll (PersonAsks seat.board) (Going (at seat) seat.requests) c.args.word said (standing end (at seat) seat.requests)) c.refused.ensures
     (rw c.in-Number.is (no_pebble seat.board.pebbles (Replies seat.board (at seat) seat.requests) (at seat) seat.requests c.in-Number.number
     (omega (arith, c.if-number-pebbles.false, c.from-pebbles.ensures, c.pebbles.ensures.value, ap (λ b. b.pebbles) of_seat))))

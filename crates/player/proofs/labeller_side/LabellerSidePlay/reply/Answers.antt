@@ -10,13 +10,18 @@ use Rattle.player.proofs.MovedRanks.{says_line}
 use Rattle.player.proofs.labeller_side.LabellerSidePlay.reply.Goals as goal
 use Rattle.player.proofs.labeller_side.LabellerSidePlay.reply.Goals.{else-number-labels-via-else-number-labels, else-number-labels-via-then-number-labels+else-is_legal}
 
+pub is_legal-requires : goal.is_legal-requires
+is_legal-requires c =
+    let of_seat = c.space.ensures.value ∙ ap (λ s. s.board) c.self.view_is in
+    omega (arith, c.if-number-labels.true, c.from-labels.ensures, c.labels.ensures.value, ap (λ b. b.labels) of_seat)
+
 pub returns-then-is_legal-clause-said : goal.returns-then-is_legal-clause-said
 returns-then-is_legal-clause-said c = says_all c.move_to_label.result _ _ _ _ c.move_to_label.ensures.said (λ end said asks line spells. asks line (rw c.in-Number.is at spells).1)
 
 pub returns-else-number-labels-clause-said : goal.returns-else-number-labels-clause-said
 returns-else-number-labels-clause-said c =
     let seat = c.args.self.now in
-    let of_seat = c.space.ensures.value ∙ c.self.invariant.same_board ∙ ap (λ s. s.board) c.self.view_is in
+    let of_seat = c.space.ensures.value ∙ ap (λ s. s.board) c.self.view_is in
     says_line c.refuse.result _ _ no_answer_line None (λ end said. BringsAll (PersonAnswers seat.board) (Going (at seat) seat.requests) c.args.word said (standing end (at seat) seat.requests)) c.refuse.ensures
     (rw c.in-Number.is (no_legal_number seat c.in-Number.number (subst (λ b. b.labels ≤ MAX_LABELS) of_seat c.labels.ensures.is_board.labels.1)
     (elim c.else-number-labels.branch [
@@ -33,6 +38,6 @@ returns-in-Quit-clause-said c =
 pub returns-in-Other-clause-said : goal.returns-in-Other-clause-said
 returns-in-Other-clause-said c =
     let seat = c.args.self.now in
-    let of_seat = c.space.ensures.value ∙ c.self.invariant.same_board ∙ ap (λ s. s.board) c.self.view_is in
+    let of_seat = c.space.ensures.value ∙ ap (λ s. s.board) c.self.view_is in
     says_line c.refuse-in-Other.result _ _ no_answer_line None (λ end said. BringsAll (PersonAnswers seat.board) (Going (at seat) seat.requests) c.args.word said (standing end (at seat) seat.requests)) c.refuse-in-Other.ensures
     (rw c.in-Other.is (no_label seat (subst (λ b. b.labels ≤ MAX_LABELS) of_seat c.labels.ensures.is_board.labels.1)))

@@ -1,27 +1,27 @@
-use Rattle.std.proofs.Common.{◌<◌, ◌≤◌, refl, ◌∙◌, arith}
+use Rattle.std.proofs.Common.{◌<◌, ◌≤◌, refl, ◌∙◌, arith, rules}
 use Rattle.strategies.specs.Inside.ReachedRanks.{IsAnswerStep, AnswerLeads}
 use Rattle.strategies.proofs.AddedRanks.{Below, added_more, added_same, below_all}
 use Rattle.strategies.proofs.AddedSteps.{no_answer_added, worthless_not_added, answer_added}
 use Rattle.strategies.proofs.best_moves.BestMoves.add_answers.Goals as goal
-use Rattle.strategies.proofs.best_moves.BestMoves.add_answers.Goals.{in-Some+then-is_less+in_ok-add, in-Some+else-is_less, in_default}
+use Rattle.strategies.proofs.best_moves.BestMoves.add_answers.Goals.{in-Some+then-lt+in_ok-add, in-Some+else-lt, in_default}
 
 pub loop-pebble-preserved : goal.loop-pebble-preserved
 loop-pebble-preserved c =
     let b = c.args.self.now in
     let step = IsAnswerStep b c.args.rank in
     let pebble = c.loop-pebble.pebble in
-    elim c.match-answer.branch [
-      | in-Some+then-is_less+in_ok-add w ↦ rw w.reached-is (record {
+    elim c.match-valued_answer.branch [
+      | in-Some+then-lt+in_ok-add w ↦ rw w.reached-is (record {
         size = w.in_ok-add.ensures.size ∙ c.loop-pebble.invariant.size;
         added = added_more _ _ _ step pebble c.loop-pebble.invariant.added
-            (answer_added b c.args.rank pebble _ w.in-Some.best w.with.result _ w.in-Some.ensures (w.if-is_less.ensures.0 refl)
+            (answer_added b c.args.rank pebble _ w.in-Some.best w.with.result _ w.in-Some.ensures (search rules)
             (omega (arith, c.loop-pebble-test.true, rw c.space.ensures.value at c.pebbles-pebble-end.ensures.value))
-            (rw w.space-then-is_less.ensures.value at w.with.ensures.rank) w.in_ok-add.ensures.added);
+            (rw w.space-then-lt.ensures.value at w.with.ensures.rank) w.in_ok-add.ensures.added);
       })
-      | in-Some+else-is_less w ↦ rw w.reached-is (record {
+      | in-Some+else-lt w ↦ rw w.reached-is (record {
         size = c.loop-pebble.invariant.size;
         added = added_more _ _ _ step pebble c.loop-pebble.invariant.added
-            (worthless_not_added b c.args.rank pebble _ w.in-Some.best w.in-Some.ensures (λ some. let same = w.if-is_less.ensures.1 some in absurd cc));
+            (worthless_not_added b c.args.rank pebble _ w.in-Some.best w.in-Some.ensures (search rules));
       })
       | in_default w ↦ rw w.reached-is (record {
         size = c.loop-pebble.invariant.size;

@@ -7,20 +7,20 @@ pub rank-requires : goal.rank-requires
 rank-requires c =
     let space = c.space-space.ensures.value in
     let members = rw space at c.members-members.ensures in
-    let place = answer_place _ c.args.gap (rw space at c.answers.ensures.few) _ _ _ c.loop-label.invariant.left c.in-Some.ensures in
+    let place = answer_place _ c.args.gap c.space-space.ensures.is_board.labels.1 _ _ _ c.loop-label.invariant.left c.in-Some.ensures in
     omega (arith, members.below c.in-Some.label place, members.few)
 
 pub add-requires : goal.add-requires
 add-requires c =
     let space = c.space-space.ensures.value in
     let members = rw space at c.members-members.ensures in
-    let place = answer_place _ c.args.gap (rw space at c.answers.ensures.few) _ _ _ c.loop-label.invariant.left c.in-Some.ensures in
+    let place = answer_place _ c.args.gap c.space-space.ensures.is_board.labels.1 _ _ _ c.loop-label.invariant.left c.in-Some.ensures in
     omega (arith, members.below c.in-Some.label place, c.rank.ensures, c.loop-label.invariant.size, c.requires.size)
 
 pub loop-label-preserved : goal.loop-label-preserved
 loop-label-preserved c =
     let b = c.args.self.now in
-    let few = rw c.space-space.ensures.value at c.answers.ensures.few in
+    let few = c.space-space.ensures.is_board.labels.1 in
     let members = rw c.space-space.ensures.value at c.members-members.ensures in
     let left = c.loop-label.invariant.left in
     let step = c.in-Some.ensures in
@@ -35,7 +35,7 @@ loop-label-preserved c =
 
 pub returns-clause-added : goal.returns-clause-added
 returns-clause-added c =
-    let few = rw c.space-space.ensures.value at c.answers.ensures.few in
+    let few = c.space-space.ensures.is_board.labels.1 in
     members_added c.args.self.now c.args.gap c.loop-label.answers.from _ _
     (no_answer_left c.args.self.now c.args.gap few c.loop-label.answers c.loop-label.invariant.left c.in_default.ensures)
     c.loop-label.invariant.added

@@ -1,10 +1,19 @@
-use Rattle.std.proofs.Common.{sym}
-use Rattle.positions.proofs.Cited.{configuration_at_is}
+use Rattle.std.proofs.Common.{Some, None}
 use Rattle.positions.specs.Ranks.{configuration_at}
+use Rattle.strategies.proofs.GapAnswers.{best_is_none}
 use Rattle.strategies.proofs.best_moves.BestMoves.answer.Goals as goal
+
+pub returns-in_err-best : goal.returns-in_err-best
+returns-in_err-best c =
+    let b = c.args.self.now in
+    let is = c.in_err-best.ensures in
+    rw c.from_residual.ensures (record {
+      best = λ other greatest. is other greatest.legal;
+      none = best_is_none b (configuration_at b c.args.rank) c.args.pebble None is;
+    })
 
 pub returns : goal.returns
 returns c =
     let b = c.args.self.now in
-    c.answer_of_gap.ensures (configuration_at b c.args.rank) c.args.pebble (configuration_at_is b c.args.rank c.requires.rank) c.requires.pebble
-    (sym (rw c.space.ensures.value at c.gap.ensures.gap))
+    let is = c.in_ok-best.ensures in
+    record { best = is.0; none = best_is_none b (configuration_at b c.args.rank) c.args.pebble (Some c.in_ok-best.best) is }

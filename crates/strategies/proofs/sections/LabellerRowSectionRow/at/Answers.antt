@@ -10,7 +10,7 @@ loop-pebble-preserved c =
     let pebbles = rw c.space.ensures.value at c.pebbles-pebble-end.ensures.value in
     let is_pebble : c.loop-pebble.pebble < b.pebbles = omega (arith, pebbles, c.loop-pebble-test.true) in
     let low : c.loop-pebble.pebble < MAX_PEBBLES = omega (arith, is_pebble, c.space.ensures.is_board.pebbles) in
-    elim c.match-answer.branch [
+    elim c.match-valued_answer.branch [
       | in-Some w ↦ rw w.take-is (taken_more b _ c.loop-pebble.pebble w.in-Some.best.label c.loop-pebble.take low c.loop-pebble.invariant
           w.in-Some.ensures.0)
       | in_default w ↦ absurd (has_answer b c.args.rank c.loop-pebble.pebble c.requires.reached is_pebble w.in_default.ensures)

@@ -1,33 +1,33 @@
-use Rattle.std.proofs.Common.{[], refl, sym, ◌∙◌, arith}
+use Rattle.std.proofs.Common.{[], refl, sym, ◌∙◌, arith, rules}
 use Rattle.std.proofs.lemmas.Option.{slice_get_within}
 use Rattle.strategies.proofs.AddedRanks.{added_known, added_one}
 use Rattle.strategies.proofs.GatheredRows.{labellers}
 use Rattle.strategies.proofs.SpreadRanks.{spread_begins, spread_more, spread_ends, spread_below, answer_moves, start_answerable, start_value}
 use Rattle.strategies.proofs.ValueOrder.{worthless}
 use Rattle.strategies.proofs.sections.LabellerRowSectionRow.reached.Goals as goal
-use Rattle.strategies.proofs.sections.LabellerRowSectionRow.reached.Goals.{then-is_less+in_ok-add, else-is_less}
+use Rattle.strategies.proofs.sections.LabellerRowSectionRow.reached.Goals.{then-lt+in_ok-add, else-lt}
 
 pub loop-rank-init : goal.loop-rank-init
 loop-rank-init c =
     let b = c.args.moves.now in
     let is = c.start-start.ensures.is_board.start in
     let size = c.in_ok-reached.ensures.size ∙ (rw c.space.ensures.value at c.configurations.ensures.value) in
-    elim c.if-is_less.branch [
-      | then-is_less+in_ok-add w ↦ rw w.reached-is (record {
+    elim c.if-lt.branch [
+      | then-lt+in_ok-add w ↦ rw w.reached-is (record {
         size = w.in_ok-add.ensures.size ∙ size;
         spread = spread_begins b _ _ _ is _ (added_one _ _ _ _
             (rw (c.start-start.ensures.rank, c.in_ok-reached.ensures.empty) at w.in_ok-add.ensures.added) (
               start_answerable b c.start-start.result c.value.result is c.start-start.ensures.rank c.value.ensures
-                  (w.if-is_less.ensures.0 refl),
+                  search rules,
               refl,
             )
             (λ rank starts. starts.1));
       })
-      | else-is_less w ↦ rw (w.reached-is, c.in_ok-reached.ensures.empty) (record {
+      | else-lt w ↦ rw (w.reached-is, c.in_ok-reached.ensures.empty) (record {
         size = size;
         spread = spread_begins b _ _ _ is [] (added_known [] _ (λ rank starts. absurd
             (worthless b _ c.value.result (start_value b c.start-start.result c.value.result is c.start-start.ensures.rank c.value.ensures)
-            (λ some. let same = w.if-is_less.ensures.1 some in absurd cc) starts.0)));
+            (search rules) starts.0)));
       })
     ]
 
