@@ -40,7 +40,8 @@ pub(crate) trait Row: Ranked + Copy {
         requires { (claim : Claimed) → (form space.now claim).rank self.now < configurations space.now }
         ensures { OnOk result ((claim : Claimed) → string_bytes text.new ≡ string_bytes text.old ++ (form space.now claim).line self.now) };
 
-    ghost same_rank: { (board : PlainBoard) → (claim : Claimed) → (row : Self) → (form board claim).rank row ≡ Self.rank row };
+    ghost same_rank: { (board : PlainBoard) → (claim : Claimed) → (row : Self)
+        → (form board claim).rank row ≡ Self.rank row };
 }
 
 impl Row for LabellerRow {

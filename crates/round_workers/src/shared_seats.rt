@@ -40,16 +40,10 @@ impl<'a, S: ListStore> Sharing for SharedRound<'a, S> {
     }
 
     fn split(&self, seat: RoundSeat) -> Result<(RoundSeat, RoundSeat), SolveFault> {
-        match self.split(seat) {
-            Ok(both) => Ok(both),
-            Err(_) => Err(SolveFault::Memory),
-        }
+        self.split(seat).map_err(|_| SolveFault::Memory)
     }
 
     fn join(&self, into: RoundSeat, from: RoundSeat) -> Result<RoundSeat, SolveFault> {
-        match self.join(into, from) {
-            Ok(seat) => Ok(seat),
-            Err(_) => Err(SolveFault::Memory),
-        }
+        self.join(into, from).map_err(|_| SolveFault::Memory)
     }
 }

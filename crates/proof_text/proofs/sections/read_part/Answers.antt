@@ -29,7 +29,8 @@ loop-come-preserved g c =
     let form = g.R.Row.form board c.args.claim in
     let i = c.loop-come.invariant in
     let next = c.in-Ok.ensures in
-    let rank : c.rank-least.result ≡ form.rank c.in-Ok.row = c.rank-least.ensures ∙ sym (g.met.R.Row.same_rank board c.args.claim c.in-Ok.row) in
+    let rank : c.rank-least.result ≡ form.rank c.in-Ok.row =
+    c.rank-least.ensures ∙ sym (g.met.R.Row.same_rank board c.args.claim c.in-Ok.row) in
     let items : c.push.new.self.items ≡ c.loop-come.rows.items ++ c.in-Ok.row ∷ [] = search rules in
     let step = row_push board form c.args.text.now c.in-Some.count c.loop-come.least c.loop-come.rows.items c.push.new.self.items c.in-Ok.row c.loop-come.text c.read.new.text items
     i.come (omega (arith, i.number, c.loop-come-test.true)) i.from next in

@@ -31,7 +31,8 @@ module _ (g : Over) (c : After-close_with g) where
 
   gaps_are : gaps k.solving.board ≡ c.gaps.result
   gaps_are =
-      sym (c.gaps.ensures.value ∙ ap gaps c.space.ensures ∙ ap (λ (s : Solving). gaps s.board) (sym (ap (λ (q : Key). q.solving) c.self.invariant.key_is)))
+      let given : k.solving ≡ c.self.inside.solver.now = ap (λ (q : Key). q.solving) c.self.invariant.key_is in
+      sym (c.gaps.ensures.value ∙ ap gaps c.space.ensures ∙ ap (λ (s : Solving). gaps s.board) (sym given))
 
   closed : IsClosed k words v × (v.has.todo ≡ []) × (v.has.owed ≡ [])
   closed =
@@ -39,11 +40,14 @@ module _ (g : Over) (c : After-close_with g) where
       let l' = c.len-else-len-gt0.ensures in
       let ok = c.seat.inside.todo.ok.0 in
       let ok' = c.seat.inside.owed.ok.0 in
-      closed_fields k _ c.self.inside.width _ c.seat.inside _ _ c.self.invariant c.seat.invariant (omega arith) (omega arith) (omega arith) c.close_with.ensures.values.2
+      closed_fields k _ c.self.inside.width _ c.seat.inside _ _ c.self.invariant c.seat.invariant
+      (omega arith) (omega arith) (omega arith) c.close_with.ensures.values.2
 
-  ended : end_of_words k words v.has.won ≡ end_of (record { rows = c.close_with.result; gaps = c.gaps.result; won = c.seat.inside.won })
+  ended : end_of_words k words v.has.won
+      ≡ end_of (record { rows = c.close_with.result; gaps = c.gaps.result; won = c.seat.inside.won })
   ended =
-      ap (λ (p : ℕ × List ℕ). let e : Ended = record { counts = take p.0 words; values = map value_of_word (drop p.0 words); won = p.1 } in e)
+      ap (λ (p : ℕ × List ℕ).
+      let e : Ended = record { counts = take p.0 words; values = map value_of_word (drop p.0 words); won = p.1 } in e)
       (λ j. (gaps_are j, sym c.seat.invariant.won j))
 
 pub returns-clause-ok : goal.returns-clause-ok
@@ -65,12 +69,14 @@ returns-clause-finished g c =
 pub returns-clause-history : goal.returns-clause-history
 returns-clause-history g c =
     let b = (goal.at.returns-clause-history g c).After-close_with in
-    subst (λ (p : Key × View × Ended). HasHistory p.0 p.1.made p.2) (λ j. (same g b j, view g b j, ended g b j)) (closed g b).0.history
+    subst (λ (p : Key × View × Ended). HasHistory p.0 p.1.made p.2)
+    (λ j. (same g b j, view g b j, ended g b j)) (closed g b).0.history
 
 pub returns-clause-lost : goal.returns-clause-lost
 returns-clause-lost g c =
     let b = (goal.at.returns-clause-lost g c).After-close_with in
-    subst (λ (p : View × List ℕ). LostWereWon p.0.made p.1) (λ j. (view g b j, sym c.seat.invariant.won j)) (closed g b).0.lost
+    subst (λ (p : View × List ℕ). LostWereWon p.0.made p.1)
+    (λ j. (view g b j, sym c.seat.invariant.won j)) (closed g b).0.lost
 
 pub returns-clause-closed : goal.returns-clause-closed
 returns-clause-closed g c =

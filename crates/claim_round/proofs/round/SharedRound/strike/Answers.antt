@@ -16,10 +16,11 @@ use Rattle.claim_round.proofs.round.SharedRound.strike.Goals as goal
 use Rattle.claim_round.proofs.round.SharedRound.strike.Goals.{After-self}
 
 -- the seat, and the configuration that it strikes next
-strikes : (g : Over) (c : After-self g) → StrikesNext c.self.inside.table.shared.table_id c.self.inside.table.shared.key c.self.inside.solver.now c.seat.inside c.in-Some.config
+strikes : (g : Over) (c : After-self g) → StrikesNext c.self.inside.table.shared.table_id c.self.inside.table.shared.key
+    c.self.inside.solver.now c.seat.inside c.in-Some.config
 strikes g c =
-    strikes_next _ _ _ _ _ c.seat.inside _ c.in-Some.config _ c.self.view_is c.seat.view_is c.self.invariant c.seat.invariant c.requires.mine c.requires.todo
-    c.requires.owed c.in-Some.ensures.items
+    strikes_next _ _ _ _ _ c.seat.inside _ c.in-Some.config _ c.self.view_is c.seat.view_is c.self.invariant
+    c.seat.invariant c.requires.mine c.requires.todo c.requires.owed c.in-Some.ensures.items
 
 pub dominator-requires : goal.dominator-requires
 dominator-requires g c =

@@ -27,4 +27,5 @@ returns c = λ configuration is number.
     let some : IsWanted c.args.wanted = search rules in
     let enough : IsTrue (not c.lt.result) ↔ IsEnough c.args.wanted row.turns = search rules in
     rw c.then_some.ensures
-    (turns_tested v.proof.labeller configuration row c.args.wanted c.args.missing c.args.short c.lt.result found some enough)
+    (turns_tested v.proof.labeller configuration row c.args.wanted c.args.missing c.args.short c.lt.result found some
+    enough)

@@ -5,7 +5,8 @@ use Rattle.positions.specs.Ranks.{configurations, configuration_at}
 use Rattle.positions.specs.Gaps.{gaps, gap_of}
 use Rattle.solver.specs.Words.{value_of_word}
 use Rattle.retro_core.specs.Round.{PlainSeat, round_of, seat_struck}
-use Rattle.retro_core.proofs.Machine.{some-of, due-read, dominated, IsStriking, striking, closing, count-then, count-else}
+use Rattle.retro_core.proofs.Machine.{some-of, due-read, dominated, IsStriking, striking, closing}
+use Rattle.retro_core.proofs.Machine.{count-then, count-else}
 use Rattle.retro_core.proofs.round_state.RoundState.strike.Given.{Over}
 use Rattle.retro_core.proofs.round_state.RoundState.strike.Goals.{After-strike, then-count-eq1, else-count-eq1}
 use Rattle.retro_core.proofs.round_state.RoundState.strike.Goals as goal
@@ -41,32 +42,40 @@ module _ (g : Over) (c : After-strike g) where
   some : 0 < length ranks
   some = some-of _ _ c.is_empty.ensures c.if-is_empty.false
 
-  gap_is : c.gap-gap.result ≡ gap_of c.self.inside.solver.now.board (configuration_at c.self.inside.solver.now.board (get_or ranks 0 0)) c.in-Some.pebble
-  gap_is = c.gap-gap.ensures.gap ∙ ap (λ b. gap_of b (configuration_at b (get_or ranks 0 0)) c.in-Some.pebble) c.space.ensures
+  gap_is : let b = c.self.inside.solver.now.board in c.gap-gap.result ≡ gap_of b (configuration_at b (get_or ranks 0 0)) c.in-Some.pebble
+  gap_is =
+      c.gap-gap.ensures.gap ∙ ap (λ b. gap_of b (configuration_at b (get_or ranks 0 0)) c.in-Some.pebble) c.space.ensures
 
   count_is : c.index-count.result.now ≡ get_or counts c.gap-gap.result 0
   count_is =
       let inside : c.gap-gap.result < length counts =
-      (let low = c.gap-gap.ensures.below in let same = ap gaps c.space.ensures in let long = c.self.invariant.1.counts_length in omega arith) in
+      (let low = c.gap-gap.ensures.below in
+      let same = ap gaps c.space.ensures in
+      let long = c.self.invariant.1.counts_length in omega arith) in
       get_or_read counts c.gap-gap.result c.index-count.result.now inside c.index-count.ensures 0
 
-  made : (closed : Option ℕ) → c.strike.new.self ≡ seat_struck c.self.inside.solver.now c.gap-gap.result c.index-count.result.now c.index_mut.result.now
-      → IsStriking c.self.inside.solver.now c.self.inside.width counts (map value_of_word c.self.inside.words.items) c.self.inside.seats.items c.args.self.now
-      c.self.view_is c.self.invariant.0 c.self.invariant.1 c.args.seat c.requires ranks c.gap-gap.result c.index-count.result.now c.strike.new.self closed
+  made : (closed : Option ℕ)
+      → c.strike.new.self ≡ seat_struck c.self.inside.solver.now c.gap-gap.result c.index-count.result.now c.index_mut.result.now
+      → IsStriking c.self.inside.solver.now c.self.inside.width counts (map value_of_word c.self.inside.words.items)
+      c.self.inside.seats.items c.args.self.now c.self.view_is c.self.invariant.0 c.self.invariant.1 c.args.seat c.requires
+      ranks c.gap-gap.result c.index-count.result.now c.strike.new.self closed
   made closed struck_is =
       striking _ _ _ _ _ _ c.self.view_is c.self.invariant.0 c.self.invariant.1 c.args.seat c.requires
-      c.index.result.now ranks c.in-Some.pebble c.gap-gap.result c.index-count.result.now c.index_mut.result.now c.strike.new.self closed c.index.ensures c.todo-todo.ensures some
+      c.index.result.now ranks c.in-Some.pebble c.gap-gap.result c.index-count.result.now c.index_mut.result.now
+      c.strike.new.self closed c.index.ensures c.todo-todo.ensures some
       c.in-Some.ensures.0 gap_is count_is c.index_mut.ensures.value struck_is
 
 pub overflow_sub-count : goal.overflow_sub-count
 overflow_sub-count g c = (made g (goal.at.overflow_sub-count g c).After-strike None (search rules)).some_left
 
 pub invariant_of-self-2 : goal.invariant_of-self-2
-invariant_of-self-2 g c = (c.self.invariant.0, (made g (goal.at.invariant_of-self-2 g c).After-strike None (search rules)).lawful)
+invariant_of-self-2 g c =
+    (c.self.invariant.0, (made g (goal.at.invariant_of-self-2 g c).After-strike None (search rules)).lawful)
 
 pub returns-clause-done : goal.returns-clause-done
 returns-clause-done g c =
-    (made g (goal.at.returns-clause-done g c).After-strike c.if-count-eq1.closed (search rules)).strikes (elim c.if-count-eq1.branch [
+    let struck = made g (goal.at.returns-clause-done g c).After-strike c.if-count-eq1.closed (search rules) in
+    struck.strikes (elim c.if-count-eq1.branch [
       | then-count-eq1 w ↦ count-then c.index-count.result.now c.gap-gap.result c.if-count-eq1.closed w.if-count-eq1.true w.closed-is
       | else-count-eq1 w ↦ count-else c.index-count.result.now c.gap-gap.result c.if-count-eq1.closed w.if-count-eq1.false w.closed-is
     ])
