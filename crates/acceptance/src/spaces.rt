@@ -158,6 +158,9 @@ fn answers_of_a_chain(rt: HostRuntime) {
         space.next_answer(&board, 4, 0),
     );
     assert_same(&rt, "gap 4", answers, (3, 1, Some(2)));
+    let set = space.answers(&board, 4);
+    let among = [set.contains(0), set.contains(1), set.contains(2)];
+    assert_same(&rt, "labels 0 to 2", among, [false, false, true]);
 }
 
 #[test]

@@ -48,14 +48,15 @@ pub fn answers_of_gaps()
         → member_of board first one ≡ member_of board second other → first ≡ second }
 {}
 
-/// Pebbles are alike: two gaps of one tuple have the same answers, and members of them with the same
+/// Pebbles are alike: two gaps of one tuple have the same answers, and their members with the same
 /// place for the gap's pebble have the same value.
 pub fn pebbles_are_alike()
     ensures answers { (board : PlainBoard) → (first : ℕ) → (second : ℕ) → (label : ℕ)
         → first < gaps board → second < gaps board → tuple_of board first ≡ tuple_of board second
         → IsAnswer board first label → IsAnswer board second label }
-    ensures values { (board : PlainBoard) → (first : ℕ) → (second : ℕ) → (place : ℕ) → (value : Worth)
-        → first < gaps board → second < gaps board → tuple_of board first ≡ tuple_of board second
+    ensures values { (board : PlainBoard) → (first : ℕ) → (second : ℕ) → (place : ℕ)
+        → (value : Worth) → first < gaps board → second < gaps board
+        → tuple_of board first ≡ tuple_of board second
         → HasValue board (member_of board first place) value
         → HasValue board (member_of board second place) value }
 {}

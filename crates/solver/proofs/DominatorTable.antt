@@ -1,8 +1,8 @@
 -- Noting the dominators gap by gap.
-use Rattle.std.proofs.Common.{◌≡◌, ◌≢◌, ℕ, ◌+◌, ◌*◌, ◌<◌, ◌≤◌, inl, inr, true, sym, ap, ◌∙◌, subst, arith, List, [], ◌∷◌, ◌++◌, length, take, drop, Some, None, slice_index, slice_set, get_or-set_other, get_or-set_same}
+use Rattle.std.proofs.Common.{◌≡◌, ◌≢◌, ℕ, ◌+◌, ◌*◌, ◌<◌, ◌≤◌, inl, inr, true, sym, ap, ◌∙◌, subst, arith, List, ◌++◌, length, take, drop, Some, None, slice_index, slice_set, get_or-set_other, get_or-set_same}
 use Rattle.std.proofs.Math.ListN.{length-set}
 use Rattle.std.proofs.lemmas.Bool.{cases_lt}
-use Rattle.std.proofs.lemmas.List.{take_at, get_or_append_left, get_or_push}
+use Rattle.std.proofs.lemmas.List.{take_at}
 use Rattle.index_lists.proofs.Cited.{cond_same, cond_other}
 use Rattle.board_text.specs.PlainBoard.{PlainBoard, IsBoard, places}
 use Rattle.board_text.proofs.Cited.{label_is_place}
@@ -41,15 +41,6 @@ answers_sized b gap count words are size =
       λ answer. let small : x < MAX_LABELS = omega (arith, answer.is_label, are.is_board.labels.1) in (small, (are.bits x small).1 answer),
     ))
     size
-
-pub counted_push : (b : PlainBoard) (counts : List ℕ) (gap count : ℕ) → length counts ≡ gap → ((g : ℕ) → g < gap → HasSize (IsAnswer b g) (slice_index counts g)) → HasSize (IsAnswer b gap) count
-    → (g : ℕ) → g < gap + 1 → HasSize (IsAnswer b g) (slice_index (counts ++ count ∷ []) g)
-counted_push b counts gap count size before here g low = elim (cases_lt g gap) [
-  | inl old ↦ subst (HasSize (IsAnswer b g)) (sym (get_or_append_left counts (count ∷ []) 0 g (omega arith))) (before g old)
-  | inr late ↦
-      let last : gap ≡ g = omega arith in
-      subst (λ h. HasSize (IsAnswer b h) (slice_index (counts ++ count ∷ []) h)) last (subst (HasSize (IsAnswer b gap)) (sym (get_or_push counts count 0 gap size)) here)
-]
 
 -- ---- before the first gap and behind the last
 

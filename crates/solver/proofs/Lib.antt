@@ -11,6 +11,7 @@ pub mod EnteredAnswers
 pub mod Sources
 pub mod SourceSearches
 pub mod DominatorTable
+pub mod TupleCounts
 pub mod ValueSizes
 pub mod RoundsLeft
 pub mod Lending

@@ -10,7 +10,7 @@ ghost use Rattle.solver.specs.Inside.Opening.{IsRun, AreStopping, IsWritten};
 ghost use Rattle.solver.specs.Inside.Tables.{IsCounted, AreFirstWords};
 ghost use Rattle.solver.specs.Inside.Stage.{IsUnlisted, IsOpened};
 
-use crate::gap_answers::GapAnswers;
+use crate::gap_answers::{dominators, gap_counts};
 use crate::stage::Stage;
 use crate::word::OPEN;
 use board_text::{Board, Memory};
@@ -27,7 +27,8 @@ impl<S: ListStore + Drop> Stage<S> {
     {
         let size = space.configurations();
         let answers = TupleAnswers::of(alloc, &space, board)?;
-        let GapAnswers { counts, dominators } = GapAnswers::of(alloc, &space, &answers)?;
+        let counts = gap_counts(alloc, &space, &answers)?;
+        let dominators = dominators(alloc, &space, &answers)?;
         let values = first_words(alloc, &space, &counts)?;
         let buckets = S::new(alloc, size, size + 1)?;
         let strikes = Vec::with_capacity(alloc, size as usize)?;

@@ -4,7 +4,9 @@ use Rattle.board_text.specs.Domination.{has_bit}
 use Rattle.board_text.specs.PlainBoard.{PlainBoard, IsBoard}
 use Rattle.board_text.specs.declared.board.TheConstants.{MAX_LABELS}
 use Rattle.positions.specs.Ranks.{configurations}
-use Rattle.positions.specs.Gaps.{IsAnswer}
+use Rattle.positions.specs.Counts.{HasSize}
+use Rattle.positions.specs.Gaps.{gaps, gaps_each, IsAnswer}
+use Rattle.positions.specs.Tuples.{tuple_of}
 use Rattle.solver.specs.Inside.Arena.{Arena, Dominant}
 use Rattle.solver.specs.Inside.BoardArena.{arena_of}
 use Rattle.solver.specs.declared.stage.TheConstants.{NO_PEBBLE}
@@ -13,6 +15,12 @@ use Rattle.solver.specs.declared.stage.TheConstants.{NO_PEBBLE}
 pub record AreAnswers (board : PlainBoard) (gap : ℕ) (words : List ℕ) : Type 0 where
   pub bits : (label : ℕ) → label < MAX_LABELS → (has_bit words label ≡ true) ↔ IsAnswer board gap label
   pub is_board : IsBoard board
+
+-- the number of answers of each gap stands at its tuple
+pub record AreTupleCounts (board : PlainBoard) (counts : List ℕ) : Type 0 where
+  pub one_each : length counts ≡ gaps_each board
+  pub each : (gap : ℕ) → gap < gaps board
+      → HasSize (IsAnswer board gap) (slice_index counts (tuple_of board gap))
 
 -- the bytes are those of the dominators of the configurations that the first answers lead to, in
 -- the order of their gaps
