@@ -36,7 +36,7 @@ fn tuple_counts(alloc: Global, space: &Space, tuples: &TupleAnswers) -> Result<V
     requires { tuples.now ≡ space.now }
     ensures { IfOk result (λ counts. AreTupleCounts space.now counts.items) }
 {
-    let count = space.gaps() / space.pebbles() as u32;
+    let count = space.gaps_each();
     let mut counts = Vec::with_capacity(alloc, count as usize)?;
     for tuple in 0..count {
         counts.push_reserved(tuples.answers(tuple).len());

@@ -12,13 +12,13 @@ use Rattle.positions.specs.Counts.{IsSmallest}
 use Rattle.positions.specs.Game.{Legal, moved}
 use Rattle.positions.specs.Value.{HasValue}
 use Rattle.positions.specs.Ranks.{rank_of, configuration_at}
-use Rattle.positions.specs.Gaps.{gaps, gap_of, member_of, IsAnswer}
+use Rattle.positions.specs.Gaps.{gap_of, member_of, IsAnswer}
 use Rattle.positions.specs.LabelWalk.{Walk, IsStep}
 use Rattle.positions.proofs.Cited.{AreFrom, next_of, after_step, none_left}
 use Rattle.positions.proofs.Cited.{moved_is_configuration, member_of-gap_of, legal_is_answer, configuration_at-rank_of, some_value}
 use Rattle.strategies.specs.declared.gap_best.Best.{Best}
 use Rattle.strategies.specs.Best.{IsLess}
-use Rattle.strategies.specs.Inside.GapBest.{IsBestFor, IsBetter, IsGapBest, AreGapsBest}
+use Rattle.strategies.specs.Inside.GapBest.{IsBestFor, IsBetter, IsGapBest}
 use Rattle.strategies.proofs.BestAnswers.{IsBestBelow, IsFoundBelow, widen, next_label, best_of_all}
 
 -- the configuration is a member of the gap, which is the pebble's
@@ -141,7 +141,3 @@ listed_more board answers best are is gap below = elim (cases_lt gap (length ans
       subst (λ (o : Option Best). IsGapBest board gap o) (sym (get_or_at answers best [] None gap last))
       (subst (λ (g : ℕ). IsGapBest board g best) last is)
 ]
-
-pub all_listed : (board : PlainBoard) (answers : List (Option Best)) → length answers ≡ gaps board → AreFirstBest board answers
-    → AreGapsBest board answers
-all_listed board answers one_each are = record { one_each = one_each; best = λ gap below. are gap (omega (arith, one_each, below)) }

@@ -18,6 +18,7 @@ pub mod BitMarks
 pub mod AddedRanks
 pub mod ReachedMarks
 pub mod GapAnswers
+pub mod TupleBest
 pub mod LoweringRequests
 pub mod SpreadRanks
 pub mod AddedSteps

@@ -1,6 +1,5 @@
 -- Definitions that clauses of this crate's own functions cite, and no public contract.
 pub mod GapBest
-pub mod Listed
 pub mod Marks
 pub mod Side
 pub mod ReachedRanks

@@ -10,10 +10,9 @@ ghost use Rattle.positions.specs.Ranks.{configurations, rank_of, configuration_a
 ghost use Rattle.positions.specs.Value.{HasValue};
 ghost use Rattle.positions.specs.declared.value.Value.TheVariants.{Forever};
 ghost use Rattle.strategies.specs.Best.{HasGreatestResult, LowersValue};
-ghost use Rattle.strategies.specs.Inside.GapBest.{IsBestFor, IsGapBest, AreGapsBest, LeadsBelow};
+ghost use Rattle.strategies.specs.Inside.GapBest.{IsBestFor, IsGapBest, AreTuplesBest, LeadsBelow};
 
 use crate::gap_best::{Best, answers_of_gap, best_of_gap};
-use crate::listed::Listed;
 use board_text::{Board, MAX_LABELS};
 use positions::{LabelSet, MAX_CONFIGURATIONS, Space, Value};
 use solver::Values;
@@ -26,21 +25,21 @@ use std::marker::Model;
 pub struct BestMoves<'a> {
     board: &'a Board,
     values: &'a Values,
-    /// The best answer of each gap, or `None` if it is found whenever it is asked for.
-    listed: Option<&'a [Listed]>,
+    /// The best answer of each tuple, or `None` if it is found whenever it is asked for.
+    listed: Option<&'a [Option<Best>]>,
 }
 
 impl<'a> Model for BestMoves<'a> {
     ghost use Rattle.std.specs.Prelude.{◌≡◌, MatchOption};
     ghost use Rattle.board_text.specs.PlainBoard.{PlainBoard};
-    ghost use Rattle.strategies.specs.Inside.GapBest.{AreGapsBest};
+    ghost use Rattle.strategies.specs.Inside.GapBest.{AreTuplesBest};
 
     ghost Value = { PlainBoard };
 
     ghost view = { λ m. m.board.now };
 
     ghost invariant = { λ m. (m.values.now ≡ m.board.now)
-        × MatchOption m.listed (Unit {0}) (λ listed. AreGapsBest m.board.now listed.now) };
+        × MatchOption m.listed (Unit {0}) (λ listed. AreTuplesBest m.board.now listed.now) };
 }
 
 impl<'a> BestMoves<'a> {
@@ -56,9 +55,9 @@ impl<'a> BestMoves<'a> {
         }
     }
 
-    /// The same moves, with the best answers of all gaps in `listed`.
-    pub(crate) fn with_listed(self, listed: &'a [Listed]) -> BestMoves<'a>
-        requires { AreGapsBest self listed.now }
+    /// The same moves, with the best answers of all tuples in `listed`.
+    pub(crate) fn with_listed(self, listed: &'a [Option<Best>]) -> BestMoves<'a>
+        requires { AreTuplesBest self listed.now }
         ensures { result ≡ self.entry }
     {
         BestMoves {
@@ -75,6 +74,20 @@ impl<'a> BestMoves<'a> {
         ensures few { configurations self.now ≤ MAX_CONFIGURATIONS }
     {
         self.values.space()
+    }
+
+    /// The board.
+    pub fn board(&self) -> &'a Board
+        ensures { result.now ≡ self.now }
+    {
+        self.board
+    }
+
+    /// The values of the board.
+    pub fn values(&self) -> &'a Values
+        ensures { result.now ≡ self.now }
+    {
+        self.values
     }
 
     /// The rank of the start.
@@ -133,7 +146,10 @@ impl<'a> BestMoves<'a> {
         ensures { IsGapBest self.now gap result }
     {
         match self.listed {
-            Some(listed) => listed[gap as usize].best(),
+            Some(listed) => {
+                let tuple = self.space().gap_tuple(gap);
+                listed[tuple as usize]
+            }
             None => best_of_gap(self.values, gap),
         }
     }

@@ -7,12 +7,39 @@ ghost use Rattle.proof_text.specs.Rules.{BreaksNoRule};
 ghost use Rattle.strategies.specs.Document.{IsDocumentOf};
 
 use crate::best_moves::BestMoves;
-use crate::gap_best::best_of_gaps;
+use crate::gap_best::best_of_tuples;
 use board_text::{Board, Memory};
 use positions::{Claim, Value};
 use proof_text::Proof;
 use solver::Values;
 use std::alloc::Global;
+
+impl BestMoves<'_> {
+    /// The document of the board: the value of its start, a strategy for the labeller, and one for
+    /// the adversary if the value is finite.
+    pub fn document(&self, alloc: Global) -> Result<Proof, Memory>
+        ensures document { IfOk result (λ proof. IsDocumentOf self.now (plain_proof self.now proof)) }
+        ensures form { IfOk result (IsDocument self.now) }
+        ensures rules { IfOk result (λ proof. BreaksNoRule self.now (plain_proof self.now proof)) }
+        ensures shows { IfOk result (λ proof. Shows self.now (answer_rows self.now proof.labeller.items)
+            (request_rows self.now proof.adversary.items) proof.claim) }
+    {
+        let listed = best_of_tuples(alloc, self.values())?;
+        let moves = BestMoves::new(self.board(), self.values()).with_listed(&listed);
+        let value = moves.value(moves.start());
+        let labeller = moves.section(alloc, value)?;
+        // A start that lasts forever has no rows for the adversary.
+        let adversary = match value {
+            Value::Finite(_) => moves.section(alloc, value)?,
+            Value::Forever => Vec::new(alloc),
+        };
+        Ok(Proof {
+            claim: Claim::from(value),
+            labeller,
+            adversary,
+        })
+    }
+}
 
 /// The document of `board`: the value of its start, a strategy for the labeller, and one for the
 /// adversary if the value is finite.
@@ -26,18 +53,5 @@ pub fn document(alloc: Global, board: &Board, values: &Values) -> Result<Proof, 
     ensures shows { IfOk result (λ proof. Shows board.now (answer_rows board.now proof.labeller.items)
         (request_rows board.now proof.adversary.items) proof.claim) }
 {
-    let listed = best_of_gaps(alloc, values)?;
-    let moves = BestMoves::new(board, values).with_listed(&listed);
-    let value = moves.value(moves.start());
-    let labeller = moves.section(alloc, value)?;
-    // A start that lasts forever has no rows for the adversary.
-    let adversary = match value {
-        Value::Finite(_) => moves.section(alloc, value)?,
-        Value::Forever => Vec::new(alloc),
-    };
-    Ok(Proof {
-        claim: Claim::from(value),
-        labeller,
-        adversary,
-    })
+    BestMoves::new(board, values).document(alloc)
 }

@@ -3,9 +3,8 @@
 ghost use Rattle.std.specs.Prelude.{◌≡◌, ℕ, ◌<◌, ◌↔◌, true, IfOk};
 ghost use Rattle.board_text.specs.Domination.{has_bit};
 ghost use Rattle.positions.specs.Gaps.{gaps, IsAnswer};
-ghost use Rattle.strategies.specs.Inside.GapBest.{IsBetter, IsGapBest, AreGapsBest};
+ghost use Rattle.strategies.specs.Inside.GapBest.{IsBetter, IsGapBest, AreTuplesBest};
 
-use crate::listed::Listed;
 use board_text::{MAX_LABELS, Memory};
 use positions::{LabelSet, Value};
 use solver::Values;
@@ -18,14 +17,16 @@ pub(crate) struct Best {
     pub(crate) value: Value,
 }
 
-/// The best answers of all gaps, by `values`.
-pub(crate) fn best_of_gaps(alloc: Global, values: &Values) -> Result<Vec<Listed>, Memory>
-    ensures { IfOk result (λ answers. AreGapsBest values.now answers.items) }
+/// The best answer of each tuple, by `values`. It is that of all gaps of the tuple, whichever their
+/// pebbles are.
+pub(crate) fn best_of_tuples(alloc: Global, values: &Values) -> Result<Vec<Option<Best>>, Memory>
+    ensures { IfOk result (λ answers. AreTuplesBest values.now answers.items) }
 {
-    let gaps = values.space().gaps();
-    let mut best = Vec::with_capacity(alloc, gaps as usize)?;
-    for gap in 0..gaps {
-        best.push_reserved(Listed::of(best_of_gap(values, gap)));
+    let tuples = values.space().gaps_each();
+    let mut best = Vec::with_capacity(alloc, tuples as usize)?;
+    // The first gaps are those of pebble 0, one for each tuple in their order.
+    for gap in 0..tuples {
+        best.push_reserved(best_of_gap(values, gap));
     }
     Ok(best)
 }

@@ -6,7 +6,6 @@ mod documents;
 mod gap_best;
 mod laws;
 mod laws_of_documents;
-mod listed;
 mod marks;
 mod reached;
 mod reached_ranks;

@@ -4,7 +4,8 @@ use Rattle.board_text.specs.PlainBoard.{PlainBoard, IsConfiguration}
 use Rattle.positions.specs.declared.value.Value.{Value}
 use Rattle.positions.specs.Game.{Legal, moved}
 use Rattle.positions.specs.Value.{HasValue}
-use Rattle.positions.specs.Gaps.{gaps, gap_of}
+use Rattle.positions.specs.Gaps.{gaps, gaps_each, gap_of}
+use Rattle.positions.specs.Tuples.{tuple_of}
 use Rattle.strategies.specs.declared.gap_best.Best.{Best}
 use Rattle.strategies.specs.Best.{IsLess, IsBestAnswer}
 
@@ -24,10 +25,11 @@ abbrev pub IsGapBest : PlainBoard → ℕ → Option Best → Type 0
 IsGapBest board gap best = (configuration : List ℕ) → (pebble : ℕ) → IsConfiguration board configuration → pebble < board.pebbles
     → gap_of board configuration pebble ≡ gap → IsBestFor board configuration pebble best
 
--- the best answers of all gaps
-pub record AreGapsBest (board : PlainBoard) (answers : List (Option Best)) : Type 0 where
-  pub one_each : length answers ≡ gaps board
-  pub best : (gap : ℕ) → gap < gaps board → IsGapBest board gap (slice_index_or answers gap None)
+-- the best answers of all tuples: each is that of every gap of its tuple
+pub record AreTuplesBest (board : PlainBoard) (answers : List (Option Best)) : Type 0 where
+  pub one_each : length answers ≡ gaps_each board
+  pub best : (gap : ℕ) → gap < gaps board
+      → IsGapBest board gap (slice_index_or answers (tuple_of board gap) None)
 
 -- the best answer leads to a smaller value than this one, or there is none
 abbrev pub LeadsBelow : Option Best → Value → Type 0

@@ -11,7 +11,7 @@ loop-tuple-preserved c =
     let tuple = c.loop-tuple.tuple in
     let before = c.loop-tuple.counts.items in
     let words = c.answers.result in
-    let is_board = c.pebbles.ensures.is_board in
+    let is_board = c.gaps_each-count.ensures.is_board in
     record {
       len = ap length c.push_reserved.ensures.items ∙ length_push before c.len.result ∙ ap (λ n. n + 1) i.len;
       room = rw c.push_reserved.ensures.capacity i.room;

@@ -1,39 +1,13 @@
-use Rattle.strategies.proofs.RowLists.{same_fact, no_rows}
-use Rattle.strategies.proofs.SpreadRanks.{start_value}
-use Rattle.strategies.proofs.DocumentForm.{is_formed}
-use Rattle.strategies.proofs.KeptRules.{breaks_no_rule}
-use Rattle.strategies.proofs.ShownClaims.{shows_claim}
 use Rattle.strategies.proofs.documents.document.Goals as goal
-use Rattle.strategies.proofs.documents.document.Goals.{in-Finite+in_ok-adversary-in-Finite, in-Forever}
 
 pub returns-clause-document : goal.returns-clause-document
-returns-clause-document c =
-    let b = c.args.board.now in
-    let start = rw (c.with_listed-moves.ensures, c.new.ensures) at c.start.ensures in
-    record {
-      value = c.value-value.result;
-      has_value = start_value b c.start.result c.value-value.result start.is_board.start start.rank (rw (c.with_listed-moves.ensures, c.new.ensures) at c.value-value.ensures);
-      claim = c.from.ensures;
-      labeller = rw (c.with_listed-moves.ensures, c.new.ensures) at c.in_ok-labeller.ensures.exactly;
-      adversary = elim c.match-value.branch [
-        | in-Finite+in_ok-adversary-in-Finite w ↦ rw (w.adversary-is, w.in-Finite.is)
-            (same_fact b (λ row. row.at) _ _ _ (λ row. (λ is_row. (tt, is_row), λ asked. asked.1))
-            (rw (c.with_listed-moves.ensures, c.new.ensures) at w.in_ok-adversary-in-Finite.ensures.exactly))
-        | in-Forever w ↦ rw (w.adversary-is, w.in-Forever.is, w.new-adversary.ensures.items)
-            (no_rows b (λ row. row.at) _ (λ row asked. asked.0))
-      ];
-    }
+returns-clause-document c = rw c.new.ensures at c.document.ensures.document
 
 pub returns-clause-form : goal.returns-clause-form
-returns-clause-form c =
-    let start = rw (c.with_listed-moves.ensures, c.new.ensures) at c.start.ensures in
-    record {
-      is_proof = is_formed c.args.board.now _ start.is_board.start start.few (returns-clause-document c);
-      padded = rw (c.with_listed-moves.ensures, c.new.ensures) at c.in_ok-labeller.ensures.filled;
-    }
+returns-clause-form c = rw c.new.ensures at c.document.ensures.form
 
 pub returns-clause-rules : goal.returns-clause-rules
-returns-clause-rules c = let start = rw (c.with_listed-moves.ensures, c.new.ensures) at c.start.ensures in breaks_no_rule c.args.board.now _ start.is_board.start (returns-clause-document c)
+returns-clause-rules c = rw c.new.ensures at c.document.ensures.rules
 
 pub returns-clause-shows : goal.returns-clause-shows
-returns-clause-shows c = let start = rw (c.with_listed-moves.ensures, c.new.ensures) at c.start.ensures in shows_claim c.args.board.now _ start.is_board.start (returns-clause-document c)
+returns-clause-shows c = rw c.new.ensures at c.document.ensures.shows

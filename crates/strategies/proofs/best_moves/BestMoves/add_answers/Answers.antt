@@ -1,4 +1,4 @@
-use Rattle.std.proofs.Common.{◌<◌, ◌≤◌, refl, ◌∙◌, arith, rules}
+use Rattle.std.proofs.Common.{◌<◌, ◌≤◌, ◌∙◌, arith, rules}
 use Rattle.strategies.specs.Inside.ReachedRanks.{IsAnswerStep, AnswerLeads}
 use Rattle.strategies.proofs.AddedRanks.{Below, added_more, added_same, below_all}
 use Rattle.strategies.proofs.AddedSteps.{no_answer_added, worthless_not_added, answer_added}
