@@ -155,7 +155,7 @@ def of_files(work):
     yield Mistake('README as a board', ['solve', README], fault(1, version), README, 'line 1 must be')
     yield Mistake('a document as a board', ['solve', CHAIN_PROOF], fault(1, version), CHAIN_PROOF, 'strategy document')
     yield Mistake('board and document exchanged', ['check', CHAIN_PROOF, CHAIN], fault(1, version), CHAIN_PROOF, 'exchanged')
-    yield Mistake('the board named twice', ['check', CHAIN, CHAIN], fault(1, 'proof fault line 1 Version'), CHAIN, 'named twice')
+    yield Mistake('the board named twice', ['check', CHAIN, CHAIN], fault(1, 'proof fault line 1 Version'), CHAIN, 'given twice')
 
 
 def of_documents(work):
@@ -180,10 +180,18 @@ def of_documents(work):
 
 def of_streams(work):
     """Inputs and outputs that fail."""
-    with open(CHAIN, 'rb') as file:
-        board = file.read()
-    yield Mistake('a board without a document', [], fault(1, 'proof fault line 1 Version'), 'standard input', 'must follow', given=board)
-    yield Mistake('no input', [], fault(1, 'board fault line 1 Version'), 'standard input', 'empty input')
+    with open(CHAIN, 'rb') as file, open(CHAIN_PROOF, 'rb') as other:
+        board, document = file.read(), other.read()
+    wrong_board, wrong_document = fault(1, 'board fault line 1 Version'), fault(1, 'proof fault line 1 Version')
+    before, after = 'standard input', 'standard input after the board'
+    yield Mistake('a board without a document', [], wrong_document, after, 'empty', given=board)
+    yield Mistake('a board twice', [], wrong_document, after, 'given twice', given=board + board)
+    yield Mistake('a blank line before a document', [], wrong_document, after, 'line 1 must be', given=board + b'\n' + document)
+    yield Mistake('no input', [], wrong_board, before, 'it is empty')
+    yield Mistake('a document before its board', [], wrong_board, before, 'strategy document', given=document + board)
+    yield Mistake('Windows line ends on standard input', [], wrong_board, before, 'Windows', given=board.replace(b'\n', b'\r\n'))
+    yield Mistake('a board on standard input that is too large', [], fault(1, 'board too large'), before, '1185921 configurations',
+                  given=empty(33))
     large = written(work, 'mistake-memory.board', empty(32))
     little = ['sh', '-c', 'ulimit -v 12288; exec "$0" "$@"']
     yield Mistake('too little memory', ['solve', large], fault(4, 'out of memory'), 'memory', 'smaller board', before=little)

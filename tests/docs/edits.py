@@ -1,6 +1,6 @@
 """The wrong bodies that the prover refuses, and docs/edits.md, which lists them with the goal that refuses each.
 
-`tests/docs/run --edits LOG` writes docs/edits.md by what `rt ci` or `rt must-fail` has said of each, which stands in the file LOG. An
+`tests/docs/run --edits LOG..` writes docs/edits.md by the answers of `rt ci` or `rt must-fail`, which stand in the files LOG. An
 edit that is refused for what says little of a contract is told, and then nothing is written. `differs` holds the table against the
 files alone: each edit has its row, each row an edit.
 """
@@ -12,15 +12,15 @@ from harness import CRATES, TOP, Check
 TABLE = os.path.join(TOP, 'docs', 'edits.md')
 REFUSED = re.compile(r'must-fail (\w+)/([\w.-]+)\.edit: refused, as it must be(?: \((only [^)]*)\))?(?:: (.*))?$')
 MESSAGE = re.compile(r'^(?:note: )?(?:\./)?([\w./+-]+?):\d+:\d+: (?:error(?:\[[\w-]+\])?: )?(.*)$')
-ROW = re.compile(r'^\| `(\w+)/([\w.-]+)` \|')
+ROW = re.compile(r'^\| `(\w+)` \| `([\w.-]+)` \|')
 HEAD = """# Wrong bodies
 
 Each file of `crates/NAME/must-fail/` is an edit of the code that turns one of its meanings. The name says the mistake. The gate makes each
 of them and asks that the prover refuses it. This table is written by `tests/docs/run --edits`, from what the gate says of each: the
 goal is the first that isn't proved with the edit.
 
-| Edit | Mistake | Goal that refuses it |
-|---|---|---|
+| Crate | Edit | Mistake | Goal that refuses it |
+|---|---|---|---|
 """
 
 
@@ -61,13 +61,15 @@ def answers(text):
 
 
 def table(found):
-    return HEAD + ''.join(f'| `{crate}/{name}` | {name.replace("_", " ")} | {found[crate, name]} |\n' for crate, name in edits())
+    return HEAD + ''.join(f'| `{crate}` | `{name}` | {name.replace("_", " ")} | {found[crate, name]} |\n' for crate, name in edits())
 
 
-def write(log):
-    """Writes the table by a log. Edits without a goal of their own in it are told, and nothing is written."""
-    with open(log) as file:
-        found = answers(file.read())
+def write(*logs):
+    """Writes the table by logs, of which a later one counts. Edits without a goal of their own are told, and nothing is written."""
+    found = {}
+    for log in logs:
+        with open(log) as file:
+            found |= answers(file.read())
     lacking = [f'{crate}/{name}' for crate, name in edits() if not found.get((crate, name))]
     for edit in lacking:
         print(f'no goal: {edit}')

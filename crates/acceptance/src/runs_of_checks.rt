@@ -181,141 +181,6 @@ fn a_write_fails_at_each_call(rt: HostRuntime) {
     }
 }
 
-#[test]
-fn refused_documents_and_their_lines(rt: HostRuntime) {
-    for (document, fault, written) in [
-        (
-            "proof 1\nleast 2\nlabeller 2\nat 0 0 for 2 take 1 1\nat 0 1 for 1 take 2 1\nend\n",
-            CheckFault::Unlisted {
-                side: Side::Labeller,
-                at: 0,
-                turn: 0,
-            },
-            b"refused labeller row 0 0 pebble 0 unlisted\n".as_slice(),
-        ),
-        (
-            "proof 1\nleast 2\nlabeller 3\nat 0 0 for 2 take 0 1\nat 0 1 for 1 take 2 1\nat 1 0 for 1 take 1 2\nend\n",
-            CheckFault::IllegalAnswer { at: 0, pebble: 0 },
-            b"refused labeller row 0 0 pebble 0 illegal answer\n".as_slice(),
-        ),
-        (
-            "proof 1\nleast 3\nlabeller 3\nat 0 0 for 2 take 1 1\nat 0 1 for 1 take 2 1\nat 1 0 for 1 take 1 2\nend\n",
-            CheckFault::StartNumber {
-                side: Side::Labeller,
-            },
-            b"refused labeller start number\n".as_slice(),
-        ),
-        (
-            "proof 1\nleast 3\nlabeller 3\nat 0 0 for 3 take 1 1\nat 0 1 for 1 take 2 1\nat 1 0 for 1 take 1 2\nend\n",
-            CheckFault::TooSmall { at: 0, pebble: 0 },
-            b"refused labeller row 0 0 pebble 0 too small\n".as_slice(),
-        ),
-    ] {
-        let joined = Joined { document, ..JOINED };
-        let wanted = Ok(Verdict::Refused(fault));
-        assert!(rt;
-            serves(&rt, rt.alloc(), joined, wanted, written),
-            "{fault:?}"
-        );
-    }
-}
-
-#[test]
-fn a_claim_of_no_request(rt: HostRuntime) {
-    let joined = Joined {
-        document: "proof 1\nleast 0\nlabeller 0\nend\n",
-        ..JOINED
-    };
-    let wanted = Ok(Verdict::Accepted(Shown {
-        claim: Claim::AtLeast(0),
-    }));
-    assert!(rt; serves(&rt, rt.alloc(), joined, wanted, b"accepted least 0\n"));
-}
-
-#[test]
-fn a_missing_section_writes_nothing(rt: HostRuntime) {
-    let joined = Joined {
-        document: "proof 1\nvalue 2\nlabeller 3\nat 0 0 for 2 take 1 1\nat 0 1 for 1 take 2 1\nat 1 0 for 1 take 1 2\nend\n",
-        ..JOINED
-    };
-    let wanted = Err(RunFault::Proof(ProofFault {
-        line: 7,
-        kind: ProofKind::Section,
-    }));
-    assert!(rt; serves(&rt, rt.alloc(), joined, wanted, NOTHING));
-}
-
-/// The chain of three labels with these lines in place of the second to the fourth.
-macro_rules! chain_with_head {
-    ($lines:literal) => {
-        concat!("board 1\n", $lines, "beats 1 0\nbeats 2 0\nbeats 2 1\nend\n")
-    };
-}
-
-/// The chain of three labels with these lines after the first four.
-macro_rules! chain_with_pairs {
-    ($lines:literal) => {
-        concat!("board 1\nlabels 3\npebbles 2\nstart 0 0\n", $lines)
-    };
-}
-
-#[test]
-fn faults_before_pairs_write_nothing(rt: HostRuntime) {
-    for (board, line, kind) in [
-        (
-            chain_with_head!("labels 03\npebbles 2\nstart 0 0\n"),
-            2,
-            BoardKind::Labels,
-        ),
-        (
-            chain_with_head!("labels 3\npebbles 7\nstart 0 0\n"),
-            3,
-            BoardKind::Pebbles,
-        ),
-        (
-            chain_with_head!("labels 3\npebbles 2\nstart 0 3\n"),
-            4,
-            BoardKind::Start,
-        ),
-    ] {
-        assert!(rt;
-            refuses_board(&rt, rt.alloc(), board, line, kind),
-            "{kind:?}"
-        );
-    }
-}
-
-#[test]
-fn faults_of_pairs_and_ends_write_nothing(rt: HostRuntime) {
-    for (board, line, kind) in [
-        (
-            chain_with_pairs!("beats 1 0\nbeats 0 1\nbeats 2 1\nend\n"),
-            6,
-            BoardKind::TwoWay,
-        ),
-        (
-            chain_with_pairs!("beats 1 1\nbeats 2 0\nbeats 2 1\nend\n"),
-            5,
-            BoardKind::SelfBeat,
-        ),
-        (
-            chain_with_pairs!("beats 1 0\nbeats 1 0\nbeats 2 1\nend\n"),
-            6,
-            BoardKind::Order,
-        ),
-        (
-            chain_with_pairs!("beats 1 0\nbeats 2 0\nbeats 2 1\n"),
-            8,
-            BoardKind::End,
-        ),
-    ] {
-        assert!(rt;
-            refuses_board(&rt, rt.alloc(), board, line, kind),
-            "{kind:?}"
-        );
-    }
-}
-
 /// Two texts, and how many calls of each end go well.
 #[derive(Clone, Copy)]
 struct Ends {
@@ -493,8 +358,8 @@ fn check_both_texts(
     board: &str,
     proof: &str,
 ) -> Result<VerdictLine, RunFault> {
-    let (board, space) = small_board(alloc, board.as_bytes())?;
-    check_text(rt, alloc, &board, &space, proof.as_bytes())
+    let board = small_board(alloc, board.as_bytes())?;
+    check_text(rt, alloc, &board, proof.as_bytes())
 }
 
 /// Whether the text of the chain with its document is accepted, or memory was refused.

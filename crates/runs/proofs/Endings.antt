@@ -1,18 +1,16 @@
 -- How the ends of runs are told.
 use Rattle.std.proofs.Common.{◌≡◌, ◌≢◌, ◌↔◌, ℕ, List, sym, ap, ◌∙◌, inl, inr}
-use Rattle.std.proofs.lemmas.Result.{MatchResult-from_both, IfErr-at_err, IfErr-weaker, IfOk-weaker}
+use Rattle.std.proofs.lemmas.Result.{MatchResult-from_both, IfErr-at_err, IfErr-weaker}
 use Rattle.std.specs.Prelude.{Result, Ok, Err, IfOk, IfErr}
 use Rattle.player.specs.declared.end.PlayEnd.{PlayEnd}
 use Rattle.positions.specs.declared.side.Side.{Side}
-use Rattle.positions.specs.declared.value.Value.{Value}
 use Rattle.runs.specs.CheckRun.{CheckFails, RanCheck}
 use Rattle.runs.specs.Folders.{File, Opens}
-use Rattle.runs.specs.Jobs.{Checks, Opening, Plays, Solution, Stream, WritesWhole}
+use Rattle.runs.specs.Jobs.{Checks, Opening, Plays, WritesWhole}
 use Rattle.runs.specs.Outcomes.{EndsAs, outcome_of_check, outcome_of_run}
 use Rattle.runs.specs.PlayRun.{PlayFails, RanPlay}
-use Rattle.runs.specs.Report.{Reports}
-use Rattle.runs.specs.Run.{Bytes, Fails, Ran}
-use Rattle.runs.specs.SolveRun.{CannotSolve, IsSolution}
+use Rattle.runs.specs.Run.{Bytes, Fails, Ran, Stream}
+use Rattle.runs.specs.SolveRun.{CannotSolve}
 use Rattle.runs.specs.Texts.{BringsNoBoard}
 use Rattle.runs.specs.declared.checking.TheConstants.{MAX_PROOF_BYTES}
 use Rattle.runs.specs.declared.reading.TheConstants.{MAX_BOARD_BYTES}
@@ -22,7 +20,6 @@ use Rattle.runs.specs.declared.outcome.Outcome.{Outcome}
 use Rattle.runs.specs.declared.outcome.Outcome.TheVariants.{Broken}
 use Rattle.runs.specs.declared.verdicts.Verdict.{Verdict}
 use Rattle.runs.specs.declared.verdicts.Verdict.TheVariants.{Accepted as AcceptedAs, Refused as RefusedFor}
-use Rattle.runs.proofs.Headlines.{shows_value, accepted}
 
 -- a broken check had this fault
 pub broken_check : (r : Result Verdict RunFault) (fault : RunFault) → outcome_of_check r ≡ Broken fault → r ≡ Err fault
@@ -53,17 +50,12 @@ module _ {A : Type 0} (told : Result A RunFault → Outcome)
 
 -- ---- what a run says follows from what another says
 
-module _ {A : Type 0} (P Q : List ℕ → A → List ℕ → Type 0) (wider : (text : List ℕ) (answer : A) (written : List ℕ) → P text answer written → Q text answer written)
-    (read written : Bytes) where
-  pub ran_wider : (answer : A) → Ran P read written answer → Ran Q read written answer
-  ran_wider answer (text, gave, (said, is, appends)) = (text, gave, (said, wider text answer said is, appends))
-
-  pub fails_wider : (Nothing More : List ℕ → RunFault → Type 0) → ((text : List ℕ) (fault : RunFault) → Nothing text fault → More text fault)
-      → (limit : ℕ) (fault : RunFault) → Fails P Nothing limit read written fault → Fails Q More limit read written fault
-  fails_wider Nothing More more limit fault (inl unread) = inl unread
-  fails_wider Nothing More more limit fault (inr (inl (text, gave, says))) = inr (inl (text, gave, more text fault says))
-  fails_wider Nothing More more limit fault (inr (inr (text, answer, gave, (said, is, front), told))) =
-      inr (inr (text, answer, gave, (said, wider text answer said is, front), told))
+module _ {A : Type 0} (P : List ℕ → A → List ℕ → Type 0) (Nothing More : List ℕ → RunFault → Type 0)
+    (more : (text : List ℕ) (fault : RunFault) → Nothing text fault → More text fault) (read written : Bytes) where
+  fails_wider : (limit : ℕ) (fault : RunFault) → Fails P Nothing limit read written fault → Fails P More limit read written fault
+  fails_wider limit fault (inl unread) = inl unread
+  fails_wider limit fault (inr (inl (text, gave, says))) = inr (inl (text, gave, more text fault says))
+  fails_wider limit fault (inr (inr cut)) = inr (inr cut)
 
 -- what is untouched of a document
 check_untouched : (board_limit proof_limit : ℕ) (Old New : Type 0) → (Old → New) → (board proof written : Bytes)
@@ -89,20 +81,9 @@ pub these_workers : (workers : ℕ) (text : List ℕ) (fault : RunFault) → Can
     → CannotSolve workers text fault
 these_workers workers text fault h = h
 
--- what is written of a solution shows its value and is accepted
-pub solution_of : (text : List ℕ) (value : Value) (written : List ℕ) → IsSolution text value written
-    → Solution text value written
-solution_of text value written is =
-    (is, shows_value text value written is, accepted text value written is)
-
-pub report_of : (text : List ℕ) (answer : Unit {0}) (written : List ℕ) → Reports text answer written
-    → Reports text answer written
-report_of text answer written is = is
-
 -- ---- jobs over files that were opened
 
-module _ {A : Type 0} (P Q : List ℕ → A → List ℕ → Type 0)
-    (wider : (text : List ℕ) (answer : A) (written : List ℕ) → P text answer written → Q text answer written)
+module _ {A : Type 0} (P : List ℕ → A → List ℕ → Type 0)
     (Nothing : List ℕ → RunFault → Type 0) (workers : ℕ)
     (more : (text : List ℕ) (fault : RunFault) → Nothing text fault → CannotSolve workers text fault)
     (file : File) (read : Bytes) (opens : Opens file read.old) (output : Stream)
@@ -110,20 +91,18 @@ module _ {A : Type 0} (P Q : List ℕ → A → List ℕ → Type 0)
   pub opened_board : IfOk r (Ran P read output.bytes)
       → IfErr r (Fails P Nothing MAX_BOARD_BYTES read output.bytes)
       → IfErr r (λ fault. fault ≢ Write → output.IsKept)
-      → Opening file output.IsKept (λ bytes. EndsAs outcome_of_run (Ran Q bytes output.bytes)
-      (Fails Q (CannotSolve workers) MAX_BOARD_BYTES bytes output.bytes)) outcome
+      → Opening file output.IsKept (λ bytes. EndsAs outcome_of_run (Ran P bytes output.bytes)
+      (Fails P (CannotSolve workers) MAX_BOARD_BYTES bytes output.bytes)) outcome
       × WritesWhole output outcome
   opened_board ok fault unwritten = (
     inr (
       read,
       opens,
-      ends outcome_of_run r (Ran Q read output.bytes) (Fails Q (CannotSolve workers) MAX_BOARD_BYTES read output.bytes)
-          outcome is
-          (IfOk-weaker r (Ran P read output.bytes) (Ran Q read output.bytes)
-          (λ answer h. ran_wider P Q wider read output.bytes answer h) ok)
+      ends outcome_of_run r (Ran P read output.bytes) (Fails P (CannotSolve workers) MAX_BOARD_BYTES read output.bytes)
+          outcome is ok
           (IfErr-weaker r (Fails P Nothing MAX_BOARD_BYTES read output.bytes)
-          (Fails Q (CannotSolve workers) MAX_BOARD_BYTES read output.bytes)
-          (λ f h. fails_wider P Q wider read output.bytes Nothing (CannotSolve workers) more MAX_BOARD_BYTES f h) fault),
+          (Fails P (CannotSolve workers) MAX_BOARD_BYTES read output.bytes)
+          (λ f h. fails_wider P Nothing (CannotSolve workers) more read output.bytes MAX_BOARD_BYTES f h) fault),
     ),
     whole outcome_of_run broken_run r outcome is output.IsKept unwritten,
   )

@@ -9,7 +9,7 @@ use Rattle.proof_text.specs.ProofText.{proof_text}
 use Rattle.proof_text.proofs.Cited.{one_document}
 use Rattle.strategies.specs.Meaning.{Means}
 use Rattle.strategies.proofs.Cited.{is_formed, breaks_no_rule, means_value}
-use Rattle.runs.specs.Headline.{ShowsValue, IsAccepted}
+use Rattle.runs.specs.Headline.{ShowsValue, IsAccepted, Solution}
 use Rattle.runs.specs.SolveRun.{IsSolution}
 
 pub accepted : (text : List ℕ) (value : Value) (written : List ℕ) → IsSolution text value written → IsAccepted text value written
@@ -38,6 +38,10 @@ shows_value text value written solution =
       written_is = is.written_is;
       means = is.means;
     }
+
+pub whole_solution : (text : List ℕ) (value : Value) (written : List ℕ) → IsSolution text value written → Solution text value written
+whole_solution text value written is =
+    record { solution = is; shows = shows_value text value written is; accepted = accepted text value written is }
 
 -- a text is that of one board and of one document
 pub written_means : (text : List ℕ) (value : Value) (written : List ℕ) (board : PlainBoard) (document : PlainProof) → IsAccepted text value written

@@ -29,7 +29,7 @@ use Rattle.std.specs.Prelude.{Option, None, Some}
 use Rattle.std.specs.Io.KnownBytes.{Appends}
 use Rattle.board_text.specs.LineForms.{closed}
 use Rattle.board_text.specs.Streams.{AppendsFront}
-use Rattle.runs.specs.Jobs.{stream_of}
+use Rattle.runs.specs.Run.{stream_of}
 use Rattle.runs.specs.Serving.{IsEnding, IsExplained, IsForPerson, IsSaid, IsWritten}
 use Rattle.runs.specs.declared.outcome.Outcome.{Outcome}
 use Rattle.runs.specs.Inside.Writing.{IsMore}

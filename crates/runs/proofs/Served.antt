@@ -13,7 +13,7 @@ use Rattle.command_line.specs.Reading.{IsReadAs}
 use Rattle.command_line.specs.declared.asked.Job.{Job}
 use Rattle.command_line.specs.declared.asked.Job.TheVariants.{Joined}
 use Rattle.command_line.specs.declared.asked.JobFault.{JobFault}
-use Rattle.runs.specs.Jobs.{Stream}
+use Rattle.runs.specs.Run.{Stream}
 use Rattle.runs.specs.Outcomes.{outcome_of_run}
 use Rattle.runs.specs.Serving.{Asks, IsWritten}
 use Rattle.runs.specs.declared.outcome.Outcome.{Outcome}

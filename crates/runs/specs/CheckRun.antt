@@ -1,4 +1,4 @@
--- What a check of a board and a document in two texts reads, answers and writes.
+-- Checks of a board and a document in two texts: the bytes read, the answer, and the bytes written.
 use Rattle.std.specs.Prelude.{ℕ}
 use Rattle.runs.specs.Verdicts.{IsChecked}
 use Rattle.runs.specs.BoardRun.{RanOn, FailsOn}
@@ -11,7 +11,7 @@ use Rattle.runs.specs.declared.fault.RunFault.{RunFault}
 abbrev pub RanCheck : Bytes → Bytes → Bytes → Verdict → Type 0
 RanCheck board proof written verdict = RanOn board (λ b. Ran (IsChecked b) proof written verdict)
 
--- why there is no verdict; where the board wasn't there, the document is untouched
+-- the faults of a check without a verdict; if there is no board, the document is untouched
 abbrev pub CheckFails : ℕ → ℕ → Type 0 → Bytes → Bytes → Bytes → RunFault → Type 0
 CheckFails board_limit proof_limit IsUntouched board proof written fault =
     FailsOn board_limit board IsUntouched (λ b. Fails (IsChecked b) (BringsNoProof b) proof_limit proof written) fault

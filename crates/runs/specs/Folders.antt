@@ -7,7 +7,7 @@ pub data File : Type 0 where
   Closed : File
   Holds : List ℕ → File
 
--- the file can be opened, and its reader has these bytes, where they are known
+-- the file can be opened, and its reader has these bytes, if they are known
 abbrev pub Opens : File → Option (List ℕ) → Type 0
 Opens Unknown left = Unit {0}
 Opens Closed left = ⊥

@@ -1,4 +1,4 @@
--- What the text that is printed for the text of a board says.
+-- The meaning of the text that is printed for the text of a board.
 use Rattle.std.specs.Prelude.{◌≡◌, ℕ, List}
 use Rattle.board_text.specs.PlainBoard.{PlainBoard, IsBoard}
 use Rattle.board_text.specs.BoardText.{board_text}
@@ -7,8 +7,10 @@ use Rattle.proof_text.specs.Proof.{PlainProof, IsProof}
 use Rattle.proof_text.specs.ProofText.{proof_text}
 use Rattle.proof_text.specs.Rules.{BreaksNoRule}
 use Rattle.strategies.specs.Meaning.{Means}
+use Rattle.runs.specs.SolveRun.{IsSolution}
 
--- the text is that of this board, and what is written is the text of this document, which means the value
+-- the text is this board's, and the bytes written are the text of this document, which means the
+-- value
 pub record ShowsValue (text : List ℕ) (value : Value) (written : List ℕ) : Type 0 where
   pub board : PlainBoard
   pub document : PlainProof
@@ -17,7 +19,8 @@ pub record ShowsValue (text : List ℕ) (value : Value) (written : List ℕ) : T
   pub written_is : written ≡ proof_text board document
   pub means : Means board document value
 
--- the same, of a document that is as the format has it and breaks no rule, so that a check accepts what is written
+-- the same, of a document that is as the format has it and breaks no rule, so that a check accepts
+-- its text
 pub record IsAccepted (text : List ℕ) (value : Value) (written : List ℕ) : Type 0 where
   pub board : PlainBoard
   pub document : PlainProof
@@ -27,3 +30,10 @@ pub record IsAccepted (text : List ℕ) (value : Value) (written : List ℕ) : T
   pub written_is : written ≡ proof_text board document
   pub rules : BreaksNoRule board document
   pub means : Means board document value
+
+-- the bytes written for a board's text: those of its document, which shows the value and which a
+-- check accepts
+pub record Solution (text : List ℕ) (value : Value) (written : List ℕ) : Type 0 where
+  pub solution : IsSolution text value written
+  pub shows : ShowsValue text value written
+  pub accepted : IsAccepted text value written

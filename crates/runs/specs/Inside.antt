@@ -1,4 +1,4 @@
--- What the clauses of this crate's own functions cite, and no public contract.
+-- Definitions that only clauses of this crate's own functions cite.
 pub mod Verdicts
 pub mod Faults
 pub mod SolveRun

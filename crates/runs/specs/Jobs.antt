@@ -1,20 +1,19 @@
--- What is done for each job, from the files and standard input to standard output.
-use Rattle.std.specs.Prelude.{◌≡◌, ◌≢◌, ℕ, Bool, true, ◌⊎◌, ◌↔◌, List, Option}
+-- Jobs: from the files and standard input to standard output.
+use Rattle.std.specs.Prelude.{◌≡◌, ◌≢◌, ℕ, ◌⊎◌, ◌↔◌, List}
 use Rattle.command_line.specs.declared.asked.Job.{Job}
 use Rattle.command_line.specs.declared.asked.Job.TheVariants.{Joined, Check, Nested, Solve, Report}
 use Rattle.command_line.specs.declared.asked.Job.TheVariants.{Play, Climb}
 use Rattle.player.specs.Transcript.{PersonClimbs}
-use Rattle.positions.specs.declared.value.Value.{Value}
 use Rattle.positions.specs.declared.side.Side.{Side}
 use Rattle.runs.specs.CheckRun.{RanCheck, CheckFails}
 use Rattle.runs.specs.Folders.{File, Opens, StaysShut}
-use Rattle.runs.specs.Headline.{ShowsValue, IsAccepted}
+use Rattle.runs.specs.Headline.{Solution}
 use Rattle.runs.specs.NestedText.{IsNestedText}
 use Rattle.runs.specs.Outcomes.{EndsAs, outcome_of_check, outcome_of_run}
 use Rattle.runs.specs.PlayRun.{IsBrokenOff, IsOver, PlayFails, RanPlay}
 use Rattle.runs.specs.Report.{Reports}
-use Rattle.runs.specs.Run.{Bytes, Fails, Ran, Wrote, WroteFront, bytes_of}
-use Rattle.runs.specs.SolveRun.{CannotSolve, IsSolution}
+use Rattle.runs.specs.Run.{Bytes, Fails, Ran, Stream, Wrote, WroteFront}
+use Rattle.runs.specs.SolveRun.{CannotSolve}
 use Rattle.runs.specs.Verdicts.{CannotAnswer, IsAnswered}
 use Rattle.runs.specs.declared.checking.TheConstants.{MAX_JOINED_BYTES, MAX_PROOF_BYTES}
 use Rattle.runs.specs.declared.reading.TheConstants.{MAX_BOARD_BYTES}
@@ -22,26 +21,6 @@ use Rattle.runs.specs.declared.fault.RunFault.{RunFault}
 use Rattle.runs.specs.declared.fault.RunFault.TheVariants.{Memory, Read, Write}
 use Rattle.runs.specs.declared.outcome.Outcome.{Outcome}
 use Rattle.runs.specs.declared.outcome.Outcome.TheVariants.{Broken}
-
--- a standard stream before a job and after it: its bytes, that it is as it was, that it has failed
-pub record Stream : Type 1 where
-  pub bytes : Bytes
-  pub IsKept : Type 0
-  pub HasFailed : Type 0
-
--- a stream, by what is known of it before and after
-abbrev pub stream_of : {S : Type 0} → (S → Option (List ℕ)) → (S → Bool) → S → S → Stream
-stream_of known has_failed before after =
-    record {
-      bytes = bytes_of known before after;
-      IsKept = after ≡ before;
-      HasFailed = has_failed after ≡ true;
-    }
-
--- what is written for a board: the text of its document, which shows its value and is accepted
-abbrev pub Solution : List ℕ → Value → List ℕ → Type 0
-Solution text value written =
-    IsSolution text value written × ShowsValue text value written × IsAccepted text value written
 
 -- the file was opened and this was done with it; or it can't be opened, and the rest is untouched
 abbrev pub Opening : File → Type 0 → (Bytes → Outcome → Type 0) → Outcome → Type 0
@@ -58,7 +37,7 @@ WritesWhole output outcome =
 abbrev pub TellsWrites : Stream → Outcome → Type 0
 TellsWrites output outcome = output.HasFailed ↔ (outcome ≡ Broken Write)
 
--- a board and a document behind it were checked
+-- a board and a document after it were checked
 abbrev pub ChecksJoined : Stream → Stream → Outcome → Type 0
 ChecksJoined input output outcome =
     EndsAs outcome_of_check (Ran IsAnswered input.bytes output.bytes)
@@ -74,14 +53,14 @@ Checks board proof output outcome =
     (CheckFails MAX_BOARD_BYTES MAX_PROOF_BYTES (p.new ≡ p.old) b p output.bytes) outcome))
     × WritesWhole output outcome
 
--- the board was solved by so many workers
+-- the board was solved by this number of workers
 abbrev pub Solves : ℕ → File → Stream → Outcome → Type 0
 Solves workers board output outcome =
     Opening board output.IsKept (λ read. EndsAs outcome_of_run (Ran Solution read output.bytes)
     (Fails Solution (CannotSolve workers) MAX_BOARD_BYTES read output.bytes)) outcome
     × WritesWhole output outcome
 
--- the values of the board were counted by so many workers
+-- the values of the board were counted by this number of workers
 abbrev pub Counts : ℕ → File → Stream → Outcome → Type 0
 Counts workers board output outcome =
     Opening board output.IsKept (λ read. EndsAs outcome_of_run (Ran Reports read output.bytes)
@@ -112,7 +91,7 @@ WritesNested levels pebbles output outcome =
     × WritesWhole output outcome
 
 module _ (at : List ℕ → File) (input output : Stream) where
-  -- what is done for each job; only a joined check and the plays read standard input
+  -- the job is done, or broken off; only a joined check and the plays read standard input
   abbrev pub Does : Job → Outcome → Type 0
   Does Joined outcome = ChecksJoined input output outcome
   Does (Check board proof) outcome =
@@ -123,7 +102,7 @@ module _ (at : List ℕ → File) (input output : Stream) where
   Does (Play side board) outcome = Plays side (at board.now) input output outcome
   Does (Climb levels) outcome = Climbs levels input output outcome
 
-  -- the job is done, or broken off, and the streams have failed where the outcome says so
+  -- the same, and the streams have failed if the outcome says so
   abbrev pub IsDone : Job → Outcome → Type 0
   IsDone job outcome =
       Does job outcome × TellsWrites output outcome × (input.HasFailed → outcome ≡ Broken Read)

@@ -1,4 +1,4 @@
--- What an accepted document means for the start of its board.
+-- The meaning of an accepted document for the start of its board.
 use Rattle.std.specs.Prelude.{◌≡◌, ℕ, ◌≤◌, List, ◌++◌, codes}
 use Rattle.std.specs.Fmt.{decimal}
 use Rattle.board_text.specs.LineForms.{closed}
@@ -15,8 +15,8 @@ abbrev pub AcceptsLeast : List ℕ → ℕ → Type 0
 AcceptsLeast text number =
     (number ≤ MOST_TURNS) × (verdict : Verdict) × IsAnswered text verdict (closed (codes "accepted least " ++ decimal number))
 
--- the text begins with a board's; a table answers so many requests from its start, whichever they are,
--- and the labeller has a tree of that depth
+-- the text begins with a board's; a table answers this number of requests from its start, whichever
+-- they are, and the labeller has a tree of that depth
 pub record CanAnswer (text : List ℕ) (number : ℕ) : Type 0 where
   pub board : PlainBoard
   pub rest : List ℕ

@@ -18,7 +18,8 @@ abbrev pub side_word : Side → List ℕ
 side_word Labeller = codes "labeller"
 side_word Adversary = codes "adversary"
 
--- what a row's turns are named: a labeller's row has an answer for each pebble, an adversary's leads on by labels
+-- the word for a row's turns: a labeller's row has an answer for each pebble, an adversary's leads
+-- on by labels
 abbrev pub turn_word : Side → List ℕ
 turn_word Labeller = codes " pebble "
 turn_word Adversary = codes " label "
@@ -28,7 +29,7 @@ abbrev pub row_words : PlainBoard → Side → ℕ → ℕ → List ℕ
 row_words board side at turn =
     side_word side ++ codes " row" ++ spaced_places board.labels (configuration_at board at) ++ turn_word side ++ decimal turn
 
--- why a document is refused; want of memory refuses none
+-- the words for a fault of a check; out of memory has none
 abbrev pub fault_words : PlainBoard → CheckFault → List ℕ
 fault_words board (faults.StartMissing side) = side_word side ++ codes " start missing"
 fault_words board (faults.StartNumber side) = side_word side ++ codes " start number"

@@ -1,4 +1,4 @@
--- What a run of a play reads, answers and writes.
+-- Runs of plays: the bytes read, the answer, and the bytes written.
 use Rattle.std.specs.Prelude.{◌≡◌, ℕ}
 use Rattle.board_text.specs.PlainBoard.{PlainBoard}
 use Rattle.player.specs.Transcript.{Game, PersonAsks, PersonAnswers, IsPlayed}
@@ -31,7 +31,8 @@ IsBrokenOff game lines written fault =
 abbrev pub RanPlay : Side → Bytes → Bytes → Bytes → PlayEnd → Type 0
 RanPlay side board lines written end = RanOn board (λ b. IsOver (game_of side b) lines written end)
 
--- why a play has no end: the board wasn't there, or memory was wanting, and nothing else is touched; or the play was broken off
+-- the faults of a play: there is no board, or no memory for its values, and nothing else is
+-- touched; or the play was broken off
 abbrev pub PlayFails : Side → ℕ → Type 0 → Bytes → Bytes → Bytes → RunFault → Type 0
 PlayFails side limit IsUntouched board lines written fault =
     FailsOn limit board IsUntouched (λ b. IsBrokenOff (game_of side b) lines written) fault

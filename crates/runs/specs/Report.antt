@@ -13,17 +13,19 @@ use Rattle.solver.specs.Sizes.{HasCount}
 use Rattle.positions.specs.Claim.{claim_of}
 use Rattle.runs.specs.Texts.{IsSmallBoard}
 
--- the value of the start, how many configurations have each finite value from 0 on, and how many last forever
+-- the value of the start, how many configurations have each finite value from 0 on, and how many
+-- last forever
 pub record Report : Type 0 where
   pub start : Value
   pub counts : List ℕ
   pub forever : ℕ
 
--- so many values there are from 0 to the greatest that occurs
+-- the number of values from 0 to the greatest that occurs
 abbrev pub IsCountOfValues : PlainBoard → ℕ → Type 0
 IsCountOfValues board number = (value : ℕ) → value < number ↔ ((other : ℕ) × (value ≤ other) × Occurs board other)
 
--- the counts are those of all configurations, for each finite value from 0 to the greatest that occurs
+-- the counts are those of all configurations, for each finite value from 0 to the greatest that
+-- occurs
 pub record AreCounts (board : PlainBoard) (counts : List ℕ) : Type 0 where
   pub counted : (value : ℕ) → value < length counts → HasCount board (Finite value) (slice_index counts value)
   pub to_greatest : IsCountOfValues board (length counts)
@@ -37,24 +39,22 @@ pub record IsReport (board : PlainBoard) (report : Report) : Type 0 where
 abbrev pub size_line : List ℕ → ℕ → List ℕ
 size_line word number = closed (word ++ codes " " ++ decimal number)
 
--- the first lines, of a board with so many labels, pebbles and configurations
-abbrev pub size_lines : ℕ → ℕ → ℕ → List ℕ
-size_lines labels pebbles configurations =
-    closed (codes "report 1") ++ size_line (codes "labels") labels ++ size_line (codes "pebbles") pebbles
-    ++ size_line (codes "configurations") configurations
-
+-- the first lines, with the numbers of labels, pebbles and configurations of the board
 abbrev pub head_lines : PlainBoard → List ℕ
-head_lines board = size_lines board.labels board.pebbles (configurations board)
+head_lines board =
+    closed (codes "report 1") ++ size_line (codes "labels") board.labels
+    ++ size_line (codes "pebbles") board.pebbles
+    ++ size_line (codes "configurations") (configurations board)
 
 -- the line of the start's value
 abbrev pub start_value_line : Value → List ℕ
 start_value_line value = closed (codes "start " ++ claim_words (claim_of value))
 
--- the line of a value and how many configurations have it
+-- the line of a value and the number of configurations that have it
 abbrev pub count_line : ℕ → ℕ → List ℕ
 count_line value count = closed (codes "value " ++ decimal value ++ codes ": " ++ decimal count)
 
--- the lines of the counts of a value and of those behind it
+-- the lines of the counts of a value and of the values after it
 abbrev pub count_lines : ℕ → List ℕ → List ℕ
 count_lines value [] = []
 count_lines value (count ∷ counts) = count_line value count ++ count_lines (suc value) counts
@@ -67,7 +67,7 @@ end_lines forever = closed (codes "forever: " ++ decimal forever) ++ closed (cod
 abbrev pub report_text : PlainBoard → Report → List ℕ
 report_text board report = head_lines board ++ start_value_line report.start ++ count_lines 0 report.counts ++ end_lines report.forever
 
--- the text is that of the report of the board
+-- the text is the board's report
 pub record IsReportOf (board : PlainBoard) (text : List ℕ) : Type 0 where
   pub report : Report
   pub is_report : IsReport board report
@@ -75,10 +75,10 @@ pub record IsReportOf (board : PlainBoard) (text : List ℕ) : Type 0 where
 
 -- ---- the report of a text
 
--- the text is that of a small board, and what is written is its report
+-- the text is a small board's, and the bytes written are its report
 abbrev pub IsReportOfText : List ℕ → List ℕ → Type 0
 IsReportOfText text written = (board : PlainBoard) × IsSmallBoard text board × IsReportOf board written
 
--- the same, of a run: it answers nothing beside what it writes
+-- the same, of a run, which answers nothing else
 abbrev pub Reports : List ℕ → Unit {0} → List ℕ → Type 0
 Reports text answer written = IsReportOfText text written

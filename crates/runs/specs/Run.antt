@@ -1,24 +1,49 @@
--- What a run reads, answers and writes.
-use Rattle.std.specs.Prelude.{◌≡◌, ℕ, ◌<◌, ◌≤◌, ◌⊎◌, List, Option, length}
+-- Runs: the bytes read, the answer, and the bytes written.
+use Rattle.std.specs.Prelude.{◌≡◌, ◌≢◌, ◌↔◌, ℕ, ◌<◌, ◌≤◌, ◌⊎◌, Bool, true, List, Option, Result}
+use Rattle.std.specs.Prelude.{Err, IfErr, length}
 use Rattle.std.specs.Io.KnownBytes.{Consumes, Appends}
 use Rattle.board_text.specs.Streams.{GaveAll, AppendsFront}
 use Rattle.runs.specs.declared.fault.RunFault.{RunFault}
 use Rattle.runs.specs.declared.fault.RunFault.TheVariants.{Memory, Read, Write, Limit}
 
--- the bytes of a stream before a run and after it, where they are known: what a reader has left, or what a writer has taken
+-- the bytes of a stream before a run and after it, if they are known: those that a reader has left,
+-- or that a writer has taken
 pub record Bytes : Type 0 where
   pub old : Option (List ℕ)
   pub new : Option (List ℕ)
 
--- the bytes of a stream, by what is known of it before and after
+-- the bytes of a stream, by those that are known before and after
 abbrev pub bytes_of : {Stream : Type 0} → (Stream → Option (List ℕ)) → Stream → Stream → Bytes
 bytes_of known before after = record { old = known before; new = known after }
 
--- the reader gave this text, which was all that it had left
+-- a stream before a run and after it: its bytes, that it is as it was, that it has failed
+pub record Stream : Type 1 where
+  pub bytes : Bytes
+  pub IsKept : Type 0
+  pub HasFailed : Type 0
+
+-- a stream, by its bytes and its failure before and after
+abbrev pub stream_of : {S : Type 0} → (S → Option (List ℕ)) → (S → Bool) → S → S → Stream
+stream_of known has_failed before after =
+    record {
+      bytes = bytes_of known before after;
+      IsKept = after ≡ before;
+      HasFailed = has_failed after ≡ true;
+    }
+
+-- reading has failed exactly if the fault is `Read`, and the writer exactly if it is `Write`; after
+-- any other fault nothing was written
+pub record TellsStreams {Answer : Type 0} (result : Result Answer RunFault) (ReadingFailed : Type 0)
+    (output : Stream) : Type 0 where
+  pub read : ReadingFailed ↔ (result ≡ Err Read)
+  pub write : output.HasFailed ↔ (result ≡ Err Write)
+  pub unwritten : IfErr result (λ fault. fault ≢ Write → output.IsKept)
+
+-- the reader gave this text, which is all that it had left
 abbrev pub Gave : Bytes → List ℕ → Type 0
 Gave read text = GaveAll read.old read.new text
 
--- how far a reader was read that wasn't read to its end; memory may be wanting behind the end too
+-- the bytes consumed by a read that failed; out of memory may also come after the last of them
 abbrev pub IsUnread : ℕ → Bytes → RunFault → Type 0
 IsUnread limit read Memory = (bytes : List ℕ) × Consumes read.old read.new bytes
 IsUnread limit read Read = (bytes : List ℕ) × (length bytes ≤ limit) × Consumes read.old read.new bytes
@@ -29,19 +54,19 @@ IsUnread limit read fault = ⊥
 abbrev pub Wrote : (List ℕ → Type 0) → Bytes → Type 0
 Wrote IsIt written = (text : List ℕ) × IsIt text × Appends written.old written.new text
 
--- a front of such a text was written
+-- a prefix of such a text was written
 abbrev pub WroteFront : (List ℕ → Type 0) → Bytes → Type 0
 WroteFront IsIt written = (text : List ℕ) × IsIt text × AppendsFront written.old written.new text
 
--- ---- a run over one reader, whose text says what is answered and what is written
+-- ---- a run over one reader, whose text decides the answer and the bytes written
 
 module _ {Answer : Type 0} (Says : List ℕ → Answer → List ℕ → Type 0) where
-  -- all was read, and what the text says with this answer was written
+  -- all was read, and the bytes that the text asks for, with this answer, were written
   abbrev pub Ran : Bytes → Bytes → Answer → Type 0
   Ran read written answer = (text : List ℕ) × Gave read text × Wrote (Says text answer) written
 
-  -- why a run gave no answer: not all was read; or all was, and the text says nothing;
-  -- or the writer failed, and a front of what the text says was written
+  -- the faults of a run: not all was read; or all was, and the text has this fault; or the writer
+  -- failed, and a prefix of the bytes was written
   abbrev pub Fails : (List ℕ → RunFault → Type 0) → ℕ → Bytes → Bytes → RunFault → Type 0
   Fails SaysNothing limit read written fault =
       IsUnread limit read fault

@@ -1,4 +1,4 @@
--- What the program does with its words, from its files and streams to its exit status.
+-- The program, from its words, files and streams to its exit status.
 use Rattle.std.specs.Prelude.{◌≡◌, ℕ, ◌<◌, ◌≤◌, ◌⊎◌, Bool, true, false, ◌&&◌, List, [], ◌++◌}
 use Rattle.std.specs.Prelude.{length, codes, string_bytes}
 use Rattle.std.specs.Io.KnownBytes.{Appends}
@@ -14,7 +14,8 @@ use Rattle.command_line.specs.declared.asked.JobFault.{JobFault}
 use Rattle.command_line.specs.declared.asked.JobFault.TheVariants.{Help, Usage, Memory as NoMemory}
 use Rattle.runs.specs.FaultLines.{line_of_fault}
 use Rattle.runs.specs.Folders.{File}
-use Rattle.runs.specs.Jobs.{IsDone, Stream}
+use Rattle.runs.specs.Jobs.{IsDone}
+use Rattle.runs.specs.Run.{Stream}
 use Rattle.runs.specs.Outcomes.{status_of}
 use Rattle.runs.specs.declared.fault.RunFault.TheVariants.{Memory, Write}
 use Rattle.runs.specs.declared.outcome.Outcome.{Outcome}
@@ -36,7 +37,7 @@ IsWritten stream text =
     ((stream.HasFailed → ⊥) × Appends stream.bytes.old stream.bytes.new text)
     ⊎ (stream.HasFailed × AppendsFront stream.bytes.old stream.bytes.new text)
 
--- a line for a person, where a terminal is; elsewhere nothing
+-- a line for a person, if the stream is a terminal; else nothing
 abbrev pub IsForPerson : Bool → List ℕ → Type 0
 IsForPerson true text = (words : List ℕ) × (text ≡ closed words)
 IsForPerson false text = text ≡ []
@@ -70,7 +71,7 @@ IsSaid stream text = IsWritten stream text × (text ≡ [] → stream.IsKept)
 
 module _ (at : List ℕ → File) (terminals : Terminals) (input output errors : Stream)
     (status : ℕ) where
-  -- after this greeting the outcome was told on standard error, and by the exit status
+  -- after this greeting standard error has the outcome's text, and the exit status is the outcome's
   abbrev pub EndsWith : List ℕ → Outcome → Type 0
   EndsWith greeting outcome =
       ((said : List ℕ) × IsEnding terminals.errors outcome said

@@ -1,4 +1,4 @@
--- What solving a text finds, and why it finds nothing.
+-- Solutions of texts, and the faults of texts without one.
 use Rattle.std.specs.Prelude.{◌≡◌, ℕ, ◌<◌, List}
 use Rattle.board_text.specs.PlainBoard.{PlainBoard}
 use Rattle.positions.specs.declared.value.Value.{Value}
@@ -17,12 +17,13 @@ pub record IsSolved (board : PlainBoard) (value : Value) (text : List ℕ) : Typ
   pub is_document : IsDocumentOf board document
   pub text_is : text ≡ proof_text board document
 
--- the text is that of a small board, with this value of its start, and what is written is the text of its document
+-- the text is a small board's, with this value of its start, and the bytes written are the text of
+-- its document
 abbrev pub IsSolution : List ℕ → Value → List ℕ → Type 0
 IsSolution text value written = (board : PlainBoard) × IsSmallBoard text board × IsSolved board value written
 
--- why a text isn't solved: memory was wanting; or it's the text of a small board, and a thread wasn't started, which there is with several
--- workers alone; or it isn't the text of a small board
+-- the faults of a text that isn't solved: out of memory; or it is a small board's, and a thread
+-- wasn't started, which several workers alone can have; or it isn't a small board's
 abbrev pub CannotSolve : ℕ → List ℕ → RunFault → Type 0
 CannotSolve workers text Memory = Unit {0}
 CannotSolve workers text Worker = (1 < workers) × ((board : PlainBoard) × IsSmallBoard text board)

@@ -1,4 +1,4 @@
--- What the texts of a board and of a document in memory bring, and why one brings nothing.
+-- Texts of boards and of documents in memory, and their faults.
 use Rattle.std.specs.Prelude.{◌≡◌, ◌≢◌, ℕ, ◌<◌, ◌≤◌, List}
 use Rattle.board_text.specs.PlainBoard.{PlainBoard, IsBoard}
 use Rattle.board_text.specs.BoardText.{board_text}
@@ -11,33 +11,33 @@ use Rattle.proof_text.specs.declared.fault.ProofKind.TheVariants as proof_kinds
 use Rattle.runs.specs.declared.fault.RunFault.{RunFault}
 use Rattle.runs.specs.declared.fault.RunFault.TheVariants.{Board, TooLarge, Proof, Memory}
 
--- the text is that of this board, which is small enough
+-- the text is this board's, which is small enough
 pub record IsSmallBoard (text : List ℕ) (board : PlainBoard) : Type 0 where
   pub is_board : IsBoard board
   pub few : configurations board ≤ MAX_CONFIGURATIONS
   pub spelled : text ≡ board_text board
 
--- what is wrong with the text of a board
+-- the fault of a text that is no small board's
 abbrev pub IsWrongBoard : List ℕ → RunFault → Type 0
 IsWrongBoard text (Board fault) = board_faults.HasBoardFault text fault.line fault.kind × (fault.kind ≢ board_kinds.Memory)
 IsWrongBoard text TooLarge = (board : PlainBoard) × IsBoard board × (text ≡ board_text board) × (MAX_CONFIGURATIONS < configurations board)
 IsWrongBoard text fault = ⊥
 
--- what is wrong with the text of a document for the board
+-- the fault of a text that is no document's for the board
 abbrev pub IsWrongProof : PlainBoard → List ℕ → RunFault → Type 0
 IsWrongProof board text (Proof fault) = proof_faults.HasProofFault board text fault.line fault.kind × (fault.kind ≢ proof_kinds.Memory)
 IsWrongProof board text fault = ⊥
 
--- why a text brings no small board; memory may be wanting
+-- the same, or out of memory
 abbrev pub BringsNoBoard : List ℕ → RunFault → Type 0
 BringsNoBoard text Memory = Unit {0}
 BringsNoBoard text fault = IsWrongBoard text fault
 
--- why a text brings no document for the board; memory may be wanting
+-- the same, or out of memory
 abbrev pub BringsNoProof : PlainBoard → List ℕ → RunFault → Type 0
 BringsNoProof board text Memory = Unit {0}
 BringsNoProof board text fault = IsWrongProof board text fault
 
--- memory was wanting
+-- out of memory
 abbrev pub IsMemory : RunFault → Type 0
 IsMemory fault = fault ≡ Memory

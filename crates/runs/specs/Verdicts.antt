@@ -21,13 +21,14 @@ use Rattle.runs.specs.declared.verdicts.Verdict.TheVariants.{Accepted, Refused}
 use Rattle.runs.specs.declared.fault.RunFault.{RunFault}
 use Rattle.runs.specs.declared.fault.RunFault.TheVariants.{Board, TooLarge, Proof, Memory}
 
--- the board's document is accepted only where it breaks no rule and shows its claim, and refused with its first fault
+-- the board's document is accepted only where it breaks no rule and shows its claim, and refused
+-- with its first fault
 abbrev pub IsVerdict : PlainBoard → PlainProof → Verdict → Type 0
 IsVerdict board proof (Accepted shown) =
     (shown.claim ≡ proof.claim) × BreaksNoRule board proof × Shows board proof.labeller proof.adversary proof.claim
 IsVerdict board proof (Refused fault) = IsCheckFault board proof fault × (fault ≢ check_faults.Memory)
 
--- the text is that of a document for the board, and this is the verdict on it, with its line
+-- the text is a document's for the board, and this is the verdict on it, with its line
 pub record IsChecked (board : PlainBoard) (text : List ℕ) (verdict : Verdict) (line : List ℕ) : Type 0 where
   pub proof : PlainProof
   pub is_proof : IsProof board proof
@@ -35,9 +36,9 @@ pub record IsChecked (board : PlainBoard) (text : List ℕ) (verdict : Verdict) 
   pub verdict_is : IsVerdict board proof verdict
   pub line_is : line ≡ line_of board verdict
 
--- ---- a board's text with a document's behind it
+-- ---- a board's text with a document's after it
 
--- the text is that of a board and then of a document for it, and this is the verdict, with its line
+-- the text is a board's and then a document's for it, and this is the verdict, with its line
 pub record IsAnswered (text : List ℕ) (verdict : Verdict) (line : List ℕ) : Type 0 where
   pub board : PlainBoard
   pub proof : PlainProof
@@ -48,12 +49,12 @@ pub record IsAnswered (text : List ℕ) (verdict : Verdict) (line : List ℕ) : 
   pub verdict_is : IsVerdict board proof verdict
   pub line_is : line ≡ line_of board verdict
 
--- the text begins with that of a board, and this is the rest
+-- the text begins with the text of a board, and this is the rest
 pub record BeginsWithBoard (text : List ℕ) (board : PlainBoard) (rest : List ℕ) : Type 0 where
   pub is_board : IsBoard board
   pub text_is : text ≡ board_text board ++ rest
 
--- what is wrong with the text
+-- the fault of a text without a verdict
 abbrev pub IsWrongText : List ℕ → RunFault → Type 0
 IsWrongText text (Board fault) =
     (size : ℕ) × IsFrontLen text size × board_faults.HasBoardFault (take size text) fault.line fault.kind
@@ -65,7 +66,7 @@ IsWrongText text (Proof fault) =
     × proof_faults.HasProofFault board rest fault.line fault.kind × (fault.kind ≢ proof_kinds.Memory)
 IsWrongText text fault = ⊥
 
--- why the text has no answer; memory may be wanting
+-- the same, or out of memory
 abbrev pub CannotAnswer : List ℕ → RunFault → Type 0
 CannotAnswer text Memory = Unit {0}
 CannotAnswer text fault = IsWrongText text fault

@@ -1,10 +1,11 @@
-//! Checks, over readers and writers: of a board and a document one behind the other, and of two texts.
+//! Checks, over readers and writers: of a board with a document after it, and of two texts.
 
-ghost use Rattle.std.specs.Prelude.{◌≡◌, ◌≢◌, ◌↔◌, ◌⊎◌, true, false, Err, IfOk, IfErr};
+ghost use Rattle.std.specs.Prelude.{◌≡◌, ◌⊎◌, true, false, IfOk, IfErr};
 ghost use Rattle.runs.specs.Verdicts.{CannotAnswer, IsAnswered};
 ghost use Rattle.runs.specs.CheckRun.{RanCheck, CheckFails};
-ghost use Rattle.runs.specs.Run.{Ran, Fails, bytes_of};
-ghost use Rattle.runs.specs.declared.fault.RunFault.TheVariants.{Read, Write};
+ghost use Rattle.runs.specs.Run.{Ran, Fails, TellsStreams, Wrote, WroteFront, bytes_of, stream_of};
+ghost use Rattle.runs.specs.declared.fault.RunFault.TheVariants.{Write};
+ghost use Rattle.runs.specs.declared.verdicts.Verdict.{Verdict as Judgement};
 
 use crate::fault::RunFault;
 use crate::reading::{MAX_BOARD_BYTES, read_board, read_text};
@@ -20,10 +21,10 @@ pub const MAX_JOINED_BYTES: usize = 134_217_728;
 /// The most bytes of a strategy document.
 pub const MAX_PROOF_BYTES: usize = 134_217_728;
 
-/// Reads a board and a document for it, one behind the other, checks the document and writes one line.
+/// Reads a board and a document after it, checks the document and writes one line.
 ///
-/// The reader and the writer must not have failed before, nor the reader have told its end.
-/// After a fault nothing was written, but for `Write`, after which a front of the line was.
+/// The reader and the writer must not have failed before, nor the reader have reported its end.
+/// After a fault nothing was written, but for `Write`, after which a prefix of the line was.
 pub fn run_joined<R: Source, W: Sink>(
     rt: &(impl Threads + Sync),
     alloc: Global,
@@ -33,15 +34,70 @@ pub fn run_joined<R: Source, W: Sink>(
     requires reader_ready { R.has_failed reader.old ≡ false }
     requires reader_unended { R.has_ended reader.old ≡ false }
     requires writer_ready { W.has_failed writer.old ≡ false }
-    ensures ok { IfOk result (Ran IsAnswered (bytes_of R.remaining reader.old reader.new) (bytes_of W.contents writer.old writer.new)) }
+    ensures ok { IfOk result (Ran IsAnswered (bytes_of R.remaining reader.old reader.new)
+        (bytes_of W.contents writer.old writer.new)) }
     ensures fault { IfErr result (Fails IsAnswered CannotAnswer MAX_JOINED_BYTES
         (bytes_of R.remaining reader.old reader.new) (bytes_of W.contents writer.old writer.new)) }
-    ensures read { (R.has_failed reader.new ≡ true) ↔ (result ≡ Err Read) }
-    ensures write { (W.has_failed writer.new ≡ true) ↔ (result ≡ Err Write) }
-    ensures unwritten { IfErr result (λ fault. fault ≢ Write → writer.new ≡ writer.old) }
+    ensures streams { TellsStreams result (R.has_failed reader.new ≡ true)
+        (stream_of W.contents W.has_failed writer.old writer.new) }
 {
-    let text = read_text(alloc, reader, MAX_JOINED_BYTES)?;
-    let answer = check_joined_text(rt, alloc, text.as_slice())?;
+    run_keeping_text(rt, alloc, reader, writer).result
+}
+
+/// How a check of a joined input ended, and the bytes that were read: none if they weren't read to
+/// their end.
+#[derive(Drop)]
+pub(crate) struct JoinedRun {
+    pub(crate) result: Result<Verdict, RunFault>,
+    pub(crate) text: Vec<u8>,
+}
+
+/// Does what `run_joined` does, and keeps the bytes for the explanation of a fault.
+pub(crate) fn run_keeping_text<R: Source, W: Sink>(
+    rt: &(impl Threads + Sync),
+    alloc: Global,
+    reader: &mut R,
+    writer: &mut W,
+) -> JoinedRun
+    requires reader_ready { R.has_failed reader.old ≡ false }
+    requires reader_unended { R.has_ended reader.old ≡ false }
+    requires writer_ready { W.has_failed writer.old ≡ false }
+    ensures ok { IfOk result.result (Ran IsAnswered (bytes_of R.remaining reader.old reader.new)
+        (bytes_of W.contents writer.old writer.new)) }
+    ensures fault { IfErr result.result (Fails IsAnswered CannotAnswer MAX_JOINED_BYTES
+        (bytes_of R.remaining reader.old reader.new) (bytes_of W.contents writer.old writer.new)) }
+    ensures streams { TellsStreams result.result (R.has_failed reader.new ≡ true)
+        (stream_of W.contents W.has_failed writer.old writer.new) }
+{
+    match read_text(alloc, reader, MAX_JOINED_BYTES) {
+        Ok(text) => {
+            let result = answer_joined(rt, alloc, text.as_slice(), writer);
+            JoinedRun { result, text }
+        }
+        Err(fault) => JoinedRun {
+            result: Err(fault),
+            text: Vec::new(alloc),
+        },
+    }
+}
+
+/// Writes the verdict on the document after the board in `text`, and gives it.
+fn answer_joined<W: Sink>(
+    rt: &(impl Threads + Sync),
+    alloc: Global,
+    text: &[u8],
+    writer: &mut W,
+) -> Result<Verdict, RunFault>
+    requires writer_ready { W.has_failed writer.old ≡ false }
+    ensures ok { IfOk result (λ verdict. Wrote (IsAnswered text.now verdict)
+        (bytes_of W.contents writer.old writer.new)) }
+    ensures fault { IfErr result (λ fault. CannotAnswer text.now fault ⊎ ((fault ≡ Write)
+        × (verdict : Judgement) × WroteFront (IsAnswered text.now verdict)
+        (bytes_of W.contents writer.old writer.new))) }
+    ensures streams { TellsStreams result ⊥
+        (stream_of W.contents W.has_failed writer.old writer.new) }
+{
+    let answer = check_joined_text(rt, alloc, text)?;
     write_text(writer, &answer.line)?;
     Ok(answer.verdict)
 }
@@ -49,8 +105,8 @@ pub fn run_joined<R: Source, W: Sink>(
 /// Reads a board and then a strategy document for it, checks the document and writes one line.
 ///
 /// The board is read, parsed and measured before anything of the document is read.
-/// No reader or writer must have failed before, nor a reader have told its end. After a fault
-/// nothing was written, but for `Write`, after which a front of the line was.
+/// No reader or writer must have failed before, nor a reader have reported its end. After a fault
+/// nothing was written, but for `Write`, after which a prefix of the line was.
 pub fn run_check<B: Source, P: Source, W: Sink>(
     rt: &(impl Threads + Sync),
     alloc: Global,
@@ -63,18 +119,18 @@ pub fn run_check<B: Source, P: Source, W: Sink>(
     requires proof_ready { P.has_failed proof.old ≡ false }
     requires proof_unended { P.has_ended proof.old ≡ false }
     requires writer_ready { W.has_failed writer.old ≡ false }
-    ensures ok { IfOk result (RanCheck (bytes_of B.remaining board.old board.new) (bytes_of P.remaining proof.old proof.new)
-        (bytes_of W.contents writer.old writer.new)) }
+    ensures ok { IfOk result (RanCheck (bytes_of B.remaining board.old board.new)
+        (bytes_of P.remaining proof.old proof.new) (bytes_of W.contents writer.old writer.new)) }
     ensures fault { IfErr result (CheckFails MAX_BOARD_BYTES MAX_PROOF_BYTES (proof.new ≡ proof.old)
         (bytes_of B.remaining board.old board.new) (bytes_of P.remaining proof.old proof.new)
         (bytes_of W.contents writer.old writer.new)) }
-    ensures read { ((B.has_failed board.new ≡ true) ⊎ (P.has_failed proof.new ≡ true)) ↔ (result ≡ Err Read) }
-    ensures write { (W.has_failed writer.new ≡ true) ↔ (result ≡ Err Write) }
-    ensures unwritten { IfErr result (λ fault. fault ≢ Write → writer.new ≡ writer.old) }
+    ensures streams { TellsStreams result
+        ((B.has_failed board.new ≡ true) ⊎ (P.has_failed proof.new ≡ true))
+        (stream_of W.contents W.has_failed writer.old writer.new) }
 {
-    let (board, space) = read_board(alloc, board)?;
+    let board = read_board(alloc, board)?;
     let text = read_text(alloc, proof, MAX_PROOF_BYTES)?;
-    let answer = check_text(rt, alloc, &board, &space, text.as_slice())?;
+    let answer = check_text(rt, alloc, &board, text.as_slice())?;
     write_text(writer, &answer.line)?;
     Ok(answer.verdict)
 }

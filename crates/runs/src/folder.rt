@@ -1,4 +1,4 @@
-//! Where files are opened by their paths.
+//! Folders, in which files are opened by their paths.
 
 ghost use Rattle.std.specs.Prelude.{◌≡◌, ℕ, List, IfOk, OnErr, false};
 ghost use Rattle.runs.specs.Folders.{File, Unknown, Opens, StaysShut};

@@ -4,22 +4,16 @@ use crate::folder::Trouble;
 use board_text::BoardKind;
 use proof_text::ProofKind;
 
-/// The words for a board with a fault of this kind and, if they are known, with these first bytes.
-pub(crate) fn board_hint(kind: BoardKind, head: Option<&[u8]>) -> &'static str {
+/// The words for a board that has a fault of this kind and begins with these bytes.
+pub(crate) fn board_hint(kind: BoardKind, head: &[u8]) -> &'static str {
     match kind {
-        BoardKind::Version => match head {
-            Some(head) if head.starts_with("proof ".as_bytes()) => {
-                "it is a strategy document and no board; are the two files exchanged?"
-            }
-            Some(head) => first_line_hint(head).unwrap_or(
-                "line 1 must be `board 1`, or `board 2` if some pebble has no label, and nothing \
-                may come before it",
-            ),
-            None => {
-                "line 1 must be `board 1`, or `board 2` if some pebble has no label; look for an \
-                empty input, Windows line ends, a byte order mark, a document without its board"
-            }
-        },
+        BoardKind::Version if head.starts_with("proof ".as_bytes()) => {
+            "it is a strategy document and no board; are the two exchanged?"
+        }
+        BoardKind::Version => first_line_hint(head).unwrap_or(
+            "line 1 must be `board 1`, or `board 2` if some pebble has no label, and nothing may \
+            come before it",
+        ),
         BoardKind::Labels => {
             "line 2 must be `labels V`, with V from 1 to 256, no leading zero and no space at the \
             end"
@@ -52,22 +46,15 @@ pub(crate) fn board_hint(kind: BoardKind, head: Option<&[u8]>) -> &'static str {
     }
 }
 
-/// The words for a strategy document with a fault of this kind and, if they are known, with these
-/// first bytes.
-pub(crate) fn proof_hint(kind: ProofKind, head: Option<&[u8]>) -> &'static str {
+/// The words for a strategy document that has a fault of this kind and begins with these bytes.
+pub(crate) fn proof_hint(kind: ProofKind, head: &[u8]) -> &'static str {
     match kind {
-        ProofKind::Version => match head {
-            Some(head) if head.starts_with("board ".as_bytes()) => {
-                "it is a board and no strategy document; is the board named twice?"
-            }
-            Some(head) => first_line_hint(head).unwrap_or(
-                "line 1 must be `proof 1`, and nothing may come before it",
-            ),
-            None => {
-                "after the line `end` of the board a strategy document must follow, with `proof 1` \
-                as its first line"
-            }
-        },
+        ProofKind::Version if head.starts_with("board ".as_bytes()) => {
+            "it is a board and no strategy document; is the board given twice?"
+        }
+        ProofKind::Version => first_line_hint(head).unwrap_or(
+            "line 1 must be `proof 1`, and nothing may come before it",
+        ),
         ProofKind::Claim => {
             "line 2 must be `value k`, `least k`, `most k` or `forever`, with k at most 1000000000"
         }
@@ -108,7 +95,7 @@ pub(crate) fn trouble_hint(name: &str, trouble: Trouble) -> &'static str {
     }
 }
 
-/// What the first bytes of an input show of why its first line is wrong.
+/// The mistake in a first line that the first bytes of its input show, if they show one.
 fn first_line_hint(head: &[u8]) -> Option<&'static str> {
     if head.is_empty() {
         Some("it is empty")

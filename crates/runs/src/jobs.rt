@@ -6,9 +6,10 @@ ghost use Rattle.runs.specs.declared.outcome.Outcome.TheVariants.{Broken};
 ghost use Rattle.board_text.specs.Ranges.{InRange};
 ghost use Rattle.command_line.specs.Reading.{IsInRange};
 ghost use Rattle.runs.specs.Jobs.{IsDone, Checks, ChecksJoined, Climbs, Counts, Plays, Solves};
-ghost use Rattle.runs.specs.Jobs.{TellsWrites, WritesNested, stream_of};
+ghost use Rattle.runs.specs.Jobs.{TellsWrites, WritesNested};
+ghost use Rattle.runs.specs.Run.{stream_of};
 
-use crate::checking::{MAX_PROOF_BYTES, run_check, run_joined};
+use crate::checking::{JoinedRun, MAX_PROOF_BYTES, run_check, run_keeping_text};
 use crate::fault::RunFault;
 use crate::folder::Folder;
 use crate::nesting::run_nested;
@@ -76,7 +77,7 @@ fn file<'a, 'h, F: Folder>(
     };
     Origin {
         name: path,
-        head: Some(reader.head()),
+        head: reader.head(),
         trouble,
         is_too_long: reader.count() > limit,
         limits,
@@ -112,7 +113,7 @@ pub fn carry_out<'a, F: Folder, I: Source, O: Sink>(
     }
 }
 
-/// Checks the document that stands after a board on standard input.
+/// Checks the document after a board on standard input.
 fn check_joined<I: Source, O: Sink>(
     rt: &(impl Threads + Sync),
     alloc: Global,
@@ -128,11 +129,12 @@ fn check_joined<I: Source, O: Sink>(
         result.outcome }
     ensures reads { I.has_failed input.new ≡ true → result.outcome ≡ Broken Read }
 {
-    let outcome = Outcome::of_check(run_joined(rt, alloc, input, output));
-    let text = Origin::standard_input(PROOF_LIMITS);
+    let JoinedRun { result, text } = run_keeping_text(rt, alloc, input, output);
+    let outcome = Outcome::of_check(result);
+    let (board, document) = Origin::joined(text.as_slice());
     Ended {
         outcome,
-        note: Note::of(outcome, &text, &text),
+        note: Note::of(outcome, &board, &document),
     }
 }
 

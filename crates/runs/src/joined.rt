@@ -1,10 +1,10 @@
-//! Where the front of a joined input ends.
+//! The board and the document of a joined input.
 
 ghost use Rattle.std.specs.Prelude.{◌≡◌, ◌↔◌, ◌≤◌, ◌<◌, IsTrue, length, ℕ, List};
 ghost use Rattle.runs.specs.Joined.{IsEndLine, IsFrontLen};
 
-/// How many bytes stand up to and with the first line that is exactly `end` and its line feed.
-/// Where there is no such line they are all.
+/// The number of bytes of `input` up to and with its first line that is exactly `end` and a line
+/// feed; all of them if there is no such line.
 pub fn front_len(input: &[u8]) -> usize
     ensures within { result ≤ length input.now }
     ensures first { IsFrontLen input.now result }
@@ -24,7 +24,7 @@ fn is_end_line(input: &[u8], at: usize) -> bool
     (at == 0 || input[at - 1] == b'\n') && input[at..].starts_with(b"end\n")
 }
 
-/// There is one front.
+/// An input has one prefix up to its first line `end`.
 pub fn one_front()
     ensures { (input : List ℕ) (m n : ℕ) → IsFrontLen input m → IsFrontLen input n → m ≡ n }
 {}

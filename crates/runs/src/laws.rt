@@ -1,4 +1,4 @@
-//! Laws of what is written: what it means. Each is the contract of a function without a body.
+//! Laws of the texts that are written. Each is the contract of a function without a body.
 
 ghost use Rattle.std.specs.Prelude.{◌≡◌, ℕ, ◌+◌, ◌≤◌, ◌⊎◌, List, [], Option, Some, sum};
 ghost use Rattle.positions.specs.Ranks.{configurations};
@@ -26,7 +26,8 @@ use crate::checking::{MAX_JOINED_BYTES, MAX_PROOF_BYTES};
 use crate::reading::MAX_BOARD_BYTES;
 use positions::MAX_CONFIGURATIONS;
 
-/// Each text of a small board has one value of its start and one text of its document. Any other text has one fault, and no text has both.
+/// Each text of a small board has one value of its start and one text of its document. Any other
+/// text has one fault, and no text has both.
 pub fn solution_or_fault()
     ensures solution { (text : List ℕ) → (board : PlainBoard) → IsSmallBoard text board
         → (value : Worth) × (written : List ℕ) × IsSolution text value written }
@@ -40,7 +41,8 @@ pub fn solution_or_fault()
         → IsSolution text value written → IsWrongBoard text fault → ⊥ }
 {}
 
-/// Each board has a report. Each text of a small board has one, any other text has a fault, and no text has both.
+/// Each board has a report. Each text of a small board has one, any other text has a fault, and no
+/// text has both.
 pub fn report_or_fault()
     ensures report { (board : PlainBoard) → IsConfiguration board board.start → (text : List ℕ) × IsReportOf board text }
     ensures one { (text : List ℕ) → (written : List ℕ) → (other : List ℕ) → IsReportOfText text written → IsReportOfText text other
@@ -49,34 +51,37 @@ pub fn report_or_fault()
     ensures not_both { (text : List ℕ) → (written : List ℕ) → (fault : Fault) → IsReportOfText text written → IsWrongBoard text fault → ⊥ }
 {}
 
-/// Where a text was answered with `accepted least k`, the labeller can answer k requests from the start of its board, however they come.
-/// Where a document is accepted, its claim holds of the start's value.
+/// If a text was answered with `accepted least k`, the labeller can answer k requests from the
+/// start of its board, whichever they are. If a document is accepted, its claim holds of the
+/// start's value.
 pub fn accepted_claims_hold()
     ensures least { (text : List ℕ) → (number : ℕ) → AcceptsLeast text number → CanAnswer text number }
     ensures holds { (board : PlainBoard) → (proof : PlainProof) → (shown : ShownClaim) → IsBoard board
         → IsVerdict board proof (Accepted shown) → Holds board shown.claim }
 {}
 
-/// The value that a solved board is given is the greatest number of requests that a labeller can answer against every adversary:
-/// the labeller's strategy that was written answers that many however requests come, the adversary's leaves every labeller without an
-/// answer by the next, and forever comes with a strategy that is closed over all requests and lists the start. A check accepts what was
-/// written.
+/// The value that a solved board is given is the greatest number of requests that a labeller can
+/// answer against every adversary: the labeller's strategy that was written answers that many,
+/// whichever they are, the adversary's leaves every labeller without an answer by the next, and
+/// forever comes with a strategy that is closed over all requests and lists the start. A check
+/// accepts the bytes written.
 pub fn solved_boards_show_their_value()
     ensures value { (text : List ℕ) → (value : Worth) → (written : List ℕ) → IsSolution text value written → ShowsValue text value written }
     ensures accepted { (text : List ℕ) → (value : Worth) → (written : List ℕ) → IsSolution text value written
         → IsAccepted text value written }
 {}
 
-/// Any document of the format whose text was written means the value. So the strategies that a reader finds in the bytes are those of
-/// which `solved_boards_show_their_value` speaks.
+/// Any document of the format whose text was written means the value. So the strategies that a
+/// reader finds in the bytes are those of which `solved_boards_show_their_value` speaks.
 pub fn written_documents_mean_the_value()
     ensures { (text : List ℕ) → (value : Worth) → (written : List ℕ) → (board : PlainBoard) → (document : PlainProof)
         → IsAccepted text value written → IsBoard board → IsProof board document
         → text ≡ board_text board → written ≡ proof_text board document → Means board document value }
 {}
 
-/// The verdict on what was written for a solved board is that it is accepted, with the claim of the value.
-/// So a check of the same board and of what was written answers this, or that memory is wanting: neither of the two texts has a fault.
+/// The document that was written for a solved board is accepted, with the claim of the value. So a
+/// check of the same board and of the bytes written answers this, or runs out of memory: neither of
+/// the two texts has a fault.
 pub fn printed_documents_are_accepted()
     ensures verdict { (board : PlainBoard) → (value : Worth) → (text : List ℕ) → IsBoard board → configurations board ≤ MAX_CONFIGURATIONS
         → IsSolved board value text → (proof : PlainProof) → (verdict : Judgement) → IsProof board proof → text ≡ proof_text board proof

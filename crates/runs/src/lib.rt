@@ -1,4 +1,5 @@
-//! What the commands do: from the bytes of texts in memory to the bytes of their answers, and the same over readers and writers.
+//! The commands as a library: from the bytes of texts in memory to the bytes of their answers, and
+//! the same over readers and writers.
 #![tactic(auto)]
 
 mod boards;

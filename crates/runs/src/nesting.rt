@@ -15,7 +15,8 @@ use std::alloc::Global;
 
 /// Writes the text of the nested board of a level, 1 to 6, with 1 to 6 pebbles, all on label 0.
 ///
-/// The writer must not have failed before. Where memory is refused nothing was written, and where the writer fails a front of the text was.
+/// The writer must not have failed before. After `Memory` nothing was written, and after `Write` a
+/// prefix of the text was.
 pub fn run_nested<W: Sink>(
     alloc: Global,
     levels: u8,

@@ -1,4 +1,4 @@
-//! The lines that are written for a person at a terminal: before a job that reads what is typed,
+//! The lines that are written for a person at a terminal: before a job that reads typed lines,
 //! and after the line of a fault.
 
 ghost use Rattle.std.specs.Prelude.{◌≡◌, true, false, MatchOption};
@@ -7,7 +7,9 @@ ghost use Rattle.runs.specs.Serving.{is_typed};
 use crate::fault::RunFault;
 use crate::folder::Trouble;
 use crate::hints::{board_hint, proof_hint, trouble_hint};
+use crate::joined::front_len;
 use crate::outcome::Outcome;
+use crate::watched::head_of;
 use board_text::line_reader::LineReader;
 use board_text::{MAX_LABELS, MAX_PEBBLES};
 use command_line::Job;
@@ -25,6 +27,9 @@ pub(crate) const LINE_LIMITS: &str =
 
 /// The name of standard input in explanations.
 pub(crate) const STANDARD_INPUT: &str = "standard input";
+
+/// The name of the document in a joined input.
+const AFTER_THE_BOARD: &str = "standard input after the board";
 
 /// The explanation of a fault: the name of a file or of a stream, and what to look for there.
 #[derive(Clone, Copy, Debug, PartialEq, Eq)]
@@ -73,8 +78,8 @@ impl Note<'static> {
 pub(crate) struct Origin<'a, 'h> {
     /// Its path, or the name of standard input.
     pub(crate) name: &'a str,
-    /// Its first bytes, if they are known.
-    pub(crate) head: Option<&'h [u8]>,
+    /// Its first bytes, as far as they are known.
+    pub(crate) head: &'h [u8],
     /// Why it couldn't be read, if it couldn't.
     pub(crate) trouble: Option<Trouble>,
     /// Whether more bytes came than it may have.
@@ -88,11 +93,29 @@ impl Origin<'static, 'static> {
     pub(crate) fn standard_input(limits: &'static str) -> Origin<'static, 'static> {
         Origin {
             name: STANDARD_INPUT,
-            head: None,
+            head: &[],
             trouble: None,
             is_too_long: false,
             limits,
         }
+    }
+}
+
+impl<'h> Origin<'static, 'h> {
+    /// The board with which the joined input `text` begins, and the document after it.
+    pub(crate) fn joined(text: &'h [u8]) -> (Origin<'static, 'h>, Origin<'static, 'h>) {
+        let (board, document) = text.split_at(front_len(text));
+        let input = Origin::standard_input(PROOF_LIMITS);
+        let board = Origin {
+            head: head_of(board),
+            ..input
+        };
+        let document = Origin {
+            name: AFTER_THE_BOARD,
+            head: head_of(document),
+            ..input
+        };
+        (board, document)
     }
 }
 
@@ -130,24 +153,11 @@ pub(crate) fn unread(name: &str, trouble: Trouble) -> Note<'_> {
 
 /// The explanation of a board that has too many configurations.
 fn too_large<'a>(board: &Origin<'a, '_>) -> Note<'a> {
-    let number = match board.head {
-        Some(head) => configurations(head),
-        None => None,
-    };
-    let words = match number {
-        Some(_) => {
-            " configurations, labels to the power of pebbles (in `board 2` with one label more); \
-            the most is 1048576"
-        }
-        None => {
-            "labels to the power of pebbles (in `board 2` with one label more) is more than \
-            1048576, the most configurations of a board"
-        }
-    };
     Note {
         about: board.name,
-        number,
-        words,
+        number: configurations(board.head),
+        words: " configurations, labels to the power of pebbles (in `board 2` with one label more); \
+            the most is 1048576",
     }
 }
 
@@ -161,7 +171,7 @@ fn configurations(head: &[u8]) -> Option<u64> {
     Some(places.saturating_pow(pebbles))
 }
 
-/// The words that tell a person what to type for `job`; none if it reads nothing that is typed.
+/// The words that say which lines `job` reads from a person; none if it reads no typed lines.
 pub(crate) fn greeting(job: &Job<'_>) -> Option<&'static str>
     ensures { MatchOption result (is_typed job.now ≡ false) (λ _. is_typed job.now ≡ true) }
 {

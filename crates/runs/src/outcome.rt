@@ -1,4 +1,4 @@
-//! How a job ends, and the status that tells it.
+//! Outcomes of jobs, and the exit status of each.
 
 ghost use Rattle.std.specs.Prelude.{◌≡◌};
 ghost use Rattle.runs.specs.Outcomes.{outcome_of_check, outcome_of_run, status_of, status_of_fault};

@@ -13,18 +13,20 @@ ghost use Rattle.runs.specs.declared.fault.RunFault.TheVariants.{Read, Write};
 use crate::fault::RunFault;
 use crate::reading::{MAX_BOARD_BYTES, read_board};
 use crate::solving::values_of;
-use board_text::{Board, Sink, Source};
+use board_text::{Sink, Source};
 use nested_cycles::MAX_LEVELS;
 use player::{PlayEnd, PlayFault, play_adversary_side, play_labeller_side, play_nested};
 use positions::Side;
-use solver::Values;
 use std::alloc::Global;
+use strategies::BestMoves;
 
-/// Reads a board, finds its values and plays on it with a person, who is this side and writes lines.
+/// Reads a board, finds its values and plays on it with a person, who is this `side` and writes
+/// lines.
 ///
 /// The rounds that find the values are run on this thread. No reader or writer must have failed
-/// before, nor a reader have told its end.
-/// No line is read, and nothing is written, before the values are found. Each answer is written before the next line is read.
+/// before, nor a reader have reported its end.
+/// No line is read, and nothing is written, before the values are found. Each answer is written
+/// before the next line is read.
 pub fn run_play<B: Source, L: Source, W: Sink>(
     alloc: Global,
     side: Side,
@@ -44,14 +46,16 @@ pub fn run_play<B: Source, L: Source, W: Sink>(
     ensures read { ((B.has_failed board.new ≡ true) ⊎ (L.has_failed lines.new ≡ true)) ↔ (result ≡ Err Read) }
     ensures write { (W.has_failed writer.new ≡ true) ↔ (result ≡ Err Write) }
 {
-    let (board, _) = read_board(alloc, board)?;
+    let board = read_board(alloc, board)?;
     let values = values_of(alloc, &board)?;
-    Ok(play(alloc, side, &board, &values, lines, writer)?)
+    let moves = BestMoves::new(&board, &values);
+    Ok(play(alloc, side, &moves, lines, writer)?)
 }
 
 /// Plays on the nested board of a level, 1 to `MAX_LEVELS`, with a person, who asks by lines.
 ///
-/// The reader and the writer must not have failed before. Each answer is written before the next line is read.
+/// The reader and the writer must not have failed before. Each answer is written before the next
+/// line is read.
 pub fn run_climb<L: Source, W: Sink>(
     alloc: Global,
     levels: u8,
@@ -72,27 +76,27 @@ pub fn run_climb<L: Source, W: Sink>(
     Ok(play_nested(alloc, levels, lines, writer)?)
 }
 
-/// Plays on a board with a person who is this side.
+/// Plays with a person who is this `side` on the board of `moves`.
 fn play<L: Source, W: Sink>(
     alloc: Global,
     side: Side,
-    board: &Board,
-    values: &Values,
+    moves: &BestMoves<'_>,
     lines: &mut L,
     writer: &mut W,
 ) -> Result<PlayEnd, PlayFault>
-    requires same_board { values.now ≡ board.now }
     requires lines_ready { L.has_failed lines.old ≡ false }
     requires lines_unended { L.has_ended lines.old ≡ false }
     requires writer_ready { W.has_failed writer.old ≡ false }
-    ensures ok { IfOk result (HasEnded (IsPlayed (game_of side board.now)) (L.remaining lines.old) (L.remaining lines.new)
+    ensures ok { IfOk result (HasEnded (IsPlayed (game_of side moves.now)) (L.remaining lines.old) (L.remaining lines.new)
         (W.contents writer.old) (W.contents writer.new)) }
-    ensures fault { IfErr result (BreaksOff (IsPlayed (game_of side board.now)) (L.remaining lines.old) (L.remaining lines.new)
+    ensures fault { IfErr result (BreaksOff (IsPlayed (game_of side moves.now)) (L.remaining lines.old) (L.remaining lines.new)
         (W.contents writer.old) (W.contents writer.new)) }
-    ensures value { IfOk result (KeepsToValue (game_of side board.now)) }
+    ensures value { IfOk result (KeepsToValue (game_of side moves.now)) }
     ensures read { (L.has_failed lines.new ≡ true) ↔ (result ≡ Err play_faults.Read) }
     ensures write { (W.has_failed writer.new ≡ true) ↔ (result ≡ Err play_faults.Write) }
 {
+    let board = moves.board();
+    let values = moves.values();
     match side {
         Side::Adversary => play_adversary_side(alloc, board, values, lines, writer),
         Side::Labeller => play_labeller_side(alloc, board, values, lines, writer),

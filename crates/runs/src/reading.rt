@@ -8,13 +8,12 @@ ghost use Rattle.runs.specs.declared.fault.RunFault.TheVariants.{Read, Write};
 use crate::boards::small_board;
 use crate::fault::RunFault;
 use board_text::{Board, Source, read_all};
-use positions::Space;
 use std::alloc::Global;
 
 /// The most bytes of a board.
 pub const MAX_BOARD_BYTES: usize = 1_048_576;
 
-/// All that a reader gives, which is to be no more than so many bytes.
+/// All bytes that the reader gives, if they are no more than `limit`.
 pub(crate) fn read_text<R: Source>(
     alloc: Global,
     reader: &mut R,
@@ -30,14 +29,11 @@ pub(crate) fn read_text<R: Source>(
     Ok(read_all(alloc, reader, limit)?)
 }
 
-/// The small board whose text the reader gives, with its space.
-pub(crate) fn read_board<R: Source>(
-    alloc: Global,
-    reader: &mut R,
-) -> Result<(Board, Space), RunFault>
+/// The small board whose text the reader gives.
+pub(crate) fn read_board<R: Source>(alloc: Global, reader: &mut R) -> Result<Board, RunFault>
     requires ready { R.has_failed reader.old ≡ false }
     requires unended { R.has_ended reader.old ≡ false }
-    ensures found { IfOk result (λ p. GaveBoard (bytes_of R.remaining reader.old reader.new) p.0 × (p.1 ≡ p.0)) }
+    ensures found { IfOk result (GaveBoard (bytes_of R.remaining reader.old reader.new)) }
     ensures fault { IfErr result (GaveNoBoard MAX_BOARD_BYTES (bytes_of R.remaining reader.old reader.new)) }
     ensures read { (R.has_failed reader.new ≡ true) ↔ (result ≡ Err Read) }
     ensures unwritten { result ≢ Err Write }

@@ -1,21 +1,22 @@
 //! Reporting how many configurations of a board have each value.
 
-ghost use Rattle.std.specs.Prelude.{◌≡◌, ◌≢◌, ◌↔◌, ◌≤◌, ℕ, List, ◌++◌, true, false, Err, IfOk, IfErr, OnOk, string_bytes};
+ghost use Rattle.std.specs.Prelude.{◌≡◌, ◌≤◌, ℕ, List, ◌++◌, true, false, IfOk, IfErr, OnOk};
+ghost use Rattle.std.specs.Prelude.{string_bytes};
 ghost use Rattle.board_text.specs.Ranges.{InRange};
 ghost use Rattle.positions.specs.Ranks.{configurations};
 ghost use Rattle.runs.specs.Report.{AreCounts, IsCountOfValues, IsReportOf, IsReportOfText, Reports};
-ghost use Rattle.runs.specs.Report.{count_line, count_lines, end_lines, head_lines, size_line, size_lines, start_value_line};
-ghost use Rattle.runs.specs.Run.{Ran, Fails, bytes_of};
+ghost use Rattle.runs.specs.Report.{count_line, count_lines, end_lines, head_lines};
+ghost use Rattle.runs.specs.Report.{size_line, start_value_line};
+ghost use Rattle.runs.specs.Run.{Ran, Fails, TellsStreams, bytes_of, stream_of};
 ghost use Rattle.runs.specs.SolveRun.{CannotSolve};
 ghost use Rattle.runs.specs.Texts.{BringsNoBoard};
-ghost use Rattle.runs.specs.declared.fault.RunFault.TheVariants.{Read, Write};
 
 use crate::boards::small_board;
 use crate::fault::RunFault;
 use crate::reading::{MAX_BOARD_BYTES, read_text};
 use crate::solving::{values_by, values_of};
 use crate::writing::write_text;
-use board_text::{Board, Sink, Source};
+use board_text::{Sink, Source};
 use positions::{Claim, MAX_CONFIGURATIONS, Space, Value};
 use proof_text::write_claim;
 use round_workers::MAX_WORKERS;
@@ -24,11 +25,14 @@ use std::alloc::{AllocError, Global};
 use std::fmt::Write;
 use std::sync::Wait;
 use std::thread::Threads;
+use strategies::BestMoves;
 
-/// Reads a board, finds its values on this thread and writes how many of its configurations have each value.
+/// Reads a board, finds its values on this thread and writes how many of its configurations have
+/// each value.
 ///
-/// The reader and the writer must not have failed before, nor the reader have told its end. Nothing is written before the whole text is built:
-/// after a fault nothing was written, but for `Write`, after which a front of the text was.
+/// The reader and the writer must not have failed before, nor the reader have reported its end.
+/// Nothing is written before the whole text is built: after a fault nothing was written, but for
+/// `Write`, after which a prefix of the text was.
 pub fn run_report<R: Source, W: Sink>(
     alloc: Global,
     reader: &mut R,
@@ -37,21 +41,22 @@ pub fn run_report<R: Source, W: Sink>(
     requires reader_ready { R.has_failed reader.old ≡ false }
     requires reader_unended { R.has_ended reader.old ≡ false }
     requires writer_ready { W.has_failed writer.old ≡ false }
-    ensures ok { IfOk result (Ran Reports (bytes_of R.remaining reader.old reader.new) (bytes_of W.contents writer.old writer.new)) }
+    ensures ok { IfOk result (Ran Reports (bytes_of R.remaining reader.old reader.new)
+        (bytes_of W.contents writer.old writer.new)) }
     ensures fault { IfErr result (Fails Reports BringsNoBoard MAX_BOARD_BYTES
         (bytes_of R.remaining reader.old reader.new) (bytes_of W.contents writer.old writer.new)) }
-    ensures read { (R.has_failed reader.new ≡ true) ↔ (result ≡ Err Read) }
-    ensures write { (W.has_failed writer.new ≡ true) ↔ (result ≡ Err Write) }
-    ensures unwritten { IfErr result (λ fault. fault ≢ Write → writer.new ≡ writer.old) }
+    ensures streams { TellsStreams result (R.has_failed reader.new ≡ true)
+        (stream_of W.contents W.has_failed writer.old writer.new) }
 {
     let text = read_text(alloc, reader, MAX_BOARD_BYTES)?;
     let report = report_text(alloc, text.as_slice())?;
     write_text(writer, &report)
 }
 
-/// Does what `run_report` does, with several workers.
+/// The same as `run_report`, with several workers.
 ///
-/// The number of workers is 1 to `MAX_WORKERS`, and they find the values as in `run_solve_by`. It may wait for them.
+/// The number of `workers` is 1 to `MAX_WORKERS`, and they find the values as in `run_solve_by`. It
+/// may wait for them.
 pub fn run_report_by<R: Source, W: Sink>(
     rt: &(impl Threads + Wait + Sync),
     alloc: Global,
@@ -63,29 +68,30 @@ pub fn run_report_by<R: Source, W: Sink>(
     requires reader_ready { R.has_failed reader.old ≡ false }
     requires reader_unended { R.has_ended reader.old ≡ false }
     requires writer_ready { W.has_failed writer.old ≡ false }
-    ensures ok { IfOk result (Ran Reports (bytes_of R.remaining reader.old reader.new) (bytes_of W.contents writer.old writer.new)) }
+    ensures ok { IfOk result (Ran Reports (bytes_of R.remaining reader.old reader.new)
+        (bytes_of W.contents writer.old writer.new)) }
     ensures fault { IfErr result (Fails Reports (CannotSolve workers) MAX_BOARD_BYTES
         (bytes_of R.remaining reader.old reader.new) (bytes_of W.contents writer.old writer.new)) }
-    ensures read { (R.has_failed reader.new ≡ true) ↔ (result ≡ Err Read) }
-    ensures write { (W.has_failed writer.new ≡ true) ↔ (result ≡ Err Write) }
-    ensures unwritten { IfErr result (λ fault. fault ≢ Write → writer.new ≡ writer.old) }
+    ensures streams { TellsStreams result (R.has_failed reader.new ≡ true)
+        (stream_of W.contents W.has_failed writer.old writer.new) }
 {
     let text = read_text(alloc, reader, MAX_BOARD_BYTES)?;
     let report = report_text_by(rt, alloc, workers, text.as_slice())?;
     write_text(writer, &report)
 }
 
-/// The report of the board that the bytes are the text of. Its values are found on this thread.
+/// The report of the board whose text is `text`. Its values are found on this thread.
 pub fn report_text(alloc: Global, text: &[u8]) -> Result<String, RunFault>
     ensures report { IfOk result (λ report. IsReportOfText text.now (string_bytes report)) }
     ensures fault { IfErr result (BringsNoBoard text.now) }
 {
-    let (board, _) = small_board(alloc, text)?;
+    let board = small_board(alloc, text)?;
     let values = values_of(alloc, &board)?;
-    Ok(report_of(alloc, &board, &values)?)
+    Ok(report_of(alloc, &BestMoves::new(&board, &values))?)
 }
 
-/// The same as `report_text`, by this number of workers, 1 to `MAX_WORKERS`. It may wait for them.
+/// The same as `report_text`, by this number of `workers`, 1 to `MAX_WORKERS`. It may wait for
+/// them.
 pub fn report_text_by(
     rt: &(impl Threads + Wait + Sync),
     alloc: Global,
@@ -96,61 +102,42 @@ pub fn report_text_by(
     ensures report { IfOk result (λ report. IsReportOfText text.now (string_bytes report)) }
     ensures fault { IfErr result (CannotSolve workers text.now) }
 {
-    let (board, _) = small_board(alloc, text)?;
+    let board = small_board(alloc, text)?;
     let values = values_by(rt, alloc, workers, &board)?;
-    Ok(report_of(alloc, &board, &values)?)
+    Ok(report_of(alloc, &BestMoves::new(&board, &values))?)
 }
 
-/// The report of a small board with these values.
-fn report_of(alloc: Global, board: &Board, values: &Values) -> Result<String, AllocError>
-    requires few { configurations board.now ≤ MAX_CONFIGURATIONS }
-    requires same_board { values.now ≡ board.now }
-    ensures { IfOk result (λ text. IsReportOf board.now (string_bytes text)) }
+/// The report of a board with these best moves.
+fn report_of(alloc: Global, moves: &BestMoves<'_>) -> Result<String, AllocError>
+    ensures { IfOk result (λ text. IsReportOf moves.now (string_bytes text)) }
 {
-    let space = values.space();
-    let start = values.of(space.rank(board.start()));
+    let values = moves.values();
+    let start = moves.value(moves.start());
     let forever = values.count(Value::Forever);
     let mut text = String::new(alloc);
-    write_head(&mut text, space)?;
+    write_head(&mut text, moves.space())?;
     write_start(&mut text, start)?;
     write_counts(&mut text, values)?;
     write_end(&mut text, forever)?;
     Ok(text)
 }
 
-/// Writes how large the board is.
+/// Writes the first lines, with the size of the board.
 fn write_head(text: &mut String, space: &Space) -> Result<(), AllocError>
     ensures { OnOk result (string_bytes text.new ≡ string_bytes text.old ++ head_lines space.now) }
 {
-    write_sizes(
-        text,
-        space.labels(),
-        space.pebbles(),
-        space.configurations(),
-    )
-}
-
-/// Writes the first lines, with these numbers.
-fn write_sizes(
-    text: &mut String,
-    labels: u16,
-    pebbles: u8,
-    configurations: u32,
-) -> Result<(), AllocError>
-    ensures { OnOk result (string_bytes text.new ≡ string_bytes text.old ++ size_lines labels pebbles configurations) }
-{
     text.push_str("report 1\n")?;
-    write_size(text, "labels", labels as u32)?;
-    write_size(text, "pebbles", pebbles as u32)?;
-    write_size(text, "configurations", configurations)?;
+    write_size(text, "labels", space.labels() as u32)?;
+    write_size(text, "pebbles", space.pebbles() as u32)?;
+    write_size(text, "configurations", space.configurations())?;
     Ok(())
 }
 
-/// Writes a line of a word and a number.
-fn write_size(text: &mut String, word: &str, size: u32) -> Result<(), AllocError>
-    ensures { OnOk result (string_bytes text.new ≡ string_bytes text.old ++ size_line word.now size) }
+/// Writes the line of a `word` and a number.
+fn write_size(text: &mut String, word: &str, number: u32) -> Result<(), AllocError>
+    ensures { OnOk result (string_bytes text.new ≡ string_bytes text.old ++ size_line word.now number) }
 {
-    write!(text, "{word} {size}\n")
+    write!(text, "{word} {number}\n")
 }
 
 /// Writes the value of the start.
@@ -175,21 +162,21 @@ fn write_counts(text: &mut String, values: &Values) -> Result<(), AllocError>
     Ok(())
 }
 
-/// Writes how many configurations have a value.
+/// Writes the line of a value and the number of configurations that have it.
 fn write_count(text: &mut String, value: u32, count: u32) -> Result<(), AllocError>
     ensures { OnOk result (string_bytes text.new ≡ string_bytes text.old ++ count_line value count) }
 {
     write!(text, "value {value}: {count}\n")
 }
 
-/// Writes how many configurations last forever, and the end.
+/// Writes the number of configurations that last forever, and the end.
 fn write_end(text: &mut String, forever: u32) -> Result<(), AllocError>
     ensures { OnOk result (string_bytes text.new ≡ string_bytes text.old ++ end_lines forever) }
 {
     write!(text, "forever: {forever}\nend\n")
 }
 
-/// How many values there are from 0 to the greatest that occurs.
+/// The number of values from 0 to the greatest that occurs.
 fn count_of_values(values: &Values) -> u32
     requires { configurations values.now ≤ MAX_CONFIGURATIONS }
     ensures { IsCountOfValues values.now result }

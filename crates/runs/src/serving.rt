@@ -2,7 +2,7 @@
 
 ghost use Rattle.std.specs.Prelude.{◌≡◌, ◌&&◌, ℕ, List, true, false};
 ghost use Rattle.clap.specs.Walk.{texts};
-ghost use Rattle.runs.specs.Jobs.{stream_of};
+ghost use Rattle.runs.specs.Run.{stream_of};
 ghost use Rattle.runs.specs.Inside.Writing.{IsMore};
 ghost use Rattle.runs.specs.Serving.{IsEnding, IsExplained, IsForPerson, IsGreeting};
 ghost use Rattle.runs.specs.Serving.{Serves, ServesWords};
@@ -61,7 +61,7 @@ impl Terminals {
     }
 }
 
-/// Does what the words ask for, and gives the exit status.
+/// Does the job that `words` ask for, and gives the exit status.
 ///
 /// Paths are opened in the folder. Results, transcripts and help go to `output`, fault lines and
 /// usage texts to `errors`, and if that is a terminal, an explanation after each.
@@ -95,7 +95,7 @@ pub fn serve<F: Folder, I: Source, O: Sink, E: Sink>(
     }
 }
 
-/// Does what these words ask for, and gives the exit status.
+/// Does the job that these `words` ask for, and gives the exit status.
 fn serve_words<F: Folder, I: Source, O: Sink, E: Sink>(
     rt: &(impl Threads + Wait + Sync),
     alloc: Global,
@@ -141,7 +141,7 @@ fn tell_no_memory<E: Sink>(terminals: Terminals, errors: &mut E) -> u8
     tell(outcome, Note::without_files(outcome), terminals, errors)
 }
 
-/// Tells a person at a terminal what the job reads there, if it reads what is typed.
+/// Greets a person at a terminal, if `job` reads typed lines.
 fn greet<E: Sink>(job: &Job<'_>, terminals: Terminals, errors: &mut E)
     ensures { (line : List ℕ) × IsGreeting terminals job.now line
         × IsMore E.contents E.has_failed errors.old errors.new line }

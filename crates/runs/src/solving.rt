@@ -1,14 +1,13 @@
 //! Solving a board: its document, from the text of the board to the bytes written.
 
-ghost use Rattle.std.specs.Prelude.{◌≡◌, ◌≢◌, ◌↔◌, ◌≤◌, true, false, Err, IfOk, IfErr, string_bytes};
+ghost use Rattle.std.specs.Prelude.{◌≡◌, ◌≤◌, true, false, IfOk, IfErr, string_bytes};
 ghost use Rattle.board_text.specs.Ranges.{InRange};
 ghost use Rattle.positions.specs.Ranks.{configurations};
-ghost use Rattle.runs.specs.Headline.{ShowsValue, IsAccepted};
-ghost use Rattle.runs.specs.Run.{Ran, Fails, bytes_of};
-ghost use Rattle.runs.specs.SolveRun.{CannotSolve, IsSolution, IsSolved};
+ghost use Rattle.runs.specs.Headline.{Solution};
+ghost use Rattle.runs.specs.Run.{Ran, Fails, TellsStreams, bytes_of, stream_of};
+ghost use Rattle.runs.specs.SolveRun.{CannotSolve, IsSolved};
 ghost use Rattle.runs.specs.Inside.SolveRun.{IsRefused};
 ghost use Rattle.runs.specs.Texts.{BringsNoBoard, IsMemory};
-ghost use Rattle.runs.specs.declared.fault.RunFault.TheVariants.{Read, Write};
 
 use crate::boards::small_board;
 use crate::fault::RunFault;
@@ -23,12 +22,14 @@ use solver::{Solver, Values};
 use std::alloc::Global;
 use std::sync::Wait;
 use std::thread::Threads;
-use strategies::document;
+use strategies::BestMoves;
 
-/// Reads a board, finds the value of its start on this thread and writes the document that shows it.
+/// Reads a board, finds the value of its start on this thread and writes the document that shows
+/// it.
 ///
-/// The reader and the writer must not have failed before, nor the reader have told its end. Nothing is written before the whole text is built:
-/// after a fault nothing was written, but for `Write`, after which a front of the text was.
+/// The reader and the writer must not have failed before, nor the reader have reported its end.
+/// Nothing is written before the whole text is built: after a fault nothing was written, but for
+/// `Write`, after which a prefix of the text was.
 pub fn run_solve<R: Source, W: Sink>(
     alloc: Global,
     reader: &mut R,
@@ -37,15 +38,12 @@ pub fn run_solve<R: Source, W: Sink>(
     requires reader_ready { R.has_failed reader.old ≡ false }
     requires reader_unended { R.has_ended reader.old ≡ false }
     requires writer_ready { W.has_failed writer.old ≡ false }
-    ensures ok { IfOk result (Ran IsSolution (bytes_of R.remaining reader.old reader.new) (bytes_of W.contents writer.old writer.new)) }
-    ensures shows { IfOk result (Ran ShowsValue (bytes_of R.remaining reader.old reader.new) (bytes_of W.contents writer.old writer.new)) }
-    ensures accepted { IfOk result (Ran IsAccepted (bytes_of R.remaining reader.old reader.new)
+    ensures ok { IfOk result (Ran Solution (bytes_of R.remaining reader.old reader.new)
         (bytes_of W.contents writer.old writer.new)) }
-    ensures fault { IfErr result (Fails IsSolution BringsNoBoard MAX_BOARD_BYTES
+    ensures fault { IfErr result (Fails Solution BringsNoBoard MAX_BOARD_BYTES
         (bytes_of R.remaining reader.old reader.new) (bytes_of W.contents writer.old writer.new)) }
-    ensures read { (R.has_failed reader.new ≡ true) ↔ (result ≡ Err Read) }
-    ensures write { (W.has_failed writer.new ≡ true) ↔ (result ≡ Err Write) }
-    ensures unwritten { IfErr result (λ fault. fault ≢ Write → writer.new ≡ writer.old) }
+    ensures streams { TellsStreams result (R.has_failed reader.new ≡ true)
+        (stream_of W.contents W.has_failed writer.old writer.new) }
 {
     let text = read_text(alloc, reader, MAX_BOARD_BYTES)?;
     let solved = solve_text(alloc, text.as_slice())?;
@@ -53,10 +51,11 @@ pub fn run_solve<R: Source, W: Sink>(
     Ok(solved.value)
 }
 
-/// Does what `run_solve` does, with several workers.
+/// The same as `run_solve`, with several workers.
 ///
-/// The number of workers is 1 to `MAX_WORKERS`. They share each round, each on a thread of its own but the first, and what is answered
-/// and written is the same for every number of them. It may wait for workers.
+/// The number of `workers` is 1 to `MAX_WORKERS`. They share each round, each on a thread of its
+/// own but the first. The answer and the bytes written are the same for every number of them. It
+/// may wait for workers.
 pub fn run_solve_by<R: Source, W: Sink>(
     rt: &(impl Threads + Wait + Sync),
     alloc: Global,
@@ -68,15 +67,12 @@ pub fn run_solve_by<R: Source, W: Sink>(
     requires reader_ready { R.has_failed reader.old ≡ false }
     requires reader_unended { R.has_ended reader.old ≡ false }
     requires writer_ready { W.has_failed writer.old ≡ false }
-    ensures ok { IfOk result (Ran IsSolution (bytes_of R.remaining reader.old reader.new) (bytes_of W.contents writer.old writer.new)) }
-    ensures shows { IfOk result (Ran ShowsValue (bytes_of R.remaining reader.old reader.new) (bytes_of W.contents writer.old writer.new)) }
-    ensures accepted { IfOk result (Ran IsAccepted (bytes_of R.remaining reader.old reader.new)
+    ensures ok { IfOk result (Ran Solution (bytes_of R.remaining reader.old reader.new)
         (bytes_of W.contents writer.old writer.new)) }
-    ensures fault { IfErr result (Fails IsSolution (CannotSolve workers) MAX_BOARD_BYTES
+    ensures fault { IfErr result (Fails Solution (CannotSolve workers) MAX_BOARD_BYTES
         (bytes_of R.remaining reader.old reader.new) (bytes_of W.contents writer.old writer.new)) }
-    ensures read { (R.has_failed reader.new ≡ true) ↔ (result ≡ Err Read) }
-    ensures write { (W.has_failed writer.new ≡ true) ↔ (result ≡ Err Write) }
-    ensures unwritten { IfErr result (λ fault. fault ≢ Write → writer.new ≡ writer.old) }
+    ensures streams { TellsStreams result (R.has_failed reader.new ≡ true)
+        (stream_of W.contents W.has_failed writer.old writer.new) }
 {
     let text = read_text(alloc, reader, MAX_BOARD_BYTES)?;
     let solved = solve_text_by(rt, alloc, workers, text.as_slice())?;
@@ -91,20 +87,19 @@ pub struct Solved {
     pub text: String,
 }
 
-/// The value of the start of the board that the bytes are the text of, and the text of its document, which shows that value.
-/// It is found on this thread.
+/// The value of the start of the board whose text is `text`, and the text of its document, which
+/// shows that value. It is found on this thread.
 pub fn solve_text(alloc: Global, text: &[u8]) -> Result<Solved, RunFault>
-    ensures solved { IfOk result (λ solved. IsSolution text.now solved.value (string_bytes solved.text)) }
-    ensures shows { IfOk result (λ solved. ShowsValue text.now solved.value (string_bytes solved.text)) }
-    ensures accepted { IfOk result (λ solved. IsAccepted text.now solved.value (string_bytes solved.text)) }
+    ensures ok { IfOk result (λ solved. Solution text.now solved.value (string_bytes solved.text)) }
     ensures fault { IfErr result (BringsNoBoard text.now) }
 {
-    let (board, _) = small_board(alloc, text)?;
+    let board = small_board(alloc, text)?;
     let values = values_of(alloc, &board)?;
-    Ok(solution(alloc, &board, &values)?)
+    Ok(solution(alloc, &BestMoves::new(&board, &values))?)
 }
 
-/// The same as `solve_text`, found by this number of workers, 1 to `MAX_WORKERS`. It may wait for them.
+/// The same as `solve_text`, found by this number of `workers`, 1 to `MAX_WORKERS`. It may wait for
+/// them.
 pub fn solve_text_by(
     rt: &(impl Threads + Wait + Sync),
     alloc: Global,
@@ -112,26 +107,21 @@ pub fn solve_text_by(
     text: &[u8],
 ) -> Result<Solved, RunFault>
     requires workers { InRange 1 MAX_WORKERS workers }
-    ensures solved { IfOk result (λ solved. IsSolution text.now solved.value (string_bytes solved.text)) }
-    ensures shows { IfOk result (λ solved. ShowsValue text.now solved.value (string_bytes solved.text)) }
-    ensures accepted { IfOk result (λ solved. IsAccepted text.now solved.value (string_bytes solved.text)) }
+    ensures ok { IfOk result (λ solved. Solution text.now solved.value (string_bytes solved.text)) }
     ensures fault { IfErr result (CannotSolve workers text.now) }
 {
-    let (board, _) = small_board(alloc, text)?;
+    let board = small_board(alloc, text)?;
     let values = values_by(rt, alloc, workers, &board)?;
-    Ok(solution(alloc, &board, &values)?)
+    Ok(solution(alloc, &BestMoves::new(&board, &values))?)
 }
 
-/// The value of the start of a small board with these values, and the text of the board's document.
-fn solution(alloc: Global, board: &Board, values: &Values) -> Result<Solved, Memory>
-    requires few { configurations board.now ≤ MAX_CONFIGURATIONS }
-    requires same_board { values.now ≡ board.now }
-    ensures { IfOk result (λ solved. IsSolved board.now solved.value (string_bytes solved.text)) }
+/// The value of the start of a board with these best moves, and the text of the board's document.
+fn solution(alloc: Global, moves: &BestMoves<'_>) -> Result<Solved, Memory>
+    ensures { IfOk result (λ solved. IsSolved moves.now solved.value (string_bytes solved.text)) }
 {
-    let space = values.space();
-    let value = values.of(space.rank(board.start()));
-    let document = document(alloc, board, values)?;
-    let text = print(alloc, space, &document)?;
+    let value = moves.value(moves.start());
+    let document = moves.document(alloc)?;
+    let text = print(alloc, moves.space(), &document)?;
     Ok(Solved { value, text })
 }
 

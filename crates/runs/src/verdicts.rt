@@ -1,6 +1,6 @@
 //! The answer to a text: its verdict and its line.
 
-ghost use Rattle.std.specs.Prelude.{◌≡◌, IfOk, IfErr, string_bytes};
+ghost use Rattle.std.specs.Prelude.{◌≤◌, IfOk, IfErr, string_bytes};
 ghost use Rattle.proof_text.specs.Proof.{IsDocument, plain_proof};
 ghost use Rattle.positions.specs.Ranks.{configurations};
 ghost use Rattle.runs.specs.Verdicts.{IsAnswered, IsChecked, IsVerdict, CannotAnswer};
@@ -18,12 +18,12 @@ use proof_text::{Proof, parse};
 use std::alloc::Global;
 use std::thread::Threads;
 
-/// What a check says of a document.
+/// The verdict of a check on a document.
 #[derive(Clone, Copy, Debug, PartialEq, Eq)]
 pub enum Verdict {
     /// The document shows its claim.
     Accepted(Shown),
-    /// The document breaks a rule; the first fault. It is never want of memory.
+    /// The document breaks a rule; the first fault. It is never out of memory.
     Refused(CheckFault),
 }
 
@@ -34,7 +34,7 @@ pub struct VerdictLine {
     pub line: String,
 }
 
-/// The verdict on a board's document behind the text of the board, and its line.
+/// The verdict on the document that comes after the text of its board in `text`, and its line.
 pub fn check_joined_text(
     rt: &(impl Threads + Sync),
     alloc: Global,
@@ -44,25 +44,27 @@ pub fn check_joined_text(
     ensures fault { IfErr result (CannotAnswer text.now) }
 {
     let (front, rest) = text.split_at(front_len(text));
-    let (board, space) = small_board(alloc, front)?;
-    check_text(rt, alloc, &board, &space, rest)
+    let board = small_board(alloc, front)?;
+    check_text(rt, alloc, &board, rest)
 }
 
-/// The verdict on the document for the board that the bytes are the text of, and its line.
+/// The verdict on the document for `board` whose text is `text`, and its line.
+///
+/// The board has at most 1,048,576 configurations, as one that `small_board` gives.
 pub fn check_text(
     rt: &(impl Threads + Sync),
     alloc: Global,
     board: &Board,
-    space: &Space,
     text: &[u8],
 ) -> Result<VerdictLine, RunFault>
-    requires same_board { space.now ≡ board.now }
+    requires few { configurations board.now ≤ MAX_CONFIGURATIONS }
     ensures checked { IfOk result (λ answer. IsChecked board.now text.now answer.verdict (string_bytes answer.line)) }
     ensures fault { IfErr result (BringsNoProof board.now text.now) }
 {
-    let proof = parse(alloc, space, text)?;
-    let verdict = verdict_on(rt, alloc, board, space, &proof)?;
-    let line = line(alloc, space, verdict)?;
+    let space = Space::new(board);
+    let proof = parse(alloc, &space, text)?;
+    let verdict = verdict_on(rt, alloc, board, &proof)?;
+    let line = line(alloc, &space, verdict)?;
     Ok(VerdictLine { verdict, line })
 }
 
@@ -71,16 +73,14 @@ fn verdict_on(
     rt: &(impl Threads + Sync),
     alloc: Global,
     board: &Board,
-    space: &Space,
     proof: &Proof,
 ) -> Result<Verdict, RunFault>
-    requires same_board { space.now ≡ board.now }
+    requires few { configurations board.now ≤ MAX_CONFIGURATIONS }
     requires document { IsDocument board.now proof.now }
     ensures verdict { IfOk result (IsVerdict board.now (plain_proof board.now proof.now)) }
     ensures named { IfOk result (NamesRanksOf board.now) }
     ensures memory { IfErr result IsMemory }
 {
-    prove!(space.configurations() <= MAX_CONFIGURATIONS);
     match check(rt, alloc, board, proof) {
         Ok(shown) => Ok(Verdict::Accepted(shown)),
         Err(CheckFault::Memory) => Err(RunFault::Memory),

@@ -9,6 +9,11 @@ use board_text::{Failed, Source};
 /// The number of first bytes that are kept. The first three lines of a board have at most 29.
 const HEAD_BYTES: usize = 32;
 
+/// The first bytes of `text`, as many as a watched source keeps.
+pub(crate) fn head_of(text: &[u8]) -> &[u8] {
+    &text[..text.len().min(HEAD_BYTES)]
+}
+
 /// A source, and the bytes that it gave so far: the first of them, and their number.
 #[derive(Drop)]
 pub(crate) struct Watched<S> {

@@ -1,4 +1,4 @@
--- What this crate's own functions say beside `Faults`.
+-- Clauses of this crate's own functions, beside `Faults`.
 use Rattle.std.specs.Prelude.{◌≡◌, ◌≢◌, ◌⊎◌}
 use Rattle.board_text.specs.declared.fault.BoardFault.{BoardFault}
 use Rattle.board_text.specs.declared.fault.BoardKind.TheVariants as board_kinds
@@ -17,7 +17,7 @@ fault_of_reading read_faults.Memory = Memory
 fault_of_reading read_faults.Read = Read
 fault_of_reading read_faults.Limit = Limit
 
--- of a text that is no board's: want of memory, or the text's own fault
+-- of a text that is no board's: out of memory, or the text's own fault
 abbrev pub IsFaultOfBoard : BoardFault → RunFault → Type 0
 IsFaultOfBoard fault told =
     ((fault.kind ≡ board_kinds.Memory) × (told ≡ Memory)) ⊎ ((fault.kind ≢ board_kinds.Memory) × (told ≡ Board fault))

@@ -1,4 +1,4 @@
--- What this crate's own functions say beside `Verdicts`.
+-- Clauses of this crate's own functions, beside `Verdicts`.
 use Rattle.board_text.specs.PlainBoard.{PlainBoard}
 use Rattle.proof_check.specs.CheckFaults.{NamesRanks}
 use Rattle.runs.specs.declared.verdicts.Verdict.{Verdict}

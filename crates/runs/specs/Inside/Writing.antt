@@ -1,6 +1,6 @@
 -- Texts that are written one after the other.
 use Rattle.std.specs.Prelude.{◌≡◌, ℕ, Bool, true, false, List, Option}
-use Rattle.runs.specs.Jobs.{stream_of}
+use Rattle.runs.specs.Run.{stream_of}
 use Rattle.runs.specs.Serving.{IsSaid}
 
 -- the text was written, unless the writer had failed: then it is as it was

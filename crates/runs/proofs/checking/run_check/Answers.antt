@@ -15,7 +15,7 @@ returns-in_err-write_text-clause-fault g c =
     let written = bytes_of g.W.Sink.contents c.args.writer.now c.write_text.new.writer in
     rw (p.1, p.2, c.in_err-write_text.ensures.fault) (inr (
       board,
-      c.in_ok-board.ensures.found.0,
+      c.in_ok-board.ensures.found,
       cut_short (IsChecked board) (BringsNoProof board) MAX_PROOF_BYTES proof written
           c.in_ok-text.text.items c.in_ok-text.ensures.ok c.in_ok-answer.answer.verdict _ (rw c.as_slice.ensures.value at c.in_ok-answer.ensures.checked)
           (rw c.deref.ensures at c.in_err-write_text.ensures.front),

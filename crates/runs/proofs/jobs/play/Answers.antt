@@ -1,4 +1,4 @@
-use Rattle.runs.specs.Jobs.{stream_of}
+use Rattle.runs.specs.Run.{stream_of}
 use Rattle.runs.proofs.Endings.{opened_play}
 use Rattle.runs.proofs.jobs.play.Goals as goal
 

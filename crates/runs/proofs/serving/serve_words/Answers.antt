@@ -1,7 +1,7 @@
 use Rattle.runs.specs.declared.fault.RunFault.TheVariants.{Memory}
 use Rattle.runs.specs.declared.outcome.Outcome.TheVariants.{Broken}
 use Rattle.std.proofs.Common.{inl, inr, refl, [], string_bytes}
-use Rattle.runs.specs.Jobs.{stream_of}
+use Rattle.runs.specs.Run.{stream_of}
 use Rattle.runs.specs.Serving.{EndsWith}
 use Rattle.runs.proofs.MoreTexts.{ended, greeted, refused}
 use Rattle.runs.proofs.Served.{asked, helped, more_words, written}

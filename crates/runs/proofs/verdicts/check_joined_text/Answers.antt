@@ -15,7 +15,7 @@ returns-in_err-board-clause-fault g c =
 pub returns-clause-answered : goal.returns-clause-answered
 returns-clause-answered g c =
     let whole = two_parts c.args.text.now _ _ c.front_len.result c.split_at.ensures.front c.split_at.ensures.back in
-    let small = c.in_ok-board.ensures.found.0 in
+    let small = c.in_ok-board.ensures.found in
     IfOk-weaker c.check_text.result _ _ (λ answer is. record {
       board = c.in_ok-board.board;
       proof = is.proof;
@@ -31,4 +31,4 @@ pub returns-clause-fault : goal.returns-clause-fault
 returns-clause-fault g c =
     let whole = two_parts c.args.text.now _ _ c.front_len.result c.split_at.ensures.front c.split_at.ensures.back in
     IfErr-weaker c.check_text.result (BringsNoProof c.in_ok-board.board c.split_at.result.1.now) (CannotAnswer c.args.text.now)
-    (λ fault none. no_proof c.args.text.now _ _ c.in_ok-board.board fault c.in_ok-board.ensures.found.0 whole none) c.check_text.ensures.fault
+    (λ fault none. no_proof c.args.text.now _ _ c.in_ok-board.board fault c.in_ok-board.ensures.found whole none) c.check_text.ensures.fault
