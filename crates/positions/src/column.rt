@@ -3,10 +3,11 @@
 ghost use Rattle.std.specs.Prelude.{◌≡◌, ℕ, ◌+◌, ◌*◌, ◌<◌, ◌≤◌, ◌↔◌, suc, length, slice_index_or, IfOk};
 ghost use Rattle.std.specs.Int.{bit_at};
 ghost use Rattle.board_text.specs.PlainBoard.{BeatsPlace, places};
+ghost use Rattle.positions.specs.Ranks.{configurations};
 ghost use Rattle.positions.specs.Inside.Tuples.{IsColumn, AreAllWords};
 
 use crate::label_set::LabelSet;
-use crate::space::{MAX_CONFIGURATIONS, Space};
+use crate::space::MAX_CONFIGURATIONS;
 use board_text::{Board, Memory, ROW_WORDS};
 use std::alloc::Global;
 use std::marker::Model;
@@ -29,20 +30,14 @@ impl Model for Column {
 }
 
 impl Column {
-    /// The column of the labels from `64 * number` on.
-    ///
-    /// The board is the one that the space was made for.
-    pub(crate) fn of(
-        alloc: Global,
-        space: &Space,
-        board: &Board,
-        number: usize,
-    ) -> Result<Column, Memory>
+    /// The column of the labels from `64 * number` on of `board`, which has at most 1,048,576
+    /// configurations.
+    pub(crate) fn of(alloc: Global, board: &Board, number: usize) -> Result<Column, Memory>
         requires number { number < ROW_WORDS }
-        requires same_board { space.now ≡ board.now }
+        requires few { configurations board.now ≤ MAX_CONFIGURATIONS }
         ensures { IfOk result (λ column. IsColumn board.now number column) }
     {
-        if 64 * number >= space.labels() as usize {
+        if 64 * number >= board.labels() as usize {
             return Ok(Column {
                 words: Vec::new(alloc),
             });

@@ -1,13 +1,14 @@
 //! The answers of all gaps of a board, made once.
 
-ghost use Rattle.std.specs.Prelude.{◌≡◌, ℕ, ◌<◌, ◌↔◌, true, IfOk};
+ghost use Rattle.std.specs.Prelude.{◌≡◌, ℕ, ◌<◌, ◌≤◌, ◌↔◌, true, IfOk};
 ghost use Rattle.board_text.specs.Domination.{has_bit};
 ghost use Rattle.positions.specs.Gaps.{gaps, gaps_each, IsAnswer};
+ghost use Rattle.positions.specs.Ranks.{configurations};
 ghost use Rattle.positions.specs.Tuples.{tuple_of};
 
 use crate::column::Column;
 use crate::label_set::LabelSet;
-use crate::space::Space;
+use crate::space::MAX_CONFIGURATIONS;
 use board_text::{Board, MAX_LABELS, Memory, ROW_WORDS};
 use std::alloc::Global;
 use std::marker::Model;
@@ -36,16 +37,16 @@ impl Model for TupleAnswers {
 }
 
 impl TupleAnswers {
-    /// The answers of the gaps of `board`, which is the one that `space` was made for.
-    pub fn of(alloc: Global, space: &Space, board: &Board) -> Result<TupleAnswers, Memory>
-        requires { space.now ≡ board.now }
+    /// The answers of the gaps of `board`, which has at most 1,048,576 configurations.
+    pub fn of(alloc: Global, board: &Board) -> Result<TupleAnswers, Memory>
+        requires { configurations board.now ≤ MAX_CONFIGURATIONS }
         ensures { IfOk result (λ answers. answers ≡ board.now) }
     {
         let columns = [
-            Column::of(alloc, space, board, 0)?,
-            Column::of(alloc, space, board, 1)?,
-            Column::of(alloc, space, board, 2)?,
-            Column::of(alloc, space, board, 3)?,
+            Column::of(alloc, board, 0)?,
+            Column::of(alloc, board, 1)?,
+            Column::of(alloc, board, 2)?,
+            Column::of(alloc, board, 3)?,
         ];
         Ok(TupleAnswers {
             board: Snapshot::of(board),

@@ -26,7 +26,7 @@ impl<S: ListStore + Drop> Stage<S> {
         ensures opened { IfOk result (λ stage. IsOpened stage) }
     {
         let size = space.configurations();
-        let answers = TupleAnswers::of(alloc, &space, board)?;
+        let answers = TupleAnswers::of(alloc, board)?;
         let counts = gap_counts(alloc, &space, &answers)?;
         let dominators = dominators(alloc, &space, &answers)?;
         let values = first_words(alloc, &space, &counts)?;
