@@ -1,6 +1,6 @@
 -- The input and the output of a play.
-use Rattle.std.specs.Prelude.{◌≡◌, ◌≢◌, ℕ, ◌<◌, ◌≤◌, ◌⊎◌, List, [], ◌∷◌, ◌++◌, length, All}
-use Rattle.std.specs.Prelude.{Option, Some}
+use Rattle.std.specs.Prelude.{◌≡◌, ◌≢◌, ◌↔◌, ℕ, ◌<◌, ◌≤◌, ◌⊎◌, List, [], ◌∷◌, ◌++◌, length, All}
+use Rattle.std.specs.Prelude.{Bool, true, Option, Some, Result, Err}
 use Rattle.std.specs.List.{flat_map}
 use Rattle.std.specs.Io.KnownBytes.{Appends, Consumes, IsAtEnd}
 use Rattle.board_text.specs.Streams.{GaveAll, AppendsFront}
@@ -64,6 +64,12 @@ module _ (Played : List (List ℕ) → List ℕ → Standing → Type 0) (left_o
   BreaksOff Limit = HasWritten (λ lines rest. (length lines ≡ MOST_LINES) ⊎ BeginsTooLong rest)
   BreaksOff Write = HasBegun
   BreaksOff Memory = HasBegun
+
+-- the reader has failed exactly if the fault is `Read`, and the writer exactly if it is `Write`
+pub record TellsStreams (result : Result PlayEnd PlayFault) (reading_failed writing_failed : Bool)
+    : Type 0 where
+  pub read : (reading_failed ≡ true) ↔ (result ≡ Err Read)
+  pub write : (writing_failed ≡ true) ↔ (result ≡ Err Write)
 
 -- the bytes in memory are a person's lines, or begin with lines that end the play, and the text is
 -- their transcript, with this end

@@ -1,14 +1,13 @@
 //! Plays in which the person is the adversary.
 
-ghost use Rattle.std.specs.Prelude.{◌≡◌, ◌↔◌, ◌+◌, ◌<◌, ◌≤◌, ◌^◌, true, false, None, Err, IfOk, IfErr, string_bytes};
+ghost use Rattle.std.specs.Prelude.{◌≡◌, ◌+◌, ◌<◌, ◌≤◌, ◌^◌, false, None, IfOk, IfErr, string_bytes};
 ghost use Rattle.positions.specs.Ranks.{configurations};
 ghost use Rattle.player.specs.Laws.{KeepsToValue};
-ghost use Rattle.player.specs.Play.{HasEnded, BreaksOff};
+ghost use Rattle.player.specs.Play.{HasEnded, BreaksOff, TellsStreams};
 ghost use Rattle.player.specs.Inside.PlayState.{at};
 ghost use Rattle.player.specs.Transcript.{IsPlayed, PersonAsks, Replies};
 ghost use Rattle.player.specs.Inside.Transcript.{standing};
 ghost use Rattle.player.specs.Inside.Steps.{AddsText};
-ghost use Rattle.player.specs.declared.end.PlayFault.TheVariants.{Read, Write};
 
 use crate::end::{PlayEnd, PlayFault};
 use crate::play::{Play, flush, play_on};
@@ -45,8 +44,7 @@ pub fn play_adversary_side<R: Source, W: Sink>(
     ensures fault { IfErr result (BreaksOff (IsPlayed (PersonAsks board.now)) (R.remaining reader.old) (R.remaining reader.new)
         (W.contents writer.old) (W.contents writer.new)) }
     ensures value { IfOk result (KeepsToValue (PersonAsks board.now)) }
-    ensures read { (R.has_failed reader.new ≡ true) ↔ (result ≡ Err Read) }
-    ensures write { (W.has_failed writer.new ≡ true) ↔ (result ≡ Err Write) }
+    ensures streams { TellsStreams result (R.has_failed reader.new) (W.has_failed writer.new) }
 {
     let mut text = String::new(alloc);
     let moves = BestMoves::new(board, values);

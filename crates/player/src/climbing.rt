@@ -1,14 +1,13 @@
 //! Plays on nested boards that are never built, with a person who is the adversary.
 
-ghost use Rattle.std.specs.Prelude.{◌≡◌, ◌↔◌, ◌+◌, ◌<◌, ◌^◌, replicate, true, false, Err, IfOk, IfErr, string_bytes};
+ghost use Rattle.std.specs.Prelude.{◌≡◌, ◌+◌, ◌<◌, ◌^◌, replicate, false, IfOk, IfErr, string_bytes};
 ghost use Rattle.board_text.specs.Ranges.{InRange};
 ghost use Rattle.nested_cycles.specs.NestedGame.{plain_game};
 ghost use Rattle.player.specs.Laws.{KeepsToValue};
-ghost use Rattle.player.specs.Play.{HasEnded, BreaksOff};
+ghost use Rattle.player.specs.Play.{HasEnded, BreaksOff, TellsStreams};
 ghost use Rattle.player.specs.Transcript.{IsPlayed, NestedReplies, PersonClimbs};
 ghost use Rattle.player.specs.Inside.Transcript.{standing};
 ghost use Rattle.player.specs.Inside.Steps.{AddsText};
-ghost use Rattle.player.specs.declared.end.PlayFault.TheVariants.{Read, Write};
 
 use crate::end::{PlayEnd, PlayFault};
 use crate::nested_writing::{write_levels, write_nested_reply};
@@ -41,8 +40,7 @@ pub fn play_nested<R: Source, W: Sink>(
     ensures fault { IfErr result (BreaksOff (IsPlayed (PersonClimbs levels)) (R.remaining reader.old) (R.remaining reader.new)
         (W.contents writer.old) (W.contents writer.new)) }
     ensures value { IfOk result (KeepsToValue (PersonClimbs levels)) }
-    ensures read { (R.has_failed reader.new ≡ true) ↔ (result ≡ Err Read) }
-    ensures write { (W.has_failed writer.new ≡ true) ↔ (result ≡ Err Write) }
+    ensures streams { TellsStreams result (R.has_failed reader.new) (W.has_failed writer.new) }
 {
     let Ok(mut play) = Climb::new(alloc, levels) else {
         return Err(PlayFault::Memory);

@@ -1,17 +1,16 @@
 //! Plays in which the person is the labeller.
 
-ghost use Rattle.std.specs.Prelude.{◌≡◌, ◌↔◌, ◌+◌, ◌<◌, ◌≤◌, ◌^◌, ◌++◌, ℕ, List, true, false, None, Err, IfOk, IfErr, IsTrue, string_bytes};
+ghost use Rattle.std.specs.Prelude.{◌≡◌, ◌↔◌, ◌+◌, ◌<◌, ◌≤◌, ◌^◌, ◌++◌, ℕ, List, false, None, IfOk, IfErr, IsTrue, string_bytes};
 ghost use Rattle.std.specs.Fmt.{decimal};
 ghost use Rattle.positions.specs.Ranks.{configurations, configuration_at, rank_of};
 ghost use Rattle.positions.specs.Value.{HasValue};
 ghost use Rattle.positions.specs.declared.value.Value.TheVariants.{Finite};
 ghost use Rattle.player.specs.Laws.{KeepsToValue};
-ghost use Rattle.player.specs.Play.{HasEnded, BreaksOff};
+ghost use Rattle.player.specs.Play.{HasEnded, BreaksOff, TellsStreams};
 ghost use Rattle.player.specs.Inside.PlayState.{HasAsked, IsRequestAt, NextStands, IsLegalAt, IsPlayState, at};
 ghost use Rattle.player.specs.Transcript.{Standing, IsPlayed, BeginsPlay, PersonAnswers, AsksAfterLine, no_answer_line};
 ghost use Rattle.player.specs.Inside.Transcript.{standing};
 ghost use Rattle.player.specs.Inside.Steps.{AddsText};
-ghost use Rattle.player.specs.declared.end.PlayFault.TheVariants.{Read, Write};
 
 use crate::end::{PlayEnd, PlayFault};
 use crate::play::{Play, flush, play_on};
@@ -50,8 +49,7 @@ pub fn play_labeller_side<R: Source, W: Sink>(
     ensures fault { IfErr result (BreaksOff (IsPlayed (PersonAnswers board.now)) (R.remaining reader.old) (R.remaining reader.new)
         (W.contents writer.old) (W.contents writer.new)) }
     ensures value { IfOk result (KeepsToValue (PersonAnswers board.now)) }
-    ensures read { (R.has_failed reader.new ≡ true) ↔ (result ≡ Err Read) }
-    ensures write { (W.has_failed writer.new ≡ true) ↔ (result ≡ Err Write) }
+    ensures streams { TellsStreams result (R.has_failed reader.new) (W.has_failed writer.new) }
 {
     let mut text = String::new(alloc);
     let moves = BestMoves::new(board, values);

@@ -5,10 +5,10 @@ ghost use Rattle.std.specs.Io.KnownBytes.{Appends};
 ghost use Rattle.board_text.specs.Streams.{AppendsFront};
 ghost use Rattle.player.specs.Transcript.{Game, Standing, Going, BringInTurn, stopped_line};
 ghost use Rattle.player.specs.Inside.Transcript.{standing};
-ghost use Rattle.player.specs.Play.{HasEnded, BreaksOff};
+ghost use Rattle.player.specs.Play.{HasEnded, BreaksOff, TellsStreams};
 ghost use Rattle.player.specs.Inside.Steps.{BringsAll, AddsText, Writes, FailsToWrite};
 ghost use Rattle.player.specs.declared.end.PlayEnd.TheVariants.{Stopped};
-ghost use Rattle.player.specs.declared.end.PlayFault.TheVariants.{Read, Write};
+ghost use Rattle.player.specs.declared.end.PlayFault.TheVariants.{Write};
 
 use crate::end::{PlayEnd, PlayFault};
 use crate::lines::Lines;
@@ -62,8 +62,7 @@ pub(crate) fn play_on<P: Play, R: Source, W: Sink>(
         (R.remaining reader.old) (R.remaining reader.new) (W.contents writer.old) (W.contents writer.new)) }
     ensures fault { IfErr result (BreaksOff (BringInTurn (P.game play.old) (Going (P.at play.old) 0))
         (R.remaining reader.old) (R.remaining reader.new) (W.contents writer.old) (W.contents writer.new)) }
-    ensures read { (R.has_failed reader.new ≡ true) ↔ (result ≡ Err Read) }
-    ensures write { (W.has_failed writer.new ≡ true) ↔ (result ≡ Err Write) }
+    ensures streams { TellsStreams result (R.has_failed reader.new) (W.has_failed writer.new) }
 {
     let mut lines = Lines::new();
     for _ in 0..MOST_LINES {

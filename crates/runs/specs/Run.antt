@@ -31,12 +31,16 @@ stream_of known has_failed before after =
       HasFailed = has_failed after ≡ true;
     }
 
--- reading has failed exactly if the fault is `Read`, and the writer exactly if it is `Write`; after
--- any other fault nothing was written
-pub record TellsStreams {Answer : Type 0} (result : Result Answer RunFault) (ReadingFailed : Type 0)
-    (output : Stream) : Type 0 where
+-- reading has failed exactly if the fault is `Read`, and the writer exactly if it is `Write`
+pub record TellsFailures {Answer : Type 0}
+    (result : Result Answer RunFault) (ReadingFailed : Type 0) (output : Stream) : Type 0 where
   pub read : ReadingFailed ↔ (result ≡ Err Read)
   pub write : output.HasFailed ↔ (result ≡ Err Write)
+
+-- the result tells the failures, and nothing was written before any fault but `Write`
+pub record TellsStreams {Answer : Type 0}
+    (result : Result Answer RunFault) (ReadingFailed : Type 0) (output : Stream) : Type 0 where
+  pub failures : TellsFailures result ReadingFailed output
   pub unwritten : IfErr result (λ fault. fault ≢ Write → output.IsKept)
 
 -- the reader gave this text, which is all that it had left

@@ -1,14 +1,12 @@
 //! Playing with a person, from the bytes of the board and of the lines to the bytes written.
 
-ghost use Rattle.std.specs.Prelude.{◌≡◌, ◌↔◌, ◌⊎◌, true, false, Err, IfOk, IfErr};
+ghost use Rattle.std.specs.Prelude.{◌≡◌, ◌⊎◌, true, false, IfOk, IfErr};
 ghost use Rattle.player.specs.Laws.{KeepsToValue};
-ghost use Rattle.player.specs.Play.{HasEnded, BreaksOff};
+ghost use Rattle.player.specs.Play.{HasEnded, BreaksOff, TellsStreams};
 ghost use Rattle.board_text.specs.Ranges.{InRange};
 ghost use Rattle.player.specs.Transcript.{IsPlayed, PersonClimbs};
-ghost use Rattle.player.specs.declared.end.PlayFault.TheVariants as play_faults;
 ghost use Rattle.runs.specs.PlayRun.{IsBrokenOff, IsOver, RanPlay, PlayFails, game_of};
-ghost use Rattle.runs.specs.Run.{bytes_of};
-ghost use Rattle.runs.specs.declared.fault.RunFault.TheVariants.{Read, Write};
+ghost use Rattle.runs.specs.Run.{TellsFailures, bytes_of, stream_of};
 
 use crate::fault::RunFault;
 use crate::reading::{MAX_BOARD_BYTES, read_board};
@@ -43,8 +41,8 @@ pub fn run_play<B: Source, L: Source, W: Sink>(
         (bytes_of W.contents writer.old writer.new)) }
     ensures fault { IfErr result (PlayFails side MAX_BOARD_BYTES ((lines.new ≡ lines.old) × (writer.new ≡ writer.old))
         (bytes_of B.remaining board.old board.new) (bytes_of L.remaining lines.old lines.new) (bytes_of W.contents writer.old writer.new)) }
-    ensures read { ((B.has_failed board.new ≡ true) ⊎ (L.has_failed lines.new ≡ true)) ↔ (result ≡ Err Read) }
-    ensures write { (W.has_failed writer.new ≡ true) ↔ (result ≡ Err Write) }
+    ensures streams { TellsFailures result ((B.has_failed board.new ≡ true) ⊎ (L.has_failed lines.new ≡ true))
+        (stream_of W.contents W.has_failed writer.old writer.new) }
 {
     let board = read_board(alloc, board)?;
     let values = values_of(alloc, &board)?;
@@ -70,8 +68,8 @@ pub fn run_climb<L: Source, W: Sink>(
         (bytes_of W.contents writer.old writer.new)) }
     ensures fault { IfErr result (IsBrokenOff (PersonClimbs levels) (bytes_of L.remaining lines.old lines.new)
         (bytes_of W.contents writer.old writer.new)) }
-    ensures read { (L.has_failed lines.new ≡ true) ↔ (result ≡ Err Read) }
-    ensures write { (W.has_failed writer.new ≡ true) ↔ (result ≡ Err Write) }
+    ensures streams { TellsFailures result (L.has_failed lines.new ≡ true)
+        (stream_of W.contents W.has_failed writer.old writer.new) }
 {
     Ok(play_nested(alloc, levels, lines, writer)?)
 }
@@ -92,8 +90,7 @@ fn play<L: Source, W: Sink>(
     ensures fault { IfErr result (BreaksOff (IsPlayed (game_of side moves.now)) (L.remaining lines.old) (L.remaining lines.new)
         (W.contents writer.old) (W.contents writer.new)) }
     ensures value { IfOk result (KeepsToValue (game_of side moves.now)) }
-    ensures read { (L.has_failed lines.new ≡ true) ↔ (result ≡ Err play_faults.Read) }
-    ensures write { (W.has_failed writer.new ≡ true) ↔ (result ≡ Err play_faults.Write) }
+    ensures streams { TellsStreams result (L.has_failed lines.new) (W.has_failed writer.new) }
 {
     let board = moves.board();
     let values = moves.values();

@@ -21,9 +21,9 @@ use Rattle.solver.proofs.BoardArenas.{arena_is, value_of_lasts, lasts_of_value}
 use Rattle.solver.proofs.StruckTables.{IsCounted-same, AreWords-same, same-open}
 use Rattle.solver.proofs.FiledRanks.{listed-away, filed-once}
 use Rattle.solver.proofs.LastingRanks.{same_test, true_or_false, same_or_not, lasts-less}
-use Rattle.solver.proofs.ListedWords.{shut_word, times_one, times_none}
+use Rattle.solver.proofs.ListedWords.{valued_word, times_one, times_none}
 use Rattle.solver.proofs.EnteredAnswers.{above-size}
-use Rattle.solver.proofs.StageStrikes.{alive-none, filed-counting}
+use Rattle.solver.proofs.StageStrikes.{unstruck-none, filed-counting}
 
 -- ---- filing one after the other
 
@@ -125,7 +125,7 @@ module _ (s : PlainStage) (unstruck : IsUnstruck s) where
     }
       where
         shut : (x : ℕ) → 0 < times x won → is_open m.values x ≡ false
-        shut x some = let few = unstruck.small.few in let low = unstruck.small.low in let at = files.there x some in shut_word m.values x (λ e. omega arith)
+        shut x some = let few = unstruck.small.few in let low = unstruck.small.low in let at = files.there x some in valued_word m.values x (λ e. omega arith)
 
         same_now : (x : ℕ) → x < configurations s.board → times x won ≡ 0 → lasts a (suc r) x ≡ lasts a (suc (suc r)) x
         same_now x i none = same_test (lasts a (suc r) x) (lasts a (suc (suc r)) x) (lost-lasts x i none) (lasts-less a is (suc r) x i)
@@ -145,9 +145,11 @@ module _ (s : PlainStage) (unstruck : IsUnstruck s) where
       value_is = files.kept.value_is ∙ unstruck.value_is;
       stage = record {
         counts_are = subst (λ q. IsCounted (arena_of q) (is_unstruck (arena_of q) r []) t.counts) (sym files.kept.board_is)
-            (IsCounted-same a is (lasts a (suc r)) (is_unstruck a r []) t.counts (λ x i. alive-none a r x) end-counts);
+            (IsCounted-same a is (lasts a (suc r)) (is_unstruck a r []) t.counts
+                (λ x i. unstruck-none a r x) end-counts);
         words_are = subst (λ q. AreWords (arena_of q) (is_unstruck (arena_of q) r []) m.values) (sym files.kept.board_is)
-            (AreWords-same a is (lasts a (suc r)) (is_unstruck a r []) m.values (λ x i. alive-none a r x) end-words);
+            (AreWords-same a is (lasts a (suc r)) (is_unstruck a r []) m.values
+                (λ x i. unstruck-none a r x) end-words);
         filed_are = filed-counting m t.counts files.filed_are;
       };
       due = λ x h. absurd (omega arith);

@@ -16,8 +16,8 @@ open_word values x e = elim (same_or_not (slice_index values x) OPEN) [
   | inr other ↦ absurd (true_not_false (is_open values x) e (differ_is (slice_index values x) OPEN other))
 ]
 
-pub shut_word : (values : List ℕ) (x : ℕ) → slice_index values x ≢ OPEN → is_open values x ≡ false
-shut_word values x other = differ_is (slice_index values x) OPEN other
+pub valued_word : (values : List ℕ) (x : ℕ) → slice_index values x ≢ OPEN → is_open values x ≡ false
+valued_word values x other = differ_is (slice_index values x) OPEN other
 
 pub times_one : (node : ℕ) → times node (node ∷ []) ≡ 1
 times_one node = rw (same_is node node refl) refl

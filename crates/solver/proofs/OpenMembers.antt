@@ -6,14 +6,15 @@ use Rattle.solver.specs.Inside.SourceWalk.{open_from}
 use Rattle.solver.specs.Inside.Tables.{is_open, members_from}
 use Rattle.solver.specs.declared.word.TheConstants.{OPEN}
 use Rattle.solver.proofs.LastingRanks.{same_is}
-use Rattle.solver.proofs.ListedWords.{shut_word}
+use Rattle.solver.proofs.ListedWords.{valued_word}
 
 -- the member with this place is passed over, or comes first
 pub walk-skip : (values : List ℕ) (first step place places rank : ℕ) → place < places → rank ≡ first + place * step → slice_index values rank ≢ OPEN
     → open_from values first step place (places - place) ≡ open_from values first step (place + 1) (places - (place + 1))
 walk-skip values first step place places rank low here word =
     let count : places - place ≡ suc (places - (place + 1)) = omega arith in
-    ap (open_from values first step place) count ∙ rw (ap (is_open values) (sym here) ∙ shut_word values rank word) refl
+    ap (open_from values first step place) count
+    ∙ rw (ap (is_open values) (sym here) ∙ valued_word values rank word) refl
 
 pub walk-take : (values : List ℕ) (first step place places rank : ℕ) → place < places → rank ≡ first + place * step → slice_index values rank ≡ OPEN
     → open_from values first step place (places - place) ≡ rank ∷ open_from values first step (place + 1) (places - (place + 1))

@@ -77,8 +77,8 @@ module _ (a : Arena) (is : IsArena a) (test : ℕ → Bool) (g : ℕ) (i : g < a
           omega arith)
 
   -- how often a configuration stands among the members
-  pub waits-times : (x : ℕ) → x < a.configurations → times x (members_from a test g 0 a.places) ≡ cond (test x && (a.gap x (a.pebble g) == g)) 1 0
-  waits-times x j = elim (true_or_false (test x && (a.gap x (a.pebble g) == g))) [
+  pub member-times : (x : ℕ) → x < a.configurations → times x (members_from a test g 0 a.places) ≡ cond (test x && (a.gap x (a.pebble g) == g)) 1 0
+  member-times x j = elim (true_or_false (test x && (a.gap x (a.pebble g) == g))) [
     | inl both ↦ (
         let parts = both_true (test x) (a.gap x (a.pebble g) == g) both in
         let member = is_same parts.1 in

@@ -16,17 +16,19 @@ use Rattle.solver.proofs.StruckTables.{IsCounted-same, AreWords-same, counted-st
 use Rattle.solver.proofs.LastingRanks.{true_or_false, same_or_not, same_is, lasts-less}
 use Rattle.solver.proofs.Strikes.{strike-home}
 
--- ---- what is alive
+-- ---- the configurations that are not struck
 
-pub alive-lasts : (a : Arena) (r : ℕ) (todo : List ℕ) (x : ℕ) → lasts a (suc r) x ≡ true → is_unstruck a r todo x ≡ true
-alive-lasts a r todo x e = rw e refl
+pub unstruck-lasts : (a : Arena) (r : ℕ) (todo : List ℕ) (x : ℕ)
+    → lasts a (suc r) x ≡ true → is_unstruck a r todo x ≡ true
+unstruck-lasts a r todo x e = rw e refl
 
-pub alive-fails : (a : Arena) (r : ℕ) (todo : List ℕ) (x : ℕ) → lasts a (suc r) x ≡ false → is_unstruck a r todo x ≡ not (times x todo == 0)
-alive-fails a r todo x e = rw e refl
+pub unstruck-fails : (a : Arena) (r : ℕ) (todo : List ℕ) (x : ℕ)
+    → lasts a (suc r) x ≡ false → is_unstruck a r todo x ≡ not (times x todo == 0)
+unstruck-fails a r todo x e = rw e refl
 
--- with nothing left to strike, what is alive is what lasts longer than the round
-pub alive-none : (a : Arena) (r x : ℕ) → lasts a (suc r) x ≡ is_unstruck a r [] x
-alive-none a r x = by (lasts a (suc r) x)
+-- with no strike left, the unstruck configurations are those that last longer than the round
+pub unstruck-none : (a : Arena) (r x : ℕ) → lasts a (suc r) x ≡ is_unstruck a r [] x
+unstruck-none a r x = by (lasts a (suc r) x)
   where
     by : (b : Bool) → b ≡ cond b true (not (0 == 0))
     by true = refl
@@ -41,23 +43,29 @@ no_times n h = grind (arith, nat_tests)
 times_some : (n : ℕ) → not (n == 0) ≡ true → 0 < n
 times_some n h = grind (arith, nat_tests)
 
--- what is alive lasts as long as the round
-pub alive-between : (a : Arena) → IsArena a → (r : ℕ) (todo : List ℕ) → ((x : ℕ) → 0 < times x todo → IsStruckAt a r x) → IsBetween a r (is_unstruck a r todo)
-alive-between a is r todo due = record {
-  lower = λ y j e. alive-lasts a r todo y e;
+-- an unstruck configuration lasts as long as the round
+pub unstruck-between : (a : Arena) → IsArena a → (r : ℕ) (todo : List ℕ)
+    → ((x : ℕ) → 0 < times x todo → IsStruckAt a r x) → IsBetween a r (is_unstruck a r todo)
+unstruck-between a is r todo due = record {
+  lower = λ y j e. unstruck-lasts a r todo y e;
   upper = λ y j e. elim (true_or_false (lasts a (suc r) y)) [
     | inl more ↦ lasts-less a is r y j more
-    | inr fails ↦ (due y (times_some (times y todo) (sym (alive-fails a r todo y fails) ∙ e))).lasting
+    | inr fails ↦ (due y (times_some (times y todo) (sym (unstruck-fails a r todo y fails) ∙ e))).lasting
   ];
 }
 
-pub alive-first : (a : Arena) (r c : ℕ) (rest : List ℕ) → lasts a (suc r) c ≡ false → is_unstruck a r (c ∷ rest) c ≡ true
-alive-first a r c rest stops = alive-fails a r (c ∷ rest) c stops ∙ some_times (times c (c ∷ rest)) (times-here c c rest refl)
+pub unstruck-first : (a : Arena) (r c : ℕ) (rest : List ℕ)
+    → lasts a (suc r) c ≡ false → is_unstruck a r (c ∷ rest) c ≡ true
+unstruck-first a r c rest stops =
+    unstruck-fails a r (c ∷ rest) c stops ∙ some_times (times c (c ∷ rest)) (times-here c c rest refl)
 
--- without the first, the rest is alive
-pub alive-rest : (a : Arena) (r c : ℕ) (rest : List ℕ) → lasts a (suc r) c ≡ false → times c (c ∷ rest) ≤ 1 → (x : ℕ) → without (is_unstruck a r (c ∷ rest)) c x ≡ is_unstruck a r rest x
-alive-rest a r c rest stops once x = elim (same_or_not x c) [
-  | inl here ↦ subst (λ y. without (is_unstruck a r (c ∷ rest)) c y ≡ is_unstruck a r rest y) (sym here) (gone c ∙ sym (alive-fails a r rest c stops ∙ no_times (times c rest) none))
+-- without the first, those of the rest are unstruck
+pub unstruck-rest : (a : Arena) (r c : ℕ) (rest : List ℕ)
+    → lasts a (suc r) c ≡ false → times c (c ∷ rest) ≤ 1
+    → (x : ℕ) → without (is_unstruck a r (c ∷ rest)) c x ≡ is_unstruck a r rest x
+unstruck-rest a r c rest stops once x = elim (same_or_not x c) [
+  | inl here ↦ subst (λ y. without (is_unstruck a r (c ∷ rest)) c y ≡ is_unstruck a r rest y) (sym here)
+        (gone c ∙ sym (unstruck-fails a r rest c stops ∙ no_times (times c rest) none))
   | inr other ↦ same other ∙ ap (λ n. cond (lasts a (suc r) x) true (not (n == 0))) (times-later c x rest (λ d. other (sym d)))
 ]
   where
@@ -102,10 +110,10 @@ module _ (s : PlainStage) (board_is : IsBoard s.board) (c : ℕ) (rest : List �
   here = k.due c (times-here c c rest refl)
 
   is_above : above c ≡ true
-  is_above = alive-first a k.round c rest here.stopping
+  is_above = unstruck-first a k.round c rest here.stopping
 
   next : (x : ℕ) → x < a.configurations → without above c x ≡ is_unstruck a k.round rest x
-  next x i = alive-rest a k.round c rest here.stopping (k.once c) x
+  next x i = unstruck-rest a k.round c rest here.stopping (k.once c) x
 
   fewer : (x : ℕ) → times x rest ≤ 1
   fewer x = let once = k.once x in omega arith
@@ -149,7 +157,7 @@ module _ (s : PlainStage) (board_is : IsBoard s.board) (c : ℕ) (rest : List �
         (rw closes.counts_is counts)
         (AreWords-same a is (without above c) (is_unstruck a k.round rest) s'.values next
         (words-closed a is above c p k.round s.values s'.values here.is_rank d (home-now a is above c p n s.counts here.is_rank d is_above counted k.stage.counts_are ∙ none) (λ e. omega arith)
-        (alive-between a is k.round (c ∷ rest) k.due) here.stopping (rw (← g_is, ← value_is) closes.words) k.stage.words_are))
+        (unstruck-between a is k.round (c ∷ rest) k.due) here.stopping (rw (← g_is, ← value_is) closes.words) k.stage.words_are))
         closes.filed_are due fewer
 
 -- ---- from strike to strike

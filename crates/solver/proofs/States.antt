@@ -31,9 +31,9 @@ use Rattle.solver.proofs.DominatedRanks.{tells-dominated, same-filter, counted-a
 use Rattle.solver.proofs.EnteredAnswers.{live-size, above-size}
 use Rattle.solver.proofs.FiledRanks.{past}
 use Rattle.solver.proofs.ListedRanks.{times-filter-true, times-filter-le}
-use Rattle.solver.proofs.ListedWords.{shut_word, times_true}
-use Rattle.solver.proofs.Sources.{waits-times, members-are}
-use Rattle.solver.proofs.StageStrikes.{alive-lasts, alive-fails, alive-none, some_times, no_times}
+use Rattle.solver.proofs.ListedWords.{valued_word, times_true}
+use Rattle.solver.proofs.Sources.{member-times, members-are}
+use Rattle.solver.proofs.StageStrikes.{unstruck-lasts, unstruck-fails, unstruck-none, some_times, no_times}
 
 -- ---- words
 
@@ -91,21 +91,21 @@ module _ (s : PlainStage) (board_is : IsBoard s.board) (few : configurations s.b
   filed-lasts above v x w f low h =
       let i = f.below v x h in
       let word = filed-word s v x f low i h in
-      let shut = shut_word s.values x (λ e. omega arith) in
+      let shut = valued_word s.values x (λ e. omega arith) in
       (subst (λ n. lasts a n x ≡ true) word (w.lasting x i shut), subst (λ n. lasts a (suc n) x ≡ false) word (w.stopping x i shut))
 
   pub round-starts : (r : ℕ) → r < configurations s.board → s.value ≡ suc r → (todo : List ℕ) → todo ≡ filter (dominated a) (filed_at s r) → IsStage (lasts a r) s → IsStriking s todo
   round-starts r i value_is todo todo_are stage =
       let alike : (x : ℕ) → x < a.configurations → dominated a x ≡ true → lasts a r x ≡ is_unstruck a r todo x = λ x j holds. elim (true_or_false (lasts a (suc r) x)) [
-        | inl more ↦ lasts-less a is r x j more ∙ sym (alive-lasts a r todo x more)
+        | inl more ↦ lasts-less a is r x j more ∙ sym (unstruck-lasts a r todo x more)
         | inr fails ↦
             let times_are : times x todo ≡ times x (filed_at s r) = ap (times x) todo_are ∙ filtered-times (dominated a) x (filed_at s r) holds in
             elim (true_or_false (lasts a r x)) [
               | inl one ↦
                   let word = word-at a is (lasts a r) s.values r x j stage.words_are (stage.words_are.opened x j ∙ fails) one fails in
                   let there = filed-there s r x stage.filed_are (omega arith) j word in
-                  one ∙ sym (alive-fails a r todo x fails ∙ some_times (times x todo) (omega arith))
-              | inr none ↦ none ∙ sym (alive-fails a r todo x fails ∙ no_times (times x todo) (elim (cases_lt 0 (times x (filed_at s r))) [
+                  one ∙ sym (unstruck-fails a r todo x fails ∙ some_times (times x todo) (omega arith))
+              | inr none ↦ none ∙ sym (unstruck-fails a r todo x fails ∙ no_times (times x todo) (elim (cases_lt 0 (times x (filed_at s r))) [
                 | inr nothing ↦ omega arith
                 | inl some ↦ absurd (true_not_false (lasts a r x) (filed-lasts (lasts a r) r x stage.words_are stage.filed_are (omega arith) some).0 none)
               ]))
@@ -130,7 +130,7 @@ module _ (s : PlainStage) (board_is : IsBoard s.board) (few : configurations s.b
 
   pub round-ends : (k : IsStriking s []) → IsStage (lasts a (suc k.round)) s
   round-ends k =
-      let alike : (x : ℕ) → x < a.configurations → dominated a x ≡ true → is_unstruck a k.round [] x ≡ lasts a (suc k.round) x = λ x j holds. sym (alive-none a k.round x) in
+      let alike : (x : ℕ) → x < a.configurations → dominated a x ≡ true → is_unstruck a k.round [] x ≡ lasts a (suc k.round) x = λ x j holds. sym (unstruck-none a k.round x) in
       record {
         counts_are = counted-alike a is (is_unstruck a k.round []) (lasts a (suc k.round)) s.counts alike k.stage.counts_are;
         words_are = words-alike a is (is_unstruck a k.round []) (lasts a (suc k.round)) s.values alike k.stage.words_are;
@@ -261,7 +261,7 @@ module _ (s : PlainStage) (round : ℕ) (is_done : Bool) (st : IsState s round i
     λ h. let low = value-in-range s v x st.stage.filed_are h in
         let few = st.few in
         let word : slice_index s.values x ≡ v = filed-word s v x st.stage.filed_are low i h in
-        let shut = shut_word s.values x (λ e. omega arith) in
+        let shut = valued_word s.values x (λ e. omega arith) in
         (subst (λ j. j ≤ round) word (word-few x i shut), subst (λ j. HasValue b (configuration_at b x) (Finite j)) word (word-value x i shut)),
     λ has. let word = value-word v x i has.0 has.1 in
         let most : v ≤ round = has.0 in
@@ -284,7 +284,7 @@ module _ (s : PlainStage) (round : ℕ) (is_done : Bool) (st : IsState s round i
     listed = λ g v i j.
         let x = rank_of b (member_of b g v) in
         let x_in = is-arena.member_in g v i j in
-        let count = waits-times arena is-arena (is_open s.values) g i x x_in in
+        let count = member-times arena is-arena (is_open s.values) g i x x_in in
         rw (source-shown g i) (
           λ h. subst (LabellerTree b (suc round)) (at_member b g v i j)
               (tree_of_lasts b st.is_board (suc round) x x_in (open-lasts x x_in (both_true (is_open s.values x) (arena.gap x (arena.pebble g) == g) (times_true _ _ h count)).0)),
@@ -293,7 +293,7 @@ module _ (s : PlainStage) (round : ℕ) (is_done : Bool) (st : IsState s round i
               omega arith,
         );
     once = λ g x i j. rw (source-shown g i)
-        (let count = waits-times arena is-arena (is_open s.values) g i x j in
+        (let count = member-times arena is-arena (is_open s.values) g i x j in
         let few = cond_few (is_open s.values x && (arena.gap x (arena.pebble g) == g)) in omega arith);
     members = λ g x i. rw (source-shown g i) (λ h.
         let m = members-are arena (is_open s.values) g 0 arena.places x h in

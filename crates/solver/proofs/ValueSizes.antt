@@ -26,7 +26,7 @@ use Rattle.solver.proofs.Counts.{some_below, count_below-none, count_below-same,
 use Rattle.solver.proofs.EnteredAnswers.{count-same}
 use Rattle.solver.proofs.ListedRanks.{stands, stands-true, stands-false}
 use Rattle.solver.proofs.LastingRanks.{true_or_false, same_or_not, same_is, differ_is}
-use Rattle.solver.proofs.ListedWords.{open_word, shut_word}
+use Rattle.solver.proofs.ListedWords.{open_word, valued_word}
 use Rattle.solver.proofs.States.{word-few, filed-few, filed-there}
 
 -- ---- lists without repetitions
@@ -185,7 +185,7 @@ module _ (b : PlainBoard) (values sizes : List ℕ) (forever : ℕ) (few : confi
   word-finite : (v x : ℕ) → x < configurations b → v < length sizes → slice_index values x ≡ v → HasValue b (configuration_at b x) (Finite v)
   word-finite v x i low word =
       let most = counts.few in
-      subst (λ j. HasValue b (configuration_at b x) (Finite j)) word (are.finite x i (shut_word values x (λ e. omega arith)))
+      subst (λ j. HasValue b (configuration_at b x) (Finite j)) word (are.finite x i (valued_word values x (λ e. omega arith)))
 
   pub count-finite : (v : ℕ) → v < length sizes → HasCount b (Finite v) (slice_index sizes v)
   count-finite v low =

@@ -1,4 +1,4 @@
-use Rattle.std.proofs.Common.{refl, ◌∙◌}
+use Rattle.std.proofs.Common.{refl}
 use Rattle.player.proofs.RequestLines.{reply_said, no_reply_said}
 use Rattle.player.proofs.adversary_side.AdversarySide.request.Goals as goal
 

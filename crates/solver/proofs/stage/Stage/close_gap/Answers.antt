@@ -8,7 +8,7 @@ use Rattle.solver.specs.Inside.Stage.{PlainStage}
 use Rattle.solver.specs.declared.word.TheConstants.{OPEN}
 use Rattle.solver.proofs.ClosingGaps.{IsToClose, in_words, gap-takes, gap-skips, gap-closed}
 use Rattle.solver.proofs.LastingRanks.{same_is}
-use Rattle.solver.proofs.ListedWords.{shut_word}
+use Rattle.solver.proofs.ListedWords.{valued_word}
 use Rattle.solver.proofs.stage.Stage.close_gap.Goals as goal
 use Rattle.solver.proofs.stage.Stage.close_gap.Goals.{then-index, else-index}
 
@@ -38,7 +38,7 @@ loop-place-preserved g c =
       | then-index w ↦ rw (w.self-is, w.file.ensures)
           (gap-takes s c.args.gap c.loop-place.place c.rank-rank.result now to_close inside rank_is c.loop-place.invariant (same_is (slice_index now.values c.rank-rank.result) OPEN (sym word ∙ w.if-index.true)))
       | else-index w ↦ rw w.self-is
-          (gap-skips s c.args.gap c.loop-place.place c.rank-rank.result now to_close inside rank_is c.loop-place.invariant (shut_word now.values c.rank-rank.result (λ e. w.if-index.false (word ∙ e))))
+          (gap-skips s c.args.gap c.loop-place.place c.rank-rank.result now to_close inside rank_is c.loop-place.invariant (valued_word now.values c.rank-rank.result (λ e. w.if-index.false (word ∙ e))))
     ]
 
 pub returns : goal.returns
