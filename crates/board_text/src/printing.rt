@@ -4,14 +4,14 @@ ghost use Rattle.std.specs.Prelude.{◌≡◌, ◌++◌, IfOk, OnOk, string_byte
 ghost use Rattle.board_text.specs.BoardText.{board_text};
 ghost use Rattle.board_text.specs.Inside.BoardText.{board_head};
 
-use crate::board::Board;
+use crate::board::{Board, MAX_PEBBLES};
 use crate::memory::Memory;
 use crate::writing::write_places;
 use std::alloc::{AllocError, Global};
 use std::fmt::Write;
 
-/// An upper bound on the bytes of all lines except the pairs.
-const SIZE_OF_FRAME: usize = 64;
+/// An upper bound on the bytes of all lines except the pairs, of which each place takes four.
+const SIZE_OF_FRAME: usize = 40 + 4 * MAX_PEBBLES;
 
 /// The text of `board`.
 pub fn print(alloc: Global, board: &Board) -> Result<String, Memory>

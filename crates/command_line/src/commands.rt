@@ -9,6 +9,7 @@ use crate::asked::MAX_WORKERS;
 use board_text::MAX_PEBBLES;
 use clap::{Arg, Command, value_parser};
 use nested_cycles::{MAX_BOARD_LEVELS, MAX_LEVELS};
+use positions::MAX_CONFIGURATIONS;
 use std::alloc::{AllocError, Global};
 
 /// The program's version, and the first lines of the texts that it reads and writes.
@@ -36,6 +37,9 @@ const AFTER_HELP: &str = "Exit statuses:\n  \
     pebbles nested 2 2 > cycle.board\n  \
     pebbles solve cycle.board > cycle.proof\n  \
     pebbles check cycle.board cycle.proof";
+
+// The help of `solve` says this limit.
+const _: () = prove!(MAX_CONFIGURATIONS == 1_048_576);
 
 /// The help of `solve`.
 const ABOUT_SOLVING: &str =

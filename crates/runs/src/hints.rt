@@ -1,8 +1,15 @@
 //! The words that explain a fault of an input, by its kind.
 
 use crate::folder::Trouble;
-use board_text::BoardKind;
-use proof_text::ProofKind;
+use board_text::{BoardKind, MAX_LABELS, MAX_PEBBLES};
+use proof_text::{MOST_TURNS, ProofKind};
+
+// The words say these limits.
+const _: () = prove!(MAX_LABELS == 256);
+
+const _: () = prove!(MAX_PEBBLES == 6);
+
+const _: () = prove!(MOST_TURNS == 1_000_000_000);
 
 /// The words for a board that has a fault of this kind and begins with these bytes.
 pub(crate) fn board_hint(kind: BoardKind, head: &[u8]) -> &'static str {

@@ -4,16 +4,27 @@
 ghost use Rattle.std.specs.Prelude.{◌≡◌, true, false, MatchOption};
 ghost use Rattle.runs.specs.Serving.{is_typed};
 
+use crate::checking::{MAX_JOINED_BYTES, MAX_PROOF_BYTES};
 use crate::fault::RunFault;
 use crate::folder::Trouble;
 use crate::hints::{board_hint, proof_hint, trouble_hint};
 use crate::joined::front_len;
 use crate::outcome::Outcome;
+use crate::reading::MAX_BOARD_BYTES;
 use crate::watched::head_of;
 use board_text::line_reader::LineReader;
 use board_text::{MAX_LABELS, MAX_PEBBLES};
 use command_line::Job;
-use positions::Side;
+use positions::{MAX_CONFIGURATIONS, Side};
+
+// The words say these limits.
+const _: () = prove!(MAX_BOARD_BYTES == 1_048_576);
+
+const _: () = prove!(MAX_PROOF_BYTES == 134_217_728);
+
+const _: () = prove!(MAX_JOINED_BYTES == 134_217_728);
+
+const _: () = prove!(MAX_CONFIGURATIONS == 1_048_576);
 
 /// The limits of a board, in words.
 pub(crate) const BOARD_LIMITS: &str = "a board has at most 1048576 bytes";
