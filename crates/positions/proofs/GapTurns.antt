@@ -114,7 +114,8 @@ member_is_rank board base weights gap label are below low =
 pub member_by_parts : {labels pebbles size : ℕ} {words : List ℕ} (board : PlainBoard) (base : ℕ) (weights : List ℕ)
     (gap place pebble tuple weight : ℕ)
     → AreNumbersOf board labels pebbles base size weights words → gap < gaps board → place < places board
-    → pebble ≡ gap / gaps_each board → pebble < board.pebbles → tuple ≡ gap % gaps_each board → weight ≡ weight_of board pebble
+    → pebble ≡ gap / gaps_each board → pebble < board.pebbles → tuple ≡ gap % gaps_each board
+    → weight ≡ weight_of board pebble
     → ((tuple / weight * base + place) * weight + tuple % weight ≡ rank_of board (member_of board gap place))
     × ((tuple / weight * base + place) * weight + tuple % weight < configurations board)
 member_by_parts board base weights gap place pebble tuple weight are below low pebble_is inside tuple_is weight_is =
