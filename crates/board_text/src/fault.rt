@@ -10,9 +10,9 @@ use std::alloc::AllocError;
 pub enum BoardKind {
     /// The first line isn't `board 1` or `board 2`.
     Version = 1,
-    /// The second line isn't `labels` and a number from 1 to 256.
+    /// The second line isn't `labels` and a number from 1 to `MAX_LABELS`.
     Labels,
-    /// The third line isn't `pebbles` and a number from 1 to 6.
+    /// The third line isn't `pebbles` and a number from 1 to `MAX_PEBBLES`.
     Pebbles,
     /// The fourth line isn't `start` and a label for each pebble; in `board 2` a label or `-`, and
     /// at least one `-`.

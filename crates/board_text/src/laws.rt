@@ -29,7 +29,7 @@ pub fn board_or_fault()
     ensures not_both { (text : List ℕ) → IsBoardText text → IsFaulty text → ⊥ }
 {}
 
-/// A board has at most 256 labels and 6 pebbles.
+/// The most labels and pebbles of a board. CONTRIBUTING.md lists what else says these numbers.
 pub fn limits()
     ensures labels { MAX_LABELS ≡ 256 }
     ensures pebbles { MAX_PEBBLES ≡ 6 }

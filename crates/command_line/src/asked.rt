@@ -16,18 +16,18 @@ pub enum Job<'a> {
     Joined,
     /// Check the strategy document for the board. Both are paths.
     Check { board: &'a str, proof: &'a str },
-    /// Write the nested board with these numbers of levels and pebbles, each 1 to 6.
+    /// Write the nested board with 1 to `MAX_BOARD_LEVELS` levels and 1 to `MAX_PEBBLES` pebbles.
     Nested { levels: u8, pebbles: u8 },
-    /// Solve the board, a path, with 1 to 16 workers, and write its strategy document.
+    /// Solve the board, a path, with 1 to `MAX_WORKERS` workers, and write its strategy document.
     Solve { workers: u8, board: &'a str },
-    /// Solve the board, a path, with 1 to 16 workers, and write the number of configurations of
-    /// each value.
+    /// Solve the board, a path, with 1 to `MAX_WORKERS` workers, and write the number of
+    /// configurations of each value.
     Report { workers: u8, board: &'a str },
     /// Play on the board, a path. The person plays this side, by lines of standard input, and the
     /// program the other one.
     Play { side: Side, board: &'a str },
-    /// Play on the nested board with this number of levels, 1 to 24, and as many pebbles. The
-    /// person is the adversary, by lines of standard input.
+    /// Play on the nested board with 1 to `MAX_LEVELS` levels, and as many pebbles. The person is
+    /// the adversary, by lines of standard input.
     Climb { levels: u8 },
 }
 

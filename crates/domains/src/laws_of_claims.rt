@@ -10,8 +10,9 @@ ghost use Rattle.proof_text.specs.Rules.{BreaksNoRule};
 
 use positions::MAX_CONFIGURATIONS;
 
-/// The rules of checking are sound and complete: on a board of at most 1,048,576 configurations a
-/// claim holds of the start exactly if some document of the format breaks no rule and makes it.
+/// The rules of checking are sound and complete: on a board of at most `MAX_CONFIGURATIONS`
+/// configurations a claim holds of the start exactly if some document of the format breaks no rule
+/// and makes it.
 pub fn claims_hold_where_documents_show_them()
     ensures { (board : PlainBoard) → (claim : Assertion) → IsConfiguration board board.start
         → configurations board ≤ MAX_CONFIGURATIONS → IsClaim claim → Holds board claim

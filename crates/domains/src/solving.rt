@@ -29,7 +29,7 @@ pub struct Solved {
 /// tables show the claim, it breaks no rule of checking, and there is no other document of the
 /// board.
 ///
-/// It works on this thread. It answers `TooLarge` for a board of more than 1,048,576
+/// It works on this thread. It answers `TooLarge` for a board of more than `MAX_CONFIGURATIONS`
 /// configurations, and `Memory` if a growth of memory was refused.
 pub fn solve_board(alloc: Global, board: &Board) -> Result<Solved, SolveFault>
     ensures value { IfOk result (λ solved. HasValue board.now board.now.start solved.value) }

@@ -81,7 +81,7 @@ pub fn rests_of(words: &[u64], size: u64, digit: u64) -> Words
     rests
 }
 
-/// Up to 24 words, each a number.
+/// Up to `MAX_LEVELS` words, each a number.
 #[derive(Drop)]
 pub struct Words {
     words: [u64; MAX_LEVELS],

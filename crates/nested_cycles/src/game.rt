@@ -15,7 +15,8 @@ use std::marker::Model;
 /// The highest level of a game, at which labels are numbers below 3^23.
 pub const MAX_LEVELS: usize = 24;
 
-/// A game on the nested board of a level, 1 to 24, with as many pebbles as levels. It is answered for ever.
+/// A game on the nested board of a level, 1 to `MAX_LEVELS`, with as many pebbles as levels. It is
+/// answered for ever.
 #[derive(Drop)]
 pub struct NestedGame {
     levels: u8,

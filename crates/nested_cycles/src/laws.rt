@@ -62,7 +62,8 @@ pub fn one_reply()
         → NestedReply levels others reply → NestedReply levels others second → reply ≡ second }
 {}
 
-/// Nested boards are built up to level 6, and requests on them are answered up to level 24.
+/// The highest levels of a nested board that is built, and of one on which requests are answered.
+/// CONTRIBUTING.md lists what else says these numbers.
 pub fn limits()
     ensures boards { MAX_BOARD_LEVELS ≡ 6 }
     ensures games { MAX_LEVELS ≡ 24 }

@@ -13,7 +13,8 @@ use std::alloc::{AllocError, Global};
 /// The highest level whose nested board is made: the next has more labels than a board may have.
 pub const MAX_BOARD_LEVELS: u8 = 6;
 
-/// The nested board of level `levels`, 1 to 6, with `pebbles` pebbles, 1 to 6, all on the label 0.
+/// The nested board of level `levels`, 1 to `MAX_BOARD_LEVELS`, with `pebbles` pebbles, 1 to
+/// `MAX_PEBBLES`, all on the label 0.
 pub fn nested_board(alloc: Global, levels: u8, pebbles: u8) -> Result<Board, Memory>
     requires levels { InRange 1 MAX_BOARD_LEVELS levels }
     requires pebbles { InRange 1 MAX_PEBBLES pebbles }

@@ -9,8 +9,8 @@ ghost use Rattle.nested_cycles.specs.Reply.{NestedReply};
 use crate::copies::{Copies, copies_of, copy_size, next_after, rests_of};
 use crate::game::MAX_LEVELS;
 
-/// Whether `words`, at most `levels` of them, are good on the nested board of this level, 1 to 24:
-/// pebbles on them can be moved for ever, in whatever order they are asked for.
+/// Whether `words`, at most `levels` of them, are good on the nested board of this level, 1 to
+/// `MAX_LEVELS`: pebbles on them can be moved for ever, in whatever order they are asked for.
 ///
 /// A word is given by its number, as in [`nested_beats`](crate::nested_beats).
 pub fn nested_good(levels: u8, words: &[u64]) -> bool

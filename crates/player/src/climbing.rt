@@ -18,8 +18,8 @@ use board_text::{Memory, Sink, Source};
 use nested_cycles::{MAX_LEVELS, NestedGame};
 use std::alloc::{AllocError, Global};
 
-/// Plays on the nested board of level `levels`, 1 to 24, with as many pebbles as levels: each line
-/// of the person names a pebble, which is put on the word of the nested reply.
+/// Plays on the nested board of level `levels`, 1 to `MAX_LEVELS`, with as many pebbles as levels:
+/// each line of the person names a pebble, which is put on the word of the nested reply.
 ///
 /// The reader and the writer must not have failed before, nor the reader have reported its end.
 /// The play ends with a line `quit`, or at the end of the input: some label is always legal.

@@ -79,7 +79,8 @@ pub fn play_labeller_bytes(
     }
 }
 
-/// Plays on the nested board of level `levels`, 1 to 24, with a person whose lines are `bytes`.
+/// Plays on the nested board of level `levels`, 1 to `MAX_LEVELS`, with a person whose lines are
+/// `bytes`.
 ///
 /// The fault is `Memory` if the transcript has no room, and `Limit` if a line is too long or there
 /// are too many lines.

@@ -30,8 +30,8 @@ impl Model for Column {
 }
 
 impl Column {
-    /// The column of the labels from `64 * number` on of `board`, which has at most 1,048,576
-    /// configurations.
+    /// The column of the labels from `64 * number` on of `board`, which has at most
+    /// `MAX_CONFIGURATIONS` configurations.
     pub(crate) fn of(alloc: Global, board: &Board, number: usize) -> Result<Column, Memory>
         requires number { number < ROW_WORDS }
         requires few { configurations board.now ≤ MAX_CONFIGURATIONS }

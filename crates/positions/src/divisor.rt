@@ -6,7 +6,7 @@ use crate::space::MAX_CONFIGURATIONS;
 use board_text::MAX_PEBBLES;
 use std::marker::Model;
 
-/// A divisor, 1 to 1,048,576, that divides by a product instead of a division.
+/// A divisor, 1 to `MAX_CONFIGURATIONS`, that divides by a product instead of a division.
 ///
 /// Contracts see the divisor.
 #[derive(Clone, Copy)]

@@ -67,7 +67,7 @@ pub fn shown_claims_hold()
         → IsConfiguration board board.start → Shows board labeller adversary claim → Holds board claim }
 {}
 
-/// A small board has at most 1,048,576 configurations.
+/// The most configurations of a small board. CONTRIBUTING.md lists what else says this number.
 pub fn limits()
     ensures { MAX_CONFIGURATIONS ≡ 1048576 }
 {}

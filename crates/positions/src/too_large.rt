@@ -1,3 +1,3 @@
-/// A board has more than 1,048,576 configurations.
+/// A board has more than `MAX_CONFIGURATIONS` configurations.
 #[derive(Clone, Copy, Debug, PartialEq, Eq)]
 pub struct TooLarge;

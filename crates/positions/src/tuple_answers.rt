@@ -37,7 +37,7 @@ impl Model for TupleAnswers {
 }
 
 impl TupleAnswers {
-    /// The answers of the gaps of `board`, which has at most 1,048,576 configurations.
+    /// The answers of the gaps of `board`, which has at most `MAX_CONFIGURATIONS` configurations.
     pub fn of(alloc: Global, board: &Board) -> Result<TupleAnswers, Memory>
         requires { configurations board.now ≤ MAX_CONFIGURATIONS }
         ensures { IfOk result (λ answers. answers ≡ board.now) }

@@ -12,7 +12,8 @@ pub enum ProofKind {
     Version = 1,
     /// The second line is no claim.
     Claim,
-    /// The head of a section isn't its word and a number of rows from 0 to 1,048,576.
+    /// The head of a section isn't its word and a number of rows from 0 to
+    /// `MAX_CONFIGURATIONS`.
     Section,
     /// A row hasn't the words of its section's rows.
     Row,

@@ -47,7 +47,7 @@ pub fn one_row_of_a_rank()
         → request_row board first ≡ request_row board second → first ≡ second }
 {}
 
-/// A number of a document is at most 1,000,000,000.
+/// The greatest number of a document. CONTRIBUTING.md lists what else says this number.
 pub fn limits()
     ensures { MOST_TURNS ≡ 1000000000 }
 {}

@@ -4,7 +4,7 @@ ghost use Rattle.std.specs.Prelude.{◌≡◌};
 
 use crate::solving::MAX_WORKERS;
 
-/// At most 16 workers share a round.
+/// The most workers that share a round. CONTRIBUTING.md lists what else says this number.
 pub fn limits()
     ensures { MAX_WORKERS ≡ 16 }
 {}

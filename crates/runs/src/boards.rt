@@ -8,7 +8,7 @@ use board_text::{Board, parse};
 use positions::is_small;
 use std::alloc::Global;
 
-/// The board whose text is `text`. It has at most 1,048,576 configurations.
+/// The board whose text is `text`. It has at most `MAX_CONFIGURATIONS` configurations.
 pub fn small_board(alloc: Global, text: &[u8]) -> Result<Board, RunFault>
     ensures found { IfOk result (IsSmallBoard text.now) }
     ensures fault { IfErr result (BringsNoBoard text.now) }

@@ -17,7 +17,7 @@ use std::alloc::AllocError;
 pub enum RunFault {
     /// The text of the board has a fault.
     Board(BoardFault),
-    /// The board has more than 1,048,576 configurations.
+    /// The board has more than `MAX_CONFIGURATIONS` configurations.
     TooLarge,
     /// The text of the document has a fault.
     Proof(ProofFault),

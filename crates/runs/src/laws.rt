@@ -106,7 +106,8 @@ pub fn reports_add_up()
         → sum report.counts + report.forever ≡ configurations board }
 {}
 
-/// At most 1,048,576 bytes are read of a board, and 134,217,728 of a document or of a joined input.
+/// The most bytes that are read of a board, of a document and of a joined input. CONTRIBUTING.md
+/// lists what else says these numbers.
 pub fn limits()
     ensures board { MAX_BOARD_BYTES ≡ 1048576 }
     ensures proof { MAX_PROOF_BYTES ≡ 134217728 }

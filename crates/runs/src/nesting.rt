@@ -13,7 +13,8 @@ use board_text::{MAX_PEBBLES, Sink, print};
 use nested_cycles::{MAX_BOARD_LEVELS, nested_board};
 use std::alloc::Global;
 
-/// Writes the text of the nested board of a level, 1 to 6, with 1 to 6 pebbles, all on label 0.
+/// Writes the text of the nested board of a level, 1 to `MAX_BOARD_LEVELS`, with 1 to `MAX_PEBBLES`
+/// pebbles, all on label 0.
 ///
 /// The writer must not have failed before. After `Memory` nothing was written, and after `Write` a
 /// prefix of the text was.
@@ -35,7 +36,8 @@ pub fn run_nested<W: Sink>(
     write_text(writer, &text)
 }
 
-/// The text of the nested board of a level, 1 to 6, with 1 to 6 pebbles, all on label 0.
+/// The text of the nested board of a level, 1 to `MAX_BOARD_LEVELS`, with 1 to `MAX_PEBBLES`
+/// pebbles, all on label 0.
 pub fn nested_text(alloc: Global, levels: u8, pebbles: u8) -> Result<String, RunFault>
     requires levels { InRange 1 MAX_BOARD_LEVELS levels }
     requires pebbles { InRange 1 MAX_PEBBLES pebbles }

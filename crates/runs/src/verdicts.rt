@@ -50,7 +50,7 @@ pub fn check_joined_text(
 
 /// The verdict on the document for `board` whose text is `text`, and its line.
 ///
-/// The board has at most 1,048,576 configurations, as one that `small_board` gives.
+/// The board has at most `MAX_CONFIGURATIONS` configurations, as one that `small_board` gives.
 pub fn check_text(
     rt: &(impl Threads + Sync),
     alloc: Global,

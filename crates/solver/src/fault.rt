@@ -5,7 +5,7 @@ use thiserror::Error;
 /// The reason why a board was not solved.
 #[derive(Clone, Copy, Debug, Error, PartialEq, Eq)]
 pub enum SolveFault {
-    /// The board has more than 1,048,576 configurations.
+    /// The board has more than `MAX_CONFIGURATIONS` configurations.
     #[error("board too large")]
     TooLarge,
     /// A growth of memory was refused.
