@@ -146,10 +146,10 @@ module _ (s : PlainStage) (unstruck : IsUnstruck s) where
       stage = record {
         counts_are = subst (λ q. IsCounted (arena_of q) (is_unstruck (arena_of q) r []) t.counts) (sym files.kept.board_is)
             (IsCounted-same a is (lasts a (suc r)) (is_unstruck a r []) t.counts
-                (λ x i. unstruck-none a r x) end-counts);
+            (λ x i. unstruck-none a r x) end-counts);
         words_are = subst (λ q. AreWords (arena_of q) (is_unstruck (arena_of q) r []) m.values) (sym files.kept.board_is)
             (AreWords-same a is (lasts a (suc r)) (is_unstruck a r []) m.values
-                (λ x i. unstruck-none a r x) end-words);
+            (λ x i. unstruck-none a r x) end-words);
         filed_are = filed-counting m t.counts files.filed_are;
       };
       due = λ x h. absurd (omega arith);

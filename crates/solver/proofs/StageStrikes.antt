@@ -65,7 +65,7 @@ pub unstruck-rest : (a : Arena) (r c : ℕ) (rest : List ℕ)
     → (x : ℕ) → without (is_unstruck a r (c ∷ rest)) c x ≡ is_unstruck a r rest x
 unstruck-rest a r c rest stops once x = elim (same_or_not x c) [
   | inl here ↦ subst (λ y. without (is_unstruck a r (c ∷ rest)) c y ≡ is_unstruck a r rest y) (sym here)
-        (gone c ∙ sym (unstruck-fails a r rest c stops ∙ no_times (times c rest) none))
+      (gone c ∙ sym (unstruck-fails a r rest c stops ∙ no_times (times c rest) none))
   | inr other ↦ same other ∙ ap (λ n. cond (lasts a (suc r) x) true (not (n == 0))) (times-later c x rest (λ d. other (sym d)))
 ]
   where

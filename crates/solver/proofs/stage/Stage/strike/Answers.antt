@@ -84,33 +84,33 @@ pub overflow_sub-left : goal.overflow_sub-left
 overflow_sub-left g c =
     let s : PlainStage = c.args.self.now in
     let found = finds_gap s _ _ c.self.view_is c.self.invariant.0.is_board c.self.invariant.2
-        c.args.rank c.index.result.now c.gap-gap.result c.index-2.result.now c.requires.0 c.requires.1
-        c.index.ensures c.gap-gap.ensures.gap c.gap-gap.ensures.below c.self.invariant.1.counts_length c.index-2.ensures in
+    c.args.rank c.index.result.now c.gap-gap.result c.index-2.result.now c.requires.0 c.requires.1
+    c.index.ensures c.gap-gap.ensures.gap c.gap-gap.ensures.below c.self.invariant.1.counts_length c.index-2.ensures in
     omega (arith, found.some)
 
 pub returns-then-left-eq0-clause-struck : goal.returns-then-left-eq0-clause-struck
 returns-then-left-eq0-clause-struck g c = λ rest k.
     let s : PlainStage = c.args.self.now in
     let found = finds_gap s _ _ c.self.view_is c.self.invariant.0.is_board c.self.invariant.2
-        c.args.rank c.index.result.now c.gap-gap.result c.index-2.result.now rest k
-        c.index.ensures c.gap-gap.ensures.gap c.gap-gap.ensures.below c.self.invariant.1.counts_length c.index-2.ensures in
+    c.args.rank c.index.result.now c.gap-gap.result c.index-2.result.now rest k
+    c.index.ensures c.gap-gap.ensures.gap c.gap-gap.ensures.below c.self.invariant.1.counts_length c.index-2.ensures in
     let small = c.self.invariant.0 in
     let size = ap (λ (v : PlainStage). configurations v.board) c.self.view_is in
     let value_is = ap (λ (v : PlainStage). v.value) c.self.view_is in
     let counted = ap (λ (v : PlainStage). counting v (slice_set v.counts c.gap-gap.result (c.index-2.result.now - 1))) c.self.view_is in
     struck-closed s found.is_board c.args.rank rest k c.index.result.now c.gap-gap.result (c.index-2.result.now - 1)
-        found.dominant found.gap_is found.one_more c.close_gap.new.self c.if-left-eq0.true
-        (omega (arith, small.few, size)) (omega (arith, small.low, size, value_is))
-        (subst (λ (v : PlainStage). Closes v c.gap-gap.result c.close_gap.new.self) counted c.close_gap.ensures)
+    found.dominant found.gap_is found.one_more c.close_gap.new.self c.if-left-eq0.true
+    (omega (arith, small.few, size)) (omega (arith, small.low, size, value_is))
+    (subst (λ (v : PlainStage). Closes v c.gap-gap.result c.close_gap.new.self) counted c.close_gap.ensures)
 
 pub returns-else-left-eq0-clause-struck : goal.returns-else-left-eq0-clause-struck
 returns-else-left-eq0-clause-struck g c = λ rest k.
     let s : PlainStage = c.args.self.now in
     let found = finds_gap s _ _ c.self.view_is c.self.invariant.0.is_board c.self.invariant.2
-        c.args.rank c.index.result.now c.gap-gap.result c.index-2.result.now rest k
-        c.index.ensures c.gap-gap.ensures.gap c.gap-gap.ensures.below c.self.invariant.1.counts_length c.index-2.ensures in
+    c.args.rank c.index.result.now c.gap-gap.result c.index-2.result.now rest k
+    c.index.ensures c.gap-gap.ensures.gap c.gap-gap.ensures.below c.self.invariant.1.counts_length c.index-2.ensures in
     let some = c.if-left-eq0.false in
     let counted = ap (λ (v : PlainStage). counting v (slice_set v.counts c.gap-gap.result (c.index-2.result.now - 1))) c.self.view_is in
     subst (λ (v : PlainStage). IsStriking v rest) (sym counted)
-        (struck-some s found.is_board c.args.rank rest k c.index.result.now c.gap-gap.result (c.index-2.result.now - 1)
-        found.dominant found.gap_is found.one_more (omega arith))
+    (struck-some s found.is_board c.args.rank rest k c.index.result.now c.gap-gap.result (c.index-2.result.now - 1)
+    found.dominant found.gap_is found.one_more (omega arith))
