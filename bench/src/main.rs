@@ -4,6 +4,7 @@
 mod board;
 mod check;
 mod document;
+mod measure;
 mod space;
 mod values;
 
@@ -49,6 +50,10 @@ fn report(board: &Board, space: &Space) -> Vec<u8> {
 
 fn main() {
     let words: Vec<String> = std::env::args().collect();
+    if words[1] == "measure" {
+        print!("{}", measure::measure(&words[2..]));
+        return;
+    }
     let text = std::fs::read(&words[2]).unwrap();
     let board = Board::read(&text);
     let space = Space::of(&board);

@@ -25,7 +25,7 @@ pub enum PlayFault {
     Write,
     /// A growth was refused.
     Memory,
-    /// A line has more bytes, or the play more lines, than the law `limits` says.
+    /// A line is longer than 64 bytes, or 1,000,000 lines didn't end the play.
     Limit,
 }
 

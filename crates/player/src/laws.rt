@@ -44,8 +44,8 @@ pub fn best_play_ends_by_the_value()
         → HasValue board configuration (Finite number) → EndsBestPlay board configuration other → other ≡ number }
 {}
 
-/// The most lines that a play reads, and the most bytes of a line before its line feed.
-/// CONTRIBUTING.md lists what else says these numbers.
+/// The most lines that a play reads, 1,000,000, and the most bytes of a line before its line feed,
+/// 64. CONTRIBUTING.md lists what else says these numbers.
 pub fn limits()
     ensures lines { MOST_LINES ≡ 1000000 }
     ensures bytes { MOST_BYTES ≡ 64 }

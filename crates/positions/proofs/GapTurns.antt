@@ -110,6 +110,20 @@ member_is_rank board base weights gap label are below low =
       below = subst (λ n. n < configurations board) (sym same) (rank_below board (member_of board gap label) (member_is board gap label below low));
     })
 
+-- the rank of a member by the pebble and the tuple of its gap, and the weight of the pebble
+pub member_by_parts : {labels pebbles size : ℕ} {words : List ℕ} (board : PlainBoard) (base : ℕ) (weights : List ℕ)
+    (gap place pebble tuple weight : ℕ)
+    → AreNumbersOf board labels pebbles base size weights words → gap < gaps board → place < places board
+    → pebble ≡ gap / gaps_each board → pebble < board.pebbles → tuple ≡ gap % gaps_each board
+    → weight ≡ weight_of board pebble
+    → ((tuple / weight * base + place) * weight + tuple % weight ≡ rank_of board (member_of board gap place))
+    × ((tuple / weight * base + place) * weight + tuple % weight < configurations board)
+member_by_parts board base weights gap place pebble tuple weight are below low pebble_is inside tuple_is weight_is =
+    let first = first_weight board base weights are in
+    let member = member_is_rank board base weights gap place are below low in
+    rw (weight_is ∙ sym (are.weighs pebble inside)) (rw (tuple_is ∙ ap (λ n. gap % n) (sym first))
+    (rw (pebble_is ∙ ap (λ n. gap / n) (sym first)) (member.rank_is, member.below)))
+
 -- each step of the place adds the weight of the gap's pebble to the rank of its member
 pub member_line : {labels pebbles size : ℕ} {words : List ℕ} (board : PlainBoard) (base : ℕ) (weights : List ℕ) (gap place : ℕ)
     → AreNumbersOf board labels pebbles base size weights words → gap < gaps board → place < places board

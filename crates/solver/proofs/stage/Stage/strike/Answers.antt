@@ -1,8 +1,9 @@
-use Rattle.std.proofs.Common.{◌≡◌, ◌-◌, ℕ, List, ◌∷◌, refl, slice_index, slice_set, sym, ap, ◌∙◌, subst, arith}
+use Rattle.std.proofs.Common.{◌≡◌, ◌+◌, ◌-◌, ◌<◌, ℕ, List, ◌∷◌, refl, length, get_or, slice_index, slice_set, sym, ap, ◌∙◌, subst, arith}
 use Rattle.std.proofs.lemmas.List.{get_or_read}
 use Rattle.index_lists.proofs.Cited.{times-here}
 use Rattle.board_text.specs.PlainBoard.{PlainBoard, IsBoard}
 use Rattle.positions.specs.Ranks.{configurations}
+use Rattle.positions.specs.Gaps.{gaps}
 use Rattle.solver.specs.Inside.Arena.{Dominant}
 use Rattle.solver.specs.Inside.BoardArena.{arena_of}
 use Rattle.solver.specs.Inside.Stage.{PlainStage, counting, IsStruckAt, IsStriking, Closes}
@@ -47,55 +48,69 @@ gap-gap-requires-clause-pebble g c =
     let pebble = (byte-dominates s c.self.inside.space c.self.inside.dominators.items c.args.rank c.index.result.now same c.self.invariant.2 c.requires.0 c.requires.1 byte_is).0 in
     omega (arith, pebble, ap (λ (b : PlainBoard). b.pebbles) same)
 
+-- the gap of a strike: that of the dominator, with its count
+record FindsGap (s : PlainStage) (rank pebble gap count : ℕ) : Type 0 where
+  is_board : IsBoard s.board
+  dominant : Dominant (arena_of s.board) rank pebble
+  gap_is : gap ≡ (arena_of s.board).gap rank pebble
+  some : 0 < count
+  one_more : slice_index s.counts gap ≡ count - 1 + 1
+
+finds_gap : (s v : PlainStage) (dominators : List ℕ) → v ≡ s → IsBoard v.board → AreDominators v.board dominators
+    → (rank pebble gap count : ℕ) (rest : List ℕ) → IsStriking s (rank ∷ rest)
+    → pebble ≡ get_or dominators rank pebble → gap ≡ (arena_of v.board).gap rank pebble
+    → gap < gaps v.board → length v.counts ≡ gaps v.board → count ≡ get_or v.counts gap count
+    → FindsGap s rank pebble gap count
+finds_gap s v dominators view is_board are rank pebble gap count rest k byte at below long counted =
+    let same = ap (λ (u : PlainStage). u.board) view in
+    let low = (first s rank rest k).is_rank in
+    let size = ap configurations same in
+    let board_is = subst IsBoard same is_board in
+    let byte_is = get_or_read dominators rank pebble (omega (arith, low, size, are.dominators_length)) byte 0 in
+    let dominant = byte-dominates s v.board dominators rank pebble same are rest k byte_is in
+    let gap_is : gap ≡ (arena_of s.board).gap rank pebble = at ∙ ap (λ (p : PlainBoard). (arena_of p).gap rank pebble) same in
+    let count_is = get_or_read v.counts gap count (omega (arith, below, long)) counted 0 in
+    let here = ap (λ (u : PlainStage). slice_index u.counts gap) view in
+    let left = count-left s board_is rank rest k pebble gap 0 dominant gap_is in
+    record {
+      is_board = board_is;
+      dominant = dominant;
+      gap_is = gap_is;
+      some = omega (arith, left, count_is, here);
+      one_more = omega (arith, left, count_is, here);
+    }
+
 pub overflow_sub-left : goal.overflow_sub-left
 overflow_sub-left g c =
     let s : PlainStage = c.args.self.now in
-    let small = c.self.invariant.0 in
-    let same : c.self.inside.space ≡ s.board = ap (λ (v : PlainStage). v.board) c.self.view_is in
-    let low = (first s c.args.rank c.requires.0 c.requires.1).is_rank in
-    let size = ap configurations same in
-    let byte_is = get_or_read c.self.inside.dominators.items c.args.rank c.index.result.now (omega (arith, low, size, c.self.invariant.2.dominators_length)) c.index.ensures 0 in
-    let dominant = byte-dominates s c.self.inside.space c.self.inside.dominators.items c.args.rank c.index.result.now same c.self.invariant.2 c.requires.0 c.requires.1 byte_is in
-    let gap_is : c.gap-gap.result ≡ (arena_of s.board).gap c.args.rank c.index.result.now =
-    c.gap-gap.ensures.gap ∙ ap (λ (b : PlainBoard). (arena_of b).gap c.args.rank c.index.result.now) same in
-    let count_is = get_or_read c.self.inside.counts.items c.gap-gap.result c.index-2.result.now (omega (arith, c.gap-gap.ensures.below, c.self.invariant.1.counts_length)) c.index-2.ensures 0 in
-    let left = count-left s (subst IsBoard same small.is_board) c.args.rank c.requires.0 c.requires.1 c.index.result.now c.gap-gap.result 0 dominant gap_is in
-    let here = ap (λ (v : PlainStage). slice_index v.counts c.gap-gap.result) c.self.view_is in
-    omega (arith, left, count_is, here)
+    let found = finds_gap s _ _ c.self.view_is c.self.invariant.0.is_board c.self.invariant.2
+    c.args.rank c.index.result.now c.gap-gap.result c.index-2.result.now c.requires.0 c.requires.1
+    c.index.ensures c.gap-gap.ensures.gap c.gap-gap.ensures.below c.self.invariant.1.counts_length c.index-2.ensures in
+    omega (arith, found.some)
 
 pub returns-then-left-eq0-clause-struck : goal.returns-then-left-eq0-clause-struck
 returns-then-left-eq0-clause-struck g c = λ rest k.
     let s : PlainStage = c.args.self.now in
+    let found = finds_gap s _ _ c.self.view_is c.self.invariant.0.is_board c.self.invariant.2
+    c.args.rank c.index.result.now c.gap-gap.result c.index-2.result.now rest k
+    c.index.ensures c.gap-gap.ensures.gap c.gap-gap.ensures.below c.self.invariant.1.counts_length c.index-2.ensures in
     let small = c.self.invariant.0 in
-    let same : c.self.inside.space ≡ s.board = ap (λ (v : PlainStage). v.board) c.self.view_is in
-    let low = (first s c.args.rank rest k).is_rank in
-    let size = ap configurations same in
-    let byte_is = get_or_read c.self.inside.dominators.items c.args.rank c.index.result.now (omega (arith, low, size, c.self.invariant.2.dominators_length)) c.index.ensures 0 in
-    let dominant = byte-dominates s c.self.inside.space c.self.inside.dominators.items c.args.rank c.index.result.now same c.self.invariant.2 rest k byte_is in
-    let gap_is : c.gap-gap.result ≡ (arena_of s.board).gap c.args.rank c.index.result.now =
-    c.gap-gap.ensures.gap ∙ ap (λ (b : PlainBoard). (arena_of b).gap c.args.rank c.index.result.now) same in
-    let count_is = get_or_read c.self.inside.counts.items c.gap-gap.result c.index-2.result.now (omega (arith, c.gap-gap.ensures.below, c.self.invariant.1.counts_length)) c.index-2.ensures 0 in
-    let left = count-left s (subst IsBoard same small.is_board) c.args.rank rest k c.index.result.now c.gap-gap.result 0 dominant gap_is in
-    let here = ap (λ (v : PlainStage). slice_index v.counts c.gap-gap.result) c.self.view_is in
+    let size = ap (λ (v : PlainStage). configurations v.board) c.self.view_is in
     let value_is = ap (λ (v : PlainStage). v.value) c.self.view_is in
-    struck-closed s (subst IsBoard same small.is_board) c.args.rank rest k c.index.result.now c.gap-gap.result (c.index-2.result.now - 1) dominant gap_is (omega (arith, left, count_is, here)) c.close_gap.new.self
-    c.if-left-eq0.true (omega (arith, small.few, size)) (omega (arith, small.low, size, value_is))
-    (subst (λ (v : PlainStage). Closes v c.gap-gap.result c.close_gap.new.self) (ap (λ (v : PlainStage). counting v (slice_set v.counts c.gap-gap.result (c.index-2.result.now - 1))) c.self.view_is) c.close_gap.ensures)
+    let counted = ap (λ (v : PlainStage). counting v (slice_set v.counts c.gap-gap.result (c.index-2.result.now - 1))) c.self.view_is in
+    struck-closed s found.is_board c.args.rank rest k c.index.result.now c.gap-gap.result (c.index-2.result.now - 1)
+    found.dominant found.gap_is found.one_more c.close_gap.new.self c.if-left-eq0.true
+    (omega (arith, small.few, size)) (omega (arith, small.low, size, value_is))
+    (subst (λ (v : PlainStage). Closes v c.gap-gap.result c.close_gap.new.self) counted c.close_gap.ensures)
 
 pub returns-else-left-eq0-clause-struck : goal.returns-else-left-eq0-clause-struck
 returns-else-left-eq0-clause-struck g c = λ rest k.
     let s : PlainStage = c.args.self.now in
-    let small = c.self.invariant.0 in
-    let same : c.self.inside.space ≡ s.board = ap (λ (v : PlainStage). v.board) c.self.view_is in
-    let low = (first s c.args.rank rest k).is_rank in
-    let size = ap configurations same in
-    let byte_is = get_or_read c.self.inside.dominators.items c.args.rank c.index.result.now (omega (arith, low, size, c.self.invariant.2.dominators_length)) c.index.ensures 0 in
-    let dominant = byte-dominates s c.self.inside.space c.self.inside.dominators.items c.args.rank c.index.result.now same c.self.invariant.2 rest k byte_is in
-    let gap_is : c.gap-gap.result ≡ (arena_of s.board).gap c.args.rank c.index.result.now =
-    c.gap-gap.ensures.gap ∙ ap (λ (b : PlainBoard). (arena_of b).gap c.args.rank c.index.result.now) same in
-    let count_is = get_or_read c.self.inside.counts.items c.gap-gap.result c.index-2.result.now (omega (arith, c.gap-gap.ensures.below, c.self.invariant.1.counts_length)) c.index-2.ensures 0 in
-    let left = count-left s (subst IsBoard same small.is_board) c.args.rank rest k c.index.result.now c.gap-gap.result 0 dominant gap_is in
-    let here = ap (λ (v : PlainStage). slice_index v.counts c.gap-gap.result) c.self.view_is in
+    let found = finds_gap s _ _ c.self.view_is c.self.invariant.0.is_board c.self.invariant.2
+    c.args.rank c.index.result.now c.gap-gap.result c.index-2.result.now rest k
+    c.index.ensures c.gap-gap.ensures.gap c.gap-gap.ensures.below c.self.invariant.1.counts_length c.index-2.ensures in
     let some = c.if-left-eq0.false in
-    subst (λ (v : PlainStage). IsStriking v rest) (sym (ap (λ (v : PlainStage). counting v (slice_set v.counts c.gap-gap.result (c.index-2.result.now - 1))) c.self.view_is))
-    (struck-some s (subst IsBoard same small.is_board) c.args.rank rest k c.index.result.now c.gap-gap.result (c.index-2.result.now - 1) dominant gap_is (omega (arith, left, count_is, here)) (omega arith))
+    let counted = ap (λ (v : PlainStage). counting v (slice_set v.counts c.gap-gap.result (c.index-2.result.now - 1))) c.self.view_is in
+    subst (λ (v : PlainStage). IsStriking v rest) (sym counted)
+    (struck-some s found.is_board c.args.rank rest k c.index.result.now c.gap-gap.result (c.index-2.result.now - 1)
+    found.dominant found.gap_is found.one_more (omega arith))
