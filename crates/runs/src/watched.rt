@@ -9,7 +9,7 @@ use board_text::{Failed, MAX_LABELS, MAX_PEBBLES, Source};
 /// The number of first bytes that are kept. The first three lines of a board have at most 29.
 const HEAD_BYTES: usize = 32;
 
-// So many they have with three digits for the labels and one for the pebbles.
+// They have 29 bytes with three digits for the labels and one for the pebbles.
 const _: () = prove!(MAX_LABELS < 1000);
 
 const _: () = prove!(MAX_PEBBLES < 10);
