@@ -9,11 +9,12 @@ TOP = os.path.dirname(os.path.dirname(os.path.abspath(__file__)))
 BOARDS = os.path.join(TOP, 'boards')
 CRATES = os.path.join(TOP, 'crates')
 PROGRAM = os.path.join(CRATES, 'pebbles', 'out', 'pebbles')
-TESTS = os.path.join(CRATES, 'acceptance', 'out', 'acceptance_tests')
 # the words that build the program, as README.md has them, and the output of the run that they end with
 BUILD = '(cd crates/pebbles && rt run < stdin)'
 BUILT = 'accepted least 2\n'
-BUILD_TESTS = '(cd crates/acceptance && rt test)'
+# the crates of tests, lowest first, and the crates whose parts they share
+TEST_CRATES = ('board_tests', 'solving_tests', 'round_tests', 'document_tests', 'play_tests', 'command_tests', 'acceptance')
+FOR_TESTS = ('fakes', 'solved_boards', *TEST_CRATES)
 
 
 @dataclass
@@ -25,19 +26,33 @@ class Check:
 
 # ---- what is built
 
-def newest():
-    """The time of the last change of a file that the crates are built from."""
-    files = [os.path.join(TOP, 'crates.txt')]
-    for crate in os.listdir(CRATES):
+def standing(top):
+    """The crates, each after those that it stands on, with these."""
+    below = {}
+    with open(os.path.join(top, 'crates.txt')) as file:
+        for line in file:
+            if ':' in line and not line.startswith('#'):
+                name, _, others = line.partition(':')
+                below[name.split()[0]] = [other for other in others.split() if other in below]
+    return below
+
+
+def newest(crate):
+    """The time of the last change of a file that the crate is built from."""
+    files, below, built_from = [os.path.join(TOP, 'crates.txt')], standing(TOP), {crate}
+    for name in reversed(below):
+        if name in built_from:
+            built_from.update(below[name])
+    for name in built_from:
         for part in ('src', 'specs', 'proofs'):
-            for folder, _, names in os.walk(os.path.join(CRATES, crate, part)):
-                files += [os.path.join(folder, name) for name in names]
+            for folder, _, found in os.walk(os.path.join(CRATES, name, part)):
+                files += [os.path.join(folder, file) for file in found]
     return max(os.stat(file).st_mtime for file in files)
 
 
-def is_built(path):
-    """Whether this was built, and nothing that it is built from has changed since."""
-    return os.access(path, os.X_OK) and os.stat(path).st_mtime >= newest()
+def is_built(path, crate):
+    """Whether this was built from the crate, and nothing that it is built from has changed since."""
+    return os.access(path, os.X_OK) and os.stat(path).st_mtime >= newest(crate)
 
 
 def build(words):
@@ -47,19 +62,27 @@ def build(words):
 
 def lacks_program():
     """None, or why there is no program that is built from the files as they are. It is built where it isn't there or is older."""
-    if is_built(PROGRAM):
+    if is_built(PROGRAM, 'pebbles'):
         return None
     done = build(BUILD)
-    if not is_built(PROGRAM):
+    if not is_built(PROGRAM, 'pebbles'):
         return f'no program at {os.path.relpath(PROGRAM, TOP)}: {done.stderr[-400:]}'
     return None if done.stdout == BUILT else f'{BUILD} wrote {done.stdout!r}, and not {BUILT!r}'
 
 
+def tests_of(crate):
+    """The program that runs the tests of a crate."""
+    return os.path.join(CRATES, crate, 'out', f'{crate}_tests')
+
+
 def lacks_tests():
-    """None, or why there are no tests of `acceptance` that are built from the files as they are."""
-    if not is_built(TESTS):
-        build(BUILD_TESTS)
-    return None if is_built(TESTS) else f'no tests at {os.path.relpath(TESTS, TOP)}'
+    """None, or which crate has no tests that are built from the files as they are. They are built where they aren't there or are older."""
+    for crate in TEST_CRATES:
+        if not is_built(tests_of(crate), crate):
+            build(f'(cd crates/{crate} && rt test)')
+        if not is_built(tests_of(crate), crate):
+            return f'no tests at {os.path.relpath(tests_of(crate), TOP)}'
+    return None
 
 
 # ---- checks and the closing line

@@ -1,23 +1,21 @@
-//! Runs of checks and of nested boards, over readers and writers that are slow, that fail, and that are refused memory.
+//! Runs of checks and of nested boards, over readers and writers that are slow, that fail, and that
+//! are refused memory.
 
-use board_text::{BoardFault, BoardKind, Sink, Source};
+use crate::outcomes::{NOTHING, PLENTY, outcome_of};
+use board_text::{BoardFault, BoardKind, Source};
 use fakes::boards::{CHAIN_OF_THREE, CYCLE_WITH_ONE_PEBBLE, TOO_MANY_CONFIGURATIONS};
 use fakes::documents::CHAIN_LEAST_TWO;
 use fakes::{Drip, Failing, Outcome, Trickle, comes_right};
 use proof_check::{CheckFault, Shown, Side};
 use proof_text::{Claim, ProofFault, ProofKind};
 use runs::{
-    RunFault, Verdict, VerdictLine, check_joined_text, check_text, front_len, nested_text,
+    RunFault, Verdict, VerdictLine, board_length, check_joined_text, check_text, nested_text,
     run_check, run_joined, run_nested, small_board,
 };
 use std::alloc::{AllocError, Global};
 use std::thread::Threads;
 
-const PLENTY: usize = 100_000;
-
 const ROOM: usize = 100;
-
-const NOTHING: &[u8] = b"";
 
 const ACCEPTED: &[u8] = b"accepted least 2\n";
 
@@ -29,7 +27,7 @@ const SHOWN: Checked = Ok(Verdict::Accepted(Shown {
     claim: Claim::AtLeast(2),
 }));
 
-/// The parts of a joined text, and how many calls of each end go well.
+/// The parts of a joined text, and the number of calls of each end that go well.
 #[derive(Clone, Copy)]
 struct Joined {
     board: &'static str,
@@ -47,14 +45,15 @@ const JOINED: Joined = Joined {
     failing: Failing::Refuses,
 };
 
-/// The text of a board with that of a document behind it.
+/// The text of a board, and after it that of a document.
 fn joined_text(alloc: Global, board: &str, document: &str) -> Result<String, AllocError> {
     let mut text = String::from_str(alloc, board)?;
     text.push_str(document)?;
     Ok(text)
 }
 
-/// Whether a run answers and writes what it should, when it is asked once more where it was refused memory.
+/// Whether a run comes to this answer and writes this. It is asked once more if it was refused
+/// memory.
 fn serves(
     rt: &(impl Threads + Sync),
     alloc: Global,
@@ -65,7 +64,8 @@ fn serves(
     comes_right(|| joined_outcome(rt, alloc, joined, wanted, written))
 }
 
-/// Whether a run answers and writes what it should, or was refused memory and wrote nothing; and whether the ends failed where it says so.
+/// The outcome of a run that is to come to this answer and to write this. Its ends fail exactly if
+/// the answer says so.
 fn joined_outcome(
     rt: &(impl Threads + Sync),
     alloc: Global,
@@ -79,25 +79,20 @@ fn joined_outcome(
     let mut reader = Drip::new(text.as_bytes(), joined.reads);
     let mut writer = Trickle::<ROOM>::new(joined.writes, joined.failing);
     let answer = run_joined(rt, alloc, &mut reader, &mut writer);
-    let told = reader.failed() == (answer == Err(RunFault::Read))
-        && writer.failed() == (answer == Err(RunFault::Write));
-    let is_refused = answer == Err(RunFault::Memory);
-    let is_right = if is_refused {
-        writer.taken().is_empty()
-    } else {
-        answer == wanted && writer.taken() == written
-    };
-    Outcome::of(is_refused, told && is_right)
+    outcome_of(answer, wanted, reader.failed(), &writer, written, NOTHING)
 }
 
 #[test]
-fn fronts(rt: HostRuntime) {
-    assert_eq!(rt; front_len(b"ab\nend\nrest\nend\n"), 7);
-    assert_eq!(rt; front_len(b"end\n"), 4);
-    assert_eq!(rt; front_len(b"end"), 3);
-    assert_eq!(rt; front_len(b"xend\n end\nend \nend"), 18);
-    assert_eq!(rt; front_len(b"xend\nend\n"), 9);
-    assert_eq!(rt; front_len(CHAIN_OF_THREE.as_bytes()), CHAIN_OF_THREE.len());
+fn board_lengths(rt: HostRuntime) {
+    assert_eq!(rt; board_length(b"ab\nend\nrest\nend\n"), 7);
+    assert_eq!(rt; board_length(b"end\n"), 4);
+    assert_eq!(rt; board_length(b"end"), 3);
+    assert_eq!(rt; board_length(b"xend\n end\nend \nend"), 18);
+    assert_eq!(rt; board_length(b"xend\nend\n"), 9);
+    assert_eq!(rt;
+        board_length(CHAIN_OF_THREE.as_bytes()),
+        CHAIN_OF_THREE.len()
+    );
 }
 
 #[test]
@@ -114,7 +109,8 @@ fn one_byte_a_call(rt: HostRuntime) {
     assert!(rt; serves(&rt, alloc, unlisted, missing, REFUSED));
 }
 
-/// Whether a text with this board and no document is refused for the board's fault, with nothing written.
+/// Whether a text with this board and no document is refused for the board's fault, with nothing
+/// written.
 fn refuses_board(
     rt: &(impl Threads + Sync),
     alloc: Global,
@@ -181,7 +177,7 @@ fn a_write_fails_at_each_call(rt: HostRuntime) {
     }
 }
 
-/// Two texts, and how many calls of each end go well.
+/// Two texts, and the number of calls of each end that go well.
 #[derive(Clone, Copy)]
 struct Ends {
     board: &'static str,
@@ -191,8 +187,8 @@ struct Ends {
     writes: usize,
 }
 
-/// Whether a check of two readers answers and writes what it should, and leaves so much of the document, when it is asked once more
-/// where it was refused memory.
+/// Whether a check of two readers comes to this answer, writes this, and leaves these bytes of the
+/// document. It is asked once more if it was refused memory.
 fn checks(
     rt: &(impl Threads + Sync),
     alloc: Global,
@@ -204,8 +200,8 @@ fn checks(
     comes_right(|| check_outcome(rt, alloc, ends, wanted, written, left))
 }
 
-/// Whether a check of two readers answers and writes what it should, or was refused memory and wrote nothing;
-/// whether the ends failed where it says so; and whether so much of the document is left.
+/// The outcome of a check of two readers that is to come to this answer, to write this, and to
+/// leave these bytes of the document. Its ends fail exactly if the answer says so.
 fn check_outcome(
     rt: &(impl Threads + Sync),
     alloc: Global,
@@ -218,15 +214,11 @@ fn check_outcome(
     let mut proof = Drip::new(ends.proof.as_bytes(), ends.proof_reads);
     let mut writer = Trickle::<ROOM>::new(ends.writes, Failing::Refuses);
     let answer = run_check(rt, alloc, &mut board, &mut proof, &mut writer);
-    let told = (board.failed() || proof.failed()) == (answer == Err(RunFault::Read))
-        && writer.failed() == (answer == Err(RunFault::Write));
-    let is_refused = answer == Err(RunFault::Memory);
-    let is_right = if is_refused {
-        writer.taken().is_empty()
-    } else {
-        answer == wanted && writer.taken() == written && proof.rest() == left
-    };
-    Outcome::of(is_refused, told && is_right)
+    let read_failed = board.failed() || proof.failed();
+    match outcome_of(answer, wanted, read_failed, &writer, written, NOTHING) {
+        Outcome::Right if proof.rest() != left => Outcome::Wrong,
+        outcome => outcome,
+    }
 }
 
 const READY: Ends = Ends {
@@ -298,7 +290,7 @@ fn two_readers_that_fail_at_each_call(rt: HostRuntime) {
     }
 }
 
-/// Whether so much of the nested board is written as the writer takes, or memory was refused and nothing was written.
+/// The outcome of a run that is to write the nested board, as far as the writer takes it.
 fn nested_outcome(alloc: Global, writes: usize) -> Outcome {
     let text = CYCLE_WITH_ONE_PEBBLE.as_bytes();
     let mut writer = Trickle::<ROOM>::new(writes, Failing::Refuses);
@@ -308,14 +300,8 @@ fn nested_outcome(alloc: Global, writes: usize) -> Outcome {
     } else {
         Ok(())
     };
-    let is_refused = answer == Err(RunFault::Memory);
-    let is_right = if is_refused {
-        writer.taken().is_empty()
-    } else {
-        answer == wanted && writer.taken() == text.get(..writes).unwrap_or(text)
-    };
-    let told = writer.failed() == (answer == Err(RunFault::Write));
-    Outcome::of(is_refused, told && is_right)
+    let written = text.get(..writes).unwrap_or(text);
+    outcome_of(answer, wanted, false, &writer, written, NOTHING)
 }
 
 #[test]
@@ -329,7 +315,7 @@ fn a_nested_board(rt: HostRuntime) {
     }
 }
 
-/// Whether the text of the nested board is this, or memory was refused.
+/// The outcome of a call that is to give the text of the nested board.
 fn nested_text_outcome(alloc: Global) -> Outcome {
     match nested_text(alloc, 2, 1) {
         Ok(text) => Outcome::of(false, text.as_str() == CYCLE_WITH_ONE_PEBBLE),
@@ -337,7 +323,7 @@ fn nested_text_outcome(alloc: Global) -> Outcome {
     }
 }
 
-/// Whether the answer to a text is this one with its line, or memory was refused.
+/// The outcome of a call that is to give this answer with its line.
 fn answer_outcome(answer: Result<VerdictLine, RunFault>, wanted: Checked, line: &[u8]) -> Outcome {
     match answer {
         Ok(answer) => {
@@ -351,7 +337,7 @@ fn answer_outcome(answer: Result<VerdictLine, RunFault>, wanted: Checked, line: 
     }
 }
 
-/// What is answered to the text of a document for a board with this text.
+/// The answer to the text of a document for a board with this text.
 fn check_both_texts(
     rt: &(impl Threads + Sync),
     alloc: Global,
@@ -362,7 +348,7 @@ fn check_both_texts(
     check_text(rt, alloc, &board, proof.as_bytes())
 }
 
-/// Whether the text of the chain with its document is accepted, or memory was refused.
+/// The outcome of a call that is to accept the text of the chain with its document.
 fn joined_text_outcome(rt: &(impl Threads + Sync), alloc: Global) -> Outcome {
     let Ok(text) = joined_text(alloc, CHAIN_OF_THREE, CHAIN_LEAST_TWO) else {
         return Outcome::Refused;

@@ -1,7 +1,9 @@
-//! Plays over readers and writers that are slow, that fail, that look at what was written, and that are refused memory.
+//! Plays over readers and writers that are slow, that fail, that look at the written bytes, and
+//! that are refused memory.
 
 ghost use Rattle.std.specs.Prelude.{false};
 
+use crate::outcomes::{NOTHING, PLENTY, outcome_of};
 use board_text::{BoardFault, BoardKind, Failed, Sink, Source};
 use fakes::boards::{CHAIN_OF_THREE, THREE_CYCLE, TOO_MANY_CONFIGURATIONS};
 use fakes::plays::{ANSWERS, ASKED, NO_STRATEGY, REPLIES, REQUESTS};
@@ -12,17 +14,13 @@ use runs::{RunFault, run_play};
 use std::alloc::Global;
 use std::cell::Cell;
 
-const PLENTY: usize = 100_000;
-
 const ROOM: usize = 200;
-
-const NOTHING: &[u8] = b"";
 
 /// The replies to the first three lines, and that the input ended.
 const STOPPED_REPLIES: &[u8] =
     b"value 2\nat 0 0\npebble 1 takes 1\nat 0 1\nnot a request\npebble 0 takes 2\nat 2 1\nstopped after 2 requests\n";
 
-/// A play: the person's side, the texts, and how many calls of each end go well.
+/// A play: the person's side, the texts, and the number of calls of each end that go well.
 #[derive(Clone, Copy)]
 struct Play {
     side: Side,
@@ -52,13 +50,14 @@ const ANSWERING: Play = Play {
 
 const STUCK: Result<PlayEnd, RunFault> = Ok(PlayEnd::Stuck { requests: 2 });
 
-/// Whether a play answers and writes what it should, when it is asked once more where it was refused memory.
+/// Whether a play comes to this answer and writes this. It is asked once more if it was refused
+/// memory.
 fn serves(alloc: Global, play: Play, wanted: Result<PlayEnd, RunFault>, written: &[u8]) -> bool {
     comes_right(|| outcome(alloc, play, wanted, written))
 }
 
-/// Whether a play answers and writes what it should, or was refused memory and wrote a front of that;
-/// and whether the ends failed where it says so.
+/// The outcome of a play that is to come to this answer and to write this, or a prefix of it if it
+/// is refused memory. Its ends fail exactly if the answer says so.
 fn outcome(
     alloc: Global,
     play: Play,
@@ -69,18 +68,11 @@ fn outcome(
     let mut lines = Drip::new(play.lines, play.line_reads);
     let mut writer = Trickle::<ROOM>::new(play.writes, play.failing);
     let answer = run_play(alloc, play.side, &mut board, &mut lines, &mut writer);
-    let told = (board.failed() || lines.failed()) == (answer == Err(RunFault::Read))
-        && writer.failed() == (answer == Err(RunFault::Write));
-    let is_refused = answer == Err(RunFault::Memory);
-    let is_right = if is_refused {
-        written.starts_with(writer.taken())
-    } else {
-        answer == wanted && writer.taken() == written
-    };
-    Outcome::of(is_refused, told && is_right)
+    let read_failed = board.failed() || lines.failed();
+    outcome_of(answer, wanted, read_failed, &writer, written, written)
 }
 
-/// The answer to lines of a person who asks, and what is written beside the opening.
+/// Whether a play of a person who asks by these lines comes to this answer and writes this.
 fn asks(
     alloc: Global,
     lines: &'static [u8],
@@ -202,7 +194,7 @@ fn a_read_of_the_board_fails_at_each_call(rt: HostRuntime) {
     }
 }
 
-/// What was written when this many bytes of the requests were read.
+/// The bytes that are written by the time that this number of bytes of the requests is read.
 fn replies_after(read: usize) -> &'static [u8] {
     let size = match read {
         0 | 1 => 15,
@@ -248,7 +240,7 @@ fn a_write_fails_at_each_call(rt: HostRuntime) {
     }
 }
 
-/// What a writer has taken, as far as there is room.
+/// The bytes that a writer has taken, as far as there is room.
 #[derive(Clone, Copy)]
 struct Notes {
     bytes: [u8; ROOM],
@@ -275,7 +267,7 @@ const NO_NOTES: Notes = Notes {
     count: 0,
 };
 
-/// Takes all, and notes it where others can look.
+/// Takes all bytes, and notes them in a cell that others can look at.
 #[derive(Drop)]
 struct Noting<'a> {
     noted: &'a Cell<Notes>,
@@ -296,7 +288,8 @@ impl Sink for Noting<'_> {
     }
 }
 
-/// Gives one line a call, and looks whether that was written which is to be written before that line, and no more.
+/// Gives one line a call, and looks whether exactly the bytes that are to be written before that
+/// line were written.
 #[derive(Drop)]
 struct Watching<'a> {
     written: &'a [u8],
@@ -333,7 +326,8 @@ impl Source for Watching<'_> {
     }
 }
 
-/// Whether a play in which each of the lines is asked for when so much was written ends stuck, with all written.
+/// The outcome of a play that is to end stuck, with all bytes written. Each line is to be asked for
+/// after the number of written bytes that stands beside it.
 fn watched_outcome(
     alloc: Global,
     side: Side,
@@ -371,7 +365,7 @@ fn each_answer_is_written_before_the_next_read(rt: HostRuntime) {
     assert!(rt; comes_right(|| watched_outcome(alloc, Side::Labeller, &answers, ASKED)));
 }
 
-/// Takes all, and counts how many bytes that is.
+/// Takes all bytes, and counts them.
 #[derive(Drop)]
 struct Counting {
     count: usize,
@@ -409,7 +403,8 @@ impl Source for Junk {
     }
 }
 
-/// Whether a play is broken off behind a million lines, each of which was answered.
+/// The outcome of a play that is to be broken off after a million lines, each of which was
+/// answered.
 fn million_outcome(alloc: Global) -> Outcome {
     let mut board = Drip::new(CHAIN_OF_THREE.as_bytes(), PLENTY);
     let mut writer = Counting { count: 0 };

@@ -1,8 +1,10 @@
-//! Solving and reporting over readers and writers that are slow, that fail, and that are refused memory.
+//! Solving and reporting over readers and writers that are slow, that fail, and that are refused
+//! memory.
 
 ghost use Rattle.board_text.specs.Ranges.{InRange};
 
-use board_text::{BoardFault, BoardKind, Sink, Source};
+use crate::outcomes::{NOTHING, PLENTY, outcome_of};
+use board_text::{BoardFault, BoardKind, Source};
 use fakes::boards::{ONE_PAIR, TOO_MANY_CONFIGURATIONS};
 use fakes::documents::PAIR_VALUE_ONE;
 use fakes::{Drip, Failing, Outcome, Trickle, comes_right};
@@ -16,17 +18,13 @@ use std::alloc::Global;
 use std::sync::Wait;
 use std::thread::Threads;
 
-const PLENTY: usize = 100_000;
-
 const ROOM: usize = 200;
 
-const NOTHING: &[u8] = b"";
-
-/// Of the board `ONE_PAIR`: where a pebble is on 1, the other has no legal label.
+/// The report of the board `ONE_PAIR`: if a pebble is on 1, the other has no legal label.
 const PAIR_REPORT: &[u8] =
     b"report 1\nlabels 2\npebbles 2\nconfigurations 4\nstart value 1\nvalue 0: 3\nvalue 1: 1\nforever: 0\nend\n";
 
-/// What is asked for, on this thread or by several workers.
+/// The command that is asked for, on this thread or by several workers.
 #[derive(Clone, Copy, Debug, PartialEq, Eq)]
 enum Command {
     Solve,
@@ -42,7 +40,7 @@ const COMMANDS: [Command; 4] = [
     Command::ReportBySixteen,
 ];
 
-/// A board's text, and how many calls of each end go well.
+/// A board's text, and the number of calls of each end that go well.
 #[derive(Clone, Copy)]
 struct Ends {
     board: &'static str,
@@ -58,7 +56,8 @@ const READY: Ends = Ends {
     failing: Failing::Refuses,
 };
 
-/// Whether a run answers and writes what it should, when it is asked once more where it was refused memory. A report answers no value.
+/// Whether a run comes to this answer, which has no value for a report, and writes this. It is
+/// asked once more if it was refused memory.
 fn serves(
     rt: &(impl Threads + Wait + Sync),
     alloc: Global,
@@ -70,7 +69,8 @@ fn serves(
     comes_right(|| outcome(rt, alloc, command, ends, wanted, written))
 }
 
-/// Whether a run answers and writes what it should, or was refused memory and wrote nothing; and whether the ends failed where it says so.
+/// The outcome of a run that is to come to this answer and to write this. Its ends fail exactly if
+/// the answer says so.
 fn outcome(
     rt: &(impl Threads + Wait + Sync),
     alloc: Global,
@@ -89,15 +89,7 @@ fn outcome(
             run_report_by(rt, alloc, 16, &mut reader, &mut writer).map(|()| None)
         }
     };
-    let told = reader.failed() == (answer == Err(RunFault::Read))
-        && writer.failed() == (answer == Err(RunFault::Write));
-    let is_refused = answer == Err(RunFault::Memory);
-    let is_right = if is_refused {
-        writer.taken().is_empty()
-    } else {
-        answer == wanted && writer.taken() == written
-    };
-    Outcome::of(is_refused, told && is_right)
+    outcome_of(answer, wanted, reader.failed(), &writer, written, NOTHING)
 }
 
 #[test]
@@ -116,7 +108,7 @@ fn one_byte_a_call(rt: HostRuntime) {
     }
 }
 
-/// Whether the text is solved and reported as the pair is, or memory was refused.
+/// The outcome of two calls that are to give the document and the report of the pair.
 fn pair_outcome(solved: Result<Solved, RunFault>, report: Result<String, RunFault>) -> Outcome {
     let (Ok(solved), Ok(report)) = (solved, report) else {
         return Outcome::Refused;
@@ -125,7 +117,7 @@ fn pair_outcome(solved: Result<Solved, RunFault>, report: Result<String, RunFaul
     Outcome::of(false, is_solved && report.as_bytes() == PAIR_REPORT)
 }
 
-/// Whether the text of the pair is solved and reported by so many workers as it should be, or memory was refused.
+/// The outcome of solving and reporting the text of the pair by this number of workers.
 fn text_outcome(rt: &(impl Threads + Wait + Sync), alloc: Global, workers: u8) -> Outcome
     requires { InRange 1 MAX_WORKERS workers }
 {
@@ -135,7 +127,7 @@ fn text_outcome(rt: &(impl Threads + Wait + Sync), alloc: Global, workers: u8) -
     )
 }
 
-/// The same on this thread.
+/// The outcome of solving and reporting the text of the pair on this thread.
 fn text_outcome_alone(alloc: Global) -> Outcome {
     pair_outcome(
         solve_text(alloc, ONE_PAIR.as_bytes()),

@@ -2,6 +2,7 @@
 
 ghost use Rattle.runs.specs.Folders.{Unknown};
 
+use crate::outcomes::PLENTY;
 use board_text::Failed;
 use fakes::boards::CHAIN_OF_THREE;
 use fakes::documents::CHAIN_LEAST_TWO;
@@ -10,8 +11,6 @@ use runs::{Folder, Terminals, Trouble, Words, serve};
 use std::alloc::Global;
 use std::sync::Wait;
 use std::thread::Threads;
-
-const PLENTY: usize = 100_000;
 
 const ROOM: usize = 200;
 
@@ -58,7 +57,7 @@ struct Served {
     errors: &'static str,
 }
 
-/// What serving the words with this standard input comes to.
+/// The outcome of words that are to be served so, with this standard input.
 fn outcome(
     rt: &(impl Threads + Wait + Sync),
     alloc: Global,
@@ -87,7 +86,7 @@ fn outcome(
     Outcome::of(is_refused, is_refused || is_right)
 }
 
-/// Whether the words are served so.
+/// Whether the words are served so, with this standard input and no terminal.
 fn comes_to(
     rt: &(impl Threads + Wait + Sync),
     alloc: Global,

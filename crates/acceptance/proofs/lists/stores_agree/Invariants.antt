@@ -1,7 +1,0 @@
-use Rattle.std.proofs.Common.{◌≡◌}
-use Rattle.acceptance.specs.declared.lists.TheConstants.{NODES, LISTS}
-use Rattle.acceptance.proofs.lists.stores_agree.Given as goal
-
-abbrev pub invariant-loop-turn : goal.invariant-loop-turn
-invariant-loop-turn g l =
-    (l.plain.nodes ≡ NODES) × (l.plain.lists ≡ LISTS) × (l.linked.nodes ≡ NODES) × (l.linked.lists ≡ LISTS)

@@ -1,5 +1,0 @@
-use Rattle.claim_round.specs.Shared.{IsOf}
-use Rattle.acceptance.proofs.shared_rounds.work.Given as goal
-
-abbrev pub invariant-loop : goal.invariant-loop
-invariant-loop g l = IsOf l.round l.seat

@@ -1,0 +1,230 @@
+//! The jobs that the words of command lines ask for.
+
+use command_line::{Job, JobFault, job};
+use positions::Side;
+use std::alloc::Global;
+use std::process::Abort;
+
+/// The answer of `job`, which is asked once more if it was refused memory.
+pub(crate) fn job_of<'a>(alloc: Global, words: &'a [&'a str]) -> Result<Job<'a>, JobFault> {
+    match job(alloc, words) {
+        Err(JobFault::Memory) => job(alloc, words),
+        answer => answer,
+    }
+}
+
+/// Asserts that the words ask for this job.
+fn assert_asks(rt: &impl Abort, alloc: Global, words: &[&str], wanted: Job<'_>) {
+    match job_of(alloc, words) {
+        Ok(job) => assert_eq!(rt; job, wanted),
+        Err(_) => panic!(rt; "the words are none of the program's"),
+    }
+}
+
+/// Asserts that the words ask for nothing that can be done.
+fn assert_usage(rt: &impl Abort, alloc: Global, words: &[&str]) {
+    match job_of(alloc, words) {
+        Err(JobFault::Usage { text }) => assert!(rt; text.starts_with("error: ")),
+        _ => panic!(rt; "the words are taken"),
+    }
+}
+
+/// Asserts that the words ask for help or for the version, in whose text the other word stands.
+fn assert_help(rt: &impl Abort, alloc: Global, words: &[&str], within: &str) {
+    match job_of(alloc, words) {
+        Err(JobFault::Help { text }) => assert!(rt; text.contains(within)),
+        _ => panic!(rt; "no text is given"),
+    }
+}
+
+#[test]
+fn no_words(rt: HostRuntime) {
+    assert_asks(&rt, rt.alloc(), &[], Job::Joined);
+    assert_asks(&rt, rt.alloc(), &["pebbles"], Job::Joined);
+}
+
+#[test]
+fn checks(rt: HostRuntime) {
+    for (words, board, proof) in [
+        (["pebbles", "check", "a", "b"].as_slice(), "a", "b"),
+        (["pebbles", "check", "", ""].as_slice(), "", ""),
+        (["pebbles", "check", "-", "b"].as_slice(), "-", "b"),
+        (
+            ["pebbles", "check", "--", "--help", "-x"].as_slice(),
+            "--help",
+            "-x",
+        ),
+    ] {
+        assert_asks(&rt, rt.alloc(), words, Job::Check { board, proof });
+    }
+}
+
+#[test]
+fn nested_boards(rt: HostRuntime) {
+    for (words, levels, pebbles) in [
+        (["pebbles", "nested", "1", "6"].as_slice(), 1, 6),
+        (["pebbles", "nested", "6", "1"].as_slice(), 6, 1),
+        (["pebbles", "nested", "02", "+3"].as_slice(), 2, 3),
+        (["pebbles", "nested", "--", "4", "5"].as_slice(), 4, 5),
+    ] {
+        assert_asks(&rt, rt.alloc(), words, Job::Nested { levels, pebbles });
+    }
+}
+
+#[test]
+fn solving(rt: HostRuntime) {
+    for (words, workers) in [
+        (["pebbles", "solve", "a"].as_slice(), 1),
+        (["pebbles", "solve", "--workers", "2", "a"].as_slice(), 2),
+        (["pebbles", "solve", "a", "--workers=16"].as_slice(), 16),
+        (
+            ["pebbles", "solve", "--workers", "1", "--", "a"].as_slice(),
+            1,
+        ),
+    ] {
+        assert_asks(
+            &rt,
+            rt.alloc(),
+            words,
+            Job::Solve {
+                workers,
+                board: "a",
+            },
+        );
+    }
+}
+
+#[test]
+fn reports(rt: HostRuntime) {
+    for (words, workers, board) in [
+        (["pebbles", "report", "a"].as_slice(), 1, "a"),
+        (["pebbles", "report", "--workers=3", "b"].as_slice(), 3, "b"),
+        (
+            ["pebbles", "report", "--", "--workers"].as_slice(),
+            1,
+            "--workers",
+        ),
+    ] {
+        assert_asks(&rt, rt.alloc(), words, Job::Report { workers, board });
+    }
+}
+
+#[test]
+fn plays(rt: HostRuntime) {
+    for (words, side) in [
+        (
+            ["pebbles", "play", "--side", "labeller", "a"].as_slice(),
+            Side::Labeller,
+        ),
+        (
+            ["pebbles", "play", "--side=adversary", "a"].as_slice(),
+            Side::Adversary,
+        ),
+        (
+            ["pebbles", "play", "a", "--side", "adversary"].as_slice(),
+            Side::Adversary,
+        ),
+    ] {
+        assert_asks(&rt, rt.alloc(), words, Job::Play { side, board: "a" });
+    }
+}
+
+#[test]
+fn climbs(rt: HostRuntime) {
+    for (words, levels) in [
+        (["pebbles", "climb", "1"].as_slice(), 1),
+        (["pebbles", "climb", "24"].as_slice(), 24),
+        (["pebbles", "climb", "--", "07"].as_slice(), 7),
+    ] {
+        assert_asks(&rt, rt.alloc(), words, Job::Climb { levels });
+    }
+}
+
+#[test]
+fn words_of_no_command(rt: HostRuntime) {
+    for words in [
+        ["pebbles", ""].as_slice(),
+        ["pebbles", "--"].as_slice(),
+        ["pebbles", "chek", "a", "b"].as_slice(),
+    ] {
+        assert_usage(&rt, rt.alloc(), words);
+    }
+}
+
+#[test]
+fn wrong_words_of_checks_and_nested_boards(rt: HostRuntime) {
+    for words in [
+        ["pebbles", "check"].as_slice(),
+        ["pebbles", "check", "a"].as_slice(),
+        ["pebbles", "check", "a", "b", "c"].as_slice(),
+        ["pebbles", "check", "-x", "b"].as_slice(),
+        ["pebbles", "check", "--workers=2", "a", "b"].as_slice(),
+        ["pebbles", "nested", "3"].as_slice(),
+        ["pebbles", "nested", "0", "1"].as_slice(),
+        ["pebbles", "nested", "7", "1"].as_slice(),
+        ["pebbles", "nested", "1", "0"].as_slice(),
+        ["pebbles", "nested", "1", "7"].as_slice(),
+        ["pebbles", "nested", "-1", "2"].as_slice(),
+        ["pebbles", "nested", "1 ", "2"].as_slice(),
+        ["pebbles", "nested", "99999999999999999999", "2"].as_slice(),
+    ] {
+        assert_usage(&rt, rt.alloc(), words);
+    }
+}
+
+#[test]
+fn wrong_words_of_solving_and_reports(rt: HostRuntime) {
+    for words in [
+        ["pebbles", "solve"].as_slice(),
+        ["pebbles", "solve", "a", "b"].as_slice(),
+        ["pebbles", "solve", "a", "--workers"].as_slice(),
+        ["pebbles", "solve", "--workers", "0", "a"].as_slice(),
+        ["pebbles", "solve", "--workers=17", "a"].as_slice(),
+        ["pebbles", "solve", "--workers=", "a"].as_slice(),
+        ["pebbles", "solve", "--workers=2", "--workers=2", "a"].as_slice(),
+        ["pebbles", "report"].as_slice(),
+        ["pebbles", "report", "--workers", "17", "a"].as_slice(),
+    ] {
+        assert_usage(&rt, rt.alloc(), words);
+    }
+}
+
+#[test]
+fn wrong_words_of_plays_and_climbs(rt: HostRuntime) {
+    for words in [
+        ["pebbles", "play", "a"].as_slice(),
+        ["pebbles", "play", "--side", "labeller"].as_slice(),
+        ["pebbles", "play", "--side", "person", "a"].as_slice(),
+        ["pebbles", "play", "--side", "Labeller", "a"].as_slice(),
+        ["pebbles", "play", "--side", "", "a"].as_slice(),
+        ["pebbles", "play", "--side=labeller", "--workers=2", "a"].as_slice(),
+        ["pebbles", "climb"].as_slice(),
+        ["pebbles", "climb", "0"].as_slice(),
+        ["pebbles", "climb", "25"].as_slice(),
+        ["pebbles", "climb", "-1"].as_slice(),
+        ["pebbles", "climb", "three"].as_slice(),
+        ["pebbles", "climb", "3", "3"].as_slice(),
+        ["pebbles", "climb", "--side=labeller", "3"].as_slice(),
+    ] {
+        assert_usage(&rt, rt.alloc(), words);
+    }
+}
+
+#[test]
+fn help_and_the_version(rt: HostRuntime) {
+    for (words, within) in [
+        (["pebbles", "--version"].as_slice(), "board 2"),
+        (["pebbles", "-V"].as_slice(), "board 2"),
+        (["pebbles", "--help"].as_slice(), "Exit statuses:"),
+        (["pebbles", "-h"].as_slice(), "Exit statuses:"),
+        (["pebbles", "help"].as_slice(), "nested"),
+        (["pebbles", "help", "check"].as_slice(), "<BOARD> <PROOF>"),
+        (["pebbles", "check", "--help"].as_slice(), "<BOARD> <PROOF>"),
+        (["pebbles", "nested", "-h"].as_slice(), "<LEVELS> <PEBBLES>"),
+        (["pebbles", "solve", "--help"].as_slice(), "[default: 1]"),
+        (["pebbles", "help", "report"].as_slice(), "--workers <N>"),
+        (["pebbles", "climb", "--help"].as_slice(), "<LEVELS>"),
+    ] {
+        assert_help(&rt, rt.alloc(), words, within);
+    }
+}

@@ -1,0 +1,134 @@
+//! Drawn command lines, beside a plain reading of them: by the commands and limits of
+//! docs/formats.md, and up to the first word that is wrong or asks for help, as `clap` reads.
+
+use crate::command_lines::job_of;
+use command_line::{Job, JobFault};
+use fakes::Draws;
+use std::alloc::Global;
+
+/// A line that asks for no job.
+#[derive(Clone, Copy, Debug, PartialEq, Eq)]
+enum Other {
+    Help,
+    Version,
+    Wrong,
+}
+
+/// The words that are drawn, one of them empty; the first twelve follow the program's name.
+const WORDS: &str =
+    "solve check report nested play climb help -h --version  -- chek a - 0 1 6 7 16 17 24 25 02 +3 \
+    99999999999999999999 -1 --help -V --workers --workers=0 --workers=16 --workers=17 --workers= \
+    --side --side=labeller --side=person labeller adversary";
+
+fn word(place: u32) -> &'static str {
+    WORDS.split(' ').nth(place as usize).unwrap_or("")
+}
+
+/// The option of a command, or `none`, the number of its words, and their most, or 0 for paths.
+fn form_of(command: &str) -> Option<(&'static str, usize, u8)> {
+    match command {
+        "check" => Some(("none", 2, 0)),
+        "solve" | "report" => Some(("--workers", 1, 0)),
+        "nested" => Some(("none", 2, 6)),
+        "play" => Some(("--side", 1, 0)),
+        "climb" => Some(("none", 1, 24)),
+        _ => None,
+    }
+}
+
+/// Whether the word is a number from 1 to `most`, or `most` is 0.
+fn fits(word: &str, most: u8) -> bool {
+    let number = word.parse::<u8>();
+    most == 0 || number.is_ok_and(|number| 1 <= number && number <= most)
+}
+
+fn is_value(option: &str, value: &str) -> bool {
+    option == "--workers" && fits(value, 16)
+        || option == "--side" && (value == "labeller" || value == "adversary")
+}
+
+/// Whether the word is the option and its value.
+fn is_both(option: &str, word: &str) -> bool {
+    let value = word
+        .strip_prefix(option)
+        .and_then(|rest| rest.strip_prefix('='));
+    value.is_some_and(|value| is_value(option, value))
+}
+
+/// Ok if the words of a command are right. Its option is `none` after it was read.
+fn read(words: &[&str], option: &str, wants: usize, most: u8) -> Result<(), Other> {
+    match words {
+        [] if wants == 0 && option != "--side" => Ok(()),
+        ["--", rest @ ..] if rest.len() != wants || option == "--side" => Err(Other::Wrong),
+        ["--", rest @ ..] if rest.iter().all(|word| fits(word, most)) => Ok(()),
+        ["--help" | "-h", ..] => Err(Other::Help),
+        [word, rest @ ..] if *word == "-" || !word.starts_with('-') => match wants.checked_sub(1) {
+            Some(wants) if fits(word, most) => read(rest, option, wants, most),
+            _ => Err(Other::Wrong),
+        },
+        [word, rest @ ..] if is_both(option, word) => read(rest, "none", wants, most),
+        [word, value, rest @ ..] if *word == option && is_value(option, value) => read(
+            rest, "none", wants, most,
+        ),
+        _ => Err(Other::Wrong),
+    }
+}
+
+/// The command that the words after the program's name ask for.
+fn asked<'a>(words: &[&'a str]) -> Result<&'a str, Other> {
+    match words {
+        [] => Ok("joined"),
+        ["--help" | "-h", ..] | ["help"] | ["help", "help"] => Err(Other::Help),
+        ["--version" | "-V", ..] => Err(Other::Version),
+        ["help", topic] if form_of(topic).is_some() => Err(Other::Help),
+        [name, rest @ ..] => {
+            let (option, wants, most) = form_of(name).ok_or(Other::Wrong)?;
+            read(rest, option, wants, most)?;
+            Ok(*name)
+        }
+    }
+}
+
+fn name_of(job: Job<'_>) -> &'static str {
+    match job {
+        Job::Joined => "joined",
+        Job::Check { .. } => "check",
+        Job::Nested { .. } => "nested",
+        Job::Solve { .. } => "solve",
+        Job::Report { .. } => "report",
+        Job::Play { .. } => "play",
+        Job::Climb { .. } => "climb",
+    }
+}
+
+/// A text of help has a usage, and that of a version has none.
+fn other_of(fault: &JobFault) -> Option<Other> {
+    match fault {
+        JobFault::Help { text } if text.contains("Usage: ") => Some(Other::Help),
+        JobFault::Help { .. } => Some(Other::Version),
+        JobFault::Usage { .. } => Some(Other::Wrong),
+        JobFault::Memory => None,
+    }
+}
+
+/// The answer of `job`, unless it is out of memory.
+fn answered(alloc: Global, words: &[&str]) -> Option<Result<&'static str, Other>> {
+    match job_of(alloc, words) {
+        Ok(job) => Some(Ok(name_of(job))),
+        Err(fault) => Some(Err(other_of(&fault)?)),
+    }
+}
+
+#[test]
+fn thousands_of_lines(rt: HostRuntime) {
+    let mut draws = Draws::after(1);
+    for _ in 0..8_000 {
+        let mut line = ["pebbles", word(draws.below(12)), "", "", ""];
+        for place in 2..5 {
+            line[place] = word(draws.below(38));
+        }
+        let line = &line[..=draws.below(5) as usize];
+        let wanted = Some(asked(&line[1..]));
+        assert!(rt; answered(rt.alloc(), line) == wanted, "{line:?}");
+    }
+}

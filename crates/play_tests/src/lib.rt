@@ -1,0 +1,11 @@
+//! Tests of plays.
+#![tactic(auto)]
+
+#[cfg(test)]
+mod assertions;
+#[cfg(test)]
+mod climbs;
+#[cfg(test)]
+mod plays;
+#[cfg(test)]
+mod plays_in_memory;

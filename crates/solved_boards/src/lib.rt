@@ -1,0 +1,6 @@
+//! Boards that are solved for tests. A solver that was refused memory is opened once more.
+#![tactic(auto)]
+
+mod solved;
+
+pub use solved::{solver_of, value, values_of, values_over};

@@ -1,0 +1,48 @@
+//! Solvers of boards and their values.
+
+ghost use Rattle.std.specs.Prelude.{◌≡◌, ◌≤◌, IfOk, IfSome};
+ghost use Rattle.positions.specs.Ranks.{configurations};
+ghost use Rattle.solver.specs.Solving.{IsSolving};
+
+use board_text::Board;
+use index_lists::{ListStore, PlainLists};
+use positions::{MAX_CONFIGURATIONS, Value};
+use solver::{SolveFault, Solver, Values};
+use std::alloc::Global;
+
+/// The answer of `Solver::open`, which is asked once more if it was refused memory.
+pub fn solver_of<S: ListStore + Drop>(alloc: Global, board: &Board) -> Result<Solver<S>, SolveFault>
+    ensures board { IfOk result (λ solver. solver.board ≡ board.now) }
+    ensures kept { IfOk result (λ solver. IsSolving solver) }
+{
+    match Solver::open(alloc, board) {
+        Err(SolveFault::Memory) => Solver::open(alloc, board),
+        opened => opened,
+    }
+}
+
+/// The values of a board that isn't too large, found over the store that runs use.
+pub fn values_of(alloc: Global, board: &Board) -> Option<Values>
+    ensures values { IfSome result (λ values. values ≡ board.now) }
+    ensures few { IfSome result (λ _. configurations board.now ≤ MAX_CONFIGURATIONS) }
+{
+    values_over::<PlainLists>(alloc, board)
+}
+
+/// The values of a board that isn't too large, found over a store of lists.
+pub fn values_over<S: ListStore + Drop>(alloc: Global, board: &Board) -> Option<Values>
+    ensures values { IfSome result (λ values. values ≡ board.now) }
+    ensures few { IfSome result (λ _. configurations board.now ≤ MAX_CONFIGURATIONS) }
+{
+    let solver = solver_of::<S>(alloc, board).ok()?;
+    Some(solver.solve())
+}
+
+/// The value of a rank, if it is one.
+pub fn value(values: &Values, rank: u32) -> Option<Value> {
+    if rank < values.space().configurations() {
+        Some(values.of(rank))
+    } else {
+        None
+    }
+}
