@@ -1,4 +1,4 @@
--- The `beats` lines at the front of a text, read in one way only.
+-- The `beats` lines at the beginning of a text have one reading.
 use Rattle.std.proofs.Common.{◌≡◌, ℕ, ◌+◌, ◌^◌, ◌<◌, ◌≤◌, List, [], ◌∷◌, ◌++◌, length, get_or, Contains, AllPairs, refl, sym, ap, ◌∙◌, append_assoc, arith}
 use Rattle.std.specs.List.{flat_map, AllByRecursion}
 use Rattle.std.specs.Prelude.{codes}
@@ -22,7 +22,7 @@ same_line labels p q x y bound are_p are_q e =
     let s = numbers_line_unique 2 labels (codes "beats") (p.0 ∷ p.1 ∷ []) (q.0 ∷ q.1 ∷ []) x y (omega arith) (are_two labels p are_p) (are_two labels q are_q) e in
     (same_pair p.0 p.1 q.0 q.1 s.0, s.1)
 
--- a `b` is no `e`
+-- a `beats` line isn't the line `end`
 pub not_end : (p : ℕ × ℕ) (x y : List ℕ) → beats_line p ++ x ≡ end_line ++ y → ⊥
 not_end p x y e = cc
 
@@ -35,7 +35,7 @@ not_nothing p x e = cc
 cons_assoc : (p : ℕ × ℕ) (ps : List (ℕ × ℕ)) (x : List ℕ) → flat_map beats_line (p ∷ ps) ++ x ≡ beats_line p ++ (flat_map beats_line ps ++ x)
 cons_assoc p ps x = append_assoc (beats_line p) (flat_map beats_line ps) x
 
--- Where a text begins with the lines of some pairs, and with those of others, the ones are the first of the others.
+-- If a text begins with the lines of two lists of pairs, one list is a prefix of the other.
 pub data Aligned (ps qs : List (ℕ × ℕ)) (x y : List ℕ) : Type 0 where
   same : ps ≡ qs → x ≡ y → Aligned ps qs x y
   more_right : (p : ℕ × ℕ) (more : List (ℕ × ℕ)) → qs ≡ ps ++ p ∷ more → x ≡ beats_line p ++ (flat_map beats_line more ++ y) → Aligned ps qs x y

@@ -52,7 +52,7 @@ pair_of_place labels place positive lt =
 pub written : (n : ℕ) (old new : List ℕ) → length new ≡ n → take n (new ++ drop (length new) old) ≡ new
 written n old new len = take_at new (drop (length new) old) n len
 
--- where the rows are clear there are no marks
+-- if the rows are clear from a place on, there are no marks from there on
 pub clear_marks : (labels : ℕ) (rows : List ℕ) (next : ℕ) → InRange 1 MAX_LABELS labels → ClearFrom labels rows next → NoMarks (mark_of labels rows) next (labels * labels)
 clear_marks labels rows next in_range clear place low high =
     let p = pair_of_place labels place in_range.0 high in
@@ -78,7 +78,7 @@ place_from_next labels rows next x y is above =
           omega (arith, some.4, grows)
     ]
 
--- ---- one pair more
+-- ---- one more pair
 
 same_mark : (labels : ℕ) (old new : List ℕ) (x y place : ℕ) → InRange 1 MAX_LABELS labels → AreLabels labels (x, y) → SetsPair labels old new x y → place < labels * labels → place ≢ x * labels + y
     → mark_of labels new place ≡ mark_of labels old place
@@ -125,7 +125,7 @@ rows_new labels in_range = record {
   ends = inl (pairs_none labels (mark_of labels (replicate (4 * labels) 0)) (labels * labels) (λ place low high. no_bit (4 * labels) (place / labels) (place % labels)), refl);
 }
 
--- a word with one bit more
+-- one more bit in a word adds its pair
 pub sets_pair : (labels : ℕ) (rows : List ℕ) (x y : ℕ) → labels ≤ MAX_LABELS → length rows ≡ 4 * labels → AreLabels labels (x, y)
     → SetsPair labels rows (set rows (4 * y + x / 64) (bit_or (get_or rows (4 * y + x / 64) 0) (1 * 2 ^ (x % 64) % 2 ^ 64))) x y
 sets_pair labels rows x y few sized are =
@@ -151,7 +151,7 @@ sets_pair labels rows x y few sized are =
       ];
     }
 
--- the next pair may stand at the end of all places at the latest
+-- the next place is at most the number of places
 next_within : (labels : ℕ) (rows : List ℕ) (next : ℕ) → AreBitRows labels rows next → next ≤ labels * labels
 next_within labels rows next is =
     elim is.ends [

@@ -1,4 +1,4 @@
--- Deciding what stands at the front of a text, by trying all that may stand there.
+-- Whether a text begins with some form is decided by trying all its values.
 use Rattle.std.proofs.Common.{◌≡◌, ℕ, zero, suc, ◌+◌, ◌<◌, ◌≤◌, ◌⊎◌, List, [], ◌∷◌, ◌++◌, length, get_or, take, Contains, subst, refl, sym, ap, ◌∙◌, arith, inl, inr}
 use Rattle.std.proofs.lemmas.Bool.{cases_lt, cases_eq}
 use Rattle.std.proofs.lemmas.List.{nil_from_length, get_or_at, length_push, take_all, take_more}
@@ -23,7 +23,7 @@ less m n = elim (cases_lt m n) [ inl lt ↦ inl lt | inr le ↦ inr (λ h. omega
 pub at_most : (m n : ℕ) → Decided (m ≤ n)
 at_most m n = elim (cases_lt n m) [ inl lt ↦ inr (λ h. omega arith) | inr le ↦ inl le ]
 
--- whether a number below n has a property
+-- whether some number below n has a property
 pub below : (n : ℕ) (P : ℕ → Type 0) → ((k : ℕ) → Decided (P k)) → Decided ((k : ℕ) × (k < n) × P k)
 below zero P each = inr (λ h. omega (arith, h.1))
 below (suc n) P each =
@@ -43,7 +43,7 @@ no_list count bound P none [] are p = omega (arith, are.0)
 no_list count bound P none (n ∷ ns) are p =
     none (n, All-head (λ k. k < bound) n ns are.1, (ns, (omega (arith, are.0), All-tail (λ k. k < bound) n ns are.1), p))
 
--- whether a list of so many numbers has a property
+-- whether some list of `count` numbers below a bound has a property
 pub lists : (count bound : ℕ) (P : List ℕ → Type 0) → ((ns : List ℕ) → Decided (P ns)) → Decided ((ns : List ℕ) × AreNumbers count bound ns × P ns)
 lists zero bound P each =
     elim (each []) [
@@ -69,7 +69,7 @@ begins (x ∷ form) (y ∷ text) =
       | inr other ↦ inr (λ h. let f = h.1 in let same : y ≡ x = cc in other same)
     ]
 
--- one of these forms stands at the front
+-- the text begins with one of these forms
 pub record Stands (X : Type 0) (P : X → Type 0) (form : X → List ℕ) (text : List ℕ) : Type 0 where
   pub value : X
   pub more : List ℕ
@@ -138,7 +138,7 @@ same_last xs ys p q e =
 no_end : (before : List (ℕ × ℕ)) (last : ℕ × ℕ) → [] ≡ before ++ last ∷ [] → ⊥
 no_end before last e = let len : 0 ≡ length (before ++ last ∷ []) = ap length e in omega (arith, len, length_push before last)
 
--- whether a pair may stand next
+-- whether a pair comes after these
 pub next : (pairs : List (ℕ × ℕ)) (p : ℕ × ℕ) → Decided (IsNext pairs p)
 next [] p = inl (λ before last e. absurd (no_end before last e))
 next (q ∷ pairs) p =

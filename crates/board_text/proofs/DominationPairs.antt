@@ -1,4 +1,4 @@
--- The pairs at the marked places, where place `x * labels + y` stands for x beating y.
+-- The pairs at the marked places; the place `x * labels + y` is that of x beating y.
 use Rattle.std.proofs.Common.{◌≡◌, ◌≢◌, ℕ, zero, suc, ◌+◌, ◌*◌, ◌/◌, ◌%◌, ◌<◌, ◌≤◌, Bool, true, false, cond, List, [], ◌∷◌, ◌++◌, length, Contains, refl, sym, ap, ◌∙◌, arith, inl, inr}
 use Rattle.std.proofs.lemmas.Bool.{cases_lt, cases_eq, cases_Bool, cases_order, cond_both}
 use Rattle.std.proofs.lemmas.List.{append-nil, length-append}
@@ -42,7 +42,7 @@ pub pairs_none : (labels : ℕ) (marks : ℕ → Bool) (n : ℕ) → NoMarks mar
 unfolding pairs_below
 pairs_none labels marks n clear = nothing_above labels marks 0 n (omega arith) clear
 
--- ---- which pairs they are
+-- ---- the pairs of the marks
 
 pub has_mark : (labels : ℕ) (marks : ℕ → Bool) (n x y : ℕ) → y < labels → x * labels + y < n → marks (x * labels + y) ≡ true → Contains (pairs_below labels marks n) (x, y)
 unfolding pairs_below

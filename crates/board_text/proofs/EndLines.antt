@@ -1,4 +1,4 @@
--- What stands after the pairs of a text: `end`, or a fault. There is one reading of it.
+-- After its pairs a text has the line `end` or a fault, and one reading.
 use Rattle.std.proofs.Common.{◌≡◌, ◌≢◌, ℕ, ◌+◌, ◌≤◌, List, [], ◌∷◌, ◌++◌, length, Contains, subst, refl, sym, ap, ◌∙◌, arith, inl, inr}
 use Rattle.std.proofs.lemmas.List.{append_cancel_left}
 use Rattle.std.proofs.lemmas.List.Elements.{All-contains, Contains-append_left}
@@ -11,23 +11,23 @@ use Rattle.board_text.specs.declared.fault.BoardKind.TheVariants.{Version, Label
 use Rattle.board_text.specs.declared.board.TheConstants.{MAX_LABELS}
 use Rattle.board_text.proofs.BeatsLines.{same_line, not_end, not_cut, not_nothing, next_contained, is_next}
 
--- what is found of a text: a board, or a fault at a line
+-- a finding: a board, or a fault at a line
 pub data Finding : Type 0 where
   board : PlainBoard → Finding
   fault : ℕ → BoardKind → Finding
 
--- why a pair can't follow these
+-- the reason why a pair can't follow these
 pub data Unfit (pairs : List (ℕ × ℕ)) (p : ℕ × ℕ) (kind : BoardKind) : Type 0 where
   itself : p.0 ≡ p.1 → kind ≡ SelfBeat → Unfit pairs p kind
   back : p.0 ≢ p.1 → Contains pairs (p.1, p.0) → kind ≡ TwoWay → Unfit pairs p kind
   low : p.0 ≢ p.1 → (Contains pairs (p.1, p.0) → ⊥) → (IsNext pairs p → ⊥) → kind ≡ Order → Unfit pairs p kind
 
--- what the bytes behind `end` make of a board
+-- the finding by the bytes after `end`: the board if there are none, and else a fault
 abbrev pub Behind : PlainBoard → List ℕ → Finding → Type 0
 Behind b [] found = found ≡ board b
 Behind b (c ∷ more) found = found ≡ fault (6 + length b.pairs) Trailing
 
--- what is found after the pairs of a board so far
+-- the finding after the pairs of a board so far
 pub data Ending (b : PlainBoard) (rest : List ℕ) (found : Finding) : Type 0 where
   at_end : (more : List ℕ) → rest ≡ end_line ++ more → Behind b more found → Ending b rest found
   at_cut : NotEnd rest → IsCut rest → found ≡ fault (5 + length b.pairs) End → Ending b rest found
@@ -78,7 +78,7 @@ one_ending b rest v w few (at_pair p after k are f u h) (at_pair q after' j are'
     let same : k ≡ j = same_unfit b.pairs q k j (subst (λ (r : ℕ × ℕ). Unfit b.pairs r k) s.0 u) u' in
     h ∙ ap (λ (i : BoardKind). fault (5 + length b.pairs) i) same ∙ sym g
 
--- no more pairs can stand where a reading ends
+-- a pair that can't follow these isn't the next pair of a board
 fits : (labels : ℕ) (pairs more : List (ℕ × ℕ)) (p : ℕ × ℕ) (kind : BoardKind) → ArePairs labels (pairs ++ p ∷ more) → Unfit pairs p kind → ⊥
 fits labels pairs more p kind are (itself e f) =
     let here = next_contained pairs more p in

@@ -1,4 +1,4 @@
--- Digits, and what follows them.
+-- Digits, and the bytes after them.
 use Rattle.std.proofs.Common.{◌≡◌, ◌≢◌, ℕ, ◌^◌, ◌<◌, ◌≤◌, ◌+◌, true, false, List, [], ◌∷◌, ◌++◌, length, get_or, take, drop, leb, one-add, zero, suc, Option, Some, None, inl, inr, refl, sym, ap, ◌∙◌, arith}
 use Rattle.std.specs.Prelude.{MatchOption}
 use Rattle.std.specs.Char.{is_ascii_digit, IsAsciiDigit, digit_value}
@@ -32,7 +32,7 @@ drop_digits (b ∷ bytes) =
     (λ e. rw one-add (drop_digits bytes))
     (λ e. denies b e)
 
--- digits up to the first byte that is none
+-- digits end at the first byte that isn't one
 pub digits_split : (ds es x y : List ℕ) → AllDigits 10 ds → AllDigits 10 es → NoDigit x → NoDigit y → ds ++ x ≡ es ++ y → (ds ≡ es) × (x ≡ y)
 digits_split [] [] x y p q no_x no_y e = (refl, e)
 digits_split [] (d ∷ es) x y p q no_x no_y e = absurd (no_x (rw e (tells_digits.parts d es q).0))
@@ -46,7 +46,7 @@ digits_split (d ∷ ds) (c ∷ es) x y p q no_x no_y e =
 own : IsNumeralModel (AllDigits 10) (digits_value 10)
 own = numerals_by_value (AllDigits 10) tells_digits
 
--- a zero that leads
+-- several digits that begin with a zero are those of no number
 pub zero_leads : (digits : List ℕ) → 1 < length digits → get_or digits 0 0 ≡ 48 → (n : ℕ) → n < 2 ^ 32 → digits ≢ decimal n
 zero_leads digits long leads n small e =
     elim (cases_lt 0 n) [
@@ -54,11 +54,11 @@ zero_leads digits long leads n small e =
       | inr none ↦ let h : decimal n ≡ (48 + n) ∷ [] = decimal_digit n (omega arith) in omega (arith, ap length (e ∙ h))
     ]
 
--- no number is written by no digits
+-- no number is written without digits
 pub none_written : (digits : List ℕ) → length digits ≡ 0 → (n : ℕ) → n < 2 ^ 32 → digits ≢ decimal n
 none_written digits none n small e = let some = decimal_nonempty n (omega arith) in omega (arith, some, none, ap length e)
 
--- the digits' number, or that it is too large, where no zero leads
+-- if no zero leads, digits are those of their number, which may be too large
 pub spelled : (digits : List ℕ) (r : Option ℕ) → AllDigits 10 digits → 0 < length digits → ((1 < length digits) × (get_or digits 0 0 ≡ 48) → ⊥)
     → MatchOption r (2 ^ 32 ≤ digits_value 10 digits) (λ n. (n < 2 ^ 32) × (n ≡ digits_value 10 digits))
     → MatchOption r ((n : ℕ) → n < 2 ^ 32 → digits ≢ decimal n) (λ n. digits ≡ decimal n)
@@ -84,13 +84,13 @@ number_split m n x y small_m small_n no_x no_y e =
     let s = digits_split (decimal m) (decimal n) x y (decimal_is_IsNumeral m small_m).0.1 (decimal_is_IsNumeral n small_n).0.1 no_x no_y e in
     (decimal_injective m n small_m small_n s.0, s.1)
 
--- no number stands where the digits spell none
+-- if digits are those of no number, the text doesn't begin with a number
 pub no_number : (high : ℕ) (old digits rest : List ℕ) → high < 2 ^ 32 → old ≡ digits ++ rest → AllDigits 10 digits → NoDigit rest → ((n : ℕ) → n < 2 ^ 32 → digits ≢ decimal n) → (low n : ℕ) (more : List ℕ) → InRange low high n → NoDigit more → old ≢ decimal n ++ more
 no_number high old digits rest bound taken all no_digit none low n more in_range no_more e =
     let s = digits_split digits (decimal n) rest more all (decimal_is_IsNumeral n (omega arith)).0.1 no_digit no_more (sym taken ∙ e) in
     none n (omega arith) s.0
 
--- nor one in the range where the number lies outside it
+-- if the text begins with a number outside the range, it doesn't begin with one in the range
 pub other_number : (m low high : ℕ) (old rest : List ℕ) → m < 2 ^ 32 → high < 2 ^ 32 → old ≡ decimal m ++ rest → NoDigit rest → (InRange low high m → ⊥) → (n : ℕ) (more : List ℕ) → InRange low high n → NoDigit more → old ≢ decimal n ++ more
 other_number m low high old rest small bound taken no_digit outside n more in_range no_more e =
     let s = number_split m n rest more (omega arith) (omega arith) no_digit no_more (sym taken ∙ e) in

@@ -1,4 +1,4 @@
--- What digits spell.
+-- The numbers that digits spell.
 use Rattle.std.proofs.Common.{◌≡◌, ◌≢◌, ℕ, ◌^◌, ◌<◌, ◌≤◌, List, refl, sym, subst, ◌∙◌, arith}
 use Rattle.board_text.specs.Numerals.{Says, SpellsBelow}
 use Rattle.board_text.specs.declared.line_reader.Numeral.TheVariants.{Number, NoNumber}

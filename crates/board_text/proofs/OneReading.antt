@@ -5,7 +5,7 @@ use Rattle.std.specs.List.{flat_map}
 use Rattle.board_text.specs.Ranges.{InRange}
 use Rattle.board_text.specs.LineForms.{Lacks}
 use Rattle.board_text.specs.PlainBoard.{PlainBoard, plain_board, IsBoard, IsStart, ArePairs, version_of}
-use Rattle.board_text.specs.BoardText.{version_line, labels_line, pebbles_line, start_line, beats_line, end_line, board_front, board_text}
+use Rattle.board_text.specs.BoardText.{version_line, labels_line, pebbles_line, start_line, beats_line, end_line, board_text_before_end, board_text}
 use Rattle.board_text.specs.BoardFaults.{InPairs, HasBoardFault}
 use Rattle.board_text.specs.declared.fault.BoardFault.{BoardFault}
 use Rattle.board_text.specs.declared.fault.BoardKind.{BoardKind}
@@ -17,7 +17,7 @@ use Rattle.board_text.proofs.Places.{numbers_from_start, version_in_range}
 use Rattle.board_text.proofs.BeatsLines.{same, more_right, more_left, aligned}
 use Rattle.board_text.proofs.EndLines.{Finding, board, fault, Ending, at_end, one_ending, no_more, pair_ending}
 
--- what is found after the first lines of a text, and of the whole text
+-- the finding after the first lines of a text, and the finding of the whole text
 abbrev AfterStart : ℕ → ℕ → List ℕ → List ℕ → Finding → Type 0
 AfterStart labels pebbles start rest found =
     (pairs : List (ℕ × ℕ)) × (more : List ℕ) × ArePairs labels pairs × (rest ≡ flat_map beats_line pairs ++ more) × Ending (plain_board labels pebbles start pairs) more found
@@ -89,7 +89,7 @@ one_reading text v w (inr a) (inr b) =
 regroup : (a b c d e x : List ℕ) → ((a ++ (b ++ (c ++ d))) ++ e) ++ x ≡ a ++ (b ++ (c ++ (d ++ (e ++ x))))
 regroup a b c d e x = simp append_assoc
 
-read_on : (text : List ℕ) (b : PlainBoard) (rest : List ℕ) (found : Finding) → IsBoard b → text ≡ board_front b ++ rest → Ending b rest found → Reading text found
+read_on : (text : List ℕ) (b : PlainBoard) (rest : List ℕ) (found : Finding) → IsBoard b → text ≡ board_text_before_end b ++ rest → Ending b rest found → Reading text found
 read_on text b rest found is e h =
     inr (
       version_of b.labels b.start,
@@ -132,7 +132,7 @@ fault_reading text line Pebbles not h =
 fault_reading text line Start not h =
     inr (h.1, _, h.5, h.8, inr (h.2, _, h.6, refl, inr (h.3, h.4, h.7, refl, inl (h.9, ap (λ (l : ℕ). fault l Start) h.0))))
 fault_reading text line Trailing not (b, first, more, is, e, number) =
-    rw number (read_on text b (end_line ++ first ∷ more) (fault (6 + length b.pairs) Trailing) is (e ∙ append_assoc (board_front b) end_line (first ∷ more)) (at_end (first ∷ more) refl refl))
+    rw number (read_on text b (end_line ++ first ∷ more) (fault (6 + length b.pairs) Trailing) is (e ∙ append_assoc (board_text_before_end b) end_line (first ∷ more)) (at_end (first ∷ more) refl refl))
 fault_reading text line Memory not h = absurd (not refl)
 fault_reading text line Beats not h = pair_reading text line Beats h
 fault_reading text line SelfBeat not h = pair_reading text line SelfBeat h
@@ -174,12 +174,12 @@ is_memory Memory = inl refl
 pub no_fault : (text : List ℕ) (line : ℕ) (kind : BoardKind) (b : PlainBoard) → IsBoard b → text ≡ board_text b → HasBoardFault text line kind → kind ≡ Memory
 no_fault text line kind b is e h = elim (is_memory kind) [ inl none ↦ none | inr not ↦ absurd (not_both text line kind b is e not h) ]
 
--- what is read from the text of a board is that board
+-- a board read from the text of a board is that board
 pub only : (text : List ℕ) (b : PlainBoard) (r : Result PlainBoard BoardFault) → IfOk r (λ a. IsBoard a × (text ≡ board_text a)) → IfErr r (λ f. HasBoardFault text f.line f.kind) → IsBoard b → text ≡ board_text b → MatchResult r (λ a. a ≡ b) (λ f. f.kind ≡ Memory)
 only text b (Ok a) found has_fault is e = one_board a b found.0 is (sym found.1 ∙ e)
 only text b (Err f) found has_fault is e = no_fault text f.line f.kind b is e has_fault
 
--- what is built of the parts of a board is that board
+-- a board built from the parts of a board is that board
 pub only_parts : (b : PlainBoard) (r : Result PlainBoard BoardFault) → IfOk r (λ a. IsBoard a × (a ≡ b)) → IfErr r (λ f. HasBoardFault (board_text b) f.line f.kind) → IsBoard b → MatchResult r (λ a. a ≡ b) (λ f. f.kind ≡ Memory)
 only_parts b (Ok a) found has_fault is = found.1
 only_parts b (Err f) found has_fault is = no_fault (board_text b) f.line f.kind b is refl has_fault

@@ -12,7 +12,7 @@ use Rattle.board_text.specs.BoardFaults.{PairFault, HasBoardFault}
 use Rattle.board_text.specs.Inside.PairFaults.{IsPairFault, HasPairFault}
 use Rattle.board_text.specs.declared.fault.BoardFault.{BoardFault}
 use Rattle.board_text.specs.declared.fault.BoardKind.{BoardKind}
-use Rattle.board_text.specs.declared.fault.BoardKind.TheVariants.{Version, Labels, Pebbles, Start, Beats, SelfBeat, TwoWay, Order, End, Trailing, Memory}
+use Rattle.board_text.specs.declared.fault.BoardKind.TheVariants.{Labels, Pebbles, Start, Beats, SelfBeat, TwoWay, Order, Memory}
 use Rattle.board_text.specs.declared.board.TheConstants.{MAX_LABELS, MAX_PEBBLES}
 use Rattle.board_text.proofs.Lines.{number_line_unique}
 use Rattle.board_text.proofs.PlaceLemmas.{places_line_unique}
@@ -27,13 +27,7 @@ misfit_fault labels pairs p rest more Beats are e h = absurd (h.1 are)
 misfit_fault labels pairs p rest more SelfBeat are e h = (p.0, ((are.0, are.0), more, e ∙ ap (λ (y : ℕ). beats_line (p.0, y) ++ more) (sym h.1)))
 misfit_fault labels pairs p rest more TwoWay are e h = (p.0, p.1, (are, more, e), h.1, h.2)
 misfit_fault labels pairs p rest more Order are e h = (p.0, p.1, (are, more, e), h.1, h.2, h.3)
-misfit_fault labels pairs p rest more Version are e h = absurd h
-misfit_fault labels pairs p rest more Labels are e h = absurd h
-misfit_fault labels pairs p rest more Pebbles are e h = absurd h
-misfit_fault labels pairs p rest more Start are e h = absurd h
-misfit_fault labels pairs p rest more End are e h = absurd h
-misfit_fault labels pairs p rest more Trailing are e h = absurd h
-misfit_fault labels pairs p rest more Memory are e h = absurd h
+misfit_fault labels pairs p rest more kind are e h = absurd h
 
 -- ---- the first four lines
 
@@ -107,13 +101,7 @@ misfit_found labels pairs p rest more Beats few e h = no_pair_line labels pairs 
 misfit_found labels pairs p rest more SelfBeat few e h = misfit_fault labels pairs p rest more SelfBeat h.0 e h
 misfit_found labels pairs p rest more TwoWay few e h = misfit_fault labels pairs p rest more TwoWay h.0 e h
 misfit_found labels pairs p rest more Order few e h = misfit_fault labels pairs p rest more Order h.0 e h
-misfit_found labels pairs p rest more Version few e h = absurd h
-misfit_found labels pairs p rest more Labels few e h = absurd h
-misfit_found labels pairs p rest more Pebbles few e h = absurd h
-misfit_found labels pairs p rest more Start few e h = absurd h
-misfit_found labels pairs p rest more End few e h = absurd h
-misfit_found labels pairs p rest more Trailing few e h = absurd h
-misfit_found labels pairs p rest more Memory few e h = absurd h
+misfit_found labels pairs p rest more kind few e h = absurd h
 
 five : (a b c d e : List ℕ) → (a ++ (b ++ (c ++ d))) ++ e ≡ (a ++ b) ++ (c ++ (d ++ e))
 five a b c d e = simp append_assoc
@@ -131,7 +119,7 @@ parts_fault b f in_labels in_pebbles are (before, p, after, are_before, parts, n
     (ap (λ (ps : List (ℕ × ℕ)). (board_head b.labels b.pebbles b.start ++ flat_map beats_line ps) ++ end_line) parts ∙ cut_at (board_head b.labels b.pebbles b.start) before p after end_line)
     number (misfit_found b.labels before p rest (flat_map beats_line after ++ end_line) f.kind in_labels.1 refl h)
 
--- the misfit at a place of the pairs, where those before it stand
+-- the misfit at a place of the pairs, if those before it fit
 pub misfit_at : (labels own : ℕ) (all so_far : List (ℕ × ℕ)) (place line : ℕ) (kind : BoardKind) (f : BoardFault) → own ≡ labels → place < length all → so_far ≡ take place all → ArePairs own so_far
     → f ≡ record { line = line; kind = kind } → line ≡ 5 + place → IsPairFault own so_far (get_or all place (0, 0)) kind → HasPairFault labels all f
 misfit_at labels own all so_far place line kind f same lt taken are fault number h =

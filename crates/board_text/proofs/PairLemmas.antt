@@ -15,7 +15,7 @@ below_trans p q r (inl a) (inr b) = inl (omega (arith, b.0))
 below_trans p q r (inr a) (inl b) = inl (omega (arith, a.0))
 below_trans p q r (inr a) (inr b) = inr (a.0 ∙ b.0, omega (arith, a.1, b.1))
 
--- what is greater than the last is greater than all
+-- a pair that is greater than the last is greater than all
 above_all : (pairs : List (ℕ × ℕ)) (p : ℕ × ℕ) → AllPairs Precedes pairs → IsNext pairs p → (k : ℕ) (d : ℕ × ℕ) → k < length pairs → Precedes (get_or pairs k d) p
 above_all pairs p ascending above k d lt =
     let n = length pairs - 1 in

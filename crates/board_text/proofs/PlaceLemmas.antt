@@ -27,7 +27,7 @@ blank_word labels = ap (λ (b : Bool). if b then codes "-" else decimal labels) 
 pub label_word : (labels place : ℕ) → place ≢ labels → place_word labels place ≡ decimal place
 label_word labels place differ = ap (λ (b : Bool). if b then codes "-" else decimal place) (ne_eqb place labels differ)
 
--- a hyphen is no digits
+-- digits don't begin with a hyphen
 no_hyphen : (digits x y : List ℕ) → IsNumeral 10 digits → digits ++ x ≡ 45 ∷ y → ⊥
 no_hyphen [] x y is e = omega (arith, is.0)
 no_hyphen (d ∷ digits) x y is e =
@@ -35,7 +35,7 @@ no_hyphen (d ∷ digits) x y is e =
     let same : d ≡ 45 = cc in
     omega (arith, same, digit.0)
 
--- the text of a place up to the first byte that is none of it
+-- the text of a place ends at the first byte that isn't a digit
 pub place_text_split : (labels bound : ℕ) (d e x y : List ℕ) → IsPlaceText labels bound d → IsPlaceText labels bound e → NoDigit x → NoDigit y → d ++ x ≡ e ++ y → (d ≡ e) × (x ≡ y)
 place_text_split labels bound d e x y (inl p) (inl q) no_x no_y same = digits_split d e x y p.1 q.1 no_x no_y same
 place_text_split labels bound d e x y (inl p) (inr q) no_x no_y same = absurd (no_hyphen d x y p (same ∙ ap (λ (t : List ℕ). t ++ y) q.1))
@@ -72,7 +72,7 @@ spells_no_place labels bound text numeral most few digits says not spells = elim
   | inr label ↦ spells_none labels text numeral (omega arith) says not (spells.0, (let low : spells.0 < bound = spells.1 in omega arith), spells.2 ∙ label_word labels spells.0 label)
 ]
 
--- a hyphen with digits behind it is no place
+-- a hyphen with digits after it is no place
 pub hyphen_and_digits : (labels bound : ℕ) (old rest digits new : List ℕ) → old ≡ (45 ∷ []) ++ rest → rest ≡ digits ++ new → AllDigits 10 digits → (digits ≡ [] → ⊥)
     → (text more : List ℕ) → IsPlaceText labels bound text → NoDigit more → old ≢ text ++ more
 hyphen_and_digits labels bound old rest [] new e f all some text more is no_more same = some refl
@@ -115,7 +115,7 @@ texts_split labels bound (t ∷ taken) (w ∷ ws) rest more fits p q no_rest no_
     let l = texts_split labels bound taken ws rest more (omega arith) p.1 q.1 (λ h. no_rest (omega arith)) no_more s.1 in
     record { others = l.others; parts = cc; spelled = l.spelled }
 
--- what stands next where more places are to come
+-- the rest begins with one more place
 pub record NextText (labels bound : ℕ) (rest : List ℕ) : Type 0 where
   pub text : List ℕ
   pub tail : List ℕ
@@ -138,7 +138,7 @@ pub texts_push : (ws : List (List ℕ)) (w old mid rest new : List ℕ) → old 
 texts_push ws w old mid rest new e f g =
     e ∙ ap (λ (t : List ℕ). spaced_texts ws ++ t) (f ∙ ap (λ (t : List ℕ). 32 ∷ t) g) ∙ sym (append_assoc (spaced_texts ws) (32 ∷ w) new) ∙ ap (λ (t : List ℕ). t ++ new) (flat_map_more (λ v. 32 ∷ v) [] ws w)
 
--- ---- what the texts spell
+-- ---- the places that texts spell
 
 -- one more text that spells a place below the bound
 pub spell_some : (labels bound : ℕ) (texts : List (List ℕ)) (are : Bool) (numbers : List ℕ) (i : ℕ) (text : List ℕ) (n : ℕ) → i < length numbers → n < bound → text ≡ place_word labels n
@@ -154,7 +154,7 @@ spell_some labels bound texts false numbers i text n inside below spelled so_far
     let h : SpellsPlace labels bound (get_or (texts ++ text ∷ []) k d) = all k d (omega (arith, lt, length_push texts text)) in
     subst (λ (t : List ℕ). SpellsPlace labels bound t) (get_or_append_left texts (text ∷ []) d k lt) h)
 
--- one more that spells none
+-- one more text that spells no place
 pub spell_none : (labels bound : ℕ) (texts : List (List ℕ)) (text : List ℕ) (numbers : List ℕ) → (SpellsPlace labels bound text → ⊥) → SpellPlaces labels bound (texts ++ text ∷ []) false numbers
 spell_none labels bound texts text numbers none = λ all. none (All-contains (SpellsPlace labels bound) (texts ++ text ∷ []) text all (Contains-push texts text))
 
@@ -197,7 +197,7 @@ places_line_parts labels word places more = simp append_assoc
 pub places_line_places : (labels : ℕ) (word places old rest more : List ℕ) → old ≡ word ++ rest → old ≡ places_line labels word places ++ more → rest ≡ spaced_places labels places ++ 10 ∷ more
 places_line_places labels word places old rest more p e = append_cancel_left word rest (spaced_places labels places ++ 10 ∷ more) (sym p ∙ e ∙ places_line_parts labels word places more)
 
--- what was taken of a line of places is all of them
+-- the texts taken of a line of places are all of its places
 pub places_line_end : (count labels : ℕ) (word places : List ℕ) (texts : List (List ℕ)) (old rest new more : List ℕ) → labels ≤ MAX_LABELS → old ≡ word ++ rest → rest ≡ spaced_texts texts ++ new → ArePlaceTexts count labels (labels + 1) texts → NoDigit new
     → AreNumbers count (labels + 1) places → old ≡ places_line labels word places ++ more → (texts ≡ map (place_word labels) places) × (new ≡ 10 ∷ more)
 places_line_end count labels word places texts old rest new more few p q are_texts no_digit are e =

@@ -6,7 +6,7 @@ use Rattle.std.proofs.lemmas.List.Elements.{All-nil}
 use Rattle.std.specs.List.{flat_map}
 use Rattle.board_text.specs.Ranges.{InRange, AreNumbers}
 use Rattle.board_text.specs.PlainBoard.{PlainBoard, plain_board, IsBoard, ArePairs, AreLabels}
-use Rattle.board_text.specs.BoardText.{version_line, labels_line, pebbles_line, beats_line, end_line, board_front, board_text}
+use Rattle.board_text.specs.BoardText.{version_line, labels_line, pebbles_line, beats_line, end_line, board_text_before_end, board_text}
 use Rattle.board_text.specs.Inside.BoardText.{board_head}
 use Rattle.board_text.specs.BoardFaults.{NotEnd, IsCut, PairFault}
 use Rattle.board_text.specs.Inside.Parsing.{CanFollow}
@@ -19,7 +19,7 @@ use Rattle.board_text.proofs.PairLemmas.{pairs_push, line_push}
 use Rattle.board_text.proofs.Faults.{head_taken, front_taken, has_pair_fault}
 use Rattle.board_text.proofs.Places.{start_from_numbers, numbers_from_start}
 
--- what stands after the pairs so far: the line `end`, a fault, or a pair more
+-- the line after the pairs so far: `end`, a fault, or one more pair
 data NextLine (labels : ℕ) (pairs : List (ℕ × ℕ)) (rest : List ℕ) : Type 0 where
   ends : (more : List ℕ) → rest ≡ end_line ++ more → NextLine labels pairs rest
   fault : (kind : BoardKind) → PairFault labels pairs rest kind → NextLine labels pairs rest
@@ -62,13 +62,13 @@ next_line labels pairs rest =
       ]
     ]
 
--- the line `end` was found, and then so many bytes
+-- after the line `end` the text is that of a board, or has a fault
 ended : (text : List ℕ) (b : PlainBoard) (more : List ℕ) → IsBoard b → text ≡ board_text b ++ more → IsBoardText text ⊎ IsFaulty text
 ended text b [] is e = inl (b, is, e ∙ append-nil (board_text b))
 ended text b (c ∷ more) is e = inr (6 + length b.pairs, Trailing, λ f. cc, (b, c, more, is, e, refl))
 
--- one line more
-one_more : (b : PlainBoard) (p : ℕ × ℕ) (text rest more : List ℕ) → text ≡ board_front b ++ rest → rest ≡ beats_line p ++ more → text ≡ board_front (plain_board b.labels b.pebbles b.start (b.pairs ++ p ∷ [])) ++ more
+-- one more line
+one_more : (b : PlainBoard) (p : ℕ × ℕ) (text rest more : List ℕ) → text ≡ board_text_before_end b ++ rest → rest ≡ beats_line p ++ more → text ≡ board_text_before_end (plain_board b.labels b.pebbles b.start (b.pairs ++ p ∷ [])) ++ more
 one_more b p text rest more e f =
     let start = board_head b.labels b.pebbles b.start in
     front_taken (plain_board b.labels b.pebbles b.start (b.pairs ++ p ∷ [])) text (flat_map beats_line b.pairs ++ rest) more
@@ -78,8 +78,8 @@ one_more b p text rest more e f =
 shorter : (p : ℕ × ℕ) (rest more : List ℕ) → rest ≡ beats_line p ++ more → length more < length rest
 shorter p rest more e = omega (arith, ap length e, length-append (beats_line p) more)
 
-from_line : (size : ℕ) (text : List ℕ) (b : PlainBoard) (rest : List ℕ) → length rest ≤ size → IsBoard b → text ≡ board_front b ++ rest → NextLine b.labels b.pairs rest → IsBoardText text ⊎ IsFaulty text
-from_line size text b rest fits is e (ends more f) = ended text b more is (e ∙ ap (λ (t : List ℕ). board_front b ++ t) f ∙ sym (append_assoc (board_front b) end_line more))
+from_line : (size : ℕ) (text : List ℕ) (b : PlainBoard) (rest : List ℕ) → length rest ≤ size → IsBoard b → text ≡ board_text_before_end b ++ rest → NextLine b.labels b.pairs rest → IsBoardText text ⊎ IsFaulty text
+from_line size text b rest fits is e (ends more f) = ended text b more is (e ∙ ap (λ (t : List ℕ). board_text_before_end b ++ t) f ∙ sym (append_assoc (board_text_before_end b) end_line more))
 from_line size text b rest fits is e (fault kind h) =
     inr (5 + length b.pairs, kind, λ m. subst (λ k. PairFault b.labels b.pairs rest k) m h, has_pair_fault text (5 + length b.pairs) kind b rest is e refl h)
 from_line zero text b rest fits is e (pair p more can f) = absurd (omega (arith, shorter p rest more f, fits))

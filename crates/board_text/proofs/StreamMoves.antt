@@ -1,11 +1,11 @@
--- What reads and writes in turn have moved.
+-- The bytes that reads and writes in turn have moved.
 use Rattle.std.proofs.Common.{◌≡◌, ℕ, ◌+◌, List, ◌++◌, length, take, drop, sym, ap, ◌∙◌, subst, arith, append_assoc, take-append-drop, length-append, drop_at}
 use lib.Seq.{take-take, take-append-le, take-append_seam}
 use Rattle.std.proofs.lemmas.List.{drop-take}
 use Rattle.std.specs.Prelude.{Option, None, Some, Result, Ok, Err, IfOk}
 use Rattle.std.specs.Io.{ReadsAtMost}
 use Rattle.std.specs.Io.KnownBytes.{Appends, Consumes, Keeps, ReadConsumes}
-use Rattle.board_text.specs.Streams.{AppendsFront}
+use Rattle.board_text.specs.Streams.{AppendsPrefix}
 
 pub Appends-trans : (a b c : Option (List ℕ)) (bs cs : List ℕ) → Appends a b bs → Appends b c cs → Appends a c (bs ++ cs)
 Appends-trans None b c bs cs p q = tt
@@ -31,7 +31,7 @@ Consumes-kept (Some x) None c bs p q = absurd p
 Consumes-kept (Some x) (Some y) None bs p q = absurd q
 Consumes-kept (Some x) (Some y) (Some z) bs p q = p ∙ ap (λ l. bs ++ l) (sym q)
 
--- what was read into a part stands after the front
+-- the bytes that were read into a part of a vector come after the bytes before that part
 pub read_in_place : {E : Type 0} (a b : Option (List ℕ)) (r : Result ℕ E) (front part rest : List ℕ) (at : ℕ) → length front ≡ at → ReadsAtMost r part
     → ReadConsumes a b r part → IfOk r (λ n. Consumes a b (take n (drop at (front ++ (part ++ rest)))))
 read_in_place a b (Ok n) front part rest at long fits read =
@@ -44,23 +44,23 @@ take_more xs f n =
     sym (take-append-drop f (take (f + n) xs)) ∙ ap (λ l. l ++ drop f (take (f + n) xs)) (take-take f (f + n) xs (omega arith))
     ∙ ap (λ l. take f xs ++ l) (drop-take f n xs)
 
--- the filled front of a vector grows by what was read after it
+-- the filled prefix of a vector grows by the bytes that were read after it
 pub filled_on : (a b c : Option (List ℕ)) (xs ys zs : List ℕ) (f n : ℕ) → take f ys ≡ take f xs → take f zs ≡ take f ys
     → Consumes a b (take f xs) → Consumes b c (take n (drop f zs)) → Consumes a c (take (f + n) zs)
 filled_on a b c xs ys zs f n grown front before read =
     subst (Consumes a c) (sym (take_more zs f n ∙ ap (λ l. l ++ take n (drop f zs)) (front ∙ grown))) (Consumes-trans a b c _ _ before read)
 
--- what is written so far, and what is left
+-- the bytes written so far, those of one write more, and the rest are the whole text
 pub moved_on : (all front rest : List ℕ) (n : ℕ) → all ≡ front ++ rest → all ≡ (front ++ take n rest) ++ drop n rest
 moved_on all front rest n e = e ∙ ap (λ l. front ++ l) (sym (take-append-drop n rest)) ∙ sym (append_assoc front (take n rest) (drop n rest))
 
--- what is written so far is a front
-pub front_taken : (a b : Option (List ℕ)) (all front rest : List ℕ) → all ≡ front ++ rest → Appends a b front → AppendsFront a b all
+-- the bytes written so far are a prefix of the text
+pub front_taken : (a b : Option (List ℕ)) (all front rest : List ℕ) → all ≡ front ++ rest → Appends a b front → AppendsPrefix a b all
 front_taken a b all front rest e taken =
     let same : take (length front) all ≡ front = ap (take (length front)) e ∙ take-append_seam front rest in
     (length front, omega (arith, ap length e, length-append front rest), subst (Appends a b) (sym same) taken)
 
--- what is written so far and in one write more is a front
-pub front_more : (a b c : Option (List ℕ)) (all front rest : List ℕ) (n : ℕ) → all ≡ front ++ rest → Appends a b front → Appends b c (take n rest) → AppendsFront a c all
+-- the bytes written so far and in one write more are a prefix of the text
+pub front_more : (a b c : Option (List ℕ)) (all front rest : List ℕ) (n : ℕ) → all ≡ front ++ rest → Appends a b front → Appends b c (take n rest) → AppendsPrefix a c all
 front_more a b c all front rest n e taken more =
     front_taken a c all (front ++ take n rest) (drop n rest) (moved_on all front rest n e) (Appends-trans a b c front (take n rest) taken more)

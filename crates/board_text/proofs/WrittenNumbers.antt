@@ -8,7 +8,7 @@ use Rattle.std.proofs.lemmas.Int.Digits.{digits_of_step}
 use Rattle.std.proofs.lemmas.List.{map-append}
 use Rattle.std.proofs.lemmas.List.FromFn.{get_or-map-range_with_len}
 
--- the digits of a number of several are those of its tenth, and one more
+-- the digits of a number of 10 or more are those of its tenth, and one more
 pub decimal_more : (n : ℕ) → 10 ≤ n → n < 2 ^ 32 → decimal n ≡ decimal (n / 10) ++ (48 + n % 10) ∷ []
 decimal_more n several small =
     let some : 0 < n / 10 = omega (arith, several) in
@@ -60,7 +60,7 @@ digits_pushed n text spaced hundreds tens whole small space (inr (less, first)) 
     ∙ append_assoc text (32 ∷ []) ((48 + n % 10) ∷ [])
     ∙ ap (λ (ds : List ℕ). text ++ 32 ∷ ds) (sym digits)
 
--- what follows from what holds where there is a value
+-- a fact of success gives each fact that follows from it
 pub on_ok : {E P Q : Type 0} (result : Result (Unit {0}) E) → (P → Q) → OnOk result P → OnOk result Q
 on_ok (Ok value) gives holds = gives holds
 on_ok (Err error) gives holds = holds

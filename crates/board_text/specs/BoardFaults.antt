@@ -3,7 +3,7 @@ use Rattle.std.specs.Prelude.{◌≡◌, ◌≢◌, ℕ, ◌+◌, ◌⊎◌, Lis
 use Rattle.board_text.specs.LineForms.{Lacks}
 use Rattle.board_text.specs.Ranges.{InRange}
 use Rattle.board_text.specs.PlainBoard.{PlainBoard, IsBoard, IsStart, AreLabels, IsNext}
-use Rattle.board_text.specs.BoardText.{version_line, labels_line, pebbles_line, start_line, beats_line, end_line, board_front, board_text}
+use Rattle.board_text.specs.BoardText.{version_line, labels_line, pebbles_line, start_line, beats_line, end_line, board_text_before_end, board_text}
 use Rattle.board_text.specs.declared.fault.BoardKind.{BoardKind}
 use Rattle.board_text.specs.declared.fault.BoardKind.TheVariants.{Version, Labels, Pebbles, Start, Beats, SelfBeat, TwoWay, Order}
 use Rattle.board_text.specs.declared.fault.BoardKind.TheVariants.{End, Trailing, Memory}
@@ -34,7 +34,7 @@ PairFault labels pairs rest _ = ⊥
 
 -- The lines before this one are those of the `beats` lines of a board so far, and this one has the fault.
 abbrev pub InPairs : List ℕ → ℕ → BoardKind → Type 0
-InPairs text line kind = (b : PlainBoard) × (rest : List ℕ) × IsBoard b × (text ≡ board_front b ++ rest) × (line ≡ 5 + length b.pairs)
+InPairs text line kind = (b : PlainBoard) × (rest : List ℕ) × IsBoard b × (text ≡ board_text_before_end b ++ rest) × (line ≡ 5 + length b.pairs)
     × PairFault b.labels b.pairs rest kind
 
 -- All lines before this one are faultless, and this one has the fault and none before it in the

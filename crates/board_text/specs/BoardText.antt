@@ -1,7 +1,7 @@
 -- The text of a board.
 use Rattle.std.specs.Prelude.{ℕ, List, [], ◌∷◌, ◌++◌, codes}
 use Rattle.std.specs.List.{flat_map}
-use Rattle.board_text.specs.LineForms.{closed, number_line, numbers_line}
+use Rattle.board_text.specs.LineForms.{with_line_feed, number_line, numbers_line}
 use Rattle.board_text.specs.PlaceForms.{places_line}
 use Rattle.board_text.specs.PlainBoard.{PlainBoard, version_of}
 
@@ -21,14 +21,14 @@ abbrev pub beats_line : ℕ × ℕ → List ℕ
 beats_line pair = numbers_line (codes "beats") (pair.0 ∷ pair.1 ∷ [])
 
 abbrev pub end_line : List ℕ
-end_line = closed (codes "end")
+end_line = with_line_feed (codes "end")
 
 -- the prefix of the text up to its last pair
-abbrev pub board_front : PlainBoard → List ℕ
-board_front board =
+abbrev pub board_text_before_end : PlainBoard → List ℕ
+board_text_before_end board =
     (version_line (version_of board.labels board.start) ++ (labels_line board.labels
     ++ (pebbles_line board.pebbles ++ start_line board.labels board.start))) ++ flat_map beats_line board.pairs
 
 -- the text of a board
 abbrev pub board_text : PlainBoard → List ℕ
-board_text board = board_front board ++ end_line
+board_text board = board_text_before_end board ++ end_line

@@ -7,20 +7,20 @@ use Rattle.std.specs.Fmt.{decimal}
 use Rattle.board_text.specs.Ranges.{InRange}
 
 -- The line feed that closes each line.
-abbrev pub closed : List ℕ → List ℕ
-closed line = line ++ 10 ∷ []
+abbrev pub with_line_feed : List ℕ → List ℕ
+with_line_feed line = line ++ 10 ∷ []
 
 -- A word, a space and a number, in a line of their own.
 abbrev pub number_line : List ℕ → ℕ → List ℕ
-number_line word n = closed (word ++ 32 ∷ decimal n)
+number_line word n = with_line_feed (word ++ 32 ∷ decimal n)
 
 -- Numbers, each with a space before it.
-abbrev pub spaced : List ℕ → List ℕ
-spaced ns = flat_map (λ n. 32 ∷ decimal n) ns
+abbrev pub spaced_numbers : List ℕ → List ℕ
+spaced_numbers ns = flat_map (λ n. 32 ∷ decimal n) ns
 
 -- A word and numbers, in a line of their own.
 abbrev pub numbers_line : List ℕ → List ℕ → List ℕ
-numbers_line word ns = closed (word ++ spaced ns)
+numbers_line word ns = with_line_feed (word ++ spaced_numbers ns)
 
 -- The bytes don't begin with anything of this form.
 abbrev pub Lacks : {X : Type 0} → (X → Type 0) → (X → List ℕ) → List ℕ → Type 0

@@ -3,7 +3,7 @@ use Rattle.std.specs.Prelude.{◌≡◌, ◌≢◌, ℕ, ◌<◌, ◌==◌, ◌�
 use Rattle.std.specs.Prelude.{None, codes}
 use Rattle.std.specs.Fmt.{decimal}
 use Rattle.std.specs.Str.Parse.{IsNumeral}
-use Rattle.board_text.specs.LineForms.{closed, NoDigit}
+use Rattle.board_text.specs.LineForms.{with_line_feed, NoDigit}
 use Rattle.board_text.specs.Numerals.{spaced_texts}
 
 -- the text of a place; the number of labels stands for none
@@ -16,7 +16,7 @@ spaced_places labels places = spaced_texts (map (place_word labels) places)
 
 -- a word and places, in a line of their own
 abbrev pub places_line : ℕ → List ℕ → List ℕ → List ℕ
-places_line labels word places = closed (word ++ spaced_places labels places)
+places_line labels word places = with_line_feed (word ++ spaced_places labels places)
 
 -- a text that has the form of a place below the bound, whether or not it spells one: digits, or a hyphen
 abbrev pub IsPlaceText : ℕ → ℕ → List ℕ → Type 0

@@ -24,7 +24,7 @@ pub struct Domination {
     labels: u16,
     /// The rows, one after the other.
     rows: Vec<u64>,
-    /// The place after that of the last pair, among all pairs of labels in ascending order.
+    /// The number after that of the last pair, among all pairs of labels in ascending order.
     next: u32,
 }
 
@@ -87,7 +87,7 @@ impl Domination {
         requires { AreLabels self.now.labels (x, y) }
         ensures { IsTrue result ↔ IsNext self.now.pairs (x, y) }
     {
-        self.next <= place(self.labels, x, y)
+        self.next <= pair_number(self.labels, x, y)
     }
 
     /// Lets `x` beat `y`, a pair that comes after the last one.
@@ -98,9 +98,9 @@ impl Domination {
         ensures pairs { self.new.pairs ≡ self.old.pairs ++ (x, y) ∷ [] }
         ensures few { length self.new.pairs ≤ 65536 }
     {
-        let place = place(self.labels, x, y);
+        let number = pair_number(self.labels, x, y);
         set_pair(self.labels, self.rows.as_mut_slice(), x, y);
-        self.next = place + 1;
+        self.next = number + 1;
     }
 
     /// Appends a line for each pair to `text`, ascending.
@@ -132,9 +132,9 @@ fn write_pairs(labels: u16, rows: &[u64], text: &mut String) -> Result<(), Alloc
     ensures { OnOk result (string_bytes text.new ≡ string_bytes text.old ++ flat_map beats_line (pairs_of labels rows.now)) }
 {
     let labels = u32::from(labels);
-    for place in 0..labels * labels {
-        let x = place / labels;
-        let y = place % labels;
+    for number in 0..labels * labels {
+        let x = number / labels;
+        let y = number % labels;
         if has_pair(rows, x, y) {
             writeln!(text, "beats {x} {y}")?;
         }
@@ -162,11 +162,11 @@ fn set_pair(labels: u16, rows: &mut [u64], x: u16, y: u16)
     rows[ROW_WORDS * y as usize + x as usize / 64] |= 1 << (x % 64);
 }
 
-/// The place of the pair of `x` and `y` among all pairs of labels in ascending order.
-fn place(labels: u16, x: u16, y: u16) -> u32
+/// The number of the pair of `x` and `y` among all pairs of labels in ascending order.
+fn pair_number(labels: u16, x: u16, y: u16) -> u32
     requires few { labels ≤ MAX_LABELS }
     requires pair { AreLabels labels (x, y) }
-    ensures place { result ≡ x * labels + y }
+    ensures number { result ≡ x * labels + y }
     ensures below { result < labels * labels }
 {
     x as u32 * labels as u32 + y as u32

@@ -3,7 +3,7 @@
 ghost use Rattle.std.specs.Prelude.{◌≡◌, ◌+◌, ◌<◌, ◌≤◌, length, take, drop, true, false};
 ghost use Rattle.std.specs.Prelude.{IfOk, IfErr, OnOk, OnErr, MatchResult};
 ghost use Rattle.std.specs.Io.KnownBytes.{Appends, Consumes, IsAtEnd, Keeps};
-ghost use Rattle.board_text.specs.Streams.{GaveAll, AppendsFront, ReadFails};
+ghost use Rattle.board_text.specs.Streams.{GaveAll, AppendsPrefix, ReadFails};
 ghost use Rattle.board_text.specs.ReadFaults.{ReadAllFails};
 ghost use Rattle.board_text.specs.declared.read_write.ReadFault.TheVariants as read_faults;
 
@@ -110,7 +110,7 @@ pub fn write_all<S: Sink>(sink: &mut S, bytes: &[u8]) -> Result<(), Failed>
     requires { S.has_failed sink.old ≡ false }
     ensures ok { OnOk result (Appends (S.contents sink.old) (S.contents sink.new) bytes.now) }
     ensures unfailed { OnOk result (S.has_failed sink.new ≡ false) }
-    ensures front { OnErr result (AppendsFront (S.contents sink.old) (S.contents sink.new) bytes.now) }
+    ensures front { OnErr result (AppendsPrefix (S.contents sink.old) (S.contents sink.new) bytes.now) }
     ensures failed { OnErr result (S.has_failed sink.new ≡ true) }
 {
     let mut rest = bytes;

@@ -1,4 +1,4 @@
--- When one seat has the whole width and nothing left to do, the round is finished.
+-- When one seat has the whole width and no work left, the round is finished.
 use Rattle.std.proofs.Common.{◌≡◌, ◌≢◌, ℕ, zero, suc, ◌+◌, ◌^◌, ◌<◌, ◌≤◌, ◌↔◌, List, [], ◌∷◌, map, length, take, drop, get_or, true, false, refl, sym, ap, ◌∙◌, subst, inl, inr, arith, Some, None}
 use Rattle.std.specs.Prelude.{slice_index}
 use Rattle.board_text.specs.declared.board.TheConstants.{MAX_LABELS}
@@ -21,16 +21,16 @@ use Rattle.positions.specs.Counts.{HasSize}
 use Rattle.positions.specs.declared.space.TheConstants.{MAX_CONFIGURATIONS}
 use Rattle.positions.proofs.Cited.{same_size, size_zero, size_at_most}
 use Rattle.solver.specs.Solving.{Solving, IsSolving, AnswerLasts}
-use Rattle.retro_core.specs.Round.{PlainSeat, Round, IsLawful, IsWorkedOff, spent as spent_seat, seat_at, all_todo}
+use Rattle.retro_core.specs.Round.{PlainSeat, Round, IsLawful, IsWorkedOff, spent_seat, seat_at, all_todo}
 use Rattle.retro_core.specs.Round.{all_won}
-use Rattle.retro_core.specs.declared.step.Seen.{Seen as Answer}
+use Rattle.retro_core.specs.declared.step.Seen.{Seen as SeenData}
 use Rattle.retro_core.specs.declared.step.Seen.TheVariants as seen
 use Rattle.retro_core.specs.History.{answer_at}
 use Rattle.solver.specs.Ending.{IsRoundEnd}
 use Rattle.solver.proofs.Cited.{same_or_not}
 use Rattle.retro_core.proofs.Cited.{closed-always, closed-gone, closed-once, lost-opened, won-told, times-together, worked-off}
 use Rattle.claim_round.specs.Shared.{Key, View, Ended, Finishes}
-use Rattle.claim_round.specs.History.{IsHistory, HasHistory, AreTold, LostWereWon, TellsClosedGaps, places_of, calls_of, calls_at, seats_of}
+use Rattle.claim_round.specs.History.{IsHistory, HasHistory, AreTold, LostWereWon, TellsClosedGaps, indexes_of, calls_of, calls_at, seats_of}
 use Rattle.claim_round.specs.Rule.{Unit0, Kept, KnowsRound}
 use Rattle.claim_round.specs.Inside.Seats.{IsSeated}
 use Rattle.claim_round.specs.Inside.Rounds.{IsRound}
@@ -49,7 +49,7 @@ none_else : (f : PlainSeat → ℕ) → f spent_seat ≡ 0 → (seats : List Pla
 none_else f z [] idle = refl
 none_else f z (x ∷ xs) idle = let here : f x ≡ 0 = ap f (idle 0) ∙ z in omega (arith, here, none_else f z xs (λ j. idle (suc j)), sum_by-cons f x xs)
 
--- f of all seats is f of one, where all others are spent
+-- if all other seats are spent, a sum over the seats is its part for the one seat
 only : (f : PlainSeat → ℕ) → f spent_seat ≡ 0 → (seats : List PlainSeat) (id : ℕ) → ((j : ℕ) → j ≢ id → get_or seats j spent_seat ≡ spent_seat) → sum_by f seats ≡ f (get_or seats id spent_seat)
 only f z [] id idle = sym z
 only f z (x ∷ xs) zero idle = omega (arith, none_else f z xs (λ j. idle (suc j) (λ e. absurd (omega arith))), sum_by-cons f x xs)
@@ -57,7 +57,7 @@ only f z (x ∷ xs) (suc id) idle =
     let here : f x ≡ 0 = ap f (idle 0 (λ e. absurd (omega arith))) ∙ z in
     omega (arith, here, only f z xs id (λ j ne. idle (suc j) (λ e. ne (omega arith))), sum_by-cons f x xs)
 
--- f of all views is f of one, where it is nothing of all others
+-- if f is 0 for all views, its sum is 0
 none_of : (f : View → ℕ) (views : List View) → ((j : ℕ) (u : View) → get_elem? views j ≡ some u → f u ≡ 0) → sum_by f views ≡ 0
 none_of f [] idle = refl
 none_of f (x ∷ xs) idle = let here = idle 0 x refl in let rest = none_of f xs (λ j u at. idle (suc j) u at) in omega (arith, sum_by-cons f x xs)
@@ -73,7 +73,7 @@ only_of f (x ∷ xs) (suc id) v at idle =
     let rest = only_of f xs id v at (λ j u ne there. idle (suc j) u (λ e. ne (omega arith)) there) in
     omega (arith, sum_by-cons f x xs)
 
--- the counts, values and won list of a table's words
+-- the counts and values of a table's words, and a won list
 abbrev pub end_of_words : Key → List ℕ → List ℕ → Ended
 end_of_words k words won = record { counts = take (gaps k.solving.board) words; values = map value_of_word (drop (gaps k.solving.board) words); won = won }
 
@@ -166,22 +166,22 @@ module _ (k : Key) (words : List ℕ) (views : List View) (sol : IsSolving k.sol
   finished : Finishes k.solving (end_of_words k words v.has.won)
   finished = record { end = ended; wide = law.values_length; values = valued }
 
-  -- what was told in all was told to the one seat
-  told_once : (place : ℕ) → times place (places_of v.made) ≡ calls_at h.steps place
+  -- each call of the history was told to the one seat
+  told_once : (place : ℕ) → times place (indexes_of v.made) ≡ calls_at h.steps place
   told_once place = sym (only_of (told_of place) views id v at (λ j u ne there.
       let width : u.has.width ≡ 0 = ap (λ (q : PlainSeat). q.width) (sym (seat_read views j u there) ∙ others j ne) in
-      ap (λ (m : List (ℕ × Answer)). times place (places_of m)) ((view_at (KnowsRound k) views j u knows there).nothing width))) ∙ h.once place
+      ap (λ (m : List (ℕ × SeenData)). times place (indexes_of m)) ((view_at (KnowsRound k) views j u knows there).nothing width))) ∙ h.once place
 
   told : AreTold h.steps v.made
   told = (view_at (IsToldBy h.steps) views id v h.told at).0
 
-  -- a call at a place was told
-  has_told : (place : ℕ) (answer : Answer) → answer_at h.steps place ≡ Some answer → calls_of (Some answer) ≡ 1 → Contains v.made (place, answer)
+  -- the answer of each call at a place was told
+  has_told : (place : ℕ) (answer : SeenData) → answer_at h.steps place ≡ Some answer → calls_of (Some answer) ≡ 1 → Contains v.made (place, answer)
   has_told place answer is call = told-there h.steps v.made place answer told is (let once = told_once place in let one = ap calls_of is in omega arith)
 
-  -- what was told stands in the history
-  stands : (place : ℕ) (answer : Answer) → Contains v.made (place, answer) → answer_at h.steps place ≡ Some answer
-  stands place answer there = All-contains (λ (call : ℕ × Answer). answer_at h.steps call.0 ≡ Some call.1) v.made (place, answer) told there
+  -- each answer that was told is in the history, at its place
+  stands : (place : ℕ) (answer : SeenData) → Contains v.made (place, answer) → answer_at h.steps place ≡ Some answer
+  stands place answer there = All-contains (λ (call : ℕ × SeenData). answer_at h.steps call.0 ≡ Some call.1) v.made (place, answer) told there
 
   history : HasHistory k v.made (end_of_words k words v.has.won)
   history = record {
@@ -220,7 +220,7 @@ module _ (k : Key) (words : List ℕ) (views : List View) (sol : IsSolving k.sol
         (found.0, found.1.0, has_told found.0 (seen.Struck found.1.0 (Some gap)) found.1.1 refl);
   }
 
--- what is known of the last state, with a seat of the whole width that has nothing to do
+-- if at the last state a seat has the whole width and no work left, the round is closed
 pub closed_state : (k : Key) (id : ℕ) (v : View) (words : List ℕ) (slots : List Unit0) → Final (Seen (Kept k) id v) words slots → k.width ≤ v.has.width → v.has.todo ≡ [] → v.has.owed ≡ [] → IsClosed k words v
 closed_state k id v words slots last whole no_todo no_owed =
     let s : State Unit0 View = last.0 in
@@ -238,7 +238,7 @@ closed_state k id v words slots last whole no_todo no_owed =
       closed = closed k s.words s.views sol h knows id v at whole no_todo no_owed;
     })
 
--- the same, told of the fields of a round and of its seat
+-- the same by the fields of a round and of its seat
 pub closed_fields : (k : Key) (given : Solving) (width : ℕ) (table : TableId) (s : Inside) (words : List ℕ) (slots : List Unit0) → IsRound (record { solving = given; width = width }) k table → IsSeated s
     → width ≤ s.width → length s.todo.items ≡ 0 → length s.owed.items ≡ 0 → Final (Seen (Kept k) s.seat.id s.seat.me.0) words slots
     → IsClosed k words s.seat.me.0 × (s.seat.me.0.has.todo ≡ []) × (s.seat.me.0.has.owed ≡ [])

@@ -14,12 +14,12 @@ use Rattle.solver.specs.Solving.{Solving, IsSolving, source}
 use Rattle.solver.proofs.Cited.{same_or_not}
 use Rattle.retro_core.proofs.Cited.{source-once}
 use Rattle.claim_round.specs.Shared.{Key, View, kept_part, new_part, view_joined}
-use Rattle.claim_round.specs.Rule.{most, size, load}
-use Rattle.claim_round.specs.Plays.{view_struck, claimed}
+use Rattle.claim_round.specs.Rule.{most_members, size, entry_bound}
+use Rattle.claim_round.specs.Plays.{view_struck, view_tried}
 
--- ---- how many members a gap has
+-- ---- the number of members of a gap
 
--- a list without doubles, each of which is f of a number below n, has at most n entries
+-- a list without repetitions, all of whose entries are f of numbers below n, has at most n entries
 covered : (n : ℕ) (f : ℕ → ℕ) (xs : List ℕ) → ((x : ℕ) → times x xs ≤ 1) → ((x : ℕ) → 0 < times x xs → (v : ℕ) × (v < n) × (x ≡ f v)) → length xs ≤ n
 covered zero f [] once from = omega arith
 covered zero f (x ∷ xs) once from = absurd (let found = from x (times-here x x xs refl) in let low : found.0 < 0 = found.1 in omega arith)
@@ -50,13 +50,13 @@ few_members s sol gap i = covered (places s.board) (λ v. rank_of s.board (membe
 
 -- ---- numbers that fit
 
-pub some_most : (k : Key) → IsSolving k.solving → 0 < most k
+pub some_most : (k : Key) → IsSolving k.solving → 0 < most_members k
 some_most k sol = let some = some_places k.solving.board sol.is_board in omega arith
 
-pub narrow : (k : Key) → IsSolving k.solving → most k * size k < 2 ^ 32
+pub narrow : (k : Key) → IsSolving k.solving → most_members k * size k < 2 ^ 32
 narrow k sol =
-    let a : most k * size k ≤ most k * MAX_CONFIGURATIONS = mul-le-mul_left (most k) sol.few in
-    let p : most k ≤ MAX_LABELS + 1 = few_places k.solving.board sol.is_board in
+    let a : most_members k * size k ≤ most_members k * MAX_CONFIGURATIONS = mul-le-mul_left (most_members k) sol.few in
+    let p : most_members k ≤ MAX_LABELS + 1 = few_places k.solving.board sol.is_board in
     omega arith
 
 -- ---- loads
@@ -71,7 +71,7 @@ pub length_rest : (xs : List ℕ) → 0 < length xs → length xs ≡ 1 + length
 length_rest [] some = absurd (omega arith)
 length_rest (x ∷ xs) some = omega arith
 
-pub load_struck : (most : ℕ) (v : View) (gap n place : ℕ) → 0 < length v.has.todo → length (source v.key.solving gap) ≤ most → load most (view_struck v gap n place) ≤ load most v
+pub load_struck : (most : ℕ) (v : View) (gap n place : ℕ) → 0 < length v.has.todo → length (source v.key.solving gap) ≤ most → entry_bound most (view_struck v gap n place) ≤ entry_bound most v
 load_struck most v gap n place some few =
     let more : List ℕ = source v.key.solving gap in
     let l = ap (λ (i : ℕ). most * i) (length_rest v.has.todo some) ∙ times_one_more most (length (drop 1 v.has.todo)) in
@@ -79,10 +79,11 @@ load_struck most v gap n place some few =
     (λ e. let o = ap length (cond_same n 1 (v.has.owed ++ more) v.has.owed e) ∙ length-append v.has.owed more in omega arith)
     (λ ne. let o = ap length (cond_other n 1 (v.has.owed ++ more) v.has.owed ne) in omega arith)
 
-pub load_claimed : (most : ℕ) (v : View) (n place : ℕ) → load most (claimed v n place) ≤ load most v
+pub load_claimed : (most : ℕ) (v : View) (n place : ℕ) → entry_bound most (view_tried v n place) ≤ entry_bound most v
 load_claimed most v n place = let l = length-drop 1 v.has.owed in omega arith
 
-pub load_cut : (most : ℕ) (v : View) → load most (kept_part v) + load most (new_part v) ≡ load most v
+pub load_cut : (most : ℕ) (v : View)
+    → entry_bound most (kept_part v) + entry_bound most (new_part v) ≡ entry_bound most v
 load_cut most v =
     let n : ℕ = length v.has.todo - length v.has.todo / 2 in
     let a : length (take n v.has.todo) ≡ n = length-take n v.has.todo ∙ (omega arith) in
@@ -91,12 +92,12 @@ load_cut most v =
     let t = ap (λ (i : ℕ). most * i) (let u : length (take n v.has.todo) + length (drop n v.has.todo) ≡ length v.has.todo = omega arith in u) in
     omega arith
 
-pub load_glue : (most : ℕ) (v u : View) → load most (view_joined v u) ≡ load most v + load most u
+pub load_glue : (most : ℕ) (v u : View) → entry_bound most (view_joined v u) ≡ entry_bound most v + entry_bound most u
 load_glue most v u =
     let o = length-append v.has.owed u.has.owed in
     let t = ap (λ (i : ℕ). most * i) (length-append v.has.todo u.has.todo) ∙ times_sum most (length v.has.todo) (length u.has.todo) in
     omega arith
 
--- a board of which some configuration has a value has some configuration
+-- if a value is below the number of configurations, there is a configuration
 pub some_gaps : (k : Key) → k.solving.rounds < configurations k.solving.board → 0 < size k
 some_gaps k below = omega arith

@@ -10,7 +10,7 @@ read_at [] i x e = absurd (some-ne-none x (sym e))
 read_at (y ∷ ys) zero x e = some-injective y x e
 read_at (y ∷ ys) (suc i) x e = read_at ys i x e
 
--- the value that a word of a closed table stands for
+-- the value of a configuration is that of its word in the closed table
 pub value_read : (words : List ℕ) (gaps rank word : ℕ) → rank < length (map value_of_word (drop gaps words)) → get_elem? words (gaps + rank) ≡ some word
     → get_or (map value_of_word (drop gaps words)) rank None ≡ value_of_word word
 value_read words gaps rank word inside e =

@@ -9,14 +9,14 @@ use Rattle.positions.specs.Ranks.{configurations}
 use Rattle.positions.specs.Gaps.{gaps}
 use Rattle.solver.specs.Solving.{Solving, IsSolving, bucket, AreToStrike}
 use Rattle.solver.specs.Words.{value_of_word, AreFirstCounts, AreFirstValues}
-use Rattle.solver.specs.Inside.Arena.{dominated}
+use Rattle.solver.specs.Inside.Arena.{is_dominated}
 use Rattle.solver.specs.Inside.BoardArena.{arena_of}
 use Rattle.solver.proofs.Cited.{same_or_not, dominated-tells, one-to-strike, times-filter-true, times-filter-le}
-use Rattle.retro_core.specs.Round.{IsDue, opening}
+use Rattle.retro_core.specs.Round.{IsDue, opening_round}
 use Rattle.retro_core.proofs.Cited.{opening-lawful}
 use Rattle.claim_round.specs.Shared.{Key, View}
 use Rattle.claim_round.specs.History.{AreTold}
-use Rattle.claim_round.specs.Rule.{KnowsRound, Kept, most}
+use Rattle.claim_round.specs.Rule.{KnowsRound, Kept, most_members}
 use Rattle.claim_round.specs.Inside.Openings.{AreOpeningWords, opening_view}
 
 -- the counts and the words of a solver, one after the other, are those of an opening
@@ -28,7 +28,7 @@ words-are s counts values words counts_long values_long counted valued is = reco
   values = subst (λ (l : List ℕ). AreFirstValues s (map value_of_word l)) (sym (ap (drop (gaps s.board)) is ∙ drop_at counts values (gaps s.board) counts_long)) valued;
 }
 
--- ---- what is to be struck at the opening
+-- ---- the configurations to strike at the opening
 
 pub record AreDueAll (s : Solving) (ranks : List ℕ) : Type 0 where
   pub is : ranks ≡ s.due
@@ -40,13 +40,14 @@ pub ranks_due : (s : Solving) (ranks : List ℕ) → IsSolving s → AreToStrike
 ranks_due s ranks sol to_strike =
     let b = s.board in
     let tells = dominated-tells b in
-    let is : ranks ≡ filter (dominated (arena_of b)) (bucket s s.rounds) = to_strike (dominated (arena_of b)) tells in
-    let once : (x : ℕ) → times x ranks ≤ 1 = λ x. let e = ap (times x) is in let l = times-filter-le (dominated (arena_of b)) x (bucket s s.rounds) in let o = sol.buckets.once s.rounds x in omega arith in
+    let is : ranks ≡ filter (is_dominated (arena_of b)) (bucket s s.rounds) =
+    to_strike (is_dominated (arena_of b)) tells in
+    let once : (x : ℕ) → times x ranks ≤ 1 = λ x. let e = ap (times x) is in let l = times-filter-le (is_dominated (arena_of b)) x (bucket s s.rounds) in let o = sol.buckets.once s.rounds x in omega arith in
     let due : (x : ℕ) → 0 < times x ranks → IsDue b x s.rounds = λ x h.
-    let h' : 0 < times x (filter (dominated (arena_of b)) (bucket s s.rounds)) = subst (λ (l : List ℕ). 0 < times x l) is h in
-    let there : 0 < times x (bucket s s.rounds) = (let l = times-filter-le (dominated (arena_of b)) x (bucket s s.rounds) in omega arith) in
+    let h' : 0 < times x (filter (is_dominated (arena_of b)) (bucket s s.rounds)) = subst (λ (l : List ℕ). 0 < times x l) is h in
+    let there : 0 < times x (bucket s s.rounds) = (let l = times-filter-le (is_dominated (arena_of b)) x (bucket s s.rounds) in omega arith) in
     let i = sol.buckets.ranks s.rounds x there in
-    let found = (tells x i).0 (times-filter-true (dominated (arena_of b)) x (bucket s s.rounds) h') in
+    let found = (tells x i).0 (times-filter-true (is_dominated (arena_of b)) x (bucket s s.rounds) h') in
     record { worth = record { is_rank = i; has_value = ((sol.buckets.filed s.rounds x i).0 there).1 }; pebble = found.0; dominates = found.1 } in
     record {
       is = one-to-strike s ranks sol to_strike;
@@ -73,7 +74,7 @@ opened s width words sol some are =
     record {
       solving = sol;
       history = record {
-        first = opening s width counts (map value_of_word (drop G words)) s.due;
+        first = opening_round s width counts (map value_of_word (drop G words)) s.due;
         steps = [];
         opens = opening-lawful s sol width counts (map value_of_word (drop G words)) s.due some counts_length values_length are.counts are.values sol.due;
         counted = are.counts;
@@ -82,5 +83,5 @@ opened s width words sol some are =
         once = λ place. refl;
       };
       knows = All-push (KnowsRound k) [] (opening_view k) (λ i d below. absurd (omega arith)) (record { round = λ _. refl; nothing = λ _. refl });
-      few = (let m : most k * length s.due ≤ most k * configurations s.board = mul-le-mul_left (most k) short in omega arith);
+      few = (let m : most_members k * length s.due ≤ most_members k * configurations s.board = mul-le-mul_left (most_members k) short in omega arith);
     }

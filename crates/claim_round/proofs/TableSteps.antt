@@ -14,7 +14,7 @@ use Rattle.index_lists.proofs.Cited.{distinct-length, same_is, differ_is}
 use Rattle.positions.specs.Ranks.{configuration_at, configurations}
 use Rattle.positions.specs.Gaps.{gaps, gap_of, IsDominator}
 use Rattle.solver.specs.Solving.{Solving, source}
-use Rattle.retro_core.specs.Round.{PlainSeat, IsLawful, spent as spent_seat, first_of, seat_struck, seat_tried, seat_kept, seat_new}
+use Rattle.retro_core.specs.Round.{PlainSeat, IsLawful, spent_seat, first_of, seat_struck, seat_tried, seat_kept, seat_new}
 use Rattle.retro_core.specs.Round.{seat_joined}
 use Rattle.retro_core.specs.declared.step.Step.TheVariants as steps
 use Rattle.retro_core.specs.declared.step.Seen.TheVariants as seen
@@ -22,8 +22,8 @@ use Rattle.retro_core.specs.Stepping.{Does}
 use Rattle.solver.proofs.Cited.{same_or_not}
 use Rattle.claim_round.specs.Shared.{Key, View, kept_part, new_part, view_joined}
 use Rattle.claim_round.specs.History.{IsHistory, seats_of}
-use Rattle.claim_round.specs.Rule.{Unit0, Kept, KnowsRound, most, size, load, spent_view}
-use Rattle.claim_round.specs.Plays.{TableStrikes, Claims, Looks, IsBounded, view_struck, claimed}
+use Rattle.claim_round.specs.Rule.{Unit0, Kept, KnowsRound, most_members, size, entry_bound, spent_view}
+use Rattle.claim_round.specs.Plays.{TableStrikes, TableTries, Looks, IsBounded, view_struck, view_tried}
 use Rattle.claim_round.specs.declared.words.TheConstants.{OPEN}
 use Rattle.solver.specs.Words.{value_of_word}
 use Rattle.claim_round.specs.Words.{round_of_words}
@@ -37,7 +37,7 @@ put_back [] i = refl
 put_back (x ∷ xs) zero = refl
 put_back (x ∷ xs) (suc i) = ap (λ (ys : List ℕ). x ∷ ys) (put_back xs i)
 
--- the words are as many as there are gaps and configurations
+-- there are as many words as gaps and configurations together
 pub words_length : (s : Solving) (w : ℕ) (words : List ℕ) (seats : List PlainSeat) → IsLawful (round_of_words s w words seats) → length words ≡ gaps s.board + configurations s.board
 words_length s w words seats law =
     let G : ℕ = gaps s.board in
@@ -55,7 +55,7 @@ words_length s w words seats law =
 pub kept-lawful : (k : Key) (s : State Unit0 View) → Kept k s → IsLawful (round_of_words k.solving k.width s.words (seats_of s.views))
 kept-lawful k s kept = history-lawful k s.words s.views kept.solving kept.history
 
--- the seat's next step stands after all that it knows
+-- the seat's next call comes after all steps that it knows
 since_at : (k : Key) (s : State Unit0 View) (kept : Kept k s) (id : ℕ) (v : View) → get_elem? s.views id ≡ some v → v.since ≤ length kept.history.steps
 since_at k s kept id v at = (view_at (IsToldBy kept.history.steps) s.views id v kept.history.told at).1
 
@@ -80,10 +80,10 @@ strike_allowed k slots id me gap pebble wide some_todo dominates gap_is s kept s
     let low : gap < gaps b = done.gap_in in
     let history : IsHistory k (set s.words gap (n - 1)) (set s.views id w) =
     history-call k s.words (set s.words gap (n - 1)) s.views kept.history (steps.Strike id) (seen.Struck (first_of v.has.todo) (cond (n == 1) (Some gap) None)) id v w at done.strikes refl refl refl in
-    let few : sum_by (load (most k)) (set s.views id w) ≤ most k * size k = (
-    let sum = total_set (load (most k)) s.views id v w at in
-    let members : length (source v.key.solving gap) ≤ most k = subst (λ (q : Key). length (source q.solving gap) ≤ most k) (sym knows) (few_members k.solving kept.solving gap low) in
-    let less = load_struck (most k) v gap n place some_todo members in
+    let few : sum_by (entry_bound (most_members k)) (set s.views id w) ≤ most_members k * size k = (
+    let sum = total_set (entry_bound (most_members k)) s.views id v w at in
+    let members : length (source v.key.solving gap) ≤ most_members k = subst (λ (q : Key). length (source q.solving gap) ≤ most_members k) (sym knows) (few_members k.solving kept.solving gap low) in
+    let less = load_struck (most_members k) v gap n place some_todo members in
     let f = kept.few in
     omega arith) in
     let P : ℕ → Type 0 = λ m. Kept k (record { words = set s.words gap m; homes = s.homes; views = set s.views id w }) in
@@ -93,7 +93,7 @@ strike_allowed k slots id me gap pebble wide some_todo dominates gap_is s kept s
     let less : n - 1 ≡ (n + 18446744073709551615) % 18446744073709551616 = omega arith in
     (w, keeps, tt, subst P less kept', (place, since_at k s kept id v at, refl, refl, positive))
 
--- all that a seat has won is of the game, and stands once
+-- the won list of a seat has no repetitions, and at most as many entries as there are configurations
 won_few : (k : Key) (words : List ℕ) (views : List View) (id : ℕ) (v : View) → IsLawful (round_of_words k.solving k.width words (seats_of views)) → get_elem? views id ≡ some v
     → ((x : ℕ) → times x v.has.won ≤ 1) × (length v.has.won ≤ size k)
 won_few k words views id v law at =
@@ -112,12 +112,12 @@ won_few k words views id v law at =
 
 pub claim_allowed : (k : Key) (slots id : ℕ) (me : Me Unit0 View) (i next : ℕ) → k.solving.rounds < configurations k.solving.board → 0 < me.0.has.width → 0 < length me.0.has.owed
     → i ≡ gaps k.solving.board + first_of me.0.has.owed → next ≡ suc k.solving.rounds
-    → Allows (Kept k) slots id me i (λ n. either (eqb n OPEN) next n) (Claims (step slots i OPEN next none) me)
+    → Allows (Kept k) slots id me i (λ n. either (eqb n OPEN) next n) (TableTries (step slots i OPEN next none) me)
 claim_allowed k slots id me i next below wide some_owed here is_next s kept same at small =
     let v : View = me.0 in
     let n : ℕ = slice_index s.words i in
     let place : ℕ = length kept.history.steps in
-    let w : View = claimed v n place in
+    let w : View = view_tried v n place in
     let seats : List PlainSeat = seats_of s.views in
     let c : ℕ = first_of v.has.owed in
     let G : ℕ = gaps k.solving.board in
@@ -131,7 +131,7 @@ claim_allowed k slots id me i next below wide some_owed here is_next s kept same
       solving = kept.solving;
       history = history;
       knows = All-set (KnowsRound k) s.views id w (known k w knows wide) kept.knows;
-      few = (let sum = total_set (load (most k)) s.views id v w at in let less = load_claimed (most k) v n place in let f = kept.few in omega arith);
+      few = (let sum = total_set (entry_bound (most_members k)) s.views id v w at in let less = load_claimed (most_members k) v n place in let f = kept.few in omega arith);
     } in
     let after : Bool → List PlainSeat = λ won. set seats id (seat_tried won v.has) in
     let now : (won : Bool) → (n == OPEN) ≡ won → after won ≡ seats_of (set s.views id w) = λ won e.
@@ -182,7 +182,7 @@ split_allowed k id v wide s kept at =
       solving = kept.solving;
       history = history-split k s.words s.words s.views kept.history (steps.Split id) (seen.Parted (length seats)) id v a b at does refl refl refl refl refl;
       knows = All-push (KnowsRound k) (set s.views id a) b (All-set (KnowsRound k) s.views id a (known k a knows (omega arith)) kept.knows) (known k b knows (omega arith));
-      few = subst (λ n. n ≤ most k * size k) (sym (total_cut (load (most k)) s.views id v a b at (load_cut (most k) v))) kept.few;
+      few = subst (λ n. n ≤ most_members k * size k) (sym (total_cut (entry_bound (most_members k)) s.views id v a b at (load_cut (most_members k) v))) kept.few;
     }
 
 pub join_allowed : (k : Key) (id : ℕ) (v : View) (other : ℕ) (u : View) → 0 < v.has.width → 0 < u.has.width → Joins (Kept k) id v other u (view_joined v u) spent_view
@@ -209,7 +209,7 @@ join_allowed k id v other u wide other_wide s kept at apart there =
       history = history-join k s.words s.words s.views kept.history (steps.Join id other) seen.Joined id other v u a spent_view at there' there does refl refl refl refl refl;
       knows = All-set (KnowsRound k) (set s.views id a) other spent_view (record { round = λ h. absurd (omega arith); nothing = λ _. refl })
           (All-set (KnowsRound k) s.views id a (known k a knows (omega arith)) kept.knows);
-      few = subst (λ n. n ≤ most k * size k) (sym (total_glue (load (most k)) s.views id other v u a spent_view at there (let l = load_glue (most k) v u in omega arith))) kept.few;
+      few = subst (λ n. n ≤ most_members k * size k) (sym (total_glue (entry_bound (most_members k)) s.views id other v u a spent_view at there (let l = load_glue (most_members k) v u in omega arith))) kept.few;
     }
 
 pub look_allowed : (k : Key) (slots id : ℕ) (me : Me Unit0 View) (i : ℕ) → 0 < me.0.has.width → Allows (Kept k) slots id me i (λ n. n) (Looks (step slots i 0 0 none) me)
@@ -222,7 +222,7 @@ look_allowed k slots id me i wide s kept same at small =
       width = subst (λ (q : Key). v.has.width ≤ q.width) (sym knows) (let all = law.widths in let part = width_at (seats_of s.views) id in let here = ap (λ (u : PlainSeat). u.width) (seat_read s.views id v at) in omega arith);
       once = few.0;
       won = subst (λ (q : Key). length v.has.won ≤ size q) (sym knows) few.1;
-      load = subst (λ (q : Key). load (most q) v ≤ most q * size q) (sym knows) (let a = total_at (load (most k)) s.views id v at in let f = kept.few in omega arith);
+      load = subst (λ (q : Key). entry_bound (most_members q) v ≤ most_members q * size q) (sym knows) (let a = total_at (entry_bound (most_members k)) s.views id v at in let f = kept.few in omega arith);
     } in
     let P : List ℕ × List View → Type 0 = λ p. Kept k (record { words = p.0; homes = s.homes; views = p.1 }) in
     let as_it_was : P (set s.words i (get_or s.words i 0), set s.views id v) = subst P (λ j. (sym (put_back s.words i) j, sym (set_again s.views id v at) j)) kept in

@@ -8,7 +8,7 @@ use Rattle.index_lists.proofs.Cited.{cond_same, cond_other}
 use Rattle.positions.specs.Ranks.{configuration_at}
 use Rattle.positions.specs.Gaps.{gaps, gap_of, IsDominator}
 use Rattle.solver.specs.Solving.{Solving, IsSolving}
-use Rattle.retro_core.specs.Round.{PlainSeat, Round, spent, IsLawful, first_of, seat_struck, seat_tried, struck, tried, first_is_open, round_of}
+use Rattle.retro_core.specs.Round.{PlainSeat, Round, spent_seat, IsLawful, first_of, seat_struck, seat_tried, round_struck, round_tried, first_is_open, round_of}
 use Rattle.retro_core.specs.Stepping.{Strikes, Tries}
 use Rattle.solver.proofs.Cited.{same_or_not}
 use Rattle.retro_core.proofs.Cited.{strike-lawful, try-lawful}
@@ -17,7 +17,7 @@ use Rattle.solver.specs.Words.{value_of_word}
 use Rattle.claim_round.specs.Words.{round_of_words}
 
 -- a lawful round on words, and a seat of it
-module _ (s : Solving) (w : ℕ) (words : List ℕ) (seats : List PlainSeat) (sol : IsSolving s) (law : IsLawful (round_of_words s w words seats)) (id : ℕ) (v : PlainSeat) (read : get_or seats id spent ≡ v) where
+module _ (s : Solving) (w : ℕ) (words : List ℕ) (seats : List PlainSeat) (sol : IsSolving s) (law : IsLawful (round_of_words s w words seats)) (id : ℕ) (v : PlainSeat) (read : get_or seats id spent_seat ≡ v) where
   abbrev pub here : Round
   here = round_of_words s w words seats
 
@@ -31,7 +31,7 @@ module _ (s : Solving) (w : ℕ) (words : List ℕ) (seats : List PlainSeat) (so
       → gap ≡ gap_of s.board (configuration_at s.board (first_of v.todo)) pebble → set seats id (seat_struck s gap (slice_index words gap) v) ≡ after → IsWordStruck gap after
   word-strike pebble gap after some dominates gap_is after_is =
       let b = s.board in
-      let seat : PlainSeat = get_or seats id spent in
+      let seat : PlainSeat = get_or seats id spent_seat in
       let G : ℕ = gaps b in
       let some' : 0 < length seat.todo = subst (λ (u : PlainSeat). 0 < length u.todo) (sym read) some in
       let dominates' : IsDominator b (configuration_at b (first_of seat.todo)) pebble = subst (λ (u : PlainSeat). IsDominator b (configuration_at b (first_of u.todo)) pebble) (sym read) dominates in
@@ -42,7 +42,7 @@ module _ (s : Solving) (w : ℕ) (words : List ℕ) (seats : List PlainSeat) (so
       let word : slice_index (take G words) gap ≡ n = get_or-take G words gap 0 low in
       let counts : set (take G words) gap (n - 1) ≡ take G (set words gap (n - 1)) = sym (take-set-lt G words gap (n - 1) low) in
       let values : drop G words ≡ drop G (set words gap (n - 1)) = sym (drop-set-lt G words gap (n - 1) low) in
-      let same : struck here id gap ≡ round_of_words s w (set words gap (n - 1)) after =
+      let same : round_struck here id gap ≡ round_of_words s w (set words gap (n - 1)) after =
       ap (λ m. round_of s w (set (take G words) gap (m - 1)) (map value_of_word (drop G words)) (set seats id (seat_struck s gap m seat))) word
       ∙ ap (λ (u : PlainSeat). round_of s w (set (take G words) gap (n - 1)) (map value_of_word (drop G words)) (set seats id (seat_struck s gap n u))) read
       ∙ ap (λ (l : List PlainSeat). round_of s w (set (take G words) gap (n - 1)) (map value_of_word (drop G words)) l) after_is
@@ -75,7 +75,7 @@ module _ (s : Solving) (w : ℕ) (words : List ℕ) (seats : List PlainSeat) (so
   pub word-try : (after : Bool → List PlainSeat) → suc s.rounds ≢ OPEN → 0 < length v.owed → ((won : Bool) → set seats id (seat_tried won v) ≡ after won)
       → IsWordWon (first_of v.owed) (after true) ⊎ IsWordLost (first_of v.owed) (after false)
   word-try after small some after_is =
-      let seat : PlainSeat = get_or seats id spent in
+      let seat : PlainSeat = get_or seats id spent_seat in
       let c : ℕ = first_of v.owed in
       let G : ℕ = gaps s.board in
       let r : ℕ = suc s.rounds in
@@ -87,7 +87,7 @@ module _ (s : Solving) (w : ℕ) (words : List ℕ) (seats : List PlainSeat) (so
       let word : get_or old c None ≡ value_of_word (slice_index words (G + c)) =
       get_or-map value_of_word (drop G words) c 0 None long ∙ ap value_of_word (get_or-drop G words c 0) in
       let at : get_or old (first_of seat.owed) None ≡ value_of_word (slice_index words (G + c)) = ap (λ x. get_or old x None) first ∙ word in
-      let round : (won : Bool) → won ≡ first_is_open here id → round_of s w (take G words) (cond won (set old c (Some r)) old) (after won) ≡ tried here id = λ won is.
+      let round : (won : Bool) → won ≡ first_is_open here id → round_of s w (take G words) (cond won (set old c (Some r)) old) (after won) ≡ round_tried here id = λ won is.
       ap (λ (l : List PlainSeat). round_of s w (take G words) (cond won (set old c (Some r)) old) l) (sym (after_is won))
       ∙ ap (λ (u : PlainSeat). round_of s w (take G words) (cond won (set old (first_of u.owed) (Some r)) old) (set seats id (seat_tried won u))) (sym read)
       ∙ ap (λ (o : Bool). round_of s w (take G words) (cond o (set old (first_of seat.owed) (Some r)) old) (set seats id (seat_tried o seat))) is in

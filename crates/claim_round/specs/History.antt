@@ -1,5 +1,5 @@
 -- The history of a shared round: the steps of one run of the machine, in which each call of each
--- seat has its place.
+-- seat has its index.
 use Rattle.std.specs.Prelude.{◌≡◌, ℕ, ◌<◌, ◌≤◌, false, true, List, map, length, slice_index, Option, Some, None}
 use Rattle.std.specs.List.{All, Contains, sum_by}
 use Rattle.index_lists.specs.Lists.{times}
@@ -19,13 +19,13 @@ use Rattle.claim_round.specs.Words.{round_of_words}
 abbrev pub seats_of : List View → List PlainSeat
 seats_of views = map (λ view. view.has) views
 
--- each answer that was told is that of the step at its place
+-- each answer that was told is that of the step at its index
 abbrev pub AreTold : List (Step × Seen) → List (ℕ × Seen) → Type 0
 AreTold steps made = All (λ call. answer_at steps call.0 ≡ Some call.1) made
 
--- the places of the answers told
-abbrev pub places_of : List (ℕ × Seen) → List ℕ
-places_of made = map (λ call. call.0) made
+-- the indexes of the answers told
+abbrev pub indexes_of : List (ℕ × Seen) → List ℕ
+indexes_of made = map (λ call. call.0) made
 
 -- one for the answer of a strike or of a try, each of which is the call of a seat, and none for a
 -- split, a join or no step
@@ -36,9 +36,9 @@ calls_of (Some (seen.Parted seat)) = 0
 calls_of (Some seen.Joined) = 0
 calls_of None = 0
 
--- the number of strikes and tries at a place
+-- the number of strikes and tries at an index
 abbrev pub calls_at : List (Step × Seen) → ℕ → ℕ
-calls_at steps place = calls_of (answer_at steps place)
+calls_at steps index = calls_of (answer_at steps index)
 
 -- steps of the machine lead from an opening, whose counts are those of the solver, to these words
 -- and seats. The answers told to a seat are those at its places, its next one can stand at the
@@ -50,7 +50,7 @@ pub record IsHistory (k : Key) (words : List ℕ) (views : List View) : Type 0 w
   pub counted : AreFirstCounts k.solving first.counts
   pub leads : LeadTo first steps (round_of_words k.solving k.width words (seats_of views))
   pub told : All (λ view. AreTold steps view.made × (view.since ≤ length steps)) views
-  pub once : (place : ℕ) → sum_by (λ view. times place (places_of view.made)) views ≡ calls_at steps place
+  pub once : (index : ℕ) → sum_by (λ view. times index (indexes_of view.made)) views ≡ calls_at steps index
 
 -- steps of the machine lead from an opening, whose counts are those of the solver, to an end at
 -- which no seat has work left. The end has these counts, values and won configurations. The
@@ -67,19 +67,19 @@ pub record HasHistory (k : Key) (made : List (ℕ × Seen)) (end : Ended) : Type
   pub values : last.values ≡ end.values
   pub won : (rank : ℕ) → times rank (all_won last) ≡ times rank end.won
   pub told : AreTold steps made
-  pub once : (place : ℕ) → times place (places_of made) ≡ calls_at steps place
+  pub once : (index : ℕ) → times index (indexes_of made) ≡ calls_at steps index
 
--- each claim told as lost was told as won at an earlier place, and its configuration is in the
+-- each claim told as lost was told as won at an earlier index, and its configuration is in the
 -- won list
 abbrev pub LostWereWon : List (ℕ × Seen) → List ℕ → Type 0
-LostWereWon made won = (place config : ℕ) → Contains made (place, seen.Tried config false)
-    → (earlier : ℕ) × (earlier < place) × Contains made (earlier, seen.Tried config true) × (0 < times config won)
+LostWereWon made won = (index config : ℕ) → Contains made (index, seen.Tried config false)
+    → (earlier : ℕ) × (earlier < index) × Contains made (earlier, seen.Tried config true) × (0 < times config won)
 
 -- each gap was told closed at most once, only if its count is 0, and always then if it had a live
 -- answer at the opening
 pub record TellsClosedGaps (s : Solving) (made : List (ℕ × Seen)) (counts : List ℕ) : Type 0 where
-  pub once : (gap place other config another : ℕ) → Contains made (place, seen.Struck config (Some gap))
-      → Contains made (other, seen.Struck another (Some gap)) → place ≡ other
-  pub only : (gap place config : ℕ) → Contains made (place, seen.Struck config (Some gap)) → slice_index counts gap ≡ 0
+  pub once : (gap index other config another : ℕ) → Contains made (index, seen.Struck config (Some gap))
+      → Contains made (other, seen.Struck another (Some gap)) → index ≡ other
+  pub only : (gap index config : ℕ) → Contains made (index, seen.Struck config (Some gap)) → slice_index counts gap ≡ 0
   pub always : (gap label : ℕ) → gap < gaps s.board → AnswerLasts s.board gap s.rounds label → slice_index counts gap ≡ 0
-      → (place : ℕ) × (config : ℕ) × Contains made (place, seen.Struck config (Some gap))
+      → (index : ℕ) × (config : ℕ) × Contains made (index, seen.Struck config (Some gap))

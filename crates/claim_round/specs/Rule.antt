@@ -5,7 +5,7 @@ use Rattle.atomic_table.specs.Table.{State}
 use Rattle.board_text.specs.PlainBoard.{places}
 use Rattle.positions.specs.Ranks.{configurations}
 use Rattle.solver.specs.Solving.{IsSolving}
-use Rattle.retro_core.specs.Round.{spent as spent_seat}
+use Rattle.retro_core.specs.Round.{spent_seat}
 use Rattle.claim_round.specs.Shared.{Key, View}
 use Rattle.claim_round.specs.History.{IsHistory}
 
@@ -13,16 +13,16 @@ abbrev pub Unit0 : Type 0
 Unit0 = Unit {0}
 
 -- no gap has more members, and no more configurations are without a value
-abbrev pub most : Key → ℕ
-most k = places k.solving.board
+abbrev pub most_members : Key → ℕ
+most_members k = places k.solving.board
 
 abbrev pub size : Key → ℕ
 size k = configurations k.solving.board
 
--- a bound on the entries that a seat may still owe: those that it owes, and `most` members for
--- each configuration that it has to strike
-abbrev pub load : ℕ → View → ℕ
-load most v = length v.has.owed + most * length v.has.todo
+-- a bound on the entries that a seat may still owe: those that it owes, and `most` members of a gap
+-- for each configuration that it has to strike
+abbrev pub entry_bound : ℕ → View → ℕ
+entry_bound most v = length v.has.owed + most * length v.has.todo
 
 -- a seat with a width knows the round, and a seat without was told nothing
 pub record KnowsRound (k : Key) (v : View) : Type 0 where
@@ -30,12 +30,12 @@ pub record KnowsRound (k : Key) (v : View) : Type 0 where
   pub nothing : v.has.width ≡ 0 → v.made ≡ []
 
 -- the words and the seats have a history from an opening on, and the entries that all seats may
--- still owe are at most `most` for each configuration
+-- still owe are at most the most members of a gap for each configuration
 pub record Kept (k : Key) (s : State Unit0 View) : Type 0 where
   pub solving : IsSolving k.solving
   pub history : IsHistory k s.words s.views
   pub knows : All (KnowsRound k) s.views
-  pub few : sum_by (load (most k)) s.views ≤ most k * size k
+  pub few : sum_by (entry_bound (most_members k)) s.views ≤ most_members k * size k
 
 -- the view of a seat that was joined into another, of no round
 abbrev pub no_key : Key

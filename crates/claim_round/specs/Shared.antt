@@ -30,7 +30,7 @@ pub record RoundId : Type 0 where
   pub key : Key
 
 -- a seat in clauses: its table and its view
-pub record Place : Type 0 where
+pub record SeatId : Type 0 where
   pub table : TableId
   pub view : View
 
@@ -48,20 +48,20 @@ view_joined v u = record { key = v.key; has = seat_joined v.has u.has; made = v.
 -- ---- relations of clauses
 
 -- the seat is one of the round's
-abbrev pub IsOf : RoundId → Place → Type 0
+abbrev pub IsOf : RoundId → SeatId → Type 0
 IsOf r p = (p.table ≡ r.table) × (p.view.key ≡ r.key) × (0 < p.view.has.width)
 
 -- it is a seat of the same round
-abbrev pub Stays : Place → Place → Type 0
-Stays p q = (q.table ≡ p.table) × (q.view.key ≡ p.view.key)
+abbrev pub IsOfSameRound : SeatId → SeatId → Type 0
+IsOfSameRound p q = (q.table ≡ p.table) × (q.view.key ≡ p.view.key)
 
 -- a seat was cut in two: the part that it keeps, and a new seat of the same table
-abbrev pub IsSplit : Place → Place → Place → Type 0
+abbrev pub IsSplit : SeatId → SeatId → SeatId → Type 0
 IsSplit seat kept new = (kept.table ≡ seat.table) × (kept.view ≡ kept_part seat.view)
     × (new.table ≡ seat.table) × (new.view ≡ new_part seat.view)
 
 -- a seat took over all that another one had
-abbrev pub IsJoined : Place → Place → Place → Type 0
+abbrev pub IsJoined : SeatId → SeatId → SeatId → Type 0
 IsJoined into from both = (both.table ≡ into.table) × (both.view ≡ view_joined into.view from.view)
 
 -- a closed round in clauses: the count of each gap, the value of each configuration that has one,
@@ -72,7 +72,7 @@ pub record Ended : Type 0 where
   pub won : List ℕ
 
 -- the seat has the round's whole width and nothing left to do, and the round's won list is its own
-abbrev pub IsClosedBy : RoundId → Place → Ended → Type 0
+abbrev pub IsClosedBy : RoundId → SeatId → Ended → Type 0
 IsClosedBy r p e = (p.view.has.width ≡ r.key.width) × (p.view.has.todo ≡ []) × (p.view.has.owed ≡ []) × (e.won ≡ p.view.has.won)
 
 -- the round of this solver is finished

@@ -2,7 +2,8 @@
 
 ghost use Rattle.std.specs.Prelude.{◌≡◌, ℕ, ◌<◌, ◌≤◌, [], length, false, IfOk, IfErr};
 ghost use Rattle.index_lists.specs.Lists.{times};
-ghost use Rattle.claim_round.specs.Shared.{IsOf, Stays, IsSplit, IsJoined, IsClosedBy, Finishes};
+ghost use Rattle.claim_round.specs.Shared.{IsOf, IsOfSameRound, IsSplit, IsJoined, IsClosedBy};
+ghost use Rattle.claim_round.specs.Shared.{Finishes};
 ghost use Rattle.claim_round.specs.History.{HasHistory, LostWereWon, TellsClosedGaps};
 ghost use Rattle.claim_round.specs.Calls.{Opens, HasStruck, HasClaimed};
 ghost use Rattle.claim_round.specs.Reasons.{IsReason};
@@ -133,7 +134,7 @@ impl<'a, S: ListStore> SharedRound<'a, S> {
         requires mine { IsOf self.now seat.old }
         requires todo { 0 < length seat.old.view.has.todo }
         requires owed { seat.old.view.has.owed ≡ [] }
-        ensures stays { Stays seat.old seat.new }
+        ensures stays { IsOfSameRound seat.old seat.new }
         ensures struck { HasStruck seat.old.view result.config result.closed seat.new.view }
     {
         let Some(config) = seat.todo.pop_front() else {
@@ -165,7 +166,7 @@ impl<'a, S: ListStore> SharedRound<'a, S> {
     pub fn claim(&self, seat: &mut RoundSeat) -> Claim
         requires mine { IsOf self.now seat.old }
         requires owed { 0 < length seat.old.view.has.owed }
-        ensures stays { Stays seat.old seat.new }
+        ensures stays { IsOfSameRound seat.old seat.new }
         ensures claimed { HasClaimed seat.old.view result.config result.won seat.new.view }
     {
         let Some(config) = seat.owed.pop_front() else {

@@ -22,13 +22,13 @@ pub struct RoundSeat {
 }
 
 impl Model for RoundSeat {
-    ghost use Rattle.claim_round.specs.Shared.{Place};
+    ghost use Rattle.claim_round.specs.Shared.{SeatId};
 
-    ghost Value = { Place };
+    ghost Value = { SeatId };
 
-    ghost use Rattle.claim_round.specs.Inside.Seats.{place_of, IsSeated};
+    ghost use Rattle.claim_round.specs.Inside.Seats.{seat_id_of, IsSeated};
 
-    ghost view = { place_of };
+    ghost view = { seat_id_of };
 
     ghost invariant = { IsSeated };
 }

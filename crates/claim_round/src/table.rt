@@ -57,9 +57,9 @@ impl Play<(), Hand> for Strike {
 pub struct Try;
 
 impl Play<(), Hand> for Try {
-    ghost use Rattle.claim_round.specs.Plays.{Claims};
+    ghost use Rattle.claim_round.specs.Plays.{TableTries};
 
-    ghost then = { Claims };
+    ghost then = { TableTries };
 }
 
 pub struct Halves;

@@ -76,6 +76,6 @@ kept id (a ∷ xs) rows has = kept id xs (with_default rows a) (go (has_row a.id
     go true = has
     go false = keeps_row id a a.defaults rows has
 
--- the first argument has a row where it has a default
+-- if the first argument has a default, it has a row
 pub default_row : (a : Rule) (xs : List Rule) (rows : List Row) → 0 < length a.defaults → HasRow a.id (fold with_default rows (a ∷ xs))
 default_row a xs rows some = found_row a.id (fold with_default rows (a ∷ xs)) (kept a.id xs (with_default rows a) (made a rows some))

@@ -149,7 +149,7 @@ level_fits s words good pass =
     let walked_fits = walk_fits s (walk_from nothing_held) words good refl a.0 tt in
     (defaults_fit s.rules s.rules (settled s.rules end).rows good d.0 (settled_fits s.rules s.args_override_self end good b.0 walked_fits), d.1)
 
--- ---- what has a row can be read
+-- ---- an argument with a row can be read
 
 fitting_row : (c : List Rule) (id : Text) (rows : List Row) (o : Option Row) → find (λ r. bytes_eq r.id id) rows ≡ o → Each (Fits c) rows
     → is_some o ≡ true

@@ -12,7 +12,7 @@ use Rattle.clap.specs.Walk.{Held, Names, Outcome, Row, Rule, Step, Text, Waiting
 use Rattle.clap.specs.declared.builder.value_parser.Reading.{Reading}
 use Rattle.clap.specs.declared.builder.value_parser.ValueParser.{ValueParser}
 use Rattle.clap.specs.declared.builder.value_parser.ValueParser.TheVariants as vp
-use Rattle.command_line.specs.Commands.{somewhere}
+use Rattle.command_line.specs.Commands.{reference_to}
 
 -- the parser with its names somewhere else
 abbrev pub moved_parser : ValueParser → ValueParser
@@ -25,7 +25,7 @@ moved_parser (vp.Signed low high) = vp.Signed low high
 moved_parser (vp.Unsigned low high) = vp.Unsigned low high
 moved_parser vp.Float = vp.Float
 moved_parser vp.Char = vp.Char
-moved_parser (vp.Names names) = vp.Names (somewhere (map (λ t. somewhere t.now) names.now))
+moved_parser (vp.Names names) = vp.Names (reference_to (map (λ t. reference_to t.now) names.now))
 moved_parser (vp.Values values) = vp.Values values
 
 abbrev pub moved : Rule → Rule
@@ -54,7 +54,7 @@ reading_stays a = go a.parser
     go None = refl
     go (Some p) = reading_same p
 
-names_same : (b : Bool) (t : Text) (names : List (Bor Text)) → list_any (λ (name : Bor Text). same_text b name.now t) (map (λ (s : Bor Text). somewhere s.now) names)
+names_same : (b : Bool) (t : Text) (names : List (Bor Text)) → list_any (λ (name : Bor Text). same_text b name.now t) (map (λ (s : Bor Text). reference_to s.now) names)
     ≡ list_any (λ (name : Bor Text). same_text b name.now t) names
 names_same b t [] = refl
 names_same b t (s ∷ rest) = ap (λ (x : Bool). same_text b s.now t || x) (names_same b t rest)

@@ -43,7 +43,7 @@ outside n most (Some t) e out = false_if _ (λ yes.
       | inr high ↦ omega (arith, a.3, is)
     ])
 
--- two halves of one value
+-- a value whose two halves agree with those of a pair is that pair
 pub halves : {P A B : Type 0} (f : P → A) (g : P → B) (r : Option P) (x : Option (A × B))
     → option_map f r ≡ option_map (λ p. p.0) x → option_map g r ≡ option_map (λ p. p.1) x
     → x ≡ option_map (λ p. (f p, g p)) r

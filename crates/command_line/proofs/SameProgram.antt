@@ -16,7 +16,7 @@ use Rattle.clap.specs.declared.builder.action.ArgAction.{ArgAction}
 use Rattle.clap.specs.declared.builder.action.ArgAction.TheVariants.{Set, Append, SetTrue, SetFalse}
 use Rattle.clap.specs.declared.builder.action.ArgAction.TheVariants.{Count, Help, HelpShort, HelpLong, Version}
 use Rattle.clap.specs.declared.builder.value_parser.ValueParser.{ValueParser}
-use Rattle.command_line.specs.Commands.{commands_among, program, program_among, side_words, somewhere}
+use Rattle.command_line.specs.Commands.{commands_among, program, program_among, side_words, reference_to}
 use Rattle.command_line.proofs.NamesMoved.{all_moved, moved, moved_parser, rows_after_same}
 use Rattle.command_line.proofs.TakesMoved.{level_same, moved_shape}
 use Rattle.command_line.proofs.FaultsMoved.{level_same as level_faults_same}
@@ -111,15 +111,15 @@ abbrev Sides : Type 0
 Sides = Bor (List (Bor Text))
 
 abbrev away : Sides → Sides
-away sides = somewhere (map (λ (t : Bor Text). somewhere t.now) sides.now)
+away sides = reference_to (map (λ (t : Bor Text). reference_to t.now) sides.now)
 
-away_map : (sides : List (Bor Text)) → map (λ (t : Bor Text). somewhere t.now) sides ≡ map somewhere (texts sides)
+away_map : (sides : List (Bor Text)) → map (λ (t : Bor Text). reference_to t.now) sides ≡ map reference_to (texts sides)
 away_map [] = refl
-away_map (s ∷ rest) = ap (λ (xs : List (Bor Text)). somewhere s.now ∷ xs) (away_map rest)
+away_map (s ∷ rest) = ap (λ (xs : List (Bor Text)). reference_to s.now ∷ xs) (away_map rest)
 
 away_is : (sides : Sides) → texts sides.now ≡ side_words → program_among (away sides) ≡ program
-away_is sides e = ap (λ (xs : List (Bor Text)). program_among (somewhere xs))
-    (away_map sides.now ∙ ap (λ (ts : List Text). map somewhere ts) e)
+away_is sides e = ap (λ (xs : List (Bor Text)). program_among (reference_to xs))
+    (away_map sides.now ∙ ap (λ (ts : List Text). map reference_to ts) e)
 
 -- the command that answers to the name
 abbrev named : Text → List Shape → Option Shape

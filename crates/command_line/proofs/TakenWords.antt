@@ -1,7 +1,7 @@
 -- If `clap` takes the words, the job can be read from its matches.
 use Rattle.std.proofs.Common.{◌≡◌, ◌∙◌, ◌<◌, ◌⊎◌, ◌++◌, ◌&&◌, ◌||◌, not, Bool, ℕ, List, [], ◌∷◌, length, Option, Some, None}
 use Rattle.std.proofs.Common.{is_some, true, false, true≢false, refl, sym, ap, subst, inl, inr, cond, codes, drop, arith}
-use Rattle.std.specs.Prelude.{⊤, find, fold, map, option_map, pos, unwrap_or}
+use Rattle.std.specs.Prelude.{⊤, find, fold, option_map, pos, unwrap_or}
 use Rattle.std.specs.Borrow.{Bor}
 use Rattle.std.specs.List.{list_all, list_any}
 use Rattle.std.specs.Option.{option_map_or}
@@ -50,7 +50,7 @@ simple_and_free words = refl
 
 -- ---- any command
 
--- it has to be there or has a default, any case of its letters counts, and it is a number up to a limit, one of some words, or any word
+-- the argument is a number up to a limit, one of some words, or any word
 abbrev IsKind : Option ValueParser → Type 0
 IsKind parser = (parser ≡ None) ⊎ ((most : ℕ) × (parser ≡ Some (vp.Signed (pos 1) (pos most))))
     ⊎ (parser ≡ Some (vp.Names sides))
@@ -58,11 +58,11 @@ IsKind parser = (parser ≡ None) ⊎ ((most : ℕ) × (parser ≡ Some (vp.Sign
 abbrev IsArgument : Rule → Type 0
 IsArgument a = ((a.required ≡ true) ⊎ (0 < length a.defaults)) × (a.ignore_case ≡ false) × IsKind a.parser
 
--- the rules that clap makes of a command's
+-- the rules that clap makes from those of a command
 abbrev made_from : ℕ → List Rule → List Rule
 made_from i rules = filled_from i (rules ++ help_rule ∷ [])
 
--- a command of which each argument can be read where clap takes the words
+-- if clap takes the words, each argument of the command can be read
 pub record IsCommand (s : Shape) : Type 0 where
   pub plain : s ≡ command s.name s.rules
   pub good : Good (made_from 1 s.rules)

@@ -89,11 +89,11 @@ abbrev pub program_among : Bor (List (Bor Text)) → App
 program_among words = program_of (commands_among words)
 
 -- a value behind a reference; `clap` reads the same wherever it lies
-abbrev pub somewhere : {X : Type 0} → X → Bor X
-somewhere x = record { ref_ptr = (0, 0); now = x }
+abbrev pub reference_to : {X : Type 0} → X → Bor X
+reference_to x = record { ref_ptr = (0, 0); now = x }
 
 abbrev pub sides : Bor (List (Bor Text))
-sides = somewhere (map somewhere side_words)
+sides = reference_to (map reference_to side_words)
 
 abbrev pub commands : List Shape
 commands = commands_among sides

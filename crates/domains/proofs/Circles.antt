@@ -29,7 +29,7 @@ cycle_dominated board circle (label ∷ second ∷ labels) long all = absurd (om
 squares : List ℕ
 squares = 1 ∷ 2 ∷ 4 ∷ []
 
--- a label that is a square ahead of both
+-- a label that is ahead of both by squares
 record Ahead (x y : ℕ) : Type 0 where
   label : ℕ
   low : label < 7

@@ -1,4 +1,4 @@
--- Values are in the order of the trees that they stand for.
+-- Values are in the order of the trees.
 use Rattle.std.proofs.Common.{ℕ, suc, List, arith, inl, inr}
 use Rattle.std.proofs.lemmas.Bool.{cases_lt}
 use Rattle.board_text.specs.PlainBoard.{PlainBoard}

@@ -1,4 +1,4 @@
--- Each list with a place for each pebble has a value, also one with places that the board's start has none of.
+-- Each list with a place for each pebble has a value, even if the board's start has no such places.
 use Rattle.std.proofs.Common.{◌≡◌, ◌↔◌, ℕ, ◌+◌, ◌<◌, ◌≤◌, ◌⊎◌, List, length, get_or, map, refl, sym, ◌∙◌, subst}
 use Rattle.std.proofs.Common.{arith, inl, inr}
 use Rattle.std.proofs.lemmas.Bool.{cases_lt}
@@ -13,7 +13,7 @@ use Rattle.domains.proofs.Choices.{one_or, of_one_or}
 use Rattle.domains.proofs.Following.{itself, led_lasts}
 use Rattle.domains.proofs.ComparedValues.{LastsAsLong, at_most_from_trees, trees_from_at_most, value_goes_over}
 
--- the label, or one number for all that is none
+-- the place if it is a label, and else the number of labels
 capped : PlainBoard → ℕ → ℕ
 capped board place = one_or (cases_lt place board.labels) place board.labels
 
@@ -89,7 +89,7 @@ module _ (board : PlainBoard) (configuration : List ℕ) (long : length configur
             from_start to_start found.0 found.1,
       )
 
--- values are in the order of the trees that they stand for
+-- a value is at most another exactly if each labeller's tree of the first is matched by one of the second
 pub order_of_trees : (first second : PlainBoard) (configuration other : List ℕ) → length configuration ≡ first.pebbles
     → length other ≡ second.pebbles
     → IsWorthAtMost first configuration second other ↔ LastsAsLong first configuration second other

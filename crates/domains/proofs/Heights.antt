@@ -12,7 +12,7 @@ use Rattle.positions.specs.declared.value.Value.TheVariants.{Finite, Forever}
 use Rattle.positions.proofs.Cited.{at_most_from_tree, not_both_trees, some_tree}
 use Rattle.domains.specs.Orders.{HasHeights, IsChain}
 
--- a pebble other than this one, where there are two
+-- a pebble other than this one, if there are two or more
 pub another : (count pebble : ℕ) → 2 ≤ count → (other : ℕ) × (other < count) × (pebble ≢ other)
 another count zero two = (1, omega (arith, two), λ one. omega (arith, one))
 another count (suc pebble) two = (0, omega (arith, two), λ one. omega (arith, one))
@@ -62,7 +62,7 @@ orders_do_not_last board height count configuration heights two long lasts =
 
 -- ---- chains
 
--- a label above all others serves while there is one
+-- while some label is above all others, a labeller climbs to it
 climbs : (board : PlainBoard) (depth most : ℕ) (configuration : List ℕ) → IsChain board
     → length configuration ≡ board.pebbles
     → All (λ label. label ≤ most) configuration → depth + most < board.labels → LabellerTree board depth configuration

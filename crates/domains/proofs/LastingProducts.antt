@@ -1,7 +1,7 @@
--- A product lasts as long as the factor that lasts shorter, with as many pebbles as both together, less one.
--- Pebbles of the outer board stand for copies: each pebble of the product has a seat, the outer pebble on whose
--- label its copy is. One outer pebble is the head: it beats all others that are seats. Pebbles of the inner board
--- stand for the parts of those in the head's copy.
+-- A product lasts as long as the shorter factor, with as many pebbles as both together, less one.
+-- Each pebble of the product has a seat, the outer pebble on whose label its copy is. One outer pebble is the head:
+-- it beats all other seats. Each pebble of the product whose seat is the head has a part, the inner pebble on whose
+-- label it is within the copy.
 use Rattle.std.proofs.Common.{◌≡◌, ◌≢◌, ℕ, zero, suc, ◌+◌, ◌-◌, ◌*◌, ◌/◌, ◌%◌, ◌==◌, ◌<◌, ◌≤◌, ◌⊎◌}
 use Rattle.std.proofs.Common.{List, length, replicate, get_or, set, sym, refl, ◌∙◌, ap, subst, arith, inl, inr, cond}
 use Rattle.std.proofs.lemmas.Bool.{cases_lt, cases_eq, eq-eqb, ne_eqb}
@@ -27,7 +27,7 @@ put_at at to f i same = ap (λ t. cond t to (f i)) (eq-eqb i at same)
 put_other : (at to : ℕ) (f : ℕ → ℕ) (i : ℕ) → i ≢ at → put at to f i ≡ f i
 put_other at to f i differs = ap (λ t. cond t to (f i)) (ne_eqb i at differs)
 
--- ---- no fewer numbers are mapped onto so many
+-- ---- a map onto the numbers below n has n arguments or more
 
 onto_most : (m n : ℕ) (f : ℕ → ℕ) → ((v : ℕ) → v < n → (i : ℕ) × (i < m) × (f i ≡ v)) → n ≤ m
 onto_most zero n f onto =
@@ -64,7 +64,7 @@ onto_most (suc m) (suc n) f onto =
     ]) in
     omega (arith, rest)
 
--- ---- how pebbles stand
+-- ---- seats and parts of the pebbles
 
 record Stand (outer inner board : PlainBoard) (outer_at inner_at : List ℕ) (head : ℕ) (seat part : ℕ → ℕ)
     (configuration : List ℕ) : Type 0 where
@@ -129,7 +129,7 @@ taken_or_free_in board head seat part pebble k =
       | inr some ↦ inl (some.0, some.1, some.2.0, some.2.1, some.2.2)
     ]
 
--- not all seats and all parts are taken
+-- some seat or some part in the head's copy isn't taken
 some_free : (outer inner board : PlainBoard) (head : ℕ) (seat part : ℕ → ℕ) (pebble : ℕ)
     → suc board.pebbles ≡ outer.pebbles + inner.pebbles
     → head < outer.pebbles → pebble < board.pebbles
@@ -168,7 +168,7 @@ some_free outer inner board head seat part pebble fewer head_below pebble_below 
 
 -- ---- a request
 
--- the label of the product with this copy and part, and what it beats
+-- the label of the product with this copy and part, and the labels that it beats
 record Reply (outer inner board : PlainBoard) (copy piece label : ℕ) : Type 0 where
   is_label : label < board.labels
   in_copy : label / inner.labels ≡ copy
@@ -410,7 +410,7 @@ stands_last outer inner board (suc depth) first outer_at inner_at head seat part
           ]
     ]
 
--- from all pebbles on one label
+-- the product lasts from all pebbles on one label
 pub factors_last : (outer inner board : PlainBoard) (depth copy piece : ℕ) → IsProduct outer inner board
     → suc board.pebbles ≡ outer.pebbles + inner.pebbles
     → 0 < outer.pebbles → 0 < inner.pebbles → copy < outer.labels → piece < inner.labels

@@ -77,7 +77,7 @@ values_solve board value each = λ configuration is bound. (
       ),
 )
 
--- ---- what solves the equation are the values
+-- ---- a solution of the equation gives the values
 
 trees_of : (board : PlainBoard) (value : List ℕ → Value) → IsMinimax board value
     → (bound : ℕ) (configuration : List ℕ)

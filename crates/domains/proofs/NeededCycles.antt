@@ -16,7 +16,7 @@ use Rattle.domains.specs.Cycles.{AreBeaten}
 use Rattle.domains.specs.Dominated.{IsHeld}
 use Rattle.domains.proofs.TwoPebbles.{beaten_last}
 
--- ---- more numbers than there are values: one comes twice
+-- ---- among more numbers than values some value comes twice
 
 record Twice (m : ℕ) (f : ℕ → ℕ) : Type 0 where
   first : ℕ
@@ -72,7 +72,7 @@ twice (suc n) (suc m) f low more =
 
 -- ---- the answers to two pebbles that are asked in turn
 
--- so many labels, each of which beats the one before, after this one
+-- labels in a row after this one, `depth` of them, each of which beats the one before
 record Rises (board : PlainBoard) (from depth : ℕ) : Type 0 where
   at : ℕ → ℕ
   start : at 0 ≡ from
@@ -120,7 +120,7 @@ rises board (suc depth) configuration asked other long asked_below other_below d
     beats first at here later zero below = here
     beats first at here later (suc t) below = later t (omega (arith, below))
 
--- ---- the labels between two that are the same
+-- ---- the labels between two equal ones
 
 abbrev row : (ℕ → ℕ) → ℕ → ℕ → List ℕ
 row at first zero = []

@@ -25,11 +25,11 @@ use Rattle.domains.proofs.LastingProducts.{factors_last}
 use Rattle.domains.proofs.ProductData.{Wins, product_board}
 use Rattle.domains.proofs.SeveralProducts.{lone_lasts}
 
--- where the first digits differ, they decide
+-- if the first digits differ, they decide
 first_decides : (digit other_digit : ℕ) (word other : List ℕ) → (digit ≡ other_digit → ⊥)
     → WordDominates (digit ∷ word) (other_digit ∷ other) → digit ≡ (other_digit + 1) % 3
 first_decides digit other_digit word other differs dominates =
-    by dominates.place dominates.same_before dominates.next_there
+    by dominates.index dominates.same_before dominates.next_there
   where
     by : (place : ℕ) → take place (digit ∷ word) ≡ take place (other_digit ∷ other)
         → get_or (digit ∷ word) place 0 ≡ (get_or (other_digit ∷ other) place 0 + 1) % 3
@@ -37,7 +37,7 @@ first_decides digit other_digit word other differs dominates =
     by zero same next = next
     by (suc place) same next = absurd (differs (ap (λ (l : List ℕ). get_or l 0 0) same))
 
--- what the first digit and the rest say of two words
+-- the domination of two words, by their first digits and their rests
 abbrev Splits : ℕ → ℕ → ℕ → Type 0
 Splits count x y =
     (x / 3 ^ count ≡ (y / 3 ^ count + 1) % 3)
@@ -68,7 +68,7 @@ splits count x y = (
   ],
 )
 
--- one step round the three-cycle
+-- each label of the three-cycle dominates just the one before it
 one_step : (board : PlainBoard) → IsCircle 3 (1 ∷ []) board → (x y : ℕ) → x < 3 → y < 3
     → Beats board x y ↔ (x ≡ (y + 1) % 3)
 one_step board circle x y x_low y_low = (
@@ -81,7 +81,7 @@ one_step board circle x y x_low y_low = (
       (circle.beats x y x_low y_low).1 (subst (Contains (1 ∷ [])) one (contains_here 1 [])),
 )
 
--- a pair of labels wins in the product where it does in the nested board
+-- a label beats another in the product exactly if it does in the nested board
 wins_nested : (count : ℕ) (cycle inner : PlainBoard) → IsCircle 3 (1 ∷ []) cycle → IsNestedPlay (suc count) inner
     → (x y : ℕ) → x < 3 * 3 ^ count → y < 3 * 3 ^ count
     → Wins cycle inner x y ↔ WordDominates (word_of (suc count) x) (word_of (suc count) y)

@@ -18,7 +18,7 @@ agree_back pebble first second agree = record {
   others = λ other differs. sym (agree.others other differs);
 }
 
--- a move of the pebble gives one configuration
+-- a move of the pebble gives the same configuration if the others agree
 pub one_result : (pebble label : ℕ) (first second : List ℕ) → AgreeBut pebble first second
     → moved first pebble label ≡ moved second pebble label
 one_result pebble label first second agree =
@@ -53,7 +53,7 @@ best_elsewhere board first second pebble label agree best = (
       (agree_back pebble first second agree) has),
 )
 
--- a dominating pebble may stay, and then nothing is lowered
+-- a dominating pebble may stay, and then the value isn't lowered
 pub dominator_not_best : (board : PlainBoard) (configuration : List ℕ) (pebble : ℕ)
     → IsDominator board configuration pebble
     → IsBestRequest board configuration pebble → ⊥

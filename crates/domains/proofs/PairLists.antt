@@ -21,7 +21,7 @@ precedes_from_place labels p q small lt =
 abbrev pub Obeys : ℕ → (ℕ → ℕ → Type 0) → ℕ → ℕ × ℕ → Type 0
 Obeys labels Rule places pair = AreLabels labels pair × (pair.0 * labels + pair.1 < places) × Rule pair.0 pair.1
 
--- the pairs of the rule among the first places, where the pairs of labels are counted in ascending order
+-- the pairs of the rule among the first pairs of labels, in ascending order
 pub record AreRulePairs (labels : ℕ) (Rule : ℕ → ℕ → Type 0) (places : ℕ) (pairs : List (ℕ × ℕ)) : Type 0 where
   pub ascending : AllPairs Precedes pairs
   pub only : All (Obeys labels Rule places) pairs

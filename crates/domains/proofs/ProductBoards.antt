@@ -25,7 +25,7 @@ kept_more : (test : Bool) (y x : ℕ) (rest : List ℕ) → Contains rest x → 
 kept_more true y x rest has = contains_later y rest x has
 kept_more false y x rest has = has
 
--- what passes the test stands in the filtered list
+-- an element that passes the test is in the filtered list
 kept : (test : ℕ → Bool) (xs : List ℕ) (x : ℕ) → Contains xs x → test x ≡ true → Contains (filter test xs) x
 kept test [] x has passes = absurd (contains_none x has)
 kept test (y ∷ xs) x has passes =
@@ -36,7 +36,7 @@ kept test (y ∷ xs) x has passes =
       | inr later ↦ kept_more (test y) y x (filter test xs) (kept test xs x later passes)
     ]
 
--- labels that are dominated where they are no more than the count
+-- some label beats all labels of a list that isn't longer than the count
 dominated_few : (board : PlainBoard) (count : ℕ) (labels : List ℕ) → AreDominated board count → 0 < board.labels
     → length labels ≤ count
     → All (λ label. label < board.labels) labels → (label : ℕ) × (label < board.labels)
@@ -67,7 +67,7 @@ within outer inner board product x y x_low y_low same beats = (product.beats x y
 
 -- ---- one request
 
--- a label that beats the labels of all other pebbles, and the copy below which all are then
+-- a label that beats the labels of all other pebbles; all are then in its copy or in one that it beats
 record Answer (outer inner board : PlainBoard) (others : List ℕ) : Type 0 where
   copy : ℕ
   is_copy : copy < outer.labels
@@ -188,7 +188,7 @@ answer outer inner board outer_count inner_count copy others product outer_domin
 
 -- ---- for ever
 
--- the labels of the other pebbles are in the copy or in one that it beats, where all are
+-- if all labels are in the copy or in one that it beats, those of the other pebbles are
 others_below : (outer inner : PlainBoard) (copy : ℕ) (configuration : List ℕ) (pebble : ℕ)
     → IsBelowCopy outer inner copy configuration
     → IsBelowCopy outer inner copy (other_words pebble configuration)

@@ -69,7 +69,7 @@ wins_or_not outer inner x y =
       ]
     ]
 
--- no two labels of a product beat each other where none of a factor do
+-- if no two labels of a factor beat each other, no two labels of the product do
 one_way : (outer inner : PlainBoard) → IsAntisymmetric outer → IsAntisymmetric inner → (x y : ℕ)
     → Wins outer inner x y → Wins outer inner y x → ⊥
 one_way outer inner outer_one inner_one x y (inl there) (inl back) =
@@ -124,7 +124,7 @@ products_agree outer inner first second one other =
           ),
     )
 
--- with the same pebbles and start they are one board
+-- two products with the same pebbles and start are one board
 among_too : (outer inner first second : PlainBoard) → IsProduct outer inner first → IsProduct outer inner second
     → ArePairs first.labels first.pairs → (pair : ℕ × ℕ) → Contains first.pairs pair → Contains second.pairs pair
 among_too outer inner first second one other are pair has =

@@ -79,7 +79,7 @@ module _ (cycle residues : PlainBoard) (is_cycle : IsCircle 3 (1 ∷ []) cycle) 
             (All-nil (LastsFromZero depth))))),
       )
 
--- the factors and the product are there
+-- the factors and the product exist
 pub sixty_three_exists : (cycle : PlainBoard) × (residues : PlainBoard) × (board : PlainBoard)
     × IsCircle 3 (1 ∷ []) cycle × (cycle.pebbles ≡ 2) × IsCircle 7 (1 ∷ 2 ∷ 4 ∷ []) residues × (residues.pebbles ≡ 3)
     × IsProductOf (cycle ∷ cycle ∷ residues ∷ []) board

@@ -7,7 +7,7 @@ use Rattle.positions.specs.Game.{LabellerTree, moved}
 use Rattle.domains.specs.Products.{IsProductOf}
 use Rattle.domains.proofs.LastingProducts.{factors_last}
 
--- one pebble is answered with the label that there is
+-- one pebble is answered with the only label
 pub lone_lasts : (board : PlainBoard) (depth : ℕ) (configuration : List ℕ) → board.labels ≡ 1 → board.pebbles ≡ 1
     → LabellerTree board depth configuration
 lone_lasts board zero configuration labels pebbles = tt
@@ -21,7 +21,7 @@ lone_lasts board (suc depth) configuration labels pebbles =
       lone_lasts board depth (moved configuration pebble 0) labels pebbles,
     )
 
--- a factor that lasts so long from all pebbles on the label 0
+-- a factor lasts this number of requests from all pebbles on the label 0
 abbrev pub LastsFromZero : ℕ → PlainBoard → Type 0
 LastsFromZero depth factor = (0 < factor.pebbles) × LabellerTree factor depth (replicate factor.pebbles 0)
 

@@ -58,7 +58,7 @@ no_answers board claim = record {
   ascending = λ i j d before inside. absurd (omega (arith, inside));
 }
 
--- of the document of a start with a finite value
+-- documents from that of a start with a finite value
 module _ (board : PlainBoard) (proof : PlainProof) (exactly : ℕ) (is : IsProof board proof)
     (rules : BreaksNoRule board proof)
     (claim : proof.claim ≡ claims.Exactly exactly) where
@@ -127,9 +127,9 @@ module _ (board : PlainBoard) (proof : PlainProof) (exactly : ℕ) (is : IsProof
         refl,
       )
 
--- ---- of the document of a start that lasts for ever
+-- ---- documents from that of a start that lasts for ever
 
--- the row for so many turns
+-- the row for this number of turns
 abbrev for_turns : ℕ → AnswerRow → AnswerRow
 for_turns turns row = record { at = row.at; turns = Count turns; answers = row.answers }
 
@@ -213,7 +213,7 @@ module _ (board : PlainBoard) (proof : PlainProof) (turns : ℕ) (is : IsProof b
         refl,
       )
 
--- nothing is needed for no request
+-- no request needs no row
 pub nothing_document : (board : PlainBoard) → IsClaim (claims.AtLeast 0) → HasDocument board (claims.AtLeast 0)
 nothing_document board is_claim = (
   record { claim = claims.AtLeast 0; labeller = []; adversary = [] },

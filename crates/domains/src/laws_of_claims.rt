@@ -4,7 +4,7 @@ ghost use Rattle.std.specs.Prelude.{◌≡◌, ◌↔◌, ◌≤◌};
 ghost use Rattle.board_text.specs.PlainBoard.{PlainBoard, IsConfiguration};
 ghost use Rattle.positions.specs.Claim.{Holds};
 ghost use Rattle.positions.specs.Ranks.{configurations};
-ghost use Rattle.positions.specs.declared.claim.Claim.{Claim as Assertion};
+ghost use Rattle.positions.specs.declared.claim.Claim.{Claim as ClaimData};
 ghost use Rattle.proof_text.specs.Proof.{PlainProof, IsClaim, IsProof};
 ghost use Rattle.proof_text.specs.Rules.{BreaksNoRule};
 
@@ -14,7 +14,7 @@ use positions::MAX_CONFIGURATIONS;
 /// configurations a claim holds of the start exactly if some document of the format breaks no rule
 /// and makes it.
 pub fn claims_hold_where_documents_show_them()
-    ensures { (board : PlainBoard) → (claim : Assertion) → IsConfiguration board board.start
+    ensures { (board : PlainBoard) → (claim : ClaimData) → IsConfiguration board board.start
         → configurations board ≤ MAX_CONFIGURATIONS → IsClaim claim → Holds board claim
         ↔ ((proof : PlainProof) × IsProof board proof × BreaksNoRule board proof
         × (proof.claim ≡ claim)) }

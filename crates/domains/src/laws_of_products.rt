@@ -5,7 +5,7 @@ ghost use Rattle.std.specs.Prelude.{All, List, [], ◌∷◌, replicate};
 ghost use Rattle.board_text.specs.PlainBoard.{PlainBoard, ArePairs, Beats, IsAntisymmetric};
 ghost use Rattle.positions.specs.Game.{LabellerTree};
 ghost use Rattle.positions.specs.Value.{HasValue};
-ghost use Rattle.positions.specs.declared.value.Value.{Value as Worth};
+ghost use Rattle.positions.specs.declared.value.Value.{Value as ValueData};
 ghost use Rattle.positions.specs.declared.value.Value.TheVariants.{Forever};
 ghost use Rattle.player.specs.NestedPlay.{IsNestedPlay};
 ghost use Rattle.domains.specs.Circles.{IsCircle};
@@ -41,7 +41,8 @@ pub fn products_last_as_their_factors()
         → LabellerTree board depth (replicate board.pebbles (copy * inner.labels + piece)) }
     ensures values { (outer : PlainBoard) → (inner : PlainBoard) → (board : PlainBoard)
         → (copy : ℕ) → (piece : ℕ) → (configuration : List ℕ)
-        → (of_outer : Worth) → (of_inner : Worth) → (value : Worth) → IsProduct outer inner board
+        → (of_outer : ValueData) → (of_inner : ValueData) → (value : ValueData)
+        → IsProduct outer inner board
         → suc board.pebbles ≡ outer.pebbles + inner.pebbles → 0 < outer.pebbles → 0 < inner.pebbles
         → copy < outer.labels → piece < inner.labels
         → IsFreed board (replicate board.pebbles (copy * inner.labels + piece)) configuration

@@ -7,7 +7,7 @@ ghost use Rattle.positions.specs.Laws.{HasOneValue};
 ghost use Rattle.positions.specs.Ranks.{configurations};
 ghost use Rattle.positions.specs.Table.{AnswerRow, IsClosed, IsListed};
 ghost use Rattle.positions.specs.Value.{HasValue};
-ghost use Rattle.positions.specs.declared.value.Value.{Value as Worth};
+ghost use Rattle.positions.specs.declared.value.Value.{Value as ValueData};
 ghost use Rattle.positions.specs.declared.value.Value.TheVariants.{Finite, Forever};
 ghost use Rattle.domains.specs.Minimax.{IsMinimax};
 ghost use Rattle.domains.specs.ValueOrder.{IsWorthAtMost};
@@ -16,7 +16,7 @@ ghost use Rattle.domains.specs.ValueOrder.{IsWorthAtMost};
 /// equation: each value is the least over the pebbles of the greatest over the legal labels of one
 /// more than the value after the move.
 pub fn values_solve_one_equation()
-    ensures { (board : PlainBoard) → (value : List ℕ → Worth)
+    ensures { (board : PlainBoard) → (value : List ℕ → ValueData)
         → ((configuration : List ℕ) → IsConfiguration board configuration
         → HasValue board configuration (value configuration)) ↔ IsMinimax board value }
 {}

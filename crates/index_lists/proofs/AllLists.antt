@@ -2,11 +2,11 @@
 use Rattle.std.proofs.Common.{◌≡◌, ◌≢◌, ℕ, ◌+◌, ◌-◌, ◌<◌, ◌≤◌, ◌==◌, ◌⊎◌, inl, inr, cond, List, [], ◌∷◌, ◌++◌, length, refl, sym, ap, ◌∙◌, arith, length-append, slice_index}
 use Rattle.std.proofs.lemmas.Bool.{cases_eq, cases_lt}
 use Rattle.index_lists.specs.Lists.{times, without_node, AreLists, lists_of}
-use Rattle.index_lists.specs.Inside.Links.{follow, IsLinked, AreLinksOf, PlainLinks}
+use Rattle.index_lists.specs.Inside.Links.{nodes_from, IsLinked, AreLinksOf, PlainLinks}
 use Rattle.index_lists.proofs.Times.{same_is, differ_is, cond_same, cond_other, times-append, times-without_same, times-without_other, length-without, distinct-length, times-later}
 use Rattle.index_lists.proofs.Links.{skip, linked-follow, length-follow, back, forth, head, tail, frame, linked-push, linked-unlink}
 
--- the same links, with the ends and the list written otherwise
+-- a list is linked by equal ends and nodes too
 relink : (none : ℕ) (next prev : ℕ → ℕ) (last last' before before' at at' : ℕ) (xs xs' : List ℕ) → last' ≡ last → before' ≡ before → at' ≡ at → xs' ≡ xs → IsLinked none next prev last before at xs → IsLinked none next prev last' before' at' xs'
 relink none next prev last last' before before' at at' xs xs' e f g h c = rw (e, f, g, h) c
 
@@ -33,7 +33,7 @@ module _ {none nowhere : ℕ} {links : PlainLinks} {list : ℕ → List ℕ} (s 
   abbrev len : ℕ → ℕ
   len = slice_index links.len
 
-  -- a node that stands in a list has it as its home
+  -- the home of a node that is in a list is that list
   pub at-home : (l x : ℕ) → l < nowhere → x < none → 0 < times x (list l) → home x ≡ l
   at-home l x h i some = elim (cases_eq (home x) l) [
     | inl e ↦ e
@@ -52,7 +52,7 @@ module _ {none nowhere : ℕ} {links : PlainLinks} {list : ℕ → List ℕ} (s 
     | inr ge ↦ (let b = s.homes x i in omega arith)
   ]
 
-  -- the last node of a list, where there is one
+  -- the last node of a list has the list as its home and leads to none
   pub last-home : (l : ℕ) → l < nowhere → last l < none → (home (last l) ≡ l) × (next (last l) ≡ none)
   last-home l h i = elim (tail none next prev (last l) none (first l) (list l) (s.linked l h)) [
     | inl p ↦ absurd (let e = p.0 in omega arith)
@@ -68,7 +68,7 @@ module _ {none nowhere : ℕ} {links : PlainLinks} {list : ℕ → List ℕ} (s 
   beyond_none l x before at [] ge c = refl
   beyond_none l x before at (y ∷ ys) ge c = times-later y x ys (λ e. (let b = c.1 in omega arith)) ∙ beyond_none l x y (next y) ys ge c.3
 
-  -- each node in at most one list and once
+  -- each node is in one list at most, and once
   pub store-are : AreLists (lists_of none nowhere list)
   store-are = record {
     below = held-below;
@@ -95,7 +95,7 @@ module _ {none nowhere : ℕ} {links : PlainLinks} {list : ℕ → List ℕ} (s 
         | inr ge ↦ absurd (let z = beyond_none l x none (first l) (list l) ge (s.linked l (in-one l x h)) in omega arith)
       ]
 
-  -- there is room for one more
+  -- each list has room for a node that is in no list
   pub room : (l node : ℕ) → l < nowhere → node < none → home node ≡ nowhere → len l < none
   room l node h i e =
       let xs = list l ++ node ∷ [] in
@@ -118,7 +118,7 @@ module _ {none nowhere : ℕ} {links : PlainLinks} {list : ℕ → List ℕ} (s 
       out : (x : ℕ) → none ≤ x → times x (list l ++ node ∷ []) ≡ 0
       out x ge = times-append x (list l) (node ∷ []) ∙ rw (beyond_none l x none (first l) (list l) ge (s.linked l h), differ_is node x (λ e. omega arith)) refl
 
-  -- a node whose link leads to the node stands before it
+  -- if the link of a node leads to another, that one leads back
   pub next-only : (node x : ℕ) → node < none → x < none → next x ≡ node → prev node ≡ x
   next-only node x i j e = elim (cases_lt (home x) nowhere) [
     | inl lt ↦ elim (forth none next prev (last (home x)) none (first (home x)) x (list (home x)) (s.linked (home x) lt) (let o = at-home-once (home x) x lt j refl in omega arith)) [
@@ -137,21 +137,22 @@ module _ {none nowhere : ℕ} {links : PlainLinks} {list : ℕ → List ℕ} (s 
     | inr ge ↦ absurd (let h : home x ≡ nowhere = (let b = s.homes x j in omega arith) in let a = (s.loose x j h).1 in omega arith)
   ]
 
-  -- what leads to a node that stands in a list
+  -- in a list either the first link or the link of the node before leads to a node
   pub from_back : (node : ℕ) → node < none → home node < nowhere → ((first (home node) ≡ node) × (prev node ≡ none)) ⊎ ((prev node < none) × (next (prev node) ≡ node))
   from_back node i h = back none next prev (last (home node)) none (first (home node)) node (list (home node)) (s.linked (home node) h) (let o = at-home-once (home node) node h i refl in omega arith)
 
   pub from_forth : (node : ℕ) → node < none → home node < nowhere → ((next node ≡ none) × (node ≡ last (home node))) ⊎ ((next node < none) × (prev (next node) ≡ node))
   from_forth node i h = forth none next prev (last (home node)) none (first (home node)) node (list (home node)) (s.linked (home node) h) (let o = at-home-once (home node) node h i refl in omega arith)
 
-  -- the lists as the links show them
-  pub seen : ((l : ℕ) → nowhere ≤ l → len l ≡ 0) → (l : ℕ) → follow next (first l) (len l) ≡ list l
+  -- the links give the nodes of each list
+  pub seen : ((l : ℕ) → nowhere ≤ l → len l ≡ 0) → (l : ℕ) → nodes_from next (first l) (len l) ≡ list l
   seen past l = elim (cases_lt l nowhere) [
     | inl lt ↦ rw (s.sized l lt) (linked-follow none next prev (last l) none (first l) (list l) (s.linked l lt))
     | inr ge ↦ rw (past l ge, s.beyond l ge) refl
   ]
 
-  pub settle : ((l : ℕ) → nowhere ≤ l → len l ≡ 0) → AreLinksOf none nowhere links (λ l. follow next (first l) (len l))
+  pub settle : ((l : ℕ) → nowhere ≤ l → len l ≡ 0)
+      → AreLinksOf none nowhere links (λ l. nodes_from next (first l) (len l))
   settle past = record {
     linked = λ l h. rw (seen past l) (s.linked l h);
     sized = λ l h. sym (length-follow next (first l) (len l));

@@ -5,7 +5,7 @@ use Rattle.index_lists.specs.Inside.Links.{PlainLinks}
 use Rattle.index_lists.specs.declared.link_lists.Node.{Node}
 use Rattle.index_lists.specs.declared.link_lists.Ends.{Ends}
 
--- what is read of an element stands in the list of its field
+-- the field of an element at a place is in the column at that place
 pub field-read : {A : Type 0} (f : A → ℕ) (xs : List A) (column : List ℕ) (i n : ℕ) (x : A) → map f xs ≡ column → length column ≡ n → i < n → x ≡ get_or xs i x → f x ≡ slice_index column i
 field-read f xs column i n x is size h e = ap f e ∙ rw (← is) (sym (get_or-map f xs i x 0 (rw (← length-map xs f, is, size) h)))
 
@@ -18,7 +18,7 @@ pub links-same : {a b c d e f a' b' c' d' e' f' : List ℕ} → a ≡ a' → b �
     → ◌≡◌ {A = PlainLinks} (record { next = a; prev = b; home = c; first = d; last = e; len = f }) (record { next = a'; prev = b'; home = c'; first = d'; last = e'; len = f' })
 links-same a b c d e f = rw (a, b, c, d, e, f) refl
 
--- the links of nodes in no list, and of lists with nothing in them
+-- the links of nodes in no list, and of empty lists
 abbrev pub bare : ℕ → ℕ → PlainLinks
 bare n l = record { next = replicate n n; prev = replicate n n; home = replicate n l; first = replicate l n; last = replicate l n; len = replicate l 0 }
 

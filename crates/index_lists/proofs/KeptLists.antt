@@ -1,4 +1,4 @@
--- What every store keeps, and what it means for a list.
+-- The invariant of all stores, and its facts of one list.
 use Rattle.std.proofs.Common.{◌≡◌, ◌≢◌, ℕ, ◌+◌, ◌<◌, ◌≤◌, inl, inr, List, ◌∷◌, length, refl, ap, arith}
 use Rattle.std.proofs.lemmas.Bool.{cases_eq, cases_lt}
 use Rattle.index_lists.specs.Lists.{Lists, times, without_node, IsHome, AreLists}

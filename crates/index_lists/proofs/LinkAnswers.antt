@@ -1,4 +1,4 @@
--- What the links answer.
+-- The answers of the links.
 use Rattle.std.proofs.Common.{◌≡◌, ℕ, ◌+◌, ◌-◌, ◌<◌, ◌≤◌, inl, inr, zero, suc, List, [], ◌∷◌, length, Some, None, IfSome, sym, ap, ◌∙◌, arith, add-one, slice_get}
 use Rattle.std.proofs.lemmas.Bool.{cases_eq}
 use Rattle.index_lists.specs.Inside.Links.{IsLinked, unless_none}
@@ -18,7 +18,7 @@ pub first-read : (none : ℕ) (next prev : ℕ → ℕ) (last before at : ℕ) (
 first-read none next prev last before at [] c = sym (cond_same at none None (Some at) c.0)
 first-read none next prev last before at (x ∷ xs) c = ap Some (sym c.0) ∙ sym (cond_other at none None (Some at) (λ e. (let a = c.0 in let b = c.1 in omega arith)))
 
--- the last place shows the last node, where the list is read as one that stands behind `before`
+-- the last place of a list has its last node
 last-step : (none : ℕ) (next prev : ℕ → ℕ) (last before at x : ℕ) (xs : List ℕ) → IsLinked none next prev last before at (x ∷ xs) → slice_get (x ∷ xs) (length xs) ≡ Some last
 last-step none next prev last before at x [] c = ap Some c.3.1
 last-step none next prev last before at x (y ∷ ys) c = last-step none next prev last x (next x) y ys c.3
@@ -41,7 +41,7 @@ after-read none next prev last before at place node xs c e = rw add-one (step pl
     step zero before at (x ∷ xs) c e = first-read none next prev last x (next x) xs c.3 ∙ ap (λ y. unless_none none (next y)) (some_is x node e)
     step (suc place) before at (x ∷ xs) c e = step place x (next x) xs c.3 e
 
--- before a first node stands what stands before the list
+-- the first node of a list leads back to the node before the list, or to none
 pub front-read : (none : ℕ) (next prev : ℕ → ℕ) (last before at node : ℕ) (xs : List ℕ) → IsLinked none next prev last before at xs → slice_get xs 0 ≡ Some node → prev node ≡ before
 front-read none next prev last before at node [] c e = absurd (cc e)
 front-read none next prev last before at node (x ∷ xs) c e = sym (ap prev (some_is x node e)) ∙ c.2

@@ -2,9 +2,9 @@
 use Rattle.std.proofs.Common.{◌≡◌, ℕ, ◌+◌, ◌-◌, ◌<◌, ◌≤◌, ◌==◌, inl, inr, cond, zero, suc, List, [], ◌∷◌, ◌++◌, length, refl, sym, ap, subst, ◌∙◌, arith, slice_index, slice_set, get_or-set_same, get_or-set_other, length-set, Option, Some, None, IfSome, MatchOption, slice_get, slice_index_or, replicate}
 use Rattle.std.proofs.lemmas.List.{get_or-replicate, length-replicate}
 use Rattle.std.proofs.lemmas.Bool.{cases_eq, cases_lt}
-use Rattle.index_lists.specs.Lists.{times, without_node, IsFree, IsIn, IsHome, AreLists, AreSame, empty, pushed, unlinked}
+use Rattle.index_lists.specs.Lists.{times, without_node, IsFree, IsIn, IsHome, AreLists, AreSame, empty_lists, node_pushed, node_unlinked}
 use Rattle.index_lists.specs.Links.{Chains}
-use Rattle.index_lists.specs.Inside.Links.{IsLinked, PlainLinks, AreLinksOf, IsLinks, chains_of, chain_list, chained, unless_none, next_pointed, prev_pointed, placed, loosened, appended, shortened}
+use Rattle.index_lists.specs.Inside.Links.{IsLinked, PlainLinks, AreLinksOf, IsLinks, chains_of, chain_list, chained_lists, unless_none, next_pointed, prev_pointed, node_placed, node_loosened, list_appended, list_shortened}
 use Rattle.index_lists.proofs.Times.{same_is, differ_is, cond_same, cond_other, length-without}
 use Rattle.index_lists.proofs.AllLists.{store-are, home-of_free, room, at-home, seen, settle, push-store, unlink-store, from_back, from_forth, at-home-once}
 use Rattle.index_lists.proofs.Links.{tail}
@@ -28,14 +28,14 @@ end-below none next prev last at xs c = elim (tail none next prev last none at x
   | inr p ↦ (let b = p.2 in omega arith)
 ]
 
--- what is made from what stood there
+-- a changed place has the change, and every other place is as before
 read-changed : (xs : List ℕ) (f : ℕ → ℕ) (i x : ℕ) → x < length xs → slice_index (slice_set xs i (f (slice_index xs i))) x ≡ cond (x == i) (f (slice_index xs x)) (slice_index xs x)
 read-changed xs f i x h = read-set xs i (f (slice_index xs i)) x h ∙ elim (cases_eq x i) [
   | inl e ↦ rw e refl
   | inr ne ↦ rw (differ_is x i ne) refl
 ]
 
--- an end of a list, or none
+-- the end of one list is set if the link there leads to no node
 read-end : (none : ℕ) (links ends : List ℕ) (to at node l : ℕ) → length links ≡ none → l < length ends
     → slice_index (cond (at == length links) (slice_set ends to node) ends) l ≡ cond (l == to) (cond (at == none) node (slice_index ends l)) (slice_index ends l)
 read-end none links ends to at node l size h = rw size (elim (cases_eq at none) [
@@ -56,9 +56,9 @@ length-end N ends to at node = elim (cases_eq at N) [
 abbrev pub grown : PlainLinks → ℕ → ℕ → PlainLinks
 grown s to node =
     let at = slice_index s.last to in
-    appended (placed (next_pointed s at to node) node at to) to node
+    list_appended (node_placed (next_pointed s at to node) node at to) to node
 
-pub push-written : (a : PlainLinks) {b c d : PlainLinks} (to node : ℕ) {at : ℕ} → at ≡ slice_index a.last to → b ≡ next_pointed a at to node → c ≡ placed b node at to → d ≡ appended c to node → d ≡ grown a to node
+pub push-written : (a : PlainLinks) {b c d : PlainLinks} (to node : ℕ) {at : ℕ} → at ≡ slice_index a.last to → b ≡ next_pointed a at to node → c ≡ node_placed b node at to → d ≡ list_appended c to node → d ≡ grown a to node
 push-written a to node at_is one two three = rw (three, two, one, at_is) refl
 
 -- the links after an unlink
@@ -67,10 +67,11 @@ shrunk nodes lists s node =
     let behind = slice_index s.next node in
     let before = slice_index s.prev node in
     let list = slice_index s.home node in
-    shortened (loosened (prev_pointed (next_pointed s before list behind) behind list before) node nodes lists) list
+    list_shortened (node_loosened
+    (prev_pointed (next_pointed s before list behind) behind list before) node nodes lists) list
 
 pub unlink-written : (nodes lists : ℕ) (a : PlainLinks) {b c d e : PlainLinks} (node : ℕ) {behind before list : ℕ} → behind ≡ slice_index a.next node → before ≡ slice_index a.prev node → list ≡ slice_index a.home node
-    → b ≡ next_pointed a before list behind → c ≡ prev_pointed b behind list before → d ≡ loosened c node nodes lists → e ≡ shortened d list → e ≡ shrunk nodes lists a node
+    → b ≡ next_pointed a before list behind → c ≡ prev_pointed b behind list before → d ≡ node_loosened c node nodes lists → e ≡ list_shortened d list → e ≡ shrunk nodes lists a node
 unlink-written nodes lists a node behind_is before_is list_is one two three four = rw (four, three, two, one, behind_is, before_is, list_is) refl
 
 module _ {nodes lists : ℕ} {s : PlainLinks} {v : Chains} (view : chains_of nodes lists s ≡ v) (is : IsLinks nodes lists s) where
@@ -90,7 +91,7 @@ module _ {nodes lists : ℕ} {s : PlainLinks} {v : Chains} (view : chains_of nod
   last-in to h = end-below nodes (slice_index s.next) (slice_index s.prev) (slice_index s.last to) (slice_index s.first to) (chain_list v to) (store_here.linked to (rw lists-are h))
 
   -- a push
-  module _ (to node : ℕ) (to_in : to < v.lists) (node_in : node < v.nodes) (free : IsFree (chained v) node) where
+  module _ (to node : ℕ) (to_in : to < v.lists) (node_in : node < v.nodes) (free : IsFree (chained_lists v) node) where
     to_here : to < lists
     to_here = rw lists-are to_in
 
@@ -123,11 +124,12 @@ module _ {nodes lists : ℕ} {s : PlainLinks} {v : Chains} (view : chains_of nod
       store = settle pushed-all none-past;
     }
 
-    pub push-same : AreSame (chained (chains_of nodes lists (grown s to node))) (pushed (chained v) to node)
+    pub push-same : AreSame (chained_lists (chains_of nodes lists (grown s to node)))
+        (node_pushed (chained_lists v) to node)
     push-same = record { same_nodes = nodes-are; same_lists = lists-are; same_list = seen pushed-all none-past }
 
   -- an unlink
-  module _ (node : ℕ) (node_in : node < v.nodes) (stands : IsIn (chained v) node) where
+  module _ (node : ℕ) (node_in : node < v.nodes) (stands : IsIn (chained_lists v) node) where
     abbrev behind : ℕ
     behind = slice_index s.next node
 
@@ -187,11 +189,12 @@ module _ {nodes lists : ℕ} {s : PlainLinks} {v : Chains} (view : chains_of nod
       store = settle unlinked-all left-past;
     }
 
-    pub unlink-same : AreSame (chained (chains_of nodes lists (shrunk nodes lists s node))) (unlinked (chained v) node)
+    pub unlink-same : AreSame (chained_lists (chains_of nodes lists (shrunk nodes lists s node)))
+        (node_unlinked (chained_lists v) node)
     unlink-same = record { same_nodes = nodes-are; same_lists = lists-are; same_list = seen unlinked-all left-past }
 
-  -- what is read
-  pub lists-kept : AreLists (chained v)
+  -- ---- reads
+  pub lists-kept : AreLists (chained_lists v)
   lists-kept = rw (← nodes-are, ← lists-are) (store-are store_here)
 
   in-one : (l place node : ℕ) → slice_get (chain_list v l) place ≡ Some node → l < lists
@@ -217,7 +220,7 @@ module _ {nodes lists : ℕ} {s : PlainLinks} {v : Chains} (view : chains_of nod
   prev-front l node e =
       cond_same _ nodes None (Some (slice_index s.prev node)) (front-read nodes (slice_index s.next) (slice_index s.prev) (slice_index s.last l) nodes (slice_index s.first l) node (chain_list v l) (store_here.linked l (in-one l 0 node e)) e)
 
-  -- what is read of a link that is the number of a node, or none, is below the number of nodes
+  -- a link that names a node or none is a node below the number of nodes, if it is one
   pub link-below : (link : ℕ) (o : Option ℕ) → link ≤ nodes → o ≡ unless_none nodes link → IfSome o (λ node. node < v.nodes)
   link-below link o h e = rw (e, ← nodes-are) (unless-below nodes link h)
 
@@ -240,17 +243,17 @@ module _ {nodes lists : ℕ} {s : PlainLinks} {v : Chains} (view : chains_of nod
       | inr ge ↦ (let b = store_here.homes node (here h) in let d = (store_here.loose node (here h) (omega arith)).1 in omega arith)
     ]
 
-    loose-here : IsFree (chained v) node → (slice_index s.next node ≡ nodes) × (slice_index s.prev node ≡ nodes)
+    loose-here : IsFree (chained_lists v) node → (slice_index s.next node ≡ nodes) × (slice_index s.prev node ≡ nodes)
     loose-here free = store_here.loose node (here h) (home-of_free store_here node (here h) free.free)
 
-    pub next-none : IsFree (chained v) node → unless_none nodes (slice_index s.next node) ≡ None
+    pub next-none : IsFree (chained_lists v) node → unless_none nodes (slice_index s.next node) ≡ None
     next-none free = cond_same _ nodes None (Some (slice_index s.next node)) (loose-here free).0
 
-    pub prev-none : IsFree (chained v) node → unless_none nodes (slice_index s.prev node) ≡ None
+    pub prev-none : IsFree (chained_lists v) node → unless_none nodes (slice_index s.prev node) ≡ None
     prev-none free = cond_same _ nodes None (Some (slice_index s.prev node)) (loose-here free).1
 
     -- the list of a node
-    pub home-seen : (o : Option ℕ) → o ≡ unless_none lists (slice_index s.home node) → MatchOption o (IsFree (chained v) node) (λ found. IsHome (chained v) node found)
+    pub home-seen : (o : Option ℕ) → o ≡ unless_none lists (slice_index s.home node) → MatchOption o (IsFree (chained_lists v) node) (λ found. IsHome (chained_lists v) node found)
     home-seen o e = rw e (elim (cases_lt (slice_index s.home node) lists) [
       | inl low ↦ rw (differ_is (slice_index s.home node) lists (λ same. omega arith)) (record {
         home_in = let d = lists-are in omega arith;
@@ -267,7 +270,7 @@ module _ {nodes lists : ℕ} {s : PlainLinks} {v : Chains} (view : chains_of nod
       })
     ])
 
--- a store with nothing in its lists
+-- a store whose lists are empty
 replicated : (n i a d : ℕ) → (a ≡ d) → slice_index_or (replicate n a) i d ≡ d
 replicated n i a d e = elim (cases_lt i n) [
   | inl inside ↦ get_or-replicate n i a d inside ∙ e
@@ -282,7 +285,7 @@ replicated n i a d e = elim (cases_lt i n) [
 no-nodes : (n l i : ℕ) → chain_list (chains_of n l (bare n l)) i ≡ []
 no-nodes n l i = rw (replicated l i 0 0 refl) refl
 
-pub empty-same : (n l : ℕ) → AreSame (chained (chains_of n l (bare n l))) (empty n l)
+pub empty-same : (n l : ℕ) → AreSame (chained_lists (chains_of n l (bare n l))) (empty_lists n l)
 empty-same n l = record { same_nodes = refl; same_lists = refl; same_list = no-nodes n l }
 
 pub empty-links : (n l : ℕ) → IsLinks n l (bare n l)

@@ -2,19 +2,19 @@
 use Rattle.std.proofs.Common.{◌≡◌, ◌≢◌, ℕ, ◌<◌, ◌==◌, ◌⊎◌, inl, inr, cond, zero, suc, List, [], ◌∷◌, ◌++◌, length, refl, sym, ap, subst, ◌∙◌, arith}
 use Rattle.std.proofs.lemmas.Bool.{cases_eq}
 use Rattle.index_lists.specs.Lists.{times, without_node}
-use Rattle.index_lists.specs.Inside.Links.{follow, IsLinked}
+use Rattle.index_lists.specs.Inside.Links.{nodes_from, IsLinked}
 use Rattle.index_lists.proofs.Times.{same_is, differ_is, cond_same, cond_other, times-here, times-more, times-rest}
 
--- a link that led to the node leads where the node's own link leads
+-- a link that led to the node leads to the target of the node's own link
 abbrev pub skip : (ℕ → ℕ) → ℕ → ℕ → ℕ
 skip link node x = cond (x == node) (link node) x
 
--- a list through which the links lead is what following them gives
-pub linked-follow : (none : ℕ) (next prev : ℕ → ℕ) (last before at : ℕ) (xs : List ℕ) → IsLinked none next prev last before at xs → follow next at (length xs) ≡ xs
+-- the nodes found by following the links are the list
+pub linked-follow : (none : ℕ) (next prev : ℕ → ℕ) (last before at : ℕ) (xs : List ℕ) → IsLinked none next prev last before at xs → nodes_from next at (length xs) ≡ xs
 linked-follow none next prev last before at [] c = refl
 linked-follow none next prev last before at (x ∷ xs) c = rw (c.0) (ap (λ ys. x ∷ ys) (linked-follow none next prev last x (next x) xs c.3))
 
-pub length-follow : (next : ℕ → ℕ) (at n : ℕ) → length (follow next at n) ≡ n
+pub length-follow : (next : ℕ → ℕ) (at n : ℕ) → length (nodes_from next at n) ≡ n
 length-follow next at zero = refl
 length-follow next at (suc n) = ap suc (length-follow next (next at) n)
 
@@ -29,7 +29,7 @@ back none next prev last before at y (x ∷ xs) c h = elim (cases_eq x y) [
   ]
 ]
 
--- the node behind leads back to a node, or the node is the last
+-- the node after leads back to the node, or the node is the last
 pub forth : (none : ℕ) (next prev : ℕ → ℕ) (last before at y : ℕ) (xs : List ℕ) → IsLinked none next prev last before at xs → 0 < times y xs → ((next y ≡ none) × (y ≡ last)) ⊎ ((next y < none) × (prev (next y) ≡ y))
 forth none next prev last before at y [] c h = absurd (omega arith)
 forth none next prev last before at y (x ∷ []) c h = elim (cases_eq x y) [
@@ -46,7 +46,7 @@ pub head : (none : ℕ) (next prev : ℕ → ℕ) (last before at : ℕ) (xs : L
 head none next prev last before at [] c h = absurd (let e = c.0 in omega arith)
 head none next prev last before at (x ∷ xs) c h = (ap prev c.0 ∙ c.2, times-here x at xs (sym c.0))
 
--- and so is the last
+-- the last node is in the list, or the list is empty
 pub tail : (none : ℕ) (next prev : ℕ → ℕ) (last before at : ℕ) (xs : List ℕ) → IsLinked none next prev last before at xs → ((before ≡ last) × (at ≡ none)) ⊎ ((0 < times last xs) × (next last ≡ none) × (last < none))
 tail none next prev last before at [] c = inl (c.1, c.0)
 tail none next prev last before at (x ∷ xs) c = elim (tail none next prev last x (next x) xs c.3) [
@@ -54,7 +54,7 @@ tail none next prev last before at (x ∷ xs) c = elim (tail none next prev last
   | inr p ↦ inr (times-more x last xs p.0, p.1, p.2)
 ]
 
--- links that are the same at each node of a list
+-- links that agree at each node of a list link it too
 pub frame : (none : ℕ) (next prev next' prev' : ℕ → ℕ) (last before at : ℕ) (xs : List ℕ) → ((x : ℕ) → 0 < times x xs → x < none → (next' x ≡ next x) × (prev' x ≡ prev x)) → IsLinked none next prev last before at xs → IsLinked none next' prev' last before at xs
 frame none next prev next' prev' last before at [] same c = c
 frame none next prev next' prev' last before at (x ∷ xs) same c =

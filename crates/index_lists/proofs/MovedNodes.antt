@@ -1,13 +1,13 @@
--- A node out of its list, from wherever it was.
+-- A node is moved out of the list that it is in, if any, to another.
 use Rattle.std.proofs.Common.{◌≡◌, ℕ, ◌==◌, ◌++◌, ◌∷◌, [], Bool, true, false, if◌then◌else◌, Option, Some, None, MatchOption, is_some, refl, sym, ap, ◌∙◌, arith}
-use Rattle.index_lists.specs.Lists.{Lists, times, IsFree, IsIn, IsHome, AreSame, pushed, unlinked, node_moved}
+use Rattle.index_lists.specs.Lists.{Lists, times, IsFree, IsIn, IsHome, AreSame, node_pushed, node_unlinked, node_moved}
 use Rattle.index_lists.proofs.Times.{times-without_same, without-absent, cond_same}
 
-pub free-after : (s s' : Lists) (node : ℕ) → AreSame s' (unlinked s node) → IsFree s' node
+pub free-after : (s s' : Lists) (node : ℕ) → AreSame s' (node_unlinked s node) → IsFree s' node
 free-after s s' node same = record { free = λ l. ap (times node) (same.same_list l) ∙ times-without_same node (s.list l) }
 
 -- a node that is in no list need not be taken out
-pub same-without : (s : Lists) (node : ℕ) → IsFree s node → AreSame s (unlinked s node)
+pub same-without : (s : Lists) (node : ℕ) → IsFree s node → AreSame s (node_unlinked s node)
 same-without s node f = record {
   same_nodes = refl;
   same_lists = refl;
@@ -15,7 +15,8 @@ same-without s node f = record {
 }
 
 -- a node that was taken out is pushed
-pub moved-same : (s s' s'' : Lists) (node to : ℕ) → AreSame s' (unlinked s node) → AreSame s'' (pushed s' to node)
+pub moved-same : (s s' s'' : Lists) (node to : ℕ) → AreSame s' (node_unlinked s node)
+    → AreSame s'' (node_pushed s' to node)
     → AreSame s'' (node_moved s node to)
 moved-same s s' s'' node to out in-again = record {
   same_nodes = in-again.same_nodes ∙ out.same_nodes;

@@ -8,7 +8,7 @@ use Rattle.std.proofs.lemmas.List.Sums.{sum_by-cons, sum_by-take-drop}
 use Rattle.std.proofs.lemmas.List.Edits.{insert-append_right, length-insert}
 use Rattle.index_lists.specs.Lists.{times, without_node, IsFree, AreLists}
 use Rattle.index_lists.specs.Parts.{PlainParts}
-use Rattle.index_lists.specs.Inside.Parts.{parts_of, part, laid, ArePlain, AreCut}
+use Rattle.index_lists.specs.Inside.Parts.{parts_of, part, lists_of_parts, ArePlain, AreCut}
 use Rattle.index_lists.proofs.Times.{same_is, differ_is, cond_same, cond_other, times-append, times-without_same, times-without_other, without-absent, length-without, distinct-length}
 use Rattle.index_lists.proofs.Places.{some_is, stands-at}
 
@@ -40,7 +40,7 @@ sum-lens (xs ∷ xss) =
     let here = sum_by-cons (λ x. x) (length xs) (map length xss) in
     omega (arith, rest, whole, here)
 
--- the lengths of the parts after some
+-- the parts up to a place and the lengths of those after it add up to the whole
 after-lens : (k : ℕ) (xss : List (List ℕ)) → length (concat (take k xss)) + sum (drop k (map length xss)) ≡ length (concat xss)
 after-lens zero xss = (let e = sum-lens xss in omega (arith, e))
 after-lens (suc k) [] = refl
@@ -50,7 +50,7 @@ after-lens (suc k) (xs ∷ xss) =
     let front = length-append xs (concat (take k xss)) in
     omega (arith, rest, whole, front)
 
--- a part stands after those before it
+-- a part begins after all parts before it
 part-at : (l : ℕ) (xss : List (List ℕ)) → l < length xss
     → take (length (part xss l)) (drop (length (concat (take l xss))) (concat xss)) ≡ part xss l
 part-at l [] h = absurd (omega arith)
@@ -61,7 +61,7 @@ part-at (suc l) (xs ∷ xss) h =
     ∙ ap (drop (length (concat (take l xss)))) (drop_at xs (concat xss) (length xs) refl) in
     rw (length-append xs (concat (take l xss)), front) (part-at l xss (omega arith))
 
--- a part ends where those up to it end
+-- a part ends after its own length
 end-at : (l : ℕ) (xss : List (List ℕ)) → l < length xss
     → length (concat (take (suc l) xss)) ≡ length (concat (take l xss)) + length (part xss l)
 end-at l [] h = absurd (omega arith)
@@ -89,7 +89,7 @@ module _ {n l room slots : ℕ} {lens nodes : List ℕ} (c : AreCut n l room slo
   pub cut-len : (of d : ℕ) → of < length lens → get_or lens of d ≡ length (part (parts_of lens nodes) of)
   cut-len of d h = sym (ap (λ ns. get_or ns of d) c.lens_are) ∙ get_or-map length (parts_of lens nodes) of [] d (let e = cut-count in omega (arith, e, h))
 
-  -- a part ends where the sum of the lengths after it is left
+  -- a part ends at the number of nodes less the lengths of the parts after it
   pub cut-end : (of end : ℕ) → of < length lens → end + sum (drop (of + 1) lens) ≡ length nodes
       → end ≡ length (concat (take (suc of) (parts_of lens nodes)))
   cut-end of end h e =
@@ -100,7 +100,7 @@ module _ {n l room slots : ℕ} {lens nodes : List ℕ} (c : AreCut n l room slo
       let s : length (concat (take (of + 1) parts)) ≡ length (concat (take (suc of) parts)) = ap (λ k. length (concat (take k parts))) (add-one of) in
       omega (arith, a, b, w, s, e)
 
-  -- a part stands before its end
+  -- a part is the nodes before its end, as many as its length
   pub cut-part : (of end len d : ℕ) → of < length lens → end + sum (drop (of + 1) lens) ≡ length nodes → len ≡ get_or lens of d
       → (len ≤ end) × (end ≤ length nodes) × (take (end - (end - len)) (drop (end - len) nodes) ≡ part (parts_of lens nodes) of)
   cut-part of end len d h e f =
@@ -118,7 +118,7 @@ module _ {n l room slots : ℕ} {lens nodes : List ℕ} (c : AreCut n l room slo
             ∙ part-at of parts inside),
       )
 
--- ---- how often nodes stand in parts
+-- ---- the number of times that a node is in parts
 
 pub fewer : (x l : ℕ) (xss : List (List ℕ)) → times x (part xss l) ≤ times x (concat xss)
 fewer x l [] = omega arith
@@ -152,8 +152,8 @@ past l [] h = refl
 past zero (xs ∷ xss) h = absurd (omega arith)
 past (suc l) (xs ∷ xss) h = past l xss (omega arith)
 
--- each node in at most one list and once
-pub plain-are : (p : PlainParts) → ArePlain p → AreLists (laid p)
+-- each node is in one part at most, and once
+pub plain-are : (p : PlainParts) → ArePlain p → AreLists (lists_of_parts p)
 plain-are p s = record {
   below = λ l x h. elim (cases_lt x p.nodes) [
     | inl lt ↦ lt
@@ -284,14 +284,14 @@ pub remove-concat : (node place : ℕ) (xss : List (List ℕ)) → slice_get (co
     → remove (concat xss) place ≡ concat (without_all node xss)
 remove-concat node place xss stands once = remove-without node place (concat xss) stands once ∙ without-concat node xss
 
--- ---- what is kept
+-- ---- the invariant of the parts
 
 module _ (p : PlainParts) (s : ArePlain p) where
-  -- a free node is not among all
-  free-none : (node : ℕ) → IsFree (laid p) node → times node (concat p.parts) ≡ 0
+  -- a free node is in no part
+  free-none : (node : ℕ) → IsFree (lists_of_parts p) node → times node (concat p.parts) ≡ 0
   free-none node f = none-of_free node p.parts f.free
 
-  put-once : (node i : ℕ) → IsFree (laid p) node → (x : ℕ) → times x (insert (concat p.parts) i node) ≤ 1
+  put-once : (node i : ℕ) → IsFree (lists_of_parts p) node → (x : ℕ) → times x (insert (concat p.parts) i node) ≤ 1
   put-once node i f x =
       let t = times-insert x (concat p.parts) i node in
       let o = s.once x in
@@ -308,8 +308,8 @@ module _ (p : PlainParts) (s : ArePlain p) where
       let c = cond_other {A = ℕ} node x 1 0 (λ e. omega (arith, e, h, g)) in
       omega (arith, t, z, c)
 
-  -- there is room for one node more
-  pub plain-room : (node : ℕ) → node < p.nodes → IsFree (laid p) node → length (concat p.parts) < p.nodes
+  -- there is room for a node that is in no part
+  pub plain-room : (node : ℕ) → node < p.nodes → IsFree (lists_of_parts p) node → length (concat p.parts) < p.nodes
   plain-room node h f =
       let all = distinct-length p.nodes (insert (concat p.parts) 0 node) (put-once node 0 f) (put-below node 0 h) in
       let size = length-insert (concat p.parts) 0 node (omega arith) in
@@ -322,7 +322,7 @@ module _ (p : PlainParts) (s : ArePlain p) where
       → length nodes ≤ p.nodes
   plain-nodes e c = (let f = plain-few in let w = ap length c.nodes_are in let g = ap (λ xss. length (concat xss)) e in omega (arith, f, w, g))
 
-  -- with lengths for more lists
+  -- empty parts may be added at the end
   pub plain-begun : (k : ℕ) → length p.parts + k ≤ p.lists → ArePlain (record p { parts = p.parts ++ replicate k [] })
   plain-begun k h = record {
     few = s.few;
@@ -331,7 +331,7 @@ module _ (p : PlainParts) (s : ArePlain p) where
     short = (let a = length-append p.parts (replicate k []) in let none : List ℕ = [] in let b = length-replicate k none in omega (arith, a, b, h));
   }
 
-  pub plain-push : (to node : ℕ) → to < length p.parts → node < p.nodes → IsFree (laid p) node
+  pub plain-push : (to node : ℕ) → to < length p.parts → node < p.nodes → IsFree (lists_of_parts p) node
       → ArePlain (record p { parts = with_node p.parts to node })
   plain-push to node h i f = record {
     few = s.few;
@@ -358,7 +358,8 @@ module _ (p : PlainParts) (s : ArePlain p) where
 
 module _ (n l : ℕ) {room slots : ℕ} {lens nodes : List ℕ} (s : ArePlain (record { nodes = n; lists = l; parts = parts_of lens nodes }))
     (c : AreCut n l room slots lens nodes) (to node : ℕ) (to_in : to < l) (node_in : node < n)
-    (free : IsFree (laid (record { nodes = n; lists = l; parts = parts_of lens nodes })) node) (lens' : List ℕ)
+    (free : IsFree (lists_of_parts (record { nodes = n; lists = l; parts = parts_of lens nodes })) node)
+    (lens' : List ℕ)
     (begun : lens' ≡ lens ++ replicate (to + 1 - length lens) 0) where
   -- the parts with one for the list
   abbrev pub with_list : List (List ℕ)
@@ -395,7 +396,7 @@ module _ (n l : ℕ) {room slots : ℕ} {lens nodes : List ℕ} (s : ArePlain (r
   list-plain = plain-begun _ s (to + 1 - length lens)
       (let e = sym (length-map (parts_of lens nodes) length) ∙ ap length c.lens_are in let short = s.short in omega (arith, e, short, to_in))
 
-  list-free : IsFree (laid (record { nodes = n; lists = l; parts = with_list })) node
+  list-free : IsFree (lists_of_parts (record { nodes = n; lists = l; parts = with_list })) node
   list-free = record { free = λ m. ap (times node) (begun-part (to + 1 - length lens) m (parts_of lens nodes)) ∙ free.free m }
 
   pub list-room : length nodes < n

@@ -13,7 +13,7 @@ some_is x y e = cc
 one_more : (x node : ℕ) (xs : List ℕ) → x ≡ node → times node (x ∷ xs) ≡ 1 + times node xs
 one_more x node xs e = rw (same_is x node e) refl
 
--- how often a node stands in a list is a count of std
+-- the number of times that a node is in a list is a count of std
 pub counted : (node : ℕ) (xs : List ℕ) → times node xs ≡ count_by (λ x. x == node) xs
 counted node xs = is_count_by (times node) (λ x. x == node) refl (λ x ys. one_of (x == node) (times node ys)) xs
   where
@@ -21,13 +21,13 @@ counted node xs = is_count_by (times node) (λ x. x == node) refl (λ x ys. one_
     one_of true n = refl
     one_of false n = omega arith
 
--- what stands at a place is in the list
+-- a node at a place is in the list
 pub stands-at : (place node : ℕ) (xs : List ℕ) → slice_get xs place ≡ Some node → 0 < times node xs
 stands-at place node [] e = absurd (cc e)
 stands-at zero node (x ∷ xs) e = times-here x node xs (some_is x node e)
 stands-at (suc place) node (x ∷ xs) e = times-more x node xs (stands-at place node xs e)
 
--- what is in the list stands at a place
+-- a node in the list is at some place
 pub place-of : (node : ℕ) (xs : List ℕ) → 0 < times node xs → (place : ℕ) × (slice_get xs place ≡ Some node)
 place-of node [] h = absurd (omega arith)
 place-of node (x ∷ xs) h = elim (cases_eq x node) [
@@ -35,7 +35,7 @@ place-of node (x ∷ xs) h = elim (cases_eq x node) [
   | inr d ↦ (let rest = place-of node xs (times-rest x node xs d h) in (suc rest.0, rest.1))
 ]
 
--- a node that stands once stands at one place
+-- a node that is in a list once is at one place
 pub one-place : (place other node : ℕ) (xs : List ℕ) → times node xs ≤ 1 → slice_get xs place ≡ Some node → slice_get xs other ≡ Some node → place ≡ other
 one-place place other node [] once e f = absurd (cc e)
 one-place zero zero node (x ∷ xs) once e f = refl
@@ -43,32 +43,32 @@ one-place zero (suc other) node (x ∷ xs) once e f = absurd (let here = one_mor
 one-place (suc place) zero node (x ∷ xs) once e f = absurd (let here = one_more x node xs (some_is x node f) in let later = stands-at place node xs e in omega arith)
 one-place (suc place) (suc other) node (x ∷ xs) once e f = ap suc (one-place place other node xs (omega arith) e f)
 
--- a place at which a node stands is below the length
+-- the place of a node is below the length
 pub place-below : (place node : ℕ) (xs : List ℕ) → slice_get xs place ≡ Some node → place < length xs
 place-below place node [] e = absurd (cc e)
 place-below zero node (x ∷ xs) e = omega arith
 place-below (suc place) node (x ∷ xs) e = let rest = place-below place node xs e in omega arith
 
--- what is read off a list is below the number of nodes
+-- a node read from a list is below the number of nodes
 pub read-below : (s : Lists) (l place : ℕ) (o : Option ℕ) → AreLists s → o ≡ slice_get (s.list l) place → IfSome o (λ node. node < s.nodes)
 read-below s l place None are e = tt
 read-below s l place (Some node) are e = are.below l node (stands-at place node (s.list l) (sym e))
 
--- what stands at a place that is not past the end
+-- if the node is in the list from the place on, the index of the place is within the list
 pub get-inside : (node : ℕ) (xs : List ℕ) (place : ℕ) → 0 < times node (drop place xs) → slice_index xs place ≡ node
     → slice_get xs place ≡ Some node
 get-inside node [] place h e = absurd (let none = ap (times node) (drop-nil {A = ℕ} place) in omega arith)
 get-inside node (x ∷ xs) zero h e = ap Some e
 get-inside node (x ∷ xs) (suc place) h e = get-inside node xs place h e
 
--- a node stands at one place of one list
+-- a node is at one place of one list
 pub same-place : (s : Lists) (h l node at place : ℕ) → AreLists s → slice_get (s.list h) at ≡ Some node → slice_get (s.list l) place ≡ Some node
     → (l ≡ h) × (place ≡ at)
 same-place s h l node at place are e f =
     let same : l ≡ h = are.apart l h node (stands-at place node (s.list l) f) (stands-at at node (s.list h) e) in
     (same, one-place place at node (s.list h) (are.once h node) (subst (λ m. slice_get (s.list m) place ≡ Some node) same f) e)
 
--- a list in which a node is found has it
+-- a list in which the search finds a node has it
 pub any-in : (node : ℕ) (xs : List ℕ) → list_any (λ y. y == node) xs ≡ true → 0 < times node xs
 any-in node [] e = absurd (cc e)
 any-in node (x ∷ xs) e = elim (cases_eq x node) [

@@ -1,4 +1,4 @@
--- How often a node stands in a list.
+-- The number of times that a node is in a list.
 use Rattle.std.proofs.Common.{◌≡◌, ◌≢◌, ℕ, ◌+◌, ◌<◌, ◌≤◌, ◌==◌, inl, inr, true, false, cond, zero, suc, List, [], ◌∷◌, ◌++◌, length, refl, sym, ap, ◌∙◌, arith}
 use Rattle.std.proofs.lemmas.Bool.{cases_eq}
 use Rattle.std.proofs.lemmas.Bool.Decides.{nat_tests}
@@ -60,7 +60,7 @@ length-without node (x ∷ xs) = elim (cases_eq x node) [
   | inr d ↦ rw (differ_is x node d) (let rest = length-without node xs in omega arith)
 ]
 
--- n distinct numbers below n at most
+-- a list of distinct numbers below n has n elements at most
 pub distinct-length : (n : ℕ) (xs : List ℕ) → ((x : ℕ) → times x xs ≤ 1) → ((x : ℕ) → n ≤ x → times x xs ≡ 0) → length xs ≤ n
 distinct-length zero [] once below = omega arith
 distinct-length zero (x ∷ xs) once below = absurd (let here = times-here x x xs refl in let not_here = below x (omega arith) in omega arith)

@@ -1,9 +1,9 @@
--- A walk along a list that appends what it passes.
+-- A walk along a list that appends the nodes that it passes.
 use Rattle.std.proofs.Common.{◌≡◌, ℕ, ◌+◌, ◌<◌, ◌≤◌, zero, suc, List, [], ◌∷◌, ◌++◌, length, take, sym, ap, ◌∙◌, arith, length-append, Option, Some, None, slice_get}
 use Rattle.std.proofs.lemmas.List.{append_assoc, append-nil, take_all, length-take-le}
 use Rattle.index_lists.proofs.Places.{place-below}
 
--- the first nodes of the list stand behind those before, and this is the next one
+-- the first nodes of the list were appended, and this is the next one
 pub record IsPassed (xs before items : List ℕ) (next : Option ℕ) : Type 0 where
   pub count : ℕ
   pub few : count ≤ length xs

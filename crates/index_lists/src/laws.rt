@@ -3,13 +3,13 @@
 ghost use Rattle.std.specs.Prelude.{◌≡◌, ◌≢◌, ℕ, ◌+◌, ◌<◌, ◌≤◌, ◌==◌, List, ◌∷◌, length, slice_get, count_by};
 ghost use Rattle.index_lists.specs.Lists.{Lists, times, without_node, IsHome, AreLists};
 
-/// A node stands in a list as often as there are places at which it stands.
-pub fn nodes_at_places()
+/// A node stands in a list as often as there are indexes at which it stands.
+pub fn nodes_by_index()
     ensures counted { (node : ℕ) → (xs : List ℕ) → times node xs ≡ count_by (λ x. x == node) xs }
-    ensures stands { (node : ℕ) → (xs : List ℕ) → (place : ℕ) → slice_get xs place ≡ Some node → 0 < times node xs }
-    ensures has_place { (node : ℕ) → (xs : List ℕ) → 0 < times node xs → (place : ℕ) × (slice_get xs place ≡ Some node) }
-    ensures one_place { (node : ℕ) → (xs : List ℕ) → (place : ℕ) → (other : ℕ) → times node xs ≤ 1
-        → slice_get xs place ≡ Some node → slice_get xs other ≡ Some node → place ≡ other }
+    ensures stands { (node : ℕ) → (xs : List ℕ) → (index : ℕ) → slice_get xs index ≡ Some node → 0 < times node xs }
+    ensures has_index { (node : ℕ) → (xs : List ℕ) → 0 < times node xs → (index : ℕ) × (slice_get xs index ≡ Some node) }
+    ensures one_index { (node : ℕ) → (xs : List ℕ) → (index : ℕ) → (other : ℕ) → times node xs ≤ 1
+        → slice_get xs index ≡ Some node → slice_get xs other ≡ Some node → index ≡ other }
 {}
 
 /// A list has no more nodes than there are. A node that is in a list has that list as its home, and taking it out

@@ -6,7 +6,7 @@ mod link_lists;
 mod plain_lists;
 mod store;
 
-pub use laws::{lists_without_a_node, nodes_at_places, nodes_in_lists};
+pub use laws::{lists_without_a_node, nodes_by_index, nodes_in_lists};
 pub use link_lists::LinkLists;
 pub use plain_lists::PlainLists;
 pub use store::ListStore;

@@ -2,7 +2,7 @@
 //! this one is a library store, over which tests run solvers.
 
 ghost use Rattle.std.specs.Prelude.{◌≡◌, ◌<◌, ◌≤◌, length, slice_index};
-ghost use Rattle.index_lists.specs.Inside.Links.{chained, unless_none, next_pointed, prev_pointed, placed, loosened, appended, shortened};
+ghost use Rattle.index_lists.specs.Inside.Links.{chained_lists, unless_none, next_pointed, prev_pointed, node_placed, node_loosened, list_appended, list_shortened};
 
 use crate::store::ListStore;
 use board_text::Memory;
@@ -31,7 +31,7 @@ impl Model for LinkLists {
 }
 
 impl ListStore for LinkLists {
-    ghost state = { chained };
+    ghost state = { chained_lists };
 
     fn new(alloc: Global, node_count: u32, list_count: u32) -> Result<Self, Memory> {
         let loose = Node {
@@ -56,7 +56,7 @@ impl ListStore for LinkLists {
     fn push_back(&mut self, to: u32, node: u32) {
         let last = self.links.ends[to as usize].last;
         self.links.point_next(last, to, node);
-        self.links.place(node, last, to);
+        self.links.put(node, last, to);
         self.links.append(to, node);
     }
 
@@ -176,19 +176,19 @@ impl Links {
     }
 
     /// Notes that `node` is in the list `home`, after the node `prev`.
-    fn place(&mut self, node: u32, prev: u32, home: u32)
+    fn put(&mut self, node: u32, prev: u32, home: u32)
         requires { node < length self.old.home }
-        ensures { self.new ≡ placed self.old node prev home }
+        ensures { self.new ≡ node_placed self.old node prev home }
     {
-        let place = &mut self.nodes[node as usize];
-        place.prev = prev;
-        place.home = home;
+        let links = &mut self.nodes[node as usize];
+        links.prev = prev;
+        links.home = home;
     }
 
     /// Notes that `node` is in no list.
     fn loosen(&mut self, node: u32, none: u32, nowhere: u32)
         requires { node < length self.old.home }
-        ensures { self.new ≡ loosened self.old node none nowhere }
+        ensures { self.new ≡ node_loosened self.old node none nowhere }
     {
         self.nodes[node as usize] = Node {
             next: none,
@@ -201,7 +201,7 @@ impl Links {
     fn append(&mut self, list: u32, node: u32)
         requires list_in { list < length self.old.len }
         requires room { slice_index self.old.len list < u32.MAX }
-        ensures { self.new ≡ appended self.old list node }
+        ensures { self.new ≡ list_appended self.old list node }
     {
         let ends = &mut self.ends[list as usize];
         ends.last = node;
@@ -212,7 +212,7 @@ impl Links {
     fn shorten(&mut self, list: u32)
         requires list_in { list < length self.old.len }
         requires some { 0 < slice_index self.old.len list }
-        ensures { self.new ≡ shortened self.old list }
+        ensures { self.new ≡ list_shortened self.old list }
     {
         self.ends[list as usize].len -= 1;
     }

@@ -2,8 +2,8 @@
 
 ghost use Rattle.std.specs.Prelude.{◌≡◌, ℕ, ◌+◌, ◌-◌, ◌^◌, ◌++◌, ◌<◌, ◌≤◌, ◌==◌, length, drop, replicate, sum, slice_get, vec_capacity, Some, None, if◌then◌else◌};
 ghost use Rattle.std.specs.List.{insert};
-ghost use Rattle.index_lists.specs.Lists.{times, IsFree, AreLists, AreSame, pushed};
-ghost use Rattle.index_lists.specs.Inside.Parts.{laid, part};
+ghost use Rattle.index_lists.specs.Lists.{times, IsFree, AreLists, AreSame, node_pushed};
+ghost use Rattle.index_lists.specs.Inside.Parts.{lists_of_parts, part};
 
 use crate::store::ListStore;
 use board_text::Memory;
@@ -40,7 +40,7 @@ impl Model for PlainLists {
 }
 
 impl ListStore for PlainLists {
-    ghost state = { laid };
+    ghost state = { lists_of_parts };
 
     fn new(alloc: Global, node_count: u32, list_count: u32) -> Result<Self, Memory> {
         let nodes = Vec::with_capacity(alloc, node_count as usize)?;
@@ -66,9 +66,9 @@ impl ListStore for PlainLists {
         let Some(home) = self.home(node) else {
             unreachable!()
         };
-        let place = place_of(&self.nodes, node);
+        let index = index_of(&self.nodes, node);
         self.lens[home as usize] -= 1;
-        self.nodes.remove(place);
+        self.nodes.remove(index);
     }
 
     fn first(&self, of: u32) -> Option<u32> {
@@ -121,9 +121,10 @@ impl PlainLists {
     fn insert(&mut self, to: u32, node: u32)
         requires to_in { to < self.old.lists }
         requires node_in { node < self.old.nodes }
-        requires free { IsFree (laid self.old) node }
-        ensures pushed { AreSame (laid self.new) (pushed (laid self.old) to node) }
-        ensures kept { AreLists (laid self.new) }
+        requires free { IsFree (lists_of_parts self.old) node }
+        ensures pushed { AreSame (lists_of_parts self.new)
+            (node_pushed (lists_of_parts self.old) to node) }
+        ensures kept { AreLists (lists_of_parts self.new) }
     {
         begin(&mut self.lens, to);
         let end = end_of(&self.nodes, &self.lens, to);
@@ -135,7 +136,7 @@ impl PlainLists {
     fn nodes_of(&self, of: u32) -> &[u32]
         ensures nodes { result.now ≡ part self.now.parts of }
         ensures fits { length result.now < 2 ^ 32 }
-        ensures kept { AreLists (laid self.now) }
+        ensures kept { AreLists (lists_of_parts self.now) }
     {
         if self.lens.len() <= of as usize {
             return &[];
@@ -157,7 +158,7 @@ fn begin(lens: &mut Vec<u32>, list: u32)
     }
 }
 
-/// The place after the last node of the list `of`.
+/// The index after the last node of the list `of`.
 fn end_of(nodes: &[u32], lens: &[u32], of: u32) -> usize
     requires begun { of < length lens.now }
     requires whole { sum lens.now ≡ length nodes.now }
@@ -175,49 +176,49 @@ fn total(numbers: &[u32]) -> u32
     numbers.iter().sum()
 }
 
-/// Inserts `node` at `place`; there is room for it.
-fn put(nodes: &mut Vec<u32>, place: usize, node: u32)
-    requires place { place ≤ length nodes.old.items }
+/// Inserts `node` at `index`; there is room for it.
+fn put(nodes: &mut Vec<u32>, index: usize, node: u32)
+    requires index { index ≤ length nodes.old.items }
     requires room { length nodes.old.items < vec_capacity nodes.old }
-    ensures items { nodes.new.items ≡ insert nodes.old.items place node }
+    ensures items { nodes.new.items ≡ insert nodes.old.items index node }
     ensures capacity { vec_capacity nodes.old ≤ vec_capacity nodes.new }
 {
-    if place == nodes.len() {
+    if index == nodes.len() {
         nodes.push_reserved(node);
-    } else if nodes.insert(place, node).is_err() {
+    } else if nodes.insert(index, node).is_err() {
         unreachable!()
     }
 }
 
-/// The place of `node` in `nodes`.
-fn place_of(nodes: &[u32], node: u32) -> usize
+/// The index of `node` in `nodes`.
+fn index_of(nodes: &[u32], node: u32) -> usize
     requires { 0 < times node nodes.now }
     ensures { slice_get nodes.now result ≡ Some node }
 {
-    let mut place = 0;
-    while nodes[place] != node {
-        place += 1;
+    let mut index = 0;
+    while nodes[index] != node {
+        index += 1;
     }
-    place
+    index
 }
 
 /// The node after `node` in `nodes`.
 fn next_in(nodes: &[u32], node: u32) -> Option<u32>
     requires { 0 < times node nodes.now }
-    ensures { (place : ℕ) × (slice_get nodes.now place ≡ Some node) × (result ≡ slice_get nodes.now (place + 1)) }
+    ensures { (index : ℕ) × (slice_get nodes.now index ≡ Some node) × (result ≡ slice_get nodes.now (index + 1)) }
 {
-    nodes.get(place_of(nodes, node) + 1).copied()
+    nodes.get(index_of(nodes, node) + 1).copied()
 }
 
 /// The node before `node` in `nodes`.
 fn prev_in(nodes: &[u32], node: u32) -> Option<u32>
     requires { 0 < times node nodes.now }
-    ensures { (place : ℕ) × (slice_get nodes.now place ≡ Some node)
-        × (result ≡ (if place == 0 then None else slice_get nodes.now (place - 1))) }
+    ensures { (index : ℕ) × (slice_get nodes.now index ≡ Some node)
+        × (result ≡ (if index == 0 then None else slice_get nodes.now (index - 1))) }
 {
-    let place = place_of(nodes, node);
-    if place == 0 {
+    let index = index_of(nodes, node);
+    if index == 0 {
         return None;
     }
-    nodes.get(place - 1).copied()
+    nodes.get(index - 1).copied()
 }

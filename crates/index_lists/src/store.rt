@@ -1,7 +1,7 @@
 //! The contract of a store of lists.
 
 ghost use Rattle.std.specs.Prelude.{◌≡◌, ℕ, ◌+◌, ◌-◌, ◌++◌, ◌<◌, ◌≤◌, length, slice_get, vec_capacity, IfOk, IfSome, MatchOption};
-ghost use Rattle.index_lists.specs.Lists.{Lists, IsFree, IsIn, IsHome, AreLists, AreSame, empty, pushed, unlinked, node_moved};
+ghost use Rattle.index_lists.specs.Lists.{Lists, IsFree, IsIn, IsHome, AreLists, AreSame, empty_lists, node_pushed, node_unlinked, node_moved};
 
 use board_text::Memory;
 use std::alloc::Global;
@@ -14,7 +14,8 @@ pub trait ListStore {
     /// A store of `list_count` empty lists for `node_count` nodes. All memory that the store will
     /// ever need is taken here, or refused.
     fn new(alloc: Global, node_count: u32, list_count: u32) -> Result<Self, Memory>
-        ensures empty { IfOk result (λ store. AreSame (state store) (empty node_count list_count)) }
+        ensures empty { IfOk result
+            (λ store. AreSame (state store) (empty_lists node_count list_count)) }
         ensures kept { IfOk result (λ store. AreLists (state store)) };
 
     /// Appends `node`, which is in no list, to the list `to`.
@@ -22,14 +23,14 @@ pub trait ListStore {
         requires to_in { to < (state self.old).lists }
         requires node_in { node < (state self.old).nodes }
         requires free { IsFree (state self.old) node }
-        ensures pushed { AreSame (state self.new) (pushed (state self.old) to node) }
+        ensures pushed { AreSame (state self.new) (node_pushed (state self.old) to node) }
         ensures kept { AreLists (state self.new) };
 
     /// Takes `node` out of its list.
     fn unlink(&mut self, node: u32)
         requires node_in { node < (state self.old).nodes }
         requires stands { IsIn (state self.old) node }
-        ensures unlinked { AreSame (state self.new) (unlinked (state self.old) node) }
+        ensures unlinked { AreSame (state self.new) (node_unlinked (state self.old) node) }
         ensures kept { AreLists (state self.new) };
 
     /// The first node of the list `of`.
@@ -49,8 +50,8 @@ pub trait ListStore {
     /// The node after `node` in its list. The last node has none, nor has a node in no list.
     fn next(&self, node: u32) -> Option<u32>
         requires { node < (state self.now).nodes }
-        ensures behind { (l : ℕ) → (place : ℕ) → slice_get ((state self.now).list l) place ≡ Some node
-            → result ≡ slice_get ((state self.now).list l) (place + 1) }
+        ensures behind { (l : ℕ) → (index : ℕ) → slice_get ((state self.now).list l) index ≡ Some node
+            → result ≡ slice_get ((state self.now).list l) (index + 1) }
         ensures free { IsFree (state self.now) node → result ≡ None }
         ensures below { IfSome result (λ other. other < (state self.now).nodes) }
         ensures kept { AreLists (state self.now) };
@@ -58,8 +59,8 @@ pub trait ListStore {
     /// The node before `node` in its list. The first node has none, nor has a node in no list.
     fn prev(&self, node: u32) -> Option<u32>
         requires { node < (state self.now).nodes }
-        ensures before { (l : ℕ) → (place : ℕ) → slice_get ((state self.now).list l) (place + 1) ≡ Some node
-            → result ≡ slice_get ((state self.now).list l) place }
+        ensures before { (l : ℕ) → (index : ℕ) → slice_get ((state self.now).list l) (index + 1) ≡ Some node
+            → result ≡ slice_get ((state self.now).list l) index }
         ensures first { (l : ℕ) → slice_get ((state self.now).list l) 0 ≡ Some node → result ≡ None }
         ensures free { IsFree (state self.now) node → result ≡ None }
         ensures below { IfSome result (λ other. other < (state self.now).nodes) }

@@ -1,4 +1,4 @@
--- In which copies words are, by whether some word is in each.
+-- The copies of words, by whether each copy has a word.
 use Rattle.std.proofs.Common.{◌≡◌, ◌⊎◌, ◌↔◌, ◌||◌, ◌==◌, ℕ, zero, suc, ◌<◌, Bool, true, false, List, [], ◌∷◌, map, All, Contains, IsTrue, refl, sym, ap, ◌∙◌, subst, arith, inl, inr}
 use Rattle.std.specs.List.{list_any}
 use Rattle.std.proofs.lemmas.Bool.{false≢true, cases_eq, eqb-true, eq-eqb, or_cases}
@@ -6,7 +6,7 @@ use Rattle.std.proofs.lemmas.List.Elements.{All-head, All-contains}
 use Rattle.nested_cycles.specs.GoodWords.{next_digit, AreInOneCopy, AreInTwoCopies}
 use Rattle.nested_cycles.proofs.CopyRests.{each_of, contains_here, contains_later, contains_cases, contains_none}
 
--- ---- whether some is
+-- ---- whether a copy has a word
 
 is_in : (f : ℕ → ℕ) (digit : ℕ) (xs : List ℕ) → list_any (λ x. f x == digit) xs ≡ true → Contains (map f xs) digit
 is_in f digit [] any = absurd (false≢true any)
@@ -29,9 +29,9 @@ any_in f digit (x ∷ xs) has = elim (contains_cases (f x) (map f xs) digit has)
 pub some_is_in : (f : ℕ → ℕ) (digit : ℕ) (xs : List ℕ) (r : Bool) → r ≡ list_any (λ x. f x == digit) xs → IsTrue r ↔ Contains (map f xs) digit
 some_is_in f digit xs r is = (λ yes. is_in f digit xs (sym is ∙ yes), λ has. is ∙ any_in f digit xs has)
 
--- ---- which copies
+-- ---- words in one copy or in two
 
--- some word is in the copy, and none is
+-- the copy has a word, or has none
 abbrev pub Has : List ℕ → ℕ → Type 0
 Has firsts digit = IsTrue true ↔ Contains firsts digit
 

@@ -51,7 +51,7 @@ rests-append digit words more =
     ap (map (λ w. drop 1 w)) (filter-append (λ w. slice_index w 0 == digit) words more)
     ∙ map-append (λ w. drop 1 w) (filter (λ w. slice_index w 0 == digit) words) (filter (λ w. slice_index w 0 == digit) more)
 
--- of a word between others
+-- the rests of words, one of which is between others
 pub rest_between : (digit : ℕ) (word : List ℕ) (before after : List (List ℕ)) → slice_index word 0 ≡ digit
     → rests_in digit (before ++ word ∷ after) ≡ rests_in digit before ++ drop 1 word ∷ rests_in digit after
 rest_between digit word before after same = rests-append digit before (word ∷ after) ∙ ap (λ ws. rests_in digit before ++ ws) (rest_here digit word after same)
@@ -74,7 +74,7 @@ contains_rest digit (other ∷ words) word same has =
       ]
     ]
 
--- ---- how many
+-- ---- the number of rests
 
 pub no_more_rests : (digit : ℕ) (words : List (List ℕ)) → length (rests_in digit words) ≤ length words
 no_more_rests digit [] = omega arith
@@ -85,7 +85,7 @@ no_more_rests digit (word ∷ words) =
       | inr not ↦ rw (rest_elsewhere digit word words not) (omega arith)
     ]
 
--- where some word is in another copy, there are fewer
+-- if some word is in another copy, there are fewer rests than words
 pub fewer_rests : (digit other : ℕ) (words : List (List ℕ)) → other ≢ digit → Contains (first_digits words) other → length (rests_in digit words) < length words
 fewer_rests digit other [] differ has = absurd (contains_none other has)
 fewer_rests digit other (word ∷ words) differ has =
@@ -97,7 +97,7 @@ fewer_rests digit other (word ∷ words) differ has =
       | inr not ↦ let rest = no_more_rests digit words in rw (rest_elsewhere digit word words not) (omega arith)
     ]
 
--- where all words are in another copy, there are none
+-- if all words are in another copy, there are no rests
 pub no_rests : (digit other : ℕ) (words : List (List ℕ)) → other ≢ digit → AreInOneCopy other (first_digits words) → rests_in digit words ≡ []
 no_rests digit other [] differ one = refl
 no_rests digit other (word ∷ words) differ one =
@@ -107,7 +107,7 @@ no_rests digit other (word ∷ words) differ one =
 
 -- ---- words of digits
 
--- a word of some digits begins with one
+-- a word of one digit or more begins with one
 pub first_and_rest : (count : ℕ) (word : List ℕ) → IsWord (suc count) word → word ≡ slice_index word 0 ∷ drop 1 word
 first_and_rest count [] is = absurd (omega (arith, is.0))
 first_and_rest count (first ∷ rest) is = refl

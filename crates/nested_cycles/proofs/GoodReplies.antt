@@ -10,7 +10,7 @@ use Rattle.nested_cycles.specs.Reply.{IsReply}
 use Rattle.nested_cycles.proofs.Dominations.{in_one_copy, of_two_copies}
 use Rattle.nested_cycles.proofs.CopyRests.{contains_here, contains_later, contains_cases, contains_none, contains_map, next_differs, rest_between, rest_not_between, rests-append, contains_rest, fewer_rests, no_rests, first_and_rest, rests_are_words}
 
--- the first digit of a word among these
+-- a fact of all first digits holds of the first digit of each word
 first_of : (P : ℕ → Type 0) (words : List (List ℕ)) (word : List ℕ) → All P (first_digits words) → Contains words word → P (slice_index word 0)
 first_of P words word each has = All-contains P (first_digits words) (slice_index word 0) each (contains_map (λ w. slice_index w 0) words word has)
 
@@ -151,7 +151,7 @@ word_with_first count first rest low is = (omega (arith, is.0), All-cons (λ d. 
 next_below : (digit : ℕ) → next_digit digit < 3
 next_below digit = omega arith
 
--- with no words or with some
+-- a list is empty or not
 none_or_some : {X : Type 0} (xs : List X) → (xs ≡ []) ⊎ (xs ≡ [] → ⊥)
 none_or_some [] = inl refl
 none_or_some (x ∷ xs) = inr (λ e. cc)
@@ -189,7 +189,7 @@ turned digit other firsts each =
 some_between : (before after : List (List ℕ)) (word : List ℕ) → before ++ word ∷ after ≡ [] → ⊥
 some_between before after word none = omega (arith, ap length none, length_between before after word)
 
--- the rests of good rests, without one word, where the rests of a level less are good without it
+-- without one word the rests stay few and good, if good words of a level less stay good without one
 rests_without : (count digit : ℕ) (before after : List (List ℕ)) (word : List ℕ)
     → ((first second : List (List ℕ)) (rest : List ℕ) → AreGood count (first ++ rest ∷ second) → AreGood count (first ++ second))
     → length (rests_in digit (before ++ word ∷ after)) ≤ suc count → AreGood count (rests_in digit (before ++ word ∷ after))

@@ -17,7 +17,7 @@ pub record HaveCopies (digits rest_digits size : ℕ) : Type 0 where
   pub digits_are : digits ≡ suc rest_digits
   pub size_is : size ≡ 3 ^ rest_digits
 
--- on a level of at least two
+-- a level of at least 2 has copies
 pub copies_at : (levels size : ℕ) → 2 ≤ levels → size ≡ labels_of (levels - 1) → HaveCopies (levels - 1) (levels - 1 - 1) size
 copies_at levels size deep is = record { digits_are = omega arith; size_is = is }
 
@@ -45,7 +45,7 @@ pub not_good_if_three : (digits rest_digits size : ℕ) (numbers : List ℕ) →
 not_good_if_three digits rest_digits size numbers at three good =
     not_in_three rest_digits numbers (λ digit low. rw at.size_is at (three digit low)) (rw at.digits_are at good)
 
--- what is known of the rests of words in two copies
+-- the rests of words in two copies are fewer, and are words of a level less
 pub record AreRests (digits rest_digits size : ℕ) (numbers rests : List ℕ) : Type 0 where
   pub fewer : length rests < length numbers
   pub below : All (λ n. n < 3 ^ rest_digits) rests
@@ -120,7 +120,7 @@ reply_to_two digits rest_digits size digit next rest others rests at two is rest
     rw (rests_of_numbers rest_digits (next_digit digit) others) (rw these at reply) in
     rw (is, at.digits_are, at.size_is) (inr (inr (digit, word_of rest_digits rest, copies, word_with_first rest_digits (next_digit digit) rest below, there)))
 
--- ---- what a reply does
+-- ---- the words after a reply
 
 pub reply_beats : (levels : ℕ) (others : List ℕ) (reply : ℕ) → length others < levels → All (λ n. n < labels_of levels) others → NestedReply levels others reply
     → All (λ other. NestedBeats levels reply other) others
@@ -137,3 +137,8 @@ good_with levels others reply few is before after parts =
     let split : label_words levels others ≡ map word before ++ map word after = ap (map word) parts ∙ map-append word before after in
     let long : length (map word before ++ map word after) ≡ length others = sym (ap length split) ∙ length-map others word in
     rw (map-append word before (reply ∷ after)) (good_with_reply (levels - 1) (map word before) (map word after) (word reply) (omega arith) (subst (λ ws. IsReply (levels - 1) ws (word reply)) split is))
+
+pub reply_does : (levels n : ℕ) (others : List ℕ) → length others < levels → All (λ o. o < labels_of levels) others
+    → NestedReply levels others n → All (λ other. NestedBeats levels n other) others
+    × ((before after : List ℕ) → others ≡ before ++ after → NestedGood levels (before ++ n ∷ after))
+reply_does levels n others few labels is = (reply_beats levels others n few labels is, good_with levels others n few is)

@@ -1,4 +1,4 @@
--- The nested board of its parts.
+-- The nested board, from its parts.
 use Rattle.std.proofs.Common.{◌≡◌, ◌⊎◌, ℕ, zero, suc, ◌+◌, ◌-◌, ◌*◌, ◌^◌, ◌<◌, ◌≤◌, List, [], ◌∷◌, take, replicate, AllPairs, Contains, refl, sym, ap, ◌∙◌, subst, arith, inl, inr}
 use Rattle.std.proofs.Math.Nat.{pow-le-pow_right, one-le-pow}
 use Rattle.std.proofs.lemmas.List.{length-replicate, take-replicate}
@@ -13,7 +13,7 @@ use Rattle.nested_cycles.specs.NestedBoard.{IsNestedBoard}
 use Rattle.nested_cycles.specs.declared.nested_boards.TheConstants.{MAX_BOARD_LEVELS}
 use Rattle.nested_cycles.proofs.NestedPairs.{are_pairs, beats_exactly}
 
--- the words of so few digits have numbers of 16 bits
+-- words of at most 6 digits have numbers of 16 bits
 pub few_words : (count : ℕ) → count ≤ 6 → 3 ^ count < 65536
 few_words count few = let most : 3 ^ count ≤ 3 ^ 6 = pow-le-pow_right {n = 3} (omega arith) {i = count} {j = 6} few in omega arith
 
@@ -27,7 +27,7 @@ some_labels levels = one-le-pow (levels - 1) 3 (omega arith)
 pub zeros : (pebbles : ℕ) → pebbles ≤ MAX_PEBBLES → take {A = ℕ} pebbles (0 ∷ 0 ∷ 0 ∷ 0 ∷ 0 ∷ 0 ∷ []) ≡ replicate pebbles 0
 zeros pebbles few = take-replicate {X = ℕ} pebbles 6 0 few
 
--- of which the board is made
+-- the parts of the nested board
 pub record Parts (levels pebbles labels : ℕ) (start : List ℕ) (pairs : List (ℕ × ℕ)) : Type 0 where
   pub level : InRange 1 MAX_BOARD_LEVELS levels
   pub pebbles_in_range : InRange 1 MAX_PEBBLES pebbles
@@ -38,7 +38,7 @@ pub record Parts (levels pebbles labels : ℕ) (start : List ℕ) (pairs : List 
 abbrev pub six_zeros : List ℕ
 six_zeros = 0 ∷ 0 ∷ 0 ∷ 0 ∷ 0 ∷ 0 ∷ []
 
--- what the calls of others gave are such parts
+-- the results of the calls are such parts
 pub parts_from : (levels pebbles wide count labels : ℕ) (pairs made : List (ℕ × ℕ)) → InRange 1 MAX_BOARD_LEVELS levels → InRange 1 MAX_PEBBLES pebbles → wide ≡ levels → labels ≡ 3 ^ (wide - 1) → count ≡ pebbles
     → AreNestedPairs levels (labels * labels) made → pairs ≡ made → Parts levels pebbles labels (take count six_zeros) pairs
 parts_from levels pebbles wide count labels pairs made level in_range is_wide is_labels is_count are is_pairs = record {
@@ -66,7 +66,7 @@ is_nested levels pebbles labels start pairs parts = record {
   beats = λ x y are. beats_exactly levels pairs (subst (λ (n : ℕ). AreNestedPairs levels (n * n) pairs) parts.labels_are parts.pairs_are) x y (rw parts.labels_are at are);
 }
 
--- ---- there is one
+-- ---- there is one nested board
 
 -- the first of ascending pairs comes before the others
 pub first_before : (p : ℕ × ℕ) (pairs : List (ℕ × ℕ)) (q : ℕ × ℕ) → AllPairs Precedes (p ∷ pairs) → Contains pairs q → Precedes p q
@@ -98,7 +98,7 @@ same_first p q ps qs ascending other_ascending in_other in_first =
       ]
     ]
 
--- the pairs behind the same first pair are among each other
+-- if two lists begin with the same pair and one is within the other, so are their rests
 rest_in : (p : ℕ × ℕ) (ps qs : List (ℕ × ℕ)) → AllPairs Precedes (p ∷ ps) → ((r : ℕ × ℕ) → Contains (p ∷ ps) r → Contains (p ∷ qs) r) → (r : ℕ × ℕ) → Contains ps r → Contains qs r
 rest_in p ps qs ascending among r has =
     elim (in_cons p qs r (among r (suc has.0, omega (arith, has.1), has.2))) [

@@ -55,7 +55,7 @@ pub others_are_labels : (bound : ℕ) (words : List ℕ) (pebble : ℕ) → All 
 others_are_labels bound words pebble labels =
     All-append (λ n. n < bound) (take pebble words) (drop (pebble + 1) words) (All-take (λ n. n < bound) pebble words labels) (All-drop (λ n. n < bound) (pebble + 1) words labels)
 
--- the same word for all
+-- copies of one word are good
 pub same_words_are_good : (count number pebbles : ℕ) → AreGood count (map (λ n. word_of count n) (replicate pebbles number))
 same_words_are_good zero number pebbles = tt
 same_words_are_good (suc count) number pebbles =
@@ -91,7 +91,7 @@ pub request_dominates : (levels : ℕ) (words others : List ℕ) (pebble reply :
 request_dominates levels words others pebble reply long others_are each other inside differ =
     All-contains (λ n. NestedBeats levels reply n) others (get_or words other 0) each (rw others_are (in_others words pebble other (omega arith) differ))
 
--- the words before a place and those behind it, put together
+-- the words before a place and those after it, put together, are the other words
 pub others_are : (place : ℕ) (words first second none more all whole : List ℕ) → none ≡ [] → first ≡ words → more ≡ none ++ take place first → second ≡ words
     → all ≡ more ++ take (length second - (place + 1)) (drop (place + 1) second) → whole ≡ all → whole ≡ other_words place words
 others_are place words first second none more all whole is_none is_first is_more is_second is_all is_whole =

@@ -19,7 +19,7 @@ precedes_from_place labels p q small lt =
       ]
     ]
 
--- what `only` says of a pair
+-- a pair of labels below the bound of which the first dominates the second
 abbrev Fits : ℕ → ℕ → ℕ × ℕ → Type 0
 Fits levels places pair = AreLabels (labels_of levels) pair × IsAmong (labels_of levels) places pair × NestedBeats levels pair.0 pair.1
 
@@ -73,7 +73,7 @@ are_pairs levels places pairs are = record {
 all_places : (labels : ℕ) (pair : ℕ × ℕ) → AreLabels labels pair → IsAmong labels (labels * labels) pair
 all_places labels pair are = omega (arith, row_fits pair.0 labels labels labels are.0 (omega arith), are.1)
 
--- and those of all labels of which the first dominates the second
+-- the pairs are those of all labels of which the first dominates the second
 pub beats_exactly : (levels : ℕ) (pairs : List (ℕ × ℕ)) → AreNestedPairs levels (labels_of levels * labels_of levels) pairs → (x y : ℕ) → AreLabels (labels_of levels) (x, y)
     → Contains pairs (x, y) ↔ NestedBeats levels x y
 beats_exactly levels pairs are x y labels = (

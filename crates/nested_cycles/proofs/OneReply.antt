@@ -10,11 +10,11 @@ use Rattle.nested_cycles.proofs.CopyRests.{contains_none}
 use Rattle.nested_cycles.proofs.GoodReplies.{some_first}
 use Rattle.nested_cycles.proofs.WordLists.{same_copies, not_one}
 
--- words in two copies are some
+-- if words are in two copies, there is a word
 two_are_some : (digit : ℕ) (words : List (List ℕ)) → AreInTwoCopies digit (first_digits words) → words ≡ [] → ⊥
 two_are_some digit words two none = contains_none digit (subst (λ ws. Contains (first_digits ws) digit) none two.some_here)
 
--- the only copy of some words is one
+-- if all words are in one copy, there is only one such copy
 same_copy : (digit other : ℕ) (words : List (List ℕ)) → (words ≡ [] → ⊥) → AreInOneCopy digit (first_digits words) → AreInOneCopy other (first_digits words) → digit ≡ other
 same_copy digit other words some one second = All-contains (λ first. first ≡ other) (first_digits words) digit second (some_first words digit some one)
 

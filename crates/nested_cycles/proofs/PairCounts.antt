@@ -1,4 +1,4 @@
--- How many pairs a nested board has.
+-- The number of pairs of a nested board.
 use Rattle.std.proofs.Common.{◌≡◌, ◌≢◌, ◌⊎◌, ℕ, zero, suc, ◌+◌, ◌-◌, ◌*◌, ◌/◌, ◌%◌, ◌<◌, ◌≤◌, List, [], ◌∷◌, length, AllPairs, Contains, refl, sym, ◌∙◌, subst, arith, inl, inr}
 use Rattle.std.proofs.Math.Dec.{eqb}
 use Rattle.std.specs.Cmp.{nat_eq_equiv}
@@ -17,7 +17,7 @@ use Rattle.nested_cycles.proofs.Dominations.{one_of_two_labels}
 use Rattle.nested_cycles.proofs.NestedPairs.{PairAt, pair_at}
 use Rattle.nested_cycles.proofs.NestedBoards.{first_before, rest_ascends, not_itself, in_cons}
 
--- ---- a list without repetitions of all numbers below a bound has as many
+-- ---- a list without repetitions of all numbers below a bound has as many elements
 
 apart_cons : (n : ℕ) (ns : List ℕ) → (Contains ns n → ⊥) → AllPairs (λ a b. a ≢ b) ns → AllPairs (λ a b. a ≢ b) (n ∷ ns)
 apart_cons n ns not apart =
@@ -57,7 +57,7 @@ in_numbers : (m : ℕ) (ns : List ℕ) (n : ℕ) → Contains (m ∷ ns) n → (
 in_numbers m ns n (zero, lt, is) = inl is
 in_numbers m ns n (suc k, lt, is) = inr (k, omega arith, is)
 
--- how a number comes to be among the places
+-- the reasons why a number is among the places
 data InPlaces (labels : ℕ) (ps : List (ℕ × ℕ)) (others : List ℕ) (n : ℕ) : Type 0 where
   forth : (r : ℕ × ℕ) → Contains ps r → n ≡ r.0 * labels + r.1 → InPlaces labels ps others n
   back : (r : ℕ × ℕ) → Contains ps r → n ≡ r.1 * labels + r.0 → InPlaces labels ps others n
@@ -87,9 +87,9 @@ in_diagonal labels (suc x) n has =
       | inr later ↦ let h = in_diagonal labels x n later in (h.0, omega (arith, h.1), h.2)
     ]
 
--- ---- no place stands there twice
+-- ---- no place is there twice
 
--- a pair before others is none of them, nor one of them turned round, nor of one label twice
+-- a pair differs from the pairs after it and from these turned round, and its labels differ
 record Alone (labels : ℕ) (p : ℕ × ℕ) (ps : List (ℕ × ℕ)) : Type 0 where
   labels_are : AreLabels labels p
   labels_of_others : (r : ℕ × ℕ) → Contains ps r → AreLabels labels r
@@ -154,7 +154,7 @@ apart_places labels (p ∷ ps) are =
     ]
     ) (apart_cons (p.1 * labels + p.0) rest (λ has. not_back labels p ps is (in_places labels ps (diagonal labels labels) (p.1 * labels + p.0) has)) (apart_places labels ps (rest_are labels p ps are)))
 
--- ---- and each stands there
+-- ---- each place is there
 
 behind : (labels : ℕ) (p : ℕ × ℕ) (ps : List (ℕ × ℕ)) (others : List ℕ) (n : ℕ) → Contains (places labels ps others) n → Contains (places labels (p ∷ ps) others) n
 behind labels p ps others n has =

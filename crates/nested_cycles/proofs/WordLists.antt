@@ -84,7 +84,7 @@ rests_of_good count digit words two (inr (inl one)) = absurd (not_one digit one.
 rests_of_good count digit words two (inr (inr other)) =
     subst (λ d. AreGood count (rests_in (next_digit d) words)) (sym (same_copies digit other.0 (first_digits words) two other.1)) other.3
 
--- of words in two copies there are fewer rests
+-- if words are in two copies, one of these has fewer rests than there are words
 pub fewer_number_rests : (count digit : ℕ) (numbers : List ℕ) → AreInTwoCopies digit (map (λ n. n / 3 ^ count) numbers)
     → length (number_rests (3 ^ count) (next_digit digit) numbers) < length numbers
 fewer_number_rests count digit numbers two =

@@ -1,4 +1,4 @@
--- Words and their numbers belong to each other.
+-- Words and their numbers correspond.
 use Rattle.std.proofs.Common.{◌≡◌, ℕ, zero, suc, ◌+◌, ◌*◌, ◌/◌, ◌%◌, ◌^◌, ◌<◌, ◌≤◌, List, [], ◌∷◌, ◌++◌, length, refl, sym, ap, ◌∙◌, subst, arith, mod-lt, div-add-mod', mul-le-mul_right, suc-mul, mul_assoc}
 use Rattle.std.proofs.Math.Nat.{one-le-pow, pow-le-pow_right, pow-zero, pow-succ', div-lt_iff_lt-mul}
 use Rattle.std.proofs.lemmas.Nat.{div-mul-add, mod-mul-add, mod_below}
@@ -24,7 +24,7 @@ number_of-word_of (suc count) number below =
     ∙ ap (λ r. number / 3 ^ count * 3 ^ count + r) rest
     ∙ div-add-mod' number (3 ^ count)
 
--- the number of digits
+-- the number of a word is below 3 to the power of its length
 number_below : (word : List ℕ) → All (λ digit. digit < 3) word → word_number word < 3 ^ length word
 unfolding word_number word_of
 number_below [] each = let one : 3 ^ 0 ≡ 1 = pow-zero 3 in omega arith

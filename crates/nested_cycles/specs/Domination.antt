@@ -2,13 +2,13 @@
 use Rattle.std.specs.Prelude.{◌≡◌, ℕ, ◌+◌, ◌-◌, ◌%◌, ◌^◌, ◌<◌, List, length, take, slice_index}
 use Rattle.nested_cycles.specs.Words.{word_of}
 
--- At the first place where two words of one length differ, the digit of the first comes next after that of the second round the
+-- At the first index where two words of one length differ, the digit of the first comes next after that of the second round the
 -- three-cycle.
 pub record WordDominates (word other : List ℕ) : Type 0 where
-  pub place : ℕ
-  pub inside : place < length word
-  pub same_before : take place word ≡ take place other
-  pub next_there : slice_index word place ≡ (slice_index other place + 1) % 3
+  pub index : ℕ
+  pub inside : index < length word
+  pub same_before : take index word ≡ take index other
+  pub next_there : slice_index word index ≡ (slice_index other index + 1) % 3
 
 -- the number of labels of the nested board of a level
 abbrev pub labels_of : ℕ → ℕ

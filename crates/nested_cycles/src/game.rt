@@ -60,12 +60,12 @@ impl NestedGame {
         ensures moved { self.new ≡ plain_game self.old.levels (slice_set self.old.words pebble result) }
         ensures good { IsGood self.new }
     {
-        let place = usize::from(pebble);
+        let index = usize::from(pebble);
         let mut others = Words::new();
-        others.append(&self.words[..place]);
-        others.append(&self.words[place + 1..]);
+        others.append(&self.words[..index]);
+        others.append(&self.words[index + 1..]);
         let reply = nested_reply(self.levels, others.as_slice());
-        self.words[place] = reply;
+        self.words[index] = reply;
         reply
     }
 

@@ -46,9 +46,9 @@ fn nested_pairs(alloc: Global, levels: u8, labels: u16) -> Result<Vec<(u16, u16)
 {
     let count = u32::from(labels);
     let mut pairs = Vec::with_capacity(alloc, (count * count / 2) as usize)?;
-    for place in 0..count * count {
-        let x = place / count;
-        let y = place % count;
+    for number in 0..count * count {
+        let x = number / count;
+        let y = number % count;
         if nested_beats(levels, u64::from(x), u64::from(y)) {
             pairs.push((x as u16, y as u16))?;
         }

@@ -17,9 +17,9 @@ use Rattle.strategies.specs.Best.{HasGreatestResult, HasSmallerValue, IsLess, Is
 use Rattle.strategies.proofs.Cited.{best_request, same_request}
 use Rattle.player.specs.Transcript.{Standing, Going, Over, PersonAnswers, BeginsPlay, Asks, AsksAfterLine, opening_lines, at_line, ask_line}
 use Rattle.player.specs.Transcript.{stuck_line, no_strategy_line, no_answer_line, stopped_line}
-use Rattle.player.specs.Inside.Steps.{BringsAll, AddsText}
-use Rattle.player.specs.Inside.PlayState.{PlayState, at, IsLegalAt, IsRequestAt, HasAsked, NextStands}
-use Rattle.player.specs.declared.word.Word.TheVariants.{Number, Quit, Other}
+use Rattle.player.specs.Inside.Steps.{IsResponseToMeaning, AddsText}
+use Rattle.player.specs.Inside.PlayState.{PlayState, at, IsLegalAt, IsRequestAt, HasAsked, IsStandingAfter}
+use Rattle.player.specs.declared.line_meaning.LineMeaning.TheVariants.{Number, Quit, Other}
 use Rattle.player.specs.declared.end.PlayEnd.{PlayEnd}
 use Rattle.player.specs.declared.end.PlayEnd.TheVariants.{Stuck, Stopped, NoStrategy}
 use Rattle.player.specs.declared.labeller_side.Next.{Next}
@@ -62,7 +62,7 @@ module _ (board : PlainBoard) (configuration : List ℕ) where
         | inr some ↦ inl (some.0, some.2)
       ]
 
-  -- what was found is the request there
+  -- the best request and the best answer to it are the request at the configuration
   pub request_is : (pebble : ℕ) (answer : Option ℕ) (is_stuck : Bool) → IsBestRequest board configuration pebble → IsSmallest (HasGreatestResult board configuration pebble) answer
       → (answer ≡ None) ↔ ((label : ℕ) → Legal board configuration pebble label → ⊥) → is_some answer ≡ not is_stuck
       → IsRequestAt board configuration (record { pebble = pebble; is_stuck = is_stuck })
@@ -73,7 +73,7 @@ module _ (board : PlainBoard) (configuration : List ℕ) where
       some (Some label) smallest free = (label, smallest.0.legal)
       some None smallest free = absurd (free refl)
 
-  -- what is written of it is what is asked
+  -- a text that asks for the pebble asks for the request there
   pub asks_on : (request : Request) (requests : ℕ) (pebble : ℕ) (said : List ℕ) → IsRequestAt board configuration request → HasAsked request requests (next.Asks pebble) said
       → Asks board configuration requests said (Going configuration requests)
   asks_on request requests pebble said is asked = (request.pebble, is.best, inl (is.free asked.0, asked.2, refl))
@@ -82,7 +82,7 @@ module _ (board : PlainBoard) (configuration : List ℕ) where
       → Asks board configuration requests said (Over end)
   asks_last request requests end said is asked = (request.pebble, is.best, inr (is.stuck asked.0, asked.2, ap Over asked.1))
 
-  -- something is asked where the value is finite
+  -- a text that asks for the request, and the state of the play after it
   pub record HasRequest (requests : ℕ) : Type 0 where
     pub said : List ℕ
     pub to : Standing
@@ -108,7 +108,7 @@ module _ (inside seat : PlayState) (same : inside ≡ seat) where
       let there : IsLegalAt inside label = subst (λ s. IsLegalAt s label) (sym same) legal in
       subst (λ p. Legal inside.board (at inside) p label) (same_request inside.board (at inside) there.0 asked there.1 best) there.2
 
-  -- the pebble was put on the label, and the next request was written
+  -- the pebble was put on the label, and the text of the next request was written
   pub put_said : (space : PlainBoard) (asked to label : ℕ) (old middle new said : List ℕ) (standing : Standing) → space ≡ inside.board → inside.rank < configurations inside.board
       → IsBestRequest inside.board (at inside) asked → Legal inside.board (at inside) asked label
       → to ≡ rank_of space (moved (configuration_at space inside.rank) asked label) → middle ≡ old ++ at_line space (configuration_at space to) → new ≡ middle ++ said
@@ -130,11 +130,11 @@ module _ (inside seat : PlayState) (same : inside ≡ seat) where
 -- ---- other lines
 
 module _ (seat : PlayState) where
-  pub stop_asked : BringsAll (PersonAnswers seat.board) (Going (at seat) seat.requests) Quit (stopped_line seat.requests) (Over (Stopped seat.requests))
+  pub stop_asked : IsResponseToMeaning (PersonAnswers seat.board) (Going (at seat) seat.requests) Quit (stopped_line seat.requests) (Over (Stopped seat.requests))
   stop_asked line spells = inr (inl (spells, refl, refl))
 
   pub no_legal_number : (number : ℕ) → seat.board.labels ≤ MAX_LABELS → ((IsLegalAt seat number → ⊥) ⊎ (seat.board.labels ≤ number))
-      → BringsAll (PersonAnswers seat.board) (Going (at seat) seat.requests) (Number number) no_answer_line (Going (at seat) seat.requests)
+      → IsResponseToMeaning (PersonAnswers seat.board) (Going (at seat) seat.requests) (Number number) no_answer_line (Going (at seat) seat.requests)
   no_legal_number number few none line spells =
       inr (inr (
         (
@@ -150,10 +150,10 @@ module _ (seat : PlayState) where
         refl,
       ))
 
-  pub no_label : seat.board.labels ≤ MAX_LABELS → BringsAll (PersonAnswers seat.board) (Going (at seat) seat.requests) Other no_answer_line (Going (at seat) seat.requests)
+  pub no_label : seat.board.labels ≤ MAX_LABELS → IsResponseToMeaning (PersonAnswers seat.board) (Going (at seat) seat.requests) Other no_answer_line (Going (at seat) seat.requests)
   no_label few line spells = inr (inr ((spells.0, λ pebble label legal. spells.1 label (omega (arith, legal.1.is_label, few)) legal.2), refl, refl))
 
--- what is said of one line is said of a word
+-- a text with one property has each property that follows from it
 pub says_all : {E : Type 0} (result : Result (Option PlayEnd) E) (old new : List ℕ) (P Q : Option PlayEnd → List ℕ → Type 0) → IfOk result (λ end. AddsText old new (P end))
     → ((end : Option PlayEnd) (said : List ℕ) → P end said → Q end said) → IfOk result (λ end. AddsText old new (Q end))
 says_all (Ok end) old new P Q said all = (said.0, said.1, all end said.0 said.2)
@@ -161,18 +161,18 @@ says_all (Err fault) old new P Q said all = tt
 
 -- ---- the opening
 
--- a request is there where the value is finite
+-- at a finite value there is a request
 pub some_request : (board : PlainBoard) (configuration : List ℕ) (number : ℕ) (request : Option ℕ) → HasValue board configuration (Finite number)
     → (request ≡ None → HasValue board configuration Forever) → IsSome request
 some_request board configuration number (Some pebble) has none = refl
 some_request board configuration number None has none =
     let same : Finite number ≡ Forever = same_value board configuration (Finite number) Forever has (none refl) in absurd cc
 
--- what is written first
+-- from a finite value the opening has the first request
 pub opens_with : (space board : PlainBoard) (start number : ℕ) (following : Next) (request : Request) (old middle new : List ℕ) → space ≡ board → IsConfiguration board board.start
     → start ≡ rank_of board board.start → HasValue board (configuration_at board start) (Finite number) → IsRequestAt board (configuration_at board start) request
     → middle ≡ old ++ opening_lines space (Finite number) (configuration_at space start) → AddsText middle new (HasAsked request 0 following)
-    → AddsText old new (λ said. (to : Standing) × BeginsPlay (PersonAnswers board) said to × NextStands board (configuration_at board start) 0 following to)
+    → AddsText old new (λ said. (to : Standing) × BeginsPlay (PersonAnswers board) said to × IsStandingAfter board (configuration_at board start) 0 following to)
 opens_with space board start number following request old middle new of_board is start_is has is_request first asked =
     let there : configuration_at board start ≡ board.start = ap (configuration_at board) start_is ∙ configuration_at-rank_of board board.start is in
     let opening : List ℕ = opening_lines board (Finite number) (configuration_at board start) in
@@ -186,7 +186,7 @@ opens_with space board start number following request old middle new of_board is
         inr (number, asked_text, subst (λ c. HasValue board c (Finite number)) there has, ap (λ c. opening_lines board (Finite number) c ++ asked_text) there, subst (λ c. Asks board c 0 asked_text to) there asks)
 
     by : (following : Next) → HasAsked request 0 following asked.0 → new ≡ old ++ (opening_lines board (Finite number) (configuration_at board start) ++ asked.0)
-        → AddsText old new (λ said. (to : Standing) × BeginsPlay (PersonAnswers board) said to × NextStands board (configuration_at board start) 0 following to)
+        → AddsText old new (λ said. (to : Standing) × BeginsPlay (PersonAnswers board) said to × IsStandingAfter board (configuration_at board start) 0 following to)
     by (next.Asks pebble) h text = (
       opening_lines board (Finite number) (configuration_at board start) ++ asked.0,
       text,
@@ -206,11 +206,11 @@ opens_with space board start number following request old middle new of_board is
       ),
     )
 
--- or that there is no strategy
+-- from a value of forever the opening says that there is no strategy
 pub opens_without : (space board : PlainBoard) (start : ℕ) (old middle new : List ℕ) → space ≡ board → IsConfiguration board board.start
     → start ≡ rank_of board board.start → HasValue board (configuration_at board start) Forever
     → middle ≡ old ++ opening_lines space Forever (configuration_at space start) → new ≡ middle ++ no_strategy_line
-    → AddsText old new (λ said. (to : Standing) × BeginsPlay (PersonAnswers board) said to × NextStands board (configuration_at board start) 0 (next.Ends NoStrategy) to)
+    → AddsText old new (λ said. (to : Standing) × BeginsPlay (PersonAnswers board) said to × IsStandingAfter board (configuration_at board start) 0 (next.Ends NoStrategy) to)
 opens_without space board start old middle new of_board is start_is has first last =
     let there : configuration_at board start ≡ board.start = ap (configuration_at board) start_is ∙ configuration_at-rank_of board board.start is in (
       opening_lines board Forever board.start ++ no_strategy_line,
@@ -219,7 +219,7 @@ opens_without space board start old middle new of_board is start_is has first la
       (Over NoStrategy, inl (subst (λ c. HasValue board c Forever) there has, refl, refl), refl),
     )
 
--- something is written first
+-- a text that opens the play, and the state of the play after it
 pub record HasOpening (board : PlainBoard) : Type 0 where
   pub said : List ℕ
   pub to : Standing

@@ -6,36 +6,37 @@ use Rattle.std.proofs.lemmas.List.{take_all, drop_more}
 use Rattle.std.proofs.lemmas.List.Elements.{All-take}
 use lib.Seq.{take-take}
 use Rattle.board_text.specs.Streams.{GaveAll}
-use Rattle.board_text.specs.LineForms.{closed}
+use Rattle.board_text.specs.LineForms.{with_line_feed}
 use Rattle.board_text.proofs.Cited.{Consumes-trans}
 use Rattle.player.specs.Words.{HasNoFeed, IsLine, BeginsTooLong}
 use Rattle.player.specs.Inside.Words.{Spells}
 use Rattle.player.specs.Inside.LineInput.{Unread, GivesLine}
-use Rattle.player.specs.declared.word.Word.{Word}
+use Rattle.player.specs.declared.line_meaning.LineMeaning.{LineMeaning}
 use Rattle.player.specs.declared.lines.TheConstants.{MOST_BYTES}
 
--- a front without a line feed is longer than a line
+-- if a prefix that is longer than a line has no line feed, the bytes begin with too long a line
 pub too_long : (bytes : List ℕ) (size : ℕ) → MOST_BYTES < size → size ≤ length bytes → HasNoFeed (take size bytes) → BeginsTooLong bytes
 too_long bytes size long within no_feed = record {
   long = omega (arith, long, within);
   no_feed = subst HasNoFeed (take-take (suc MOST_BYTES) size bytes long) (All-take (λ byte. byte ≢ 10) (suc MOST_BYTES) (take size bytes) no_feed);
 }
 
--- all that is left has no line feed and is no longer than a line
+-- bytes without a line feed, no more than a line may have, are a line
 pub whole_line : (bytes : List ℕ) (size : ℕ) → size ≤ MOST_BYTES → length bytes ≤ size → HasNoFeed (take size bytes) → IsLine bytes
 whole_line bytes size short all no_feed = record {
   no_feed = subst HasNoFeed (take_all size bytes all) no_feed;
   short = omega (arith, short, all);
 }
 
--- a line, its line feed and what follows
-cut : (bytes : List ℕ) (size : ℕ) → size < length bytes → slice_index bytes size ≡ 10 → bytes ≡ closed (take size bytes) ++ drop (size + 1) bytes
+-- the bytes are a line, its line feed and the rest
+cut : (bytes : List ℕ) (size : ℕ) → size < length bytes → slice_index bytes size ≡ 10 → bytes ≡ with_line_feed (take size bytes) ++ drop (size + 1) bytes
 cut bytes size inside feed =
     sym (take-append-drop size bytes) ∙ ap (λ l. take size bytes ++ l) (drop_more bytes size 0 inside ∙ ap (λ b. b ∷ drop (size + 1) bytes) feed)
     ∙ sym (append_assoc (take size bytes) (10 ∷ []) (drop (size + 1) bytes))
 
 -- a line with its line feed was taken
-pub closed_line : (old now new : Unread) (left_old left_new : Option (List ℕ)) (more : List ℕ) (size : ℕ) (word : Word)
+pub closed_line : (old now new : Unread) (left_old left_new : Option (List ℕ)) (more : List ℕ) (size : ℕ)
+    (word : LineMeaning)
     → old.has_ended ≡ false → now.bytes ≡ old.bytes ++ more → Consumes left_old left_new more → now.has_ended ≡ false
     → size ≤ MOST_BYTES → size < length now.bytes → HasNoFeed (take size now.bytes) → slice_index now.bytes size ≡ 10
     → Spells (take size now.bytes) word → new.bytes ≡ drop (size + 1) now.bytes → new.has_ended ≡ now.has_ended
@@ -48,13 +49,13 @@ closed_line old now new left_old left_new more size word began grown read goes_o
   inl (record {
     more = more;
     read = read;
-    taken = sym grown ∙ cut now.bytes size inside feed ∙ ap (λ l. closed (take size now.bytes) ++ l) (sym rest);
+    taken = sym grown ∙ cut now.bytes size inside feed ∙ ap (λ l. with_line_feed (take size now.bytes) ++ l) (sym rest);
     goes_on = same ∙ goes_on;
   }),
 )
 
--- what was left at the end was taken, if there was something
-pub last_line : (old now seen new : Unread) (left_old left_now left_new : Option (List ℕ)) (more : List ℕ) (found : Option Word)
+-- at the end of the input the rest is the last line, if it isn't empty
+pub last_line : (old now seen new : Unread) (left_old left_now left_new : Option (List ℕ)) (more : List ℕ) (found : Option LineMeaning)
     → old.has_ended ≡ false → now.bytes ≡ old.bytes ++ more → Consumes left_old left_now more → IsLine now.bytes
     → seen.bytes ≡ now.bytes → GaveAll left_now left_new [] → seen.has_ended ≡ true
     → new.bytes ≡ [] → new.has_ended ≡ seen.has_ended → MatchOption found (seen.bytes ≡ []) (λ word. Spells seen.bytes word × (seen.bytes ≢ []))
@@ -64,7 +65,7 @@ last_line old now seen new left_old left_now left_new more found began grown rea
     let taken : old.bytes ++ more ≡ seen.bytes = sym grown ∙ sym same in
     given found says all taken
   where
-    given : (found : Option Word) → MatchOption found (seen.bytes ≡ []) (λ word. Spells seen.bytes word × (seen.bytes ≢ [])) → GaveAll left_old left_new more → old.bytes ++ more ≡ seen.bytes → GivesLine old new left_old left_new found
+    given : (found : Option LineMeaning) → MatchOption found (seen.bytes ≡ []) (λ word. Spells seen.bytes word × (seen.bytes ≢ [])) → GaveAll left_old left_new more → old.bytes ++ more ≡ seen.bytes → GivesLine old new left_old left_new found
     given None says all taken = record { more = more; read = all; taken = taken ∙ says; nothing_left = empty; ends = stays ∙ ended }
     given (Some word) says all taken =
         (seen.bytes, began, says.0, subst IsLine (sym same) is_line, inr (record { more = more; read = all; taken = taken; nothing_left = empty; ends = stays ∙ ended }, says.1))

@@ -7,18 +7,18 @@ use lib.Seq.{take-append-le, take-take}
 use borrow.Rule.Slice.PartMut.{put_mid, post_of}
 use Rattle.board_text.proofs.Cited.{take_more}
 
--- a front of a list that was cut there
+-- a prefix stays the prefix if another rest follows
 take_front : (size : ℕ) (xs ys : List ℕ) → size ≤ length xs → take size (take size xs ++ ys) ≡ take size xs
 take_front size xs ys within =
     take-append-le size (take size xs) ys (omega (arith, length-take-le size xs within)) ∙ take-take size size xs (omega arith)
 
--- the part stands at the front
+-- after the move the buffer begins with the part
 moved : (buffer : List ℕ) (from size : ℕ) → from + size ≤ length buffer → take size (copy_within buffer from (from + size) 0) ≡ drop from (take (from + size) buffer)
 moved buffer from size within =
     let same : from + size - from ≡ size = omega arith in
     rw same (take_front size (drop from buffer) _ (omega (arith, length-drop from buffer, within)) ∙ sym (drop-take from size buffer))
 
--- and what was read stands behind it
+-- and the bytes that were read come after it
 pub filled : (buffer xs ys : List ℕ) (from to count k : ℕ) → from ≤ to → to ≤ length buffer → length xs ≡ length buffer → xs ≡ copy_within buffer from to 0 → count ≤ length ys
     → take (to - from + count) (put_mid (to - from) k xs ys) ≡ drop from (take to buffer) ++ take count ys
 filled buffer xs ys from to count k ordered within long moved_is few =

@@ -1,4 +1,4 @@
--- Plays over bytes in memory that are broken off.
+-- Plays over bytes in memory that break off.
 use Rattle.std.proofs.Common.{◌≡◌, ℕ, List, [], sym, subst}
 use Rattle.std.specs.Prelude.{Some}
 use Rattle.player.specs.Play.{BreaksOff, BreaksOffBytes}
@@ -14,6 +14,6 @@ module _ (game : Game) (bytes left text : List ℕ) where
   of_memory Memory broken = (left, text, broken)
   of_memory Write broken = (left, text, broken)
 
-  -- a writer in memory fails only if memory is refused
+  -- a writer in memory fails only out of memory
   pub broken_off : (fault told : PlayFault) → told ≡ memory_for_write fault → BreaksOff (IsPlayed game) (Some bytes) (Some left) (Some []) (Some text) fault → BreaksOffBytes game bytes told
   broken_off fault told same broken = subst (BreaksOffBytes game bytes) (sym same) (of_memory fault broken)

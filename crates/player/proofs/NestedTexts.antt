@@ -8,7 +8,7 @@ use Rattle.nested_cycles.specs.NestedGame.{PlainGame, plain_game}
 use Rattle.nested_cycles.specs.Words.{word_of}
 use Rattle.player.specs.Transcript.{digits_text, words_line, nested_opening_lines}
 
--- the digits of a word, one behind the other
+-- the digits of a word, one after the other
 abbrev pub digits_of_word : ℕ → ℕ → List ℕ
 digits_of_word count number = flat_map decimal (word_of count number)
 

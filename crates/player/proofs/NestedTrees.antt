@@ -17,7 +17,7 @@ use Rattle.nested_cycles.proofs.Cited.{number_of_word, word_of-number_of, one_of
 use Rattle.nested_cycles.proofs.Cited.{no_pair, beats_exactly, good_have_reply, reply_beats, good_with, parts_after, fewer_others}
 use Rattle.nested_cycles.proofs.Cited.{others_are_good, others_are_labels, in_others, same_words_are_good}
 use Rattle.player.specs.NestedPlay.{IsNestedPlay, IsGoodConfiguration}
-use Rattle.player.specs.Transcript.{Standing, Going, Over, PersonClimbs, Brings, BringInTurn, IsPlayed}
+use Rattle.player.specs.Transcript.{Standing, Going, Over, PersonClimbs, IsResponse, AreResponses, IsPlayed}
 
 -- ---- a reply to good words
 
@@ -92,20 +92,20 @@ built_board levels pebbles board few is = record { labels = is.labels; pebbles =
 
 -- ---- plays
 
--- where a play goes on, the words are good
+-- the words of a play that goes on are good
 abbrev StandsWell : ℕ → PlainBoard → Standing → Type 0
 StandsWell levels board (Going at requests) = IsGoodConfiguration levels board at
 StandsWell levels board (Over end) = Unit {0}
 
 module _ (levels : ℕ) (board : PlainBoard) (nested : IsNestedPlay levels board) (each : board.pebbles ≡ levels) where
-  stands_on : (from : Standing) (line said : List ℕ) (to : Standing) → Brings (PersonClimbs levels) from line said to → StandsWell levels board from → StandsWell levels board to
+  stands_on : (from : Standing) (line said : List ℕ) (to : Standing) → IsResponse (PersonClimbs levels) from line said to → StandsWell levels board from → StandsWell levels board to
   stands_on (Over end) line said to brings well = subst (StandsWell levels board) (sym brings.1) tt
   stands_on (Going at requests) line said to (inl (pebble, inside, spelled, (label, low, reply, text, goes))) well =
       subst (StandsWell levels board) (sym goes) (after_request levels board at pebble label nested well (rw each inside) low reply)
   stands_on (Going at requests) line said to (inr (inl (spelled, text, over))) well = subst (StandsWell levels board) (sym over) tt
   stands_on (Going at requests) line said to (inr (inr (other, text, goes))) well = subst (StandsWell levels board) (sym goes) well
 
-  stands_in_turn : (from : Standing) (lines : List (List ℕ)) (text : List ℕ) (to : Standing) → BringInTurn (PersonClimbs levels) from lines text to → StandsWell levels board from → StandsWell levels board to
+  stands_in_turn : (from : Standing) (lines : List (List ℕ)) (text : List ℕ) (to : Standing) → AreResponses (PersonClimbs levels) from lines text to → StandsWell levels board from → StandsWell levels board to
   stands_in_turn from [] text to brought well = subst (StandsWell levels board) brought.1 well
   stands_in_turn from (line ∷ lines) text to brought well = stands_in_turn brought.2 lines brought.1 to brought.4 (stands_on from line brought.0 brought.2 brought.3 well)
 

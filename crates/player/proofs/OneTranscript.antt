@@ -12,7 +12,7 @@ use Rattle.nested_cycles.proofs.Cited.{one_label}
 use Rattle.strategies.proofs.Cited.{same_answer, same_request}
 use Rattle.player.specs.Laws.{IsGame}
 use Rattle.player.specs.Transcript.{Game, PersonAsks, PersonAnswers, PersonClimbs, Standing, Going, Over, RepliesToLine, Replies}
-use Rattle.player.specs.Transcript.{NestedReplies, Asks, BeginsPlay, Brings, BringInTurn, IsPlayed, IsTranscript, opening_lines, takes_line}
+use Rattle.player.specs.Transcript.{NestedReplies, Asks, BeginsPlay, IsResponse, AreResponses, IsPlayed, IsTranscript, opening_lines, takes_line}
 use Rattle.player.specs.Transcript.{at_line, ask_line, stuck_line, stopped_line, word_text, words_line}
 use Rattle.player.specs.declared.end.PlayEnd.{PlayEnd}
 use Rattle.player.specs.declared.end.PlayEnd.TheVariants.{Stopped}
@@ -31,7 +31,7 @@ not_over at requests end same = cc
 requests_of : (at other : List ℕ) (requests more : ℕ) → Going at requests ≡ Going other more → requests ≡ more
 requests_of at other requests more same = cc
 
--- ---- what one line brings
+-- ---- one line has one response
 
 same_replies : (board : PlainBoard) (at : List ℕ) (requests pebble : ℕ) (said other : List ℕ) (to next : Standing)
     → Replies board at requests pebble said to → Replies board at requests pebble other next → AreSame said other to next
@@ -69,7 +69,7 @@ same_nested_replies levels at requests pebble said other to next one two =
       to = one.4 ∙ ap (λ l. Going (moved at pebble l) (suc requests)) label ∙ sym two.4;
     }
 
--- a line of a person who names a pebble brings one answer, where each request does
+-- a line that names a pebble has one response if each request has one answer
 module _ (pebbles : ℕ) (Answers : ℕ → List ℕ → Standing → Type 0) (at : List ℕ) (requests : ℕ) (few : pebbles ≤ MAX_LEVELS)
     (one_answer : (pebble : ℕ) (said other : List ℕ) (to next : Standing) → Answers pebble said to → Answers pebble other next → AreSame said other to next) where
   same_replies_to_line : (line said other : List ℕ) (to next : Standing) → RepliesToLine pebbles Answers at requests line said to → RepliesToLine pebbles Answers at requests line other next → AreSame said other to next
@@ -86,7 +86,7 @@ module _ (pebbles : ℕ) (Answers : ℕ → List ℕ → Standing → Type 0) (a
   same_replies_to_line line said other to next (inr (inr one)) (inr (inr two)) = record { said = one.1 ∙ sym two.1; to = one.2 ∙ sym two.2 }
 
 same_brought : (game : Game) (from : Standing) (line said other : List ℕ) (to next : Standing) → IsGame game
-    → Brings game from line said to → Brings game from line other next → AreSame said other to next
+    → IsResponse game from line said to → IsResponse game from line other next → AreSame said other to next
 same_brought (PersonAsks board) (Over end) line said other to next is one two = record { said = one.0 ∙ sym two.0; to = one.1 ∙ sym two.1 }
 same_brought (PersonAnswers board) (Over end) line said other to next is one two = record { said = one.0 ∙ sym two.0; to = one.1 ∙ sym two.1 }
 same_brought (PersonClimbs levels) (Over end) line said other to next is one two = record { said = one.0 ∙ sym two.0; to = one.1 ∙ sym two.1 }
@@ -111,14 +111,14 @@ same_brought (PersonAnswers board) (Going at requests) line said other to next i
 same_brought (PersonAnswers board) (Going at requests) line said other to next is (inr (inr one)) (inr (inl two)) = absurd (one.0.0 two.0)
 same_brought (PersonAnswers board) (Going at requests) line said other to next is (inr (inr one)) (inr (inr two)) = record { said = one.1 ∙ sym two.1; to = one.2 ∙ sym two.2 }
 
--- ---- what all lines bring
+-- ---- all lines have one text of responses
 
 same_in_turn : (game : Game) (from : Standing) (lines : List (List ℕ)) (said other : List ℕ) (to next : Standing) → IsGame game
-    → BringInTurn game from lines said to → BringInTurn game from lines other next → AreSame said other to next
+    → AreResponses game from lines said to → AreResponses game from lines other next → AreSame said other to next
 same_in_turn game from [] said other to next is one two = record { said = one.0 ∙ sym two.0; to = sym one.1 ∙ two.1 }
 same_in_turn game from (line ∷ lines) said other to next is one two =
     let first = same_brought game from line one.0 two.0 one.2 two.2 is one.3 two.3 in
-    let rest = same_in_turn game two.2 lines one.1 two.1 to next is (subst (λ s. BringInTurn game s lines one.1 to) first.to one.4) two.4 in
+    let rest = same_in_turn game two.2 lines one.1 two.1 to next is (subst (λ s. AreResponses game s lines one.1 to) first.to one.4) two.4 in
     record { said = one.5 ∙ ap (λ l. l ++ one.1) first.said ∙ ap (λ l. two.0 ++ l) rest.said ∙ sym two.5; to = rest.to }
 
 same_opening : (game : Game) (said other : List ℕ) (to next : Standing) → BeginsPlay game said to → BeginsPlay game other next → AreSame said other to next
@@ -140,7 +140,7 @@ same_play : (game : Game) (lines : List (List ℕ)) (said other : List ℕ) (to 
     → IsPlayed game lines said to → IsPlayed game lines other next → AreSame said other to next
 same_play game lines said other to next is one two =
     let first = same_opening game one.opening two.opening one.first two.first one.opens two.opens in
-    let rest = same_in_turn game two.first lines one.more two.more to next is (subst (λ s. BringInTurn game s lines one.more to) first.to one.brings) two.brings in
+    let rest = same_in_turn game two.first lines one.more two.more to next is (subst (λ s. AreResponses game s lines one.more to) first.to one.brings) two.brings in
     record { said = one.text_is ∙ ap (λ l. l ++ one.more) first.said ∙ ap (λ l. two.opening ++ l) rest.said ∙ sym two.text_is; to = rest.to }
 
 pub one_transcript : (game : Game) (lines : List (List ℕ)) (first second : List ℕ) (end other : PlayEnd) → IsGame game

@@ -12,21 +12,21 @@ use Rattle.strategies.proofs.Cited.{lasts_after, best_answer, best_request, less
 use Rattle.std.specs.Prelude.{Option}
 use Rattle.player.specs.Play.{Ends, HasEnded}
 use Rattle.player.specs.Laws.{KeepsToValue, HasReached, IsWithin, IsNoSooner, IsNoLater, IsStopped, EndsBestPlay}
-use Rattle.player.specs.Transcript.{Game, Standing, Going, Over, PersonAsks, PersonAnswers, PersonClimbs, BeginsPlay, Asks, Brings, BringInTurn}
+use Rattle.player.specs.Transcript.{Game, Standing, Going, Over, PersonAsks, PersonAnswers, PersonClimbs, BeginsPlay, Asks, IsResponse, AreResponses}
 use Rattle.player.specs.Transcript.{IsPlayed, IsTranscript}
 use Rattle.player.specs.declared.end.PlayEnd.{PlayEnd}
 use Rattle.player.specs.declared.end.PlayEnd.TheVariants.{Stuck, Stopped, NoStrategy}
 
 -- ---- the person asks
 
--- a tree of the start has answered so many requests of it, and the rest is left
+-- a labeller's tree of the start leaves a tree of its depth less the answered requests
 abbrev Lasts : PlainBoard → Standing → Type 0
 Lasts board (Going at requests) = (depth : ℕ) → LabellerTree board (requests + depth) board.start → LabellerTree board depth at
 Lasts board (Over (Stuck requests)) = LabellerTree board (requests + 1) board.start → ⊥
 Lasts board (Over (Stopped requests)) = Unit {0}
 Lasts board (Over NoStrategy) = ⊥
 
-lasts_on : (board : PlainBoard) (from : Standing) (line said : List ℕ) (to : Standing) → Brings (PersonAsks board) from line said to → Lasts board from → Lasts board to
+lasts_on : (board : PlainBoard) (from : Standing) (line said : List ℕ) (to : Standing) → IsResponse (PersonAsks board) from line said to → Lasts board from → Lasts board to
 lasts_on board (Over end) line said to brings lasts = subst (Lasts board) (sym brings.1) lasts
 lasts_on board (Going at requests) line said to (inl (pebble, inside, spelled, inl (label, best, text, goes))) lasts =
     subst (Lasts board) (sym goes) (λ depth tree.
@@ -36,7 +36,7 @@ lasts_on board (Going at requests) line said to (inl (pebble, inside, spelled, i
 lasts_on board (Going at requests) line said to (inr (inl (spelled, text, over))) lasts = subst (Lasts board) (sym over) tt
 lasts_on board (Going at requests) line said to (inr (inr (other, text, goes))) lasts = subst (Lasts board) (sym goes) lasts
 
-last_in_turn : (board : PlainBoard) (from : Standing) (lines : List (List ℕ)) (text : List ℕ) (to : Standing) → BringInTurn (PersonAsks board) from lines text to → Lasts board from → Lasts board to
+last_in_turn : (board : PlainBoard) (from : Standing) (lines : List (List ℕ)) (text : List ℕ) (to : Standing) → AreResponses (PersonAsks board) from lines text to → Lasts board from → Lasts board to
 last_in_turn board from [] text to brought lasts = subst (Lasts board) brought.1 lasts
 last_in_turn board from (line ∷ lines) text to brought lasts =
     last_in_turn board brought.2 lines brought.1 to brought.4 (lasts_on board from line brought.0 brought.2 brought.3 lasts)
@@ -76,7 +76,7 @@ asked_leaves : (board : PlainBoard) (at : List ℕ) (requests : ℕ) (said : Lis
 asked_leaves board at requests said to (pebble, best, inl (some, text, goes)) leaves = subst (Leaves board) (sym goes) leaves
 asked_leaves board at requests said to (pebble, best, inr (none, text, over)) leaves = subst (Leaves board) (sym over) (leaves.0, leaves.2, omega (arith, leaves.4))
 
-leaves_on : (board : PlainBoard) (from : Standing) (line said : List ℕ) (to : Standing) → Brings (PersonAnswers board) from line said to → Leaves board from → Leaves board to
+leaves_on : (board : PlainBoard) (from : Standing) (line said : List ℕ) (to : Standing) → IsResponse (PersonAnswers board) from line said to → Leaves board from → Leaves board to
 leaves_on board (Over end) line said to brings leaves = subst (Leaves board) (sym brings.1) leaves
 leaves_on board (Going at requests) line said to (inl (pebble, label, asked, legal, asks, text)) leaves =
     let less = less_than_finite board leaves.1 (moved at pebble label) at leaves.3 (legal.0.0.lowers label legal.1) in
@@ -84,7 +84,7 @@ leaves_on board (Going at requests) line said to (inl (pebble, label, asked, leg
 leaves_on board (Going at requests) line said to (inr (inl (spelled, text, over))) leaves = subst (Leaves board) (sym over) (leaves.0, leaves.2, omega (arith, leaves.4))
 leaves_on board (Going at requests) line said to (inr (inr (other, text, goes))) leaves = subst (Leaves board) (sym goes) leaves
 
-leave_in_turn : (board : PlainBoard) (from : Standing) (lines : List (List ℕ)) (text : List ℕ) (to : Standing) → BringInTurn (PersonAnswers board) from lines text to → Leaves board from → Leaves board to
+leave_in_turn : (board : PlainBoard) (from : Standing) (lines : List (List ℕ)) (text : List ℕ) (to : Standing) → AreResponses (PersonAnswers board) from lines text to → Leaves board from → Leaves board to
 leave_in_turn board from [] text to brought leaves = subst (Leaves board) brought.1 leaves
 leave_in_turn board from (line ∷ lines) text to brought leaves =
     leave_in_turn board brought.2 lines brought.1 to brought.4 (leaves_on board from line brought.0 brought.2 brought.3 leaves)
@@ -107,18 +107,18 @@ no_later board lines text end (inr stops) = subst (IsNoLater board) (sym stops.5
 
 -- ---- the person climbs
 
--- where the play is over, it was stopped
+-- a play that is over was stopped
 abbrev StopsOnly : Standing → Type 0
 StopsOnly (Going at requests) = Unit {0}
 StopsOnly (Over end) = IsStopped end
 
-stop_on : (levels : ℕ) (from : Standing) (line said : List ℕ) (to : Standing) → Brings (PersonClimbs levels) from line said to → StopsOnly from → StopsOnly to
+stop_on : (levels : ℕ) (from : Standing) (line said : List ℕ) (to : Standing) → IsResponse (PersonClimbs levels) from line said to → StopsOnly from → StopsOnly to
 stop_on levels (Over end) line said to brings stops = subst StopsOnly (sym brings.1) stops
 stop_on levels (Going at requests) line said to (inl (pebble, inside, spelled, (label, below, reply, text, goes))) stops = subst StopsOnly (sym goes) tt
 stop_on levels (Going at requests) line said to (inr (inl (spelled, text, over))) stops = subst StopsOnly (sym over) (requests, refl)
 stop_on levels (Going at requests) line said to (inr (inr (other, text, goes))) stops = subst StopsOnly (sym goes) tt
 
-stop_in_turn : (levels : ℕ) (from : Standing) (lines : List (List ℕ)) (text : List ℕ) (to : Standing) → BringInTurn (PersonClimbs levels) from lines text to → StopsOnly from → StopsOnly to
+stop_in_turn : (levels : ℕ) (from : Standing) (lines : List (List ℕ)) (text : List ℕ) (to : Standing) → AreResponses (PersonClimbs levels) from lines text to → StopsOnly from → StopsOnly to
 stop_in_turn levels from [] text to brought stops = subst StopsOnly brought.1 stops
 stop_in_turn levels from (line ∷ lines) text to brought stops =
     stop_in_turn levels brought.2 lines brought.1 to brought.4 (stop_on levels from line brought.0 brought.2 brought.3 stops)

@@ -5,18 +5,18 @@ use Rattle.std.specs.List.{flat_map}
 use Rattle.std.specs.Io.KnownBytes.{Consumes, IsAtEnd}
 use Rattle.std.proofs.lemmas.List.{flat_map_more}
 use Rattle.std.proofs.lemmas.List.Elements.{All-push}
-use Rattle.board_text.specs.LineForms.{closed}
+use Rattle.board_text.specs.LineForms.{with_line_feed}
 use Rattle.board_text.proofs.Cited.{Consumes-trans}
 use Rattle.player.specs.Words.{IsLine}
 use Rattle.player.specs.Inside.Words.{Spells}
 use Rattle.player.specs.Inside.LineInput.{Unread, GivesLine}
-use Rattle.player.specs.Play.{Came, CameClosed, CameWhole}
-use Rattle.player.specs.declared.word.Word.{Word}
+use Rattle.player.specs.Play.{LinesCame, FullLinesCame, LinesWereAll}
+use Rattle.player.specs.declared.line_meaning.LineMeaning.{LineMeaning}
 use Rattle.player.specs.declared.play.TheConstants.{MOST_LINES}
 
 pub record HasCome (left_old left_now : Option (List ℕ)) (lines : List (List ℕ)) (unread : Unread) : Type 0 where
-  pub came : ((unread.has_ended ≡ false) × CameClosed left_old left_now lines unread.bytes)
-      ⊎ ((unread.has_ended ≡ true) × (unread.bytes ≡ []) × CameWhole left_old left_now lines)
+  pub came : ((unread.has_ended ≡ false) × FullLinesCame left_old left_now lines unread.bytes)
+      ⊎ ((unread.has_ended ≡ true) × (unread.bytes ≡ []) × LinesWereAll left_old left_now lines)
   pub each : All IsLine lines
 
 Consumes-none : (a : Option (List ℕ)) → Consumes a a []
@@ -26,49 +26,50 @@ Consumes-none (Some x) = refl
 pub none_yet : (left : Option (List ℕ)) → HasCome left left [] (record { bytes = []; has_ended = false })
 none_yet left = record { came = inl (refl, Consumes-none left); each = λ k d inside. absurd (omega (arith, inside)) }
 
--- what was read, where the end wasn't seen
+-- if the end of the input wasn't seen, the lines that came have their line feeds, and the unread bytes follow
 closed_so_far : (left_old left_now : Option (List ℕ)) (lines : List (List ℕ)) (unread : Unread) → HasCome left_old left_now lines unread → unread.has_ended ≡ false
-    → CameClosed left_old left_now lines unread.bytes
+    → FullLinesCame left_old left_now lines unread.bytes
 closed_so_far left_old left_now lines unread come goes_on =
     elim come.came [ inl so ↦ so.1 | inr over ↦ absurd (differ (sym over.0 ∙ goes_on)) ]
   where
     differ : true ≡ false → ⊥
     differ same = cc
 
--- with what was read then
+-- bytes that are read then follow the unread ones
 read_on : (left_old left_now left_new : Option (List ℕ)) (lines : List (List ℕ)) (unread : Unread) (more : List ℕ) → HasCome left_old left_now lines unread → unread.has_ended ≡ false
-    → Consumes left_now left_new more → CameClosed left_old left_new lines (unread.bytes ++ more)
+    → Consumes left_now left_new more → FullLinesCame left_old left_new lines (unread.bytes ++ more)
 read_on left_old left_now left_new lines unread more come goes_on read =
-    subst (Consumes left_old left_new) (append_assoc (flat_map closed lines) unread.bytes more)
+    subst (Consumes left_old left_new) (append_assoc (flat_map with_line_feed lines) unread.bytes more)
     (Consumes-trans left_old left_now left_new _ more (closed_so_far left_old left_now lines unread come goes_on) read)
 
 -- the lines came
 pub came_of : (left_old left_now : Option (List ℕ)) (lines : List (List ℕ)) (unread : Unread) → length lines ≤ MOST_LINES → HasCome left_old left_now lines unread
-    → Came left_old left_now lines unread.bytes
+    → LinesCame left_old left_now lines unread.bytes
 came_of left_old left_now lines unread few come = record {
   came = elim come.came [ inl so ↦ inl so.1 | inr over ↦ inr (over.1, over.2) ];
   each = come.each;
   few = few;
 }
 
--- and what was read then is behind them
+-- the lines came, and the unread bytes and those read then follow
 pub came_with : (left_old left_now left_new : Option (List ℕ)) (lines : List (List ℕ)) (unread : Unread) (more : List ℕ) → length lines ≤ MOST_LINES → HasCome left_old left_now lines unread
-    → unread.has_ended ≡ false → Consumes left_now left_new more → Came left_old left_new lines (unread.bytes ++ more)
+    → unread.has_ended ≡ false → Consumes left_now left_new more
+    → LinesCame left_old left_new lines (unread.bytes ++ more)
 came_with left_old left_now left_new lines unread more few come goes_on read = record {
   came = inl (read_on left_old left_now left_new lines unread more come goes_on read);
   each = come.each;
   few = few;
 }
 
-pub record ComesNext (left_old left_new : Option (List ℕ)) (lines : List (List ℕ)) (unread : Unread) (word : Word) : Type 0 where
+pub record ComesNext (left_old left_new : Option (List ℕ)) (lines : List (List ℕ)) (unread : Unread) (word : LineMeaning) : Type 0 where
   pub line : List ℕ
   pub spells : Spells line word
   pub come : HasCome left_old left_new (lines ++ line ∷ []) unread
   pub rest : List ℕ
-  pub before : length lines ≤ MOST_LINES → Came left_old left_new lines rest
+  pub before : length lines ≤ MOST_LINES → LinesCame left_old left_new lines rest
 
 -- one more line came
-pub line_came : (left_old left_now left_new : Option (List ℕ)) (lines : List (List ℕ)) (old new : Unread) (word : Word) → HasCome left_old left_now lines old
+pub line_came : (left_old left_now left_new : Option (List ℕ)) (lines : List (List ℕ)) (old new : Unread) (word : LineMeaning) → HasCome left_old left_now lines old
     → GivesLine old new left_now left_new (Some word) → ComesNext left_old left_new lines new word
 line_came left_old left_now left_new lines old new word come gives =
     let line = gives.0 in
@@ -95,7 +96,7 @@ line_came left_old left_now left_new lines old new word come gives =
                   last = line;
                   lines_are = refl;
                   some = both.1;
-                  read = (subst (Consumes left_old left_new) (ap (λ l. flat_map closed lines ++ l) last.taken) (read_on left_old left_now left_new lines old last.more come goes_on last.read.0), last.read.1);
+                  read = (subst (Consumes left_old left_new) (ap (λ l. flat_map with_line_feed lines ++ l) last.taken) (read_on left_old left_now left_new lines old last.more come goes_on last.read.0), last.read.1);
                 },
               );
               each = each;
@@ -105,8 +106,8 @@ line_came left_old left_now left_new lines old new word come gives =
           }
     ]
   where
-    joined : (more : List ℕ) → old.bytes ++ more ≡ closed gives.0 ++ new.bytes → flat_map closed lines ++ (old.bytes ++ more) ≡ flat_map closed (lines ++ gives.0 ∷ []) ++ new.bytes
-    joined more taken = ap (λ l. flat_map closed lines ++ l) taken ∙ sym (append_assoc (flat_map closed lines) (closed gives.0) new.bytes) ∙ ap (λ l. l ++ new.bytes) (flat_map_more closed [] lines gives.0)
+    joined : (more : List ℕ) → old.bytes ++ more ≡ with_line_feed gives.0 ++ new.bytes → flat_map with_line_feed lines ++ (old.bytes ++ more) ≡ flat_map with_line_feed (lines ++ gives.0 ∷ []) ++ new.bytes
+    joined more taken = ap (λ l. flat_map with_line_feed lines ++ l) taken ∙ sym (append_assoc (flat_map with_line_feed lines) (with_line_feed gives.0) new.bytes) ∙ ap (λ l. l ++ new.bytes) (flat_map_more with_line_feed [] lines gives.0)
 
 both_empty : (xs ys : List ℕ) → xs ++ ys ≡ [] → (xs ≡ []) × (ys ≡ [])
 both_empty [] ys e = (refl, e)
@@ -114,7 +115,7 @@ both_empty (x ∷ xs) ys e = absurd (omega (arith, ap length e))
 
 -- no more lines came
 pub all_came : (left_old left_now left_new : Option (List ℕ)) (lines : List (List ℕ)) (old new : Unread) → length lines < MOST_LINES → HasCome left_old left_now lines old
-    → GivesLine old new left_now left_new None → Came left_old left_new lines [] × IsAtEnd left_new × (length lines < MOST_LINES)
+    → GivesLine old new left_now left_new None → LinesCame left_old left_new lines [] × IsAtEnd left_new × (length lines < MOST_LINES)
 all_came left_old left_now left_new lines old new few come gives =
     let parts = both_empty old.bytes gives.more gives.taken in
     let none = parts.1 in
@@ -122,7 +123,7 @@ all_came left_old left_now left_new lines old new few come gives =
     let end : Consumes left_now left_new [] = subst (Consumes left_now left_new) none gives.read.0 in (
       record {
         came = elim come.came [
-          | inl so ↦ inl (subst (Consumes left_old left_new) (append-nil _ ∙ ap (λ l. flat_map closed lines ++ l) empty) (Consumes-trans left_old left_now left_new _ [] so.1 end))
+          | inl so ↦ inl (subst (Consumes left_old left_new) (append-nil _ ∙ ap (λ l. flat_map with_line_feed lines ++ l) empty) (Consumes-trans left_old left_now left_new _ [] so.1 end))
           | inr over ↦ inr (
             refl,
             record {

@@ -12,24 +12,25 @@ use Rattle.positions.specs.declared.value.Value.{Value}
 use Rattle.positions.proofs.Cited.{configuration_at-rank_of}
 use Rattle.positions.specs.Game.{Legal, moved}
 use Rattle.strategies.specs.Best.{IsBestAnswer}
-use Rattle.player.specs.Words.{quit}
+use Rattle.player.specs.Words.{quit_line}
 use Rattle.player.specs.Inside.Words.{Spells}
 use Rattle.player.specs.Transcript.{Standing, Going, Over, PersonAsks, BeginsPlay, RepliesToLine, Replies, opening_lines, no_request_line}
 use Rattle.player.specs.Transcript.{stuck_line, takes_line, at_line}
 use Rattle.player.specs.Inside.PlayState.{PlayState, at}
 use Rattle.player.specs.Inside.Steps.{AddsText}
 use Rattle.player.proofs.MovedRanks.{moved_at}
-use Rattle.player.specs.declared.word.Word.TheVariants.{Number}
+use Rattle.player.specs.declared.line_meaning.LineMeaning.TheVariants.{Number}
 use Rattle.player.specs.declared.end.PlayEnd.TheVariants.{Stuck}
 
--- a number isn't the word
-pub no_quit : (number : ℕ) → number < 2 ^ 32 → decimal number ≢ quit
+-- a number isn't the word `quit`
+pub no_quit : (number : ℕ) → number < 2 ^ 32 → decimal number ≢ quit_line
 no_quit number small same =
-    let all : AllDigits 10 quit = subst (AllDigits 10) same (decimal_is_IsNumeral number (omega (arith, small))).0.1 in
+    let all : AllDigits 10 quit_line =
+    subst (AllDigits 10) same (decimal_is_IsNumeral number (omega (arith, small))).0.1 in
     let first = (tells_digits.parts 113 (codes "uit") all).0 in
     omega (arith, first.0, first.1)
 
--- a number that names none of so many pebbles
+-- a number that isn't below the number of pebbles is no request
 pub no_pebble : (pebbles : ℕ) (Answers : ℕ → List ℕ → Standing → Type 0) (there : List ℕ) (requests number : ℕ) → pebbles ≤ number
     → (line : List ℕ) → Spells line (Number number) → RepliesToLine pebbles Answers there requests line no_request_line (Going there requests)
 no_pebble pebbles Answers there requests number outside line spells =
@@ -42,7 +43,7 @@ no_pebble pebbles Answers there requests number outside line spells =
       refl,
     ))
 
--- ---- at a seat, which is known by its parts
+-- ---- a play that is known by its parts
 
 module _ (inside seat : PlayState) (same : inside ≡ seat) where
   -- the pebble was put on the label of the best answer

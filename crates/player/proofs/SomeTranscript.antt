@@ -11,11 +11,11 @@ use Rattle.nested_cycles.specs.NestedGame.{other_words}
 use Rattle.nested_cycles.proofs.Cited.{others_are_good}
 use Rattle.strategies.specs.Best.{IsBestRequest}
 use Rattle.strategies.proofs.Cited.{best_answer, best_request, same_request}
-use Rattle.player.specs.Words.{quit}
+use Rattle.player.specs.Words.{quit_line}
 use Rattle.player.specs.Laws.{IsGame}
 use Rattle.player.specs.NestedPlay.{IsNestedPlay, IsGoodConfiguration}
 use Rattle.player.specs.Transcript.{Game, PersonAsks, PersonAnswers, PersonClimbs, Standing, Going, Over, RepliesToLine, Replies}
-use Rattle.player.specs.Transcript.{NestedReplies, Asks, BeginsPlay, Brings, BringInTurn, IsPlayed, IsTranscript, IsLegalLine}
+use Rattle.player.specs.Transcript.{NestedReplies, Asks, BeginsPlay, IsResponse, AreResponses, IsPlayed, IsTranscript, IsLegalLine}
 use Rattle.player.specs.Transcript.{opening_lines, takes_line, at_line, stuck_line, stopped_line, no_request_line, no_answer_line}
 use Rattle.player.specs.Transcript.{word_text, words_line, nested_opening_lines}
 use Rattle.player.specs.declared.end.PlayEnd.{PlayEnd}
@@ -37,29 +37,29 @@ same_line (first ∷ rest) (second ∷ others) =
       | inr differ ↦ inr (λ all. let firsts : first ≡ second = cc in differ firsts)
     ]
 
--- the configuration of a play that goes on: the board's, with a finite value where the person answers, or good words
+-- a play that goes on is at a configuration of the board, of a finite value if the person answers, or at good words
 abbrev StandsFor : Game → Standing → Type 0
 StandsFor game (Over end) = Unit {0}
 StandsFor (PersonAsks board) (Going at requests) = IsConfiguration board at
 StandsFor (PersonAnswers board) (Going at requests) = (number : ℕ) × HasValue board at (Finite number)
 StandsFor (PersonClimbs levels) (Going at requests) = (board : PlainBoard) × IsNestedPlay levels board × (board.pebbles ≡ levels) × IsGoodConfiguration levels board at
 
--- the text that a line brings, and where the play stands then
+-- the response to a line, and the state of the play after it
 record BringsSome (game : Game) (from : Standing) (line : List ℕ) : Type 0 where
   pub said : List ℕ
   pub to : Standing
-  pub brings : Brings game from line said to
+  pub brings : IsResponse game from line said to
   pub stands : StandsFor game to
 
 -- ---- one line
 
--- one answer to a line of a person who names a pebble, if each request has one
+-- a line that names a pebble has a response if each request has an answer
 module _ (pebbles : ℕ) (Answers : ℕ → List ℕ → Standing → Type 0) (Stands : Standing → Type 0) (at : List ℕ) (requests : ℕ)
     (stands : Stands (Going at requests)) (over : (end : PlayEnd) → Stands (Over end))
     (answer : (pebble : ℕ) → pebble < pebbles → (said : List ℕ) × (to : Standing) × Answers pebble said to × Stands to) where
   reply_to_line : (line : List ℕ) → (said : List ℕ) × (to : Standing) × RepliesToLine pebbles Answers at requests line said to × Stands to
   reply_to_line line =
-      elim (same_line line quit) [
+      elim (same_line line quit_line) [
         | inl asked ↦ (stopped_line requests, Over (Stopped requests), inr (inl (asked, refl, refl)), over (Stopped requests))
         | inr not ↦ elim (each_or_some (λ pebble. line ≢ decimal pebble) (λ pebble. line ≡ decimal pebble) pebbles (λ pebble inside.
             elim (same_line line (decimal pebble)) [ inl same ↦ inr same | inr differ ↦ inl differ ])) [
@@ -107,7 +107,7 @@ module _ (board : PlainBoard) (at : List ℕ) (requests : ℕ) where
                 none label legal.1.is_label (subst (λ p. Legal board at p label) same legal.1, legal.2))
           ]
 
--- where something is asked, the play stands there with a finite value, or is over
+-- after the program asks at a finite value the play is at a finite value, or over
 stands_asked : (board : PlainBoard) (at : List ℕ) (number requests : ℕ) (said : List ℕ) (to : Standing) → HasValue board at (Finite number)
     → Asks board at requests said to → StandsFor (PersonAnswers board) to
 stands_asked board at number requests said to has (pebble, best, inl asks) = subst (StandsFor (PersonAnswers board)) (sym asks.2) (number, has)
@@ -116,7 +116,7 @@ stands_asked board at number requests said to has (pebble, best, inr asks) = sub
 answer_line : (board : PlainBoard) (at : List ℕ) (requests : ℕ) → StandsFor (PersonAnswers board) (Going at requests) → (line : List ℕ)
     → BringsSome (PersonAnswers board) (Going at requests) line
 answer_line board at requests (number, has) line =
-    elim (same_line line quit) [
+    elim (same_line line quit_line) [
       | inl asked ↦ record { said = stopped_line requests; to = Over (Stopped requests); brings = inr (inl (asked, refl, refl)); stands = tt }
       | inr not ↦ elim (legal_line board at requests number has line) [
         | inr none ↦ record { said = no_answer_line; to = Going at requests; brings = inr (inr ((not, none), refl, refl)); stands = (number, has) }
@@ -160,14 +160,14 @@ brings_some (PersonClimbs levels) (Going at requests) line (board, nested, each,
 
 -- ---- all lines
 
-brings_all : (game : Game) (from : Standing) (lines : List (List ℕ)) → StandsFor game from → (text : List ℕ) × (to : Standing) × BringInTurn game from lines text to
+brings_all : (game : Game) (from : Standing) (lines : List (List ℕ)) → StandsFor game from → (text : List ℕ) × (to : Standing) × AreResponses game from lines text to
 brings_all game from [] stands = ([], from, (refl, refl))
 brings_all game from (line ∷ lines) stands =
     let one = brings_some game from line stands in
     let more = brings_all game one.to lines one.stands in
     (one.said ++ more.0, more.1, (one.said, more.0, one.to, one.brings, more.2, refl))
 
--- the text before a line is read, and where the play stands then
+-- the text before the first line is read, and the state of the play after it
 record OpensSome (game : Game) : Type 0 where
   pub said : List ℕ
   pub to : Standing

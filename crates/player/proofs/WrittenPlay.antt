@@ -3,13 +3,13 @@ use Rattle.std.proofs.Common.{◌≡◌, ℕ, ◌≤◌, List, [], ◌∷◌, �
 use Rattle.std.specs.Prelude.{Option, None, Some, Result, Ok, Err, IfOk, IfErr, OnOk}
 use Rattle.std.specs.Io.KnownBytes.{Appends, Keeps, IsAtEnd}
 use Rattle.std.proofs.lemmas.List.{length_push}
-use Rattle.board_text.specs.Streams.{AppendsFront}
+use Rattle.board_text.specs.Streams.{AppendsPrefix}
 use Rattle.board_text.proofs.Cited.{Appends-trans, Appends-kept, front_taken}
-use Rattle.player.specs.Transcript.{Game, Standing, Going, Over, Brings, BringInTurn, stopped_line}
-use Rattle.player.specs.Inside.Steps.{BringsAll, FailsToWrite}
-use Rattle.player.specs.Play.{Came, GoesOnOrEnds, HasEnded, BreaksOff}
+use Rattle.player.specs.Transcript.{Game, Standing, Going, Over, IsResponse, AreResponses, stopped_line}
+use Rattle.player.specs.Inside.Steps.{IsResponseToMeaning, FailsToWrite}
+use Rattle.player.specs.Play.{LinesCame, GoesOnOrEnds, HasEnded, BreaksOff}
 use Rattle.player.specs.Inside.LineInput.{Unread, GivesNoLine}
-use Rattle.player.specs.declared.word.Word.{Word}
+use Rattle.player.specs.declared.line_meaning.LineMeaning.{LineMeaning}
 use Rattle.player.specs.declared.end.PlayFault.{PlayFault}
 use Rattle.player.specs.declared.end.PlayFault.TheVariants.{Read, Write, Memory, Limit}
 use Rattle.player.proofs.ReadLines.{HasCome, ComesNext, came_of, came_with}
@@ -17,11 +17,11 @@ use Rattle.player.specs.declared.end.PlayEnd.{PlayEnd}
 use Rattle.player.specs.declared.end.PlayEnd.TheVariants.{Stopped}
 use Rattle.player.specs.declared.play.TheConstants.{MOST_LINES}
 
--- one line more
+-- one more line and its response
 pub brings_more : (game : Game) (from : Standing) (lines : List (List ℕ)) (line text said : List ℕ) (to next : Standing)
-    → BringInTurn game from lines text to → Brings game to line said next → BringInTurn game from (lines ++ line ∷ []) (text ++ said) next
+    → AreResponses game from lines text to → IsResponse game to line said next → AreResponses game from (lines ++ line ∷ []) (text ++ said) next
 brings_more game from [] line text said to next brought brings =
-    (said, [], next, subst (λ s. Brings game s line said next) (sym brought.1) brings, (refl, refl), ap (λ l. l ++ said) brought.0 ∙ sym (append-nil said))
+    (said, [], next, subst (λ s. IsResponse game s line said next) (sym brought.1) brings, (refl, refl), ap (λ l. l ++ said) brought.0 ∙ sym (append-nil said))
 brings_more game from (first ∷ lines) line text said to next brought brings = (
   brought.0,
   brought.1 ++ said,
@@ -31,30 +31,30 @@ brings_more game from (first ∷ lines) line text said to next brought brings = 
   ap (λ l. l ++ said) brought.5 ∙ append_assoc brought.0 brought.1 said,
 )
 
--- what lines bring leaves the play going, or ends it
+-- after these lines the play goes on or has ended
 pub goes_on_or_ends : (Played : List (List ℕ) → List ℕ → Standing → Type 0) (left : Option (List ℕ)) (lines : List (List ℕ)) (rest text : List ℕ) (to : Standing) → Played lines text to
     → GoesOnOrEnds Played left lines rest text
 goes_on_or_ends Played left lines rest text (Going at requests) played = inl (at, requests, played)
 goes_on_or_ends Played left lines rest text (Over end) played = inr (end, inl played)
 
--- a front of what was to be written, behind what was
-pub front_behind : (a b c : Option (List ℕ)) (front more : List ℕ) → Appends a b front → AppendsFront b c more → AppendsFront a c (front ++ more)
+-- a text and then a prefix of more make a prefix of both together
+pub front_behind : (a b c : Option (List ℕ)) (front more : List ℕ) → Appends a b front → AppendsPrefix b c more → AppendsPrefix a c (front ++ more)
 front_behind a b c front more written begun =
     let size = begun.0 in
     front_taken a c (front ++ more) (front ++ take size more) (drop size more)
     (ap (λ l. front ++ l) (sym (take-append-drop size more)) ∙ sym (append_assoc front (take size more) (drop size more)))
     (Appends-trans a b c front (take size more) written begun.2)
 
--- nothing was written behind what was
-pub front_kept : (a b c : Option (List ℕ)) (front tail : List ℕ) → Appends a b front → Keeps b c → AppendsFront a c (front ++ tail)
+-- a text after which nothing was written is a prefix of it and more
+pub front_kept : (a b c : Option (List ℕ)) (front tail : List ℕ) → Appends a b front → Keeps b c → AppendsPrefix a c (front ++ tail)
 front_kept a b c front tail written kept = front_taken a c (front ++ tail) front tail refl (Appends-kept a b c front written kept)
 
 -- no line came
 pub no_line : (game : Game) (from : Standing) (left_old left_now left_new taken_old taken_now : Option (List ℕ)) (lines : List (List ℕ))
     (unread : Unread) (text at : List ℕ) (requests : ℕ) (fault : PlayFault)
-    → BringInTurn game from lines text (Going at requests) → Appends taken_old taken_now text
+    → AreResponses game from lines text (Going at requests) → Appends taken_old taken_now text
     → HasCome left_old left_now lines unread → length lines < MOST_LINES → GivesNoLine unread left_now left_new fault
-    → BreaksOff (BringInTurn game from) left_old left_new taken_old taken_now fault
+    → BreaksOff (AreResponses game from) left_old left_new taken_old taken_now fault
 no_line game from left_old left_now left_new taken_old taken_now lines unread text at requests Read brought written come few gives = (
   lines,
   unread.bytes ++ gives.0,
@@ -85,17 +85,17 @@ no_line game from left_old left_now left_new taken_old taken_now lines unread te
 -- ---- one turn
 
 module _ (game : Game) (from : Standing) (left_old left_new taken_old taken_now taken_new : Option (List ℕ)) (lines : List (List ℕ)) (text at : List ℕ) (requests : ℕ)
-    (brought : BringInTurn game from lines text (Going at requests)) (written : Appends taken_old taken_now text) where
-  -- the input ended, and that was written
-  pub stopped : (result : Result PlayEnd PlayFault) → Came left_old left_new lines [] × IsAtEnd left_new × (length lines < MOST_LINES) → IfOk result (λ end. end ≡ Stopped requests)
-      → OnOk result (Appends taken_now taken_new (stopped_line requests)) → IfOk result (HasEnded (BringInTurn game from) left_old left_new taken_old taken_new)
+    (brought : AreResponses game from lines text (Going at requests)) (written : Appends taken_old taken_now text) where
+  -- the input ended, and the line that says so was written
+  pub stopped : (result : Result PlayEnd PlayFault) → LinesCame left_old left_new lines [] × IsAtEnd left_new × (length lines < MOST_LINES) → IfOk result (λ end. end ≡ Stopped requests)
+      → OnOk result (Appends taken_now taken_new (stopped_line requests)) → IfOk result (HasEnded (AreResponses game from) left_old left_new taken_old taken_new)
   stopped (Ok end) came stops last =
       (lines, [], text ++ stopped_line requests, came.0, inr ((at, text, requests, brought, refl, stops), came.1, refl, came.2), Appends-trans taken_old taken_now taken_new text (stopped_line requests) written last)
   stopped (Err fault) came stops last = tt
 
-  -- or it wasn't written whole
-  pub not_stopped : (result : Result PlayEnd PlayFault) → Came left_old left_new lines [] × IsAtEnd left_new × (length lines < MOST_LINES)
-      → IfErr result (FailsToWrite taken_now taken_new (λ said. said ≡ stopped_line requests)) → IfErr result (BreaksOff (BringInTurn game from) left_old left_new taken_old taken_new)
+  -- the input ended, and the line that says so wasn't written whole
+  pub not_stopped : (result : Result PlayEnd PlayFault) → LinesCame left_old left_new lines [] × IsAtEnd left_new × (length lines < MOST_LINES)
+      → IfErr result (FailsToWrite taken_now taken_new (λ said. said ≡ stopped_line requests)) → IfErr result (BreaksOff (AreResponses game from) left_old left_new taken_old taken_new)
   not_stopped (Ok end) came fails = tt
   not_stopped (Err Write) came fails = (
     lines,
@@ -103,7 +103,7 @@ module _ (game : Game) (from : Standing) (left_old left_new taken_old taken_now 
     text ++ stopped_line requests,
     came.0,
     inr (Stopped requests, inr ((at, text, requests, brought, refl, refl), came.1, refl, came.2)),
-    subst (AppendsFront taken_old taken_new) (ap (λ l. text ++ l) fails.2) (front_behind taken_old taken_now taken_new text fails.0 written fails.1),
+    subst (AppendsPrefix taken_old taken_new) (ap (λ l. text ++ l) fails.2) (front_behind taken_old taken_now taken_new text fails.0 written fails.1),
   )
   not_stopped (Err Memory) came fails = (
     lines,
@@ -116,13 +116,13 @@ module _ (game : Game) (from : Standing) (left_old left_new taken_old taken_now 
   not_stopped (Err Read) came fails = absurd fails
   not_stopped (Err Limit) came fails = absurd fails
 
-  module _ (word : Word) (unread : Unread) (next : ComesNext left_old left_new lines unread word) (few : length lines < MOST_LINES) where
+  module _ (word : LineMeaning) (unread : Unread) (next : ComesNext left_old left_new lines unread word) (few : length lines < MOST_LINES) where
     all_few : length (lines ++ next.line ∷ []) ≤ MOST_LINES
     all_few = omega (arith, length_push lines next.line, few)
 
     -- a line ended the play
-    pub ended : (end : PlayEnd) (said : List ℕ) → BringsAll game (Going at requests) word said (Over end) → Appends taken_now taken_new said
-        → HasEnded (BringInTurn game from) left_old left_new taken_old taken_new end
+    pub ended : (end : PlayEnd) (said : List ℕ) → IsResponseToMeaning game (Going at requests) word said (Over end) → Appends taken_now taken_new said
+        → HasEnded (AreResponses game from) left_old left_new taken_old taken_new end
     ended end said brings last = (
       lines ++ next.line ∷ [],
       unread.bytes,
@@ -132,9 +132,9 @@ module _ (game : Game) (from : Standing) (left_old left_new taken_old taken_now 
       Appends-trans taken_old taken_now taken_new text said written last,
     )
 
-    -- what a line brought wasn't written whole
-    pub broken : (fault : PlayFault) → FailsToWrite taken_now taken_new (λ said. (to : Standing) × BringsAll game (Going at requests) word said to) fault
-        → BreaksOff (BringInTurn game from) left_old left_new taken_old taken_new fault
+    -- the response to a line wasn't written whole
+    pub broken : (fault : PlayFault) → FailsToWrite taken_now taken_new (λ said. (to : Standing) × IsResponseToMeaning game (Going at requests) word said to) fault
+        → BreaksOff (AreResponses game from) left_old left_new taken_old taken_new fault
     broken Write fails =
         let said = fails.0 in
         let all = lines ++ next.line ∷ [] in
@@ -143,7 +143,7 @@ module _ (game : Game) (from : Standing) (left_old left_new taken_old taken_now 
           unread.bytes,
           text ++ said,
           came_of left_old left_new all unread all_few next.come,
-          goes_on_or_ends (BringInTurn game from) left_new all unread.bytes (text ++ said) fails.2.0 brought_all,
+          goes_on_or_ends (AreResponses game from) left_new all unread.bytes (text ++ said) fails.2.0 brought_all,
           front_behind taken_old taken_now taken_new text said written fails.1,
         )
     broken Memory fails = (
@@ -152,16 +152,16 @@ module _ (game : Game) (from : Standing) (left_old left_new taken_old taken_now 
       text,
       next.before (omega (arith, few)),
       inl (at, requests, brought),
-      subst (AppendsFront taken_old taken_new) (append-nil text) (front_kept taken_old taken_now taken_new text [] written fails),
+      subst (AppendsPrefix taken_old taken_new) (append-nil text) (front_kept taken_old taken_now taken_new text [] written fails),
     )
     broken Read fails = absurd fails
     broken Limit fails = absurd fails
 
--- what was said wasn't shown whole
+-- if the write of a text failed, a prefix of it was written
 pub unshown : {X : Type 0} (result : Result X PlayFault) (fault : PlayFault) (IsRight : List ℕ → Type 0) (taken_old taken_new : Option (List ℕ)) (text said : List ℕ)
-    → result ≡ Err fault → fault ≡ Write → AppendsFront taken_old taken_new text → text ≡ [] ++ said → IsRight said → IfErr result (FailsToWrite taken_old taken_new IsRight)
+    → result ≡ Err fault → fault ≡ Write → AppendsPrefix taken_old taken_new text → text ≡ [] ++ said → IsRight said → IfErr result (FailsToWrite taken_old taken_new IsRight)
 unshown result fault IsRight taken_old taken_new text said is write begun same right =
-    rw is (rw write (said, subst (AppendsFront taken_old taken_new) same begun, right))
+    rw is (rw write (said, subst (AppendsPrefix taken_old taken_new) same begun, right))
 
 pub Appends-none : (a : Option (List ℕ)) → Appends a a []
 Appends-none None = tt

@@ -3,8 +3,8 @@ use Rattle.std.specs.Prelude.{◌≡◌, ◌≢◌, ◌↔◌, ℕ, ◌<◌, ◌
 use Rattle.std.specs.Prelude.{Bool, true, Option, Some, Result, Err}
 use Rattle.std.specs.List.{flat_map}
 use Rattle.std.specs.Io.KnownBytes.{Appends, Consumes, IsAtEnd}
-use Rattle.board_text.specs.Streams.{GaveAll, AppendsFront}
-use Rattle.board_text.specs.LineForms.{closed}
+use Rattle.board_text.specs.Streams.{GaveAll, AppendsPrefix}
+use Rattle.board_text.specs.LineForms.{with_line_feed}
 use Rattle.player.specs.Words.{IsLine, BeginsTooLong}
 use Rattle.player.specs.Transcript.{Game, Standing, Going, Over, Stops, IsPlayed}
 use Rattle.player.specs.declared.end.PlayEnd.{PlayEnd}
@@ -13,20 +13,21 @@ use Rattle.player.specs.declared.end.PlayFault.TheVariants.{Read, Write, Memory,
 use Rattle.player.specs.declared.play.TheConstants.{MOST_LINES}
 
 -- these lines and the rest were all the bytes that came, each line with its line feed
-abbrev pub CameClosed : Option (List ℕ) → Option (List ℕ) → List (List ℕ) → List ℕ → Type 0
-CameClosed left_old left_new lines rest = Consumes left_old left_new (flat_map closed lines ++ rest)
+abbrev pub FullLinesCame : Option (List ℕ) → Option (List ℕ) → List (List ℕ) → List ℕ → Type 0
+FullLinesCame left_old left_new lines rest =
+    Consumes left_old left_new (flat_map with_line_feed lines ++ rest)
 
 -- these lines were the whole input, the last of them without a line feed
-pub record CameWhole (left_old left_new : Option (List ℕ)) (lines : List (List ℕ)) : Type 0 where
+pub record LinesWereAll (left_old left_new : Option (List ℕ)) (lines : List (List ℕ)) : Type 0 where
   pub before : List (List ℕ)
   pub last : List ℕ
   pub lines_are : lines ≡ before ++ last ∷ []
   pub some : last ≢ []
-  pub read : GaveAll left_old left_new (flat_map closed before ++ last)
+  pub read : GaveAll left_old left_new (flat_map with_line_feed before ++ last)
 
 -- these lines came, and after them the rest
-pub record Came (left_old left_new : Option (List ℕ)) (lines : List (List ℕ)) (rest : List ℕ) : Type 0 where
-  pub came : CameClosed left_old left_new lines rest ⊎ ((rest ≡ []) × CameWhole left_old left_new lines)
+pub record LinesCame (left_old left_new : Option (List ℕ)) (lines : List (List ℕ)) (rest : List ℕ) : Type 0 where
+  pub came : FullLinesCame left_old left_new lines rest ⊎ ((rest ≡ []) × LinesWereAll left_old left_new lines)
   pub each : All IsLine lines
   pub few : length lines ≤ MOST_LINES
 
@@ -45,18 +46,18 @@ module _ (Played : List (List ℕ) → List ℕ → Standing → Type 0) (left_o
   -- lines came, and the text written is their transcript, with this end
   abbrev pub HasEnded : PlayEnd → Type 0
   HasEnded end = (lines : List (List ℕ)) × (rest text : List ℕ)
-      × Came left_old left_new lines rest × Ends Played left_new lines rest text end × Appends taken_old taken_new text
+      × LinesCame left_old left_new lines rest × Ends Played left_new lines rest text end × Appends taken_old taken_new text
 
   -- lines came that didn't end the play, and the text written is the reply to them
   abbrev pub HasWritten : (List (List ℕ) → List ℕ → Type 0) → Type 0
   HasWritten Waits = (lines : List (List ℕ)) × (rest text at : List ℕ) × (requests : ℕ)
-      × Came left_old left_new lines rest × Waits lines rest × Played lines text (Going at requests) × Appends taken_old taken_new text
+      × LinesCame left_old left_new lines rest × Waits lines rest × Played lines text (Going at requests) × Appends taken_old taken_new text
 
   -- lines came, and the text written is a prefix of the reply to them, which has an end only if the
   -- play has one
   abbrev pub HasBegun : Type 0
   HasBegun = (lines : List (List ℕ)) × (rest text : List ℕ)
-      × Came left_old left_new lines rest × GoesOnOrEnds Played left_new lines rest text × AppendsFront taken_old taken_new text
+      × LinesCame left_old left_new lines rest × GoesOnOrEnds Played left_new lines rest text × AppendsPrefix taken_old taken_new text
 
   -- the cases of each fault, and the text written before it
   abbrev pub BreaksOff : PlayFault → Type 0

@@ -2,7 +2,7 @@
 use Rattle.std.specs.Prelude.{◌≡◌, ◌≢◌, ℕ, suc, ◌<◌, ◌⊎◌, List, [], ◌∷◌, ◌++◌, map, replicate, codes}
 use Rattle.std.specs.Fmt.{decimal}
 use Rattle.std.specs.List.{flat_map}
-use Rattle.board_text.specs.LineForms.{closed, number_line}
+use Rattle.board_text.specs.LineForms.{with_line_feed, number_line}
 use Rattle.board_text.specs.Numerals.{spaced_texts}
 use Rattle.board_text.specs.PlaceForms.{places_line}
 use Rattle.board_text.specs.PlainBoard.{PlainBoard}
@@ -16,7 +16,7 @@ use Rattle.nested_cycles.specs.Reply.{NestedReply}
 use Rattle.proof_text.specs.ProofText.{claim_line}
 use Rattle.strategies.specs.Best.{IsBestAnswer, IsBestRequest}
 use Rattle.positions.specs.Claim.{claim_of}
-use Rattle.player.specs.Words.{quit}
+use Rattle.player.specs.Words.{quit_line}
 use Rattle.player.specs.declared.end.PlayEnd.{PlayEnd}
 use Rattle.player.specs.declared.end.PlayEnd.TheVariants.{Stuck, Stopped, NoStrategy}
 
@@ -48,39 +48,42 @@ opening_lines board value start = value_line value ++ at_line board start
 
 -- the answer to a request: the pebble, and the text of the label that it takes
 abbrev pub takes_line : ℕ → List ℕ → List ℕ
-takes_line pebble label = closed (codes "pebble " ++ decimal pebble ++ codes " takes " ++ label)
+takes_line pebble label =
+    with_line_feed (codes "pebble " ++ decimal pebble ++ codes " takes " ++ label)
 
 -- a request
 abbrev pub ask_line : ℕ → List ℕ
 ask_line pebble = number_line (codes "ask") pebble
 
 abbrev pub stuck_line : ℕ → ℕ → List ℕ
-stuck_line pebble requests = closed (codes "no label for pebble " ++ decimal pebble ++ codes " after " ++ decimal requests
+stuck_line pebble requests = with_line_feed (codes "no label for pebble " ++ decimal pebble ++ codes " after " ++ decimal requests
     ++ codes " requests")
 
 abbrev pub stopped_line : ℕ → List ℕ
-stopped_line requests = closed (codes "stopped after " ++ decimal requests ++ codes " requests")
+stopped_line requests =
+    with_line_feed (codes "stopped after " ++ decimal requests ++ codes " requests")
 
 abbrev pub no_strategy_line : List ℕ
-no_strategy_line = closed (codes "no strategy")
+no_strategy_line = with_line_feed (codes "no strategy")
 
 abbrev pub no_request_line : List ℕ
-no_request_line = closed (codes "not a request")
+no_request_line = with_line_feed (codes "not a request")
 
 abbrev pub no_answer_line : List ℕ
-no_answer_line = closed (codes "not an answer")
+no_answer_line = with_line_feed (codes "not an answer")
 
 -- ---- the person asks
 
 -- the line names no pebble below `pebbles`, and isn't `quit`
 abbrev pub IsNoRequest : ℕ → List ℕ → Type 0
-IsNoRequest pebbles line = (line ≢ quit) × ((pebble : ℕ) → pebble < pebbles → line ≢ decimal pebble)
+IsNoRequest pebbles line =
+    (line ≢ quit_line) × ((pebble : ℕ) → pebble < pebbles → line ≢ decimal pebble)
 
 -- the reply to a line if the person names one of `pebbles` pebbles, each answered by `Answers`
 abbrev pub RepliesToLine : ℕ → (ℕ → List ℕ → Standing → Type 0) → List ℕ → ℕ → List ℕ → List ℕ → Standing → Type 0
 RepliesToLine pebbles Answers at requests line said to =
     ((pebble : ℕ) × (pebble < pebbles) × (line ≡ decimal pebble) × Answers pebble said to)
-    ⊎ ((line ≡ quit) × (said ≡ stopped_line requests) × (to ≡ Over (Stopped requests)))
+    ⊎ ((line ≡ quit_line) × (said ≡ stopped_line requests) × (to ≡ Over (Stopped requests)))
     ⊎ (IsNoRequest pebbles line × (said ≡ no_request_line) × (to ≡ Going at requests))
 
 -- the best answer to a request, if some label is legal
@@ -104,7 +107,7 @@ word_text levels label = digits_text (label_word levels label)
 
 -- the words of the pebbles
 abbrev pub words_line : ℕ → List ℕ → List ℕ
-words_line levels at = closed (codes "at" ++ spaced_texts (map (word_text levels) at))
+words_line levels at = with_line_feed (codes "at" ++ spaced_texts (map (word_text levels) at))
 
 -- the level, and all pebbles on the label 0
 abbrev pub nested_opening_lines : ℕ → List ℕ
@@ -132,14 +135,14 @@ IsLegalLine board at line pebble label = IsBestRequest board at pebble × Legal 
 
 -- the line is no legal label, and isn't `quit`
 abbrev pub IsNoAnswer : PlainBoard → List ℕ → List ℕ → Type 0
-IsNoAnswer board at line = (line ≢ quit) × ((pebble label : ℕ) → IsLegalLine board at line pebble label → ⊥)
+IsNoAnswer board at line = (line ≢ quit_line) × ((pebble label : ℕ) → IsLegalLine board at line pebble label → ⊥)
 
 -- the reply to a line if the person is the labeller
 abbrev pub AsksAfterLine : PlainBoard → List ℕ → ℕ → List ℕ → List ℕ → Standing → Type 0
 AsksAfterLine board at requests line said to =
     ((pebble label : ℕ) × (asked : List ℕ) × IsLegalLine board at line pebble label
     × Asks board (moved at pebble label) (suc requests) asked to × (said ≡ at_line board (moved at pebble label) ++ asked))
-    ⊎ ((line ≡ quit) × (said ≡ stopped_line requests) × (to ≡ Over (Stopped requests)))
+    ⊎ ((line ≡ quit_line) × (said ≡ stopped_line requests) × (to ≡ Over (Stopped requests)))
     ⊎ (IsNoAnswer board at line × (said ≡ no_answer_line) × (to ≡ Going at requests))
 
 -- ---- the play
@@ -156,19 +159,19 @@ BeginsPlay (PersonAnswers board) said to =
 BeginsPlay (PersonClimbs levels) said to = (said ≡ nested_opening_lines levels) × (to ≡ Going (replicate levels 0) 0)
 
 -- the reply to one line; none if the play is over
-abbrev pub Brings : Game → Standing → List ℕ → List ℕ → Standing → Type 0
-Brings game (Over end) line said to = (said ≡ []) × (to ≡ Over end)
-Brings (PersonAsks board) (Going at requests) line said to = RepliesToLine board.pebbles (Replies board at requests)
+abbrev pub IsResponse : Game → Standing → List ℕ → List ℕ → Standing → Type 0
+IsResponse game (Over end) line said to = (said ≡ []) × (to ≡ Over end)
+IsResponse (PersonAsks board) (Going at requests) line said to = RepliesToLine board.pebbles (Replies board at requests)
     at requests line said to
-Brings (PersonAnswers board) (Going at requests) line said to = AsksAfterLine board at requests line said to
-Brings (PersonClimbs levels) (Going at requests) line said to = RepliesToLine levels (NestedReplies levels at requests)
+IsResponse (PersonAnswers board) (Going at requests) line said to = AsksAfterLine board at requests line said to
+IsResponse (PersonClimbs levels) (Going at requests) line said to = RepliesToLine levels (NestedReplies levels at requests)
     at requests line said to
 
 -- the replies to these lines, one after the other
-abbrev pub BringInTurn : Game → Standing → List (List ℕ) → List ℕ → Standing → Type 0
-BringInTurn game from [] text to = (text ≡ []) × (from ≡ to)
-BringInTurn game from (line ∷ lines) text to =
-    (said more : List ℕ) × (next : Standing) × Brings game from line said next × BringInTurn game next lines more to × (text ≡ said ++ more)
+abbrev pub AreResponses : Game → Standing → List (List ℕ) → List ℕ → Standing → Type 0
+AreResponses game from [] text to = (text ≡ []) × (from ≡ to)
+AreResponses game from (line ∷ lines) text to =
+    (said more : List ℕ) × (next : Standing) × IsResponse game from line said next × AreResponses game next lines more to × (text ≡ said ++ more)
 
 -- the text written once these lines are read, and the state of the play then
 pub record IsPlayed (game : Game) (lines : List (List ℕ)) (text : List ℕ) (to : Standing) : Type 0 where
@@ -176,7 +179,7 @@ pub record IsPlayed (game : Game) (lines : List (List ℕ)) (text : List ℕ) (t
   pub first : Standing
   pub more : List ℕ
   pub opens : BeginsPlay game opening first
-  pub brings : BringInTurn game first lines more to
+  pub brings : AreResponses game first lines more to
   pub text_is : text ≡ opening ++ more
 
 -- if the lines end before the play is over, one more line is written

@@ -17,5 +17,5 @@ pub record BeginsTooLong (bytes : List ℕ) : Type 0 where
   pub no_feed : HasNoFeed (take (suc MOST_BYTES) bytes)
 
 -- the line asks for the play to end
-abbrev pub quit : List ℕ
-quit = codes "quit"
+abbrev pub quit_line : List ℕ
+quit_line = codes "quit"

@@ -6,13 +6,13 @@ ghost use Rattle.player.specs.Laws.{KeepsToValue};
 ghost use Rattle.player.specs.Play.{HasEnded, BreaksOff, TellsStreams};
 ghost use Rattle.player.specs.Inside.PlayState.{at};
 ghost use Rattle.player.specs.Transcript.{IsPlayed, PersonAsks, Replies};
-ghost use Rattle.player.specs.Inside.Transcript.{standing};
+ghost use Rattle.player.specs.Inside.Transcript.{standing_of};
 ghost use Rattle.player.specs.Inside.Steps.{AddsText};
 
 use crate::end::{PlayEnd, PlayFault};
+use crate::line_meaning::LineMeaning;
 use crate::play::{Play, flush, play_on};
-use crate::word::Word;
-use crate::writing::{refused, stopped, write_opening, write_reply, write_stuck};
+use crate::writing::{end_stopped, say_no_request, write_opening, write_reply, write_stuck};
 use board_text::{Board, Sink, Source};
 use solver::Values;
 use std::alloc::{AllocError, Global};
@@ -100,7 +100,7 @@ impl<'a> AdversarySide<'a> {
         ensures board { self.new.board ≡ self.old.board }
         ensures count { self.new.requests ≤ self.old.requests + 1 }
         ensures said { IfOk result (λ end. AddsText (string_bytes text.old) (string_bytes text.new)
-            (λ said. Replies self.old.board (at self.old) self.old.requests pebble said (standing end (at self.new) self.new.requests))) }
+            (λ said. Replies self.old.board (at self.old) self.old.requests pebble said (standing_of end (at self.new) self.new.requests))) }
     {
         let space = self.moves.space();
         match self.moves.answer(self.rank, pebble) {
@@ -127,18 +127,22 @@ impl Play for AdversarySide<'_> {
 
     ghost requests = { λ s. s.requests };
 
-    fn reply(&mut self, word: Word, text: &mut String) -> Result<Option<PlayEnd>, AllocError> {
+    fn reply(
+        &mut self,
+        meaning: LineMeaning,
+        text: &mut String,
+    ) -> Result<Option<PlayEnd>, AllocError> {
         let pebbles = u32::from(self.moves.space().pebbles());
-        match word {
-            Word::Number(number) => {
+        match meaning {
+            LineMeaning::Number(number) => {
                 if number < pebbles {
                     self.request(number as u8, text)
                 } else {
-                    refused(text)
+                    say_no_request(text)
                 }
             }
-            Word::Quit => stopped(text, self.requests),
-            Word::Other => refused(text),
+            LineMeaning::Quit => end_stopped(text, self.requests),
+            LineMeaning::Other => say_no_request(text),
         }
     }
 

@@ -6,14 +6,14 @@ ghost use Rattle.nested_cycles.specs.NestedGame.{plain_game};
 ghost use Rattle.player.specs.Laws.{KeepsToValue};
 ghost use Rattle.player.specs.Play.{HasEnded, BreaksOff, TellsStreams};
 ghost use Rattle.player.specs.Transcript.{IsPlayed, NestedReplies, PersonClimbs};
-ghost use Rattle.player.specs.Inside.Transcript.{standing};
+ghost use Rattle.player.specs.Inside.Transcript.{standing_of};
 ghost use Rattle.player.specs.Inside.Steps.{AddsText};
 
 use crate::end::{PlayEnd, PlayFault};
+use crate::line_meaning::LineMeaning;
 use crate::nested_writing::{write_levels, write_nested_reply};
 use crate::play::{Play, flush, play_on};
-use crate::word::Word;
-use crate::writing::{refused, stopped};
+use crate::writing::{end_stopped, say_no_request};
 use board_text::{Memory, Sink, Source};
 use nested_cycles::{MAX_LEVELS, NestedGame};
 use std::alloc::{AllocError, Global};
@@ -83,7 +83,7 @@ impl Climb {
         ensures count { self.new.requests ≡ self.old.requests + 1 }
         ensures said { IfOk result (λ end. AddsText (string_bytes text.old) (string_bytes text.new)
             (λ said. NestedReplies self.old.nested.levels self.old.nested.words self.old.requests pebble said
-            (standing end self.new.nested.words self.new.requests))) }
+            (standing_of end self.new.nested.words self.new.requests))) }
     {
         let levels = self.nested.levels();
         let word = self.nested.request(pebble);
@@ -100,18 +100,22 @@ impl Play for Climb {
 
     ghost requests = { λ s. s.requests };
 
-    fn reply(&mut self, word: Word, text: &mut String) -> Result<Option<PlayEnd>, AllocError> {
+    fn reply(
+        &mut self,
+        meaning: LineMeaning,
+        text: &mut String,
+    ) -> Result<Option<PlayEnd>, AllocError> {
         let pebbles = u32::from(self.nested.levels());
-        match word {
-            Word::Number(number) => {
+        match meaning {
+            LineMeaning::Number(number) => {
                 if number < pebbles {
                     self.request(number as u8, text)
                 } else {
-                    refused(text)
+                    say_no_request(text)
                 }
             }
-            Word::Quit => stopped(text, self.requests),
-            Word::Other => refused(text),
+            LineMeaning::Quit => end_stopped(text, self.requests),
+            LineMeaning::Other => say_no_request(text),
         }
     }
 

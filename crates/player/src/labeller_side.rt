@@ -7,15 +7,15 @@ ghost use Rattle.positions.specs.Value.{HasValue};
 ghost use Rattle.positions.specs.declared.value.Value.TheVariants.{Finite};
 ghost use Rattle.player.specs.Laws.{KeepsToValue};
 ghost use Rattle.player.specs.Play.{HasEnded, BreaksOff, TellsStreams};
-ghost use Rattle.player.specs.Inside.PlayState.{HasAsked, IsRequestAt, NextStands, IsLegalAt, IsPlayState, at};
+ghost use Rattle.player.specs.Inside.PlayState.{HasAsked, IsRequestAt, IsStandingAfter, IsLegalAt, IsPlayState, at};
 ghost use Rattle.player.specs.Transcript.{Standing, IsPlayed, BeginsPlay, PersonAnswers, AsksAfterLine, no_answer_line};
-ghost use Rattle.player.specs.Inside.Transcript.{standing};
+ghost use Rattle.player.specs.Inside.Transcript.{standing_of};
 ghost use Rattle.player.specs.Inside.Steps.{AddsText};
 
 use crate::end::{PlayEnd, PlayFault};
+use crate::line_meaning::LineMeaning;
 use crate::play::{Play, flush, play_on};
-use crate::word::Word;
-use crate::writing::{stopped, write_at, write_opening, write_stuck};
+use crate::writing::{end_stopped, write_at, write_opening, write_stuck};
 use board_text::{Board, Sink, Source};
 use positions::Value;
 use solver::Values;
@@ -91,7 +91,7 @@ fn open(text: &mut String, moves: &BestMoves<'_>, start: u32) -> Result<Next, Al
     requires rank { start < configurations moves.now }
     ensures { IfOk result (λ next. AddsText (string_bytes text.old) (string_bytes text.new)
         (λ said. (to : Standing) × BeginsPlay (PersonAnswers moves.now) said to
-        × NextStands moves.now (configuration_at moves.now start) 0 next to)) }
+        × IsStandingAfter moves.now (configuration_at moves.now start) 0 next to)) }
 {
     let value = moves.value(start);
     write_opening(text, moves.space(), value, start)?;
@@ -184,7 +184,7 @@ impl<'a> LabellerSide<'a> {
         ensures count { self.new.requests ≤ self.old.requests + 1 }
         ensures said { IfOk result (λ end. AddsText (string_bytes text.old) (string_bytes text.new)
             (λ said. (line : List ℕ) → line ≡ decimal label → AsksAfterLine self.old.board (at self.old) self.old.requests line said
-            (standing end (at self.new) self.new.requests))) }
+            (standing_of end (at self.new) self.new.requests))) }
     {
         let space = self.moves.space();
         let rank = space.with(self.rank, self.asked, label);
@@ -210,18 +210,22 @@ impl Play for LabellerSide<'_> {
 
     ghost requests = { λ s. s.requests };
 
-    fn reply(&mut self, word: Word, text: &mut String) -> Result<Option<PlayEnd>, AllocError> {
+    fn reply(
+        &mut self,
+        meaning: LineMeaning,
+        text: &mut String,
+    ) -> Result<Option<PlayEnd>, AllocError> {
         let labels = u32::from(self.moves.space().labels());
-        match word {
-            Word::Number(number) => {
+        match meaning {
+            LineMeaning::Number(number) => {
                 if number < labels && self.is_legal(number as u16) {
                     self.move_to_label(number as u16, text)
                 } else {
-                    refuse(text)
+                    say_no_answer(text)
                 }
             }
-            Word::Quit => stopped(text, self.requests),
-            Word::Other => refuse(text),
+            LineMeaning::Quit => end_stopped(text, self.requests),
+            LineMeaning::Other => say_no_answer(text),
         }
     }
 
@@ -231,7 +235,7 @@ impl Play for LabellerSide<'_> {
 }
 
 /// Appends the reply to a line that is no answer; the play goes on.
-fn refuse(text: &mut String) -> Result<Option<PlayEnd>, AllocError>
+fn say_no_answer(text: &mut String) -> Result<Option<PlayEnd>, AllocError>
     ensures { IfOk result (λ end. (end ≡ None) × (string_bytes text.new ≡ string_bytes text.old ++ no_answer_line)) }
 {
     text.push_str("not an answer\n")?;

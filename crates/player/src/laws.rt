@@ -6,7 +6,7 @@ ghost use Rattle.positions.specs.declared.value.Value.TheVariants.{Finite};
 ghost use Rattle.positions.specs.Value.{HasValue};
 ghost use Rattle.player.specs.Laws.{IsGame, IsWithin, IsNoSooner, IsNoLater, IsStopped, EndsBestPlay};
 ghost use Rattle.player.specs.Transcript.{Game, Going, PersonAsks, PersonAnswers, PersonClimbs, IsPlayed, IsTranscript};
-ghost use Rattle.player.specs.declared.end.PlayEnd.{PlayEnd as End};
+ghost use Rattle.player.specs.declared.end.PlayEnd.{PlayEnd as PlayEndData};
 
 use crate::lines::MOST_BYTES;
 use crate::play::MOST_LINES;
@@ -16,22 +16,24 @@ use crate::play::MOST_LINES;
 /// answers at most that many, and there is no strategy against the person exactly if the value is
 /// forever. On a nested board no one is ever stuck.
 pub fn plays_last_by_the_value()
-    ensures asking { (board : PlainBoard) → (lines : List (List ℕ)) → (text : List ℕ) → (end : End)
+    ensures asking { (board : PlainBoard) → (lines : List (List ℕ)) → (text : List ℕ)
+        → (end : PlayEndData)
         → IsTranscript (PersonAsks board) lines text end → IsNoSooner board end }
-    ensures answering { (board : PlainBoard) → (lines : List (List ℕ)) → (text : List ℕ) → (end : End)
+    ensures answering { (board : PlainBoard) → (lines : List (List ℕ)) → (text : List ℕ) → (end : PlayEndData)
         → IsTranscript (PersonAnswers board) lines text end → IsNoLater board end }
     ensures going { (board : PlainBoard) → (lines : List (List ℕ)) → (text : List ℕ) → (at : List ℕ) → (requests : ℕ)
         → IsPlayed (PersonAnswers board) lines text (Going at requests) → IsWithin board requests }
-    ensures climbing { (levels : ℕ) → (lines : List (List ℕ)) → (text : List ℕ) → (end : End)
+    ensures climbing { (levels : ℕ) → (lines : List (List ℕ)) → (text : List ℕ)
+        → (end : PlayEndData)
         → IsTranscript (PersonClimbs levels) lines text end → IsStopped end }
 {}
 
 /// Any lines have one transcript and one end, in each play on a board and on a nested board.
 pub fn one_transcript()
     ensures some { (game : Game) → (lines : List (List ℕ)) → IsGame game
-        → (text : List ℕ) × (end : End) × IsTranscript game lines text end }
+        → (text : List ℕ) × (end : PlayEndData) × IsTranscript game lines text end }
     ensures one { (game : Game) → (lines : List (List ℕ)) → (first : List ℕ) → (second : List ℕ)
-        → (end : End) → (other : End) → IsGame game
+        → (end : PlayEndData) → (other : PlayEndData) → IsGame game
         → IsTranscript game lines first end → IsTranscript game lines second other → (first ≡ second) × (end ≡ other) }
 {}
 

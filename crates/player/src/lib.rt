@@ -7,11 +7,11 @@ mod end;
 mod in_memory;
 mod labeller_side;
 mod laws;
+mod line_meaning;
 mod lines;
 mod nested_laws;
 mod nested_writing;
 mod play;
-mod word;
 mod writing;
 
 pub use adversary_side::play_adversary_side;

@@ -9,7 +9,7 @@ ghost use Rattle.player.specs.Inside.LineInput.{IsEmptyAtEnd, GivesLine, GivesNo
 ghost use Rattle.player.specs.declared.end.PlayFault.TheVariants.{Read};
 
 use crate::end::PlayFault;
-use crate::word::Word;
+use crate::line_meaning::LineMeaning;
 use board_text::{Failed, Source};
 use std::marker::Model;
 
@@ -54,9 +54,12 @@ impl Lines {
         }
     }
 
-    /// The word of the next line, or `None` at the end. `reader` is asked only if no whole line is
-    /// left. The fault is `Read` if it failed, and `Limit` if the line is too long.
-    pub(crate) fn next<R: Source>(&mut self, reader: &mut R) -> Result<Option<Word>, PlayFault>
+    /// The meaning of the next line, or `None` at the end. `reader` is asked only if no whole line
+    /// is left. The fault is `Read` if it failed, and `Limit` if the line is too long.
+    pub(crate) fn next<R: Source>(
+        &mut self,
+        reader: &mut R,
+    ) -> Result<Option<LineMeaning>, PlayFault>
         requires ready { R.has_failed reader.old ≡ false }
         requires ended { R.has_ended reader.old ≡ self.old.has_ended }
         requires end { IsEmptyAtEnd self.old (R.remaining reader.old) }
@@ -90,30 +93,30 @@ impl Lines {
         &self.buffer[self.from..self.to]
     }
 
-    /// Takes the first line, of `size` bytes, with its line feed, and returns its word.
-    fn take_line(&mut self, size: usize) -> Word
+    /// Takes the first line, of `size` bytes, with its line feed, and returns its meaning.
+    fn take_line(&mut self, size: usize) -> LineMeaning
         requires inside { size < length self.old.bytes }
-        ensures word { Spells (take size self.old.bytes) result }
+        ensures meaning { Spells (take size self.old.bytes) result }
         ensures rest { self.new.bytes ≡ drop (size + 1) self.old.bytes }
         ensures same { self.new.has_ended ≡ self.old.has_ended }
     {
-        let word = Word::of(&self.unread()[..size]);
+        let meaning = LineMeaning::of(&self.unread()[..size]);
         self.from += size + 1;
-        word
+        meaning
     }
 
-    /// Takes the remaining bytes as the last line, and returns its word; `None` if no byte is left.
-    fn take_last(&mut self) -> Option<Word>
+    /// Takes the remaining bytes as the last line; returns its meaning, or `None` if there are none.
+    fn take_last(&mut self) -> Option<LineMeaning>
         ensures nothing_left { self.new.bytes ≡ [] }
         ensures same { self.new.has_ended ≡ self.old.has_ended }
-        ensures word { MatchOption result (self.old.bytes ≡ []) (λ word. Spells self.old.bytes word × (self.old.bytes ≢ [])) }
+        ensures meaning { MatchOption result (self.old.bytes ≡ []) (λ meaning. Spells self.old.bytes meaning × (self.old.bytes ≢ [])) }
     {
         if self.unread().is_empty() {
             return None;
         }
-        let word = Word::of(self.unread());
+        let meaning = LineMeaning::of(self.unread());
         self.from = self.to;
-        Some(word)
+        Some(meaning)
     }
 
     /// Reads once from `reader`, after the bytes that aren't taken yet; `false` at the end.

@@ -2,17 +2,17 @@
 
 ghost use Rattle.std.specs.Prelude.{◌≡◌, ◌↔◌, ◌+◌, ◌≤◌, ◌<◌, ◌^◌, ℕ, List, [], true, false, Err, IfOk, IfErr, OnOk, OnErr, string_bytes};
 ghost use Rattle.std.specs.Io.KnownBytes.{Appends};
-ghost use Rattle.board_text.specs.Streams.{AppendsFront};
-ghost use Rattle.player.specs.Transcript.{Game, Standing, Going, BringInTurn, stopped_line};
-ghost use Rattle.player.specs.Inside.Transcript.{standing};
+ghost use Rattle.board_text.specs.Streams.{AppendsPrefix};
+ghost use Rattle.player.specs.Transcript.{Game, Standing, Going, AreResponses, stopped_line};
+ghost use Rattle.player.specs.Inside.Transcript.{standing_of};
 ghost use Rattle.player.specs.Play.{HasEnded, BreaksOff, TellsStreams};
-ghost use Rattle.player.specs.Inside.Steps.{BringsAll, AddsText, Writes, FailsToWrite};
+ghost use Rattle.player.specs.Inside.Steps.{IsResponseToMeaning, AddsText, Writes, FailsToWrite};
 ghost use Rattle.player.specs.declared.end.PlayEnd.TheVariants.{Stopped};
 ghost use Rattle.player.specs.declared.end.PlayFault.TheVariants.{Write};
 
 use crate::end::{PlayEnd, PlayFault};
+use crate::line_meaning::LineMeaning;
 use crate::lines::Lines;
-use crate::word::Word;
 use crate::writing::write_stopped;
 use board_text::{Failed, Sink, Source, write_all};
 use std::alloc::AllocError;
@@ -31,14 +31,19 @@ pub(crate) trait Play {
     // The number of answered requests.
     ghost requests: { Self → ℕ };
 
-    /// Appends the reply to `word`; returns the end if the play is over.
-    fn reply(&mut self, word: Word, text: &mut String) -> Result<Option<PlayEnd>, AllocError>
+    /// Appends the reply to `meaning`; returns the end if the play is over.
+    fn reply(
+        &mut self,
+        meaning: LineMeaning,
+        text: &mut String,
+    ) -> Result<Option<PlayEnd>, AllocError>
         requires { requests self.old + 1 < 2 ^ 32 }
         ensures game { game self.new ≡ game self.old }
         ensures count { requests self.new ≤ requests self.old + 1 }
         ensures said { IfOk result (λ end. AddsText (string_bytes text.old) (string_bytes text.new)
-            (λ said. BringsAll (game self.old) (Going (at self.old) (requests self.old)) word said
-            (standing end (at self.new) (requests self.new)))) };
+            (λ said. IsResponseToMeaning (game self.old)
+            (Going (at self.old) (requests self.old)) meaning said
+            (standing_of end (at self.new) (requests self.new)))) };
 
     /// The number of answered requests.
     fn requests(&self) -> u32
@@ -58,28 +63,28 @@ pub(crate) fn play_on<P: Play, R: Source, W: Sink>(
     requires reader_ready { R.has_failed reader.old ≡ false }
     requires reader_unended { R.has_ended reader.old ≡ false }
     requires writer_ready { W.has_failed writer.old ≡ false }
-    ensures ok { IfOk result (HasEnded (BringInTurn (P.game play.old) (Going (P.at play.old) 0))
+    ensures ok { IfOk result (HasEnded (AreResponses (P.game play.old) (Going (P.at play.old) 0))
         (R.remaining reader.old) (R.remaining reader.new) (W.contents writer.old) (W.contents writer.new)) }
-    ensures fault { IfErr result (BreaksOff (BringInTurn (P.game play.old) (Going (P.at play.old) 0))
+    ensures fault { IfErr result (BreaksOff (AreResponses (P.game play.old) (Going (P.at play.old) 0))
         (R.remaining reader.old) (R.remaining reader.new) (W.contents writer.old) (W.contents writer.new)) }
     ensures streams { TellsStreams result (R.has_failed reader.new) (W.has_failed writer.new) }
 {
     let mut lines = Lines::new();
     for _ in 0..MOST_LINES {
-        let Some(word) = lines.next(reader)? else {
-            return stop(play, text, writer);
+        let Some(meaning) = lines.next(reader)? else {
+            return end_play(play, text, writer);
         };
-        if let Some(end) = turn(play, word, text, writer)? {
+        if let Some(end) = answer_line(play, meaning, text, writer)? {
             return Ok(end);
         }
     }
     Err(PlayFault::Limit)
 }
 
-/// Answers `word`, and writes the answer; returns the end if the play is over.
-fn turn<P: Play, W: Sink>(
+/// Answers `meaning`, and writes the answer; returns the end if the play is over.
+fn answer_line<P: Play, W: Sink>(
     play: &mut P,
-    word: Word,
+    meaning: LineMeaning,
     text: &mut String,
     writer: &mut W,
 ) -> Result<Option<PlayEnd>, PlayFault>
@@ -91,13 +96,14 @@ fn turn<P: Play, W: Sink>(
     ensures empty { OnOk result (string_bytes text.new ≡ []) }
     ensures unfailed { OnOk result (W.has_failed writer.new ≡ false) }
     ensures written { IfOk result (λ end. Writes (W.contents writer.old) (W.contents writer.new)
-        (λ said. BringsAll (P.game play.old) (Going (P.at play.old) (P.requests play.old)) word said
-        (standing end (P.at play.new) (P.requests play.new)))) }
+        (λ said. IsResponseToMeaning (P.game play.old)
+        (Going (P.at play.old) (P.requests play.old)) meaning said
+        (standing_of end (P.at play.new) (P.requests play.new)))) }
     ensures fault { IfErr result (FailsToWrite (W.contents writer.old) (W.contents writer.new)
-        (λ said. (to : Standing) × BringsAll (P.game play.old) (Going (P.at play.old) (P.requests play.old)) word said to)) }
+        (λ said. (to : Standing) × IsResponseToMeaning (P.game play.old) (Going (P.at play.old) (P.requests play.old)) meaning said to)) }
     ensures write { (W.has_failed writer.new ≡ true) ↔ (result ≡ Err Write) }
 {
-    let Ok(end) = play.reply(word, text) else {
+    let Ok(end) = play.reply(meaning, text) else {
         return Err(PlayFault::Memory);
     };
     flush(text, writer)?;
@@ -105,7 +111,11 @@ fn turn<P: Play, W: Sink>(
 }
 
 /// Ends the play at the end of the input.
-fn stop<P: Play, W: Sink>(play: &P, text: &mut String, writer: &mut W) -> Result<PlayEnd, PlayFault>
+fn end_play<P: Play, W: Sink>(
+    play: &P,
+    text: &mut String,
+    writer: &mut W,
+) -> Result<PlayEnd, PlayFault>
     requires empty { string_bytes text.old ≡ [] }
     requires ready { W.has_failed writer.old ≡ false }
     ensures end { IfOk result (λ end. end ≡ Stopped (P.requests play.now)) }
@@ -126,7 +136,7 @@ pub(crate) fn flush<W: Sink>(text: &mut String, writer: &mut W) -> Result<(), Pl
     ensures written { OnOk result (Appends (W.contents writer.old) (W.contents writer.new) (string_bytes text.old)) }
     ensures unfailed { OnOk result (W.has_failed writer.new ≡ false) }
     ensures empty { OnOk result (string_bytes text.new ≡ []) }
-    ensures front { OnErr result (AppendsFront (W.contents writer.old) (W.contents writer.new) (string_bytes text.old)) }
+    ensures front { OnErr result (AppendsPrefix (W.contents writer.old) (W.contents writer.new) (string_bytes text.old)) }
     ensures fault { IfErr result (λ fault. (fault ≡ Write) × (W.has_failed writer.new ≡ true)) }
 {
     match write_all(writer, text.as_bytes()) {

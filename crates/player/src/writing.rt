@@ -72,7 +72,7 @@ pub(crate) fn write_stopped(text: &mut String, requests: u32) -> Result<(), Allo
 }
 
 /// Appends the line of a play that the person stops, and returns that end.
-pub(crate) fn stopped(text: &mut String, requests: u32) -> Result<Option<PlayEnd>, AllocError>
+pub(crate) fn end_stopped(text: &mut String, requests: u32) -> Result<Option<PlayEnd>, AllocError>
     ensures { IfOk result (λ end. (end ≡ Some (Stopped requests))
         × (string_bytes text.new ≡ string_bytes text.old ++ stopped_line requests)) }
 {
@@ -81,7 +81,7 @@ pub(crate) fn stopped(text: &mut String, requests: u32) -> Result<Option<PlayEnd
 }
 
 /// Appends the reply to a line that is no request; the play goes on.
-pub(crate) fn refused(text: &mut String) -> Result<Option<PlayEnd>, AllocError>
+pub(crate) fn say_no_request(text: &mut String) -> Result<Option<PlayEnd>, AllocError>
     ensures { IfOk result (λ end. (end ≡ None) × (string_bytes text.new ≡ string_bytes text.old ++ no_request_line)) }
 {
     text.push_str("not a request\n")?;

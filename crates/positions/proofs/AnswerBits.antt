@@ -1,4 +1,4 @@
--- The answers of a gap as bits: of each other pebble's label those that beat it, if there is one.
+-- The answers of a gap as bits: the labels that beat the label of each other pebble that holds one.
 use Rattle.std.proofs.Common.{◌≡◌, ℕ, ◌+◌, ◌-◌, ◌/◌, ◌%◌, ◌^◌, ◌<◌, ◌≤◌, ◌↔◌, true, List, Option, length, get_or, take, sym, ap, ◌∙◌, subst, arith}
 use Rattle.std.specs.List.{All}
 use Rattle.std.proofs.lemmas.List.{take_all, take-take, length-take-le, get_or-take}
@@ -72,7 +72,7 @@ narrowed_blank board gap place rest label next words below inside blank narrowed
       );
     }
 
--- all others are looked at
+-- after all other pebbles the bits are the gap's answers
 pub answer_bits : (board : PlainBoard) (gap place rest : ℕ) (words : List ℕ) → gap < gaps board → board.pebbles - 1 ≤ place → IsNarrowed board gap place rest words
     → (x : ℕ) → x < MAX_LABELS → (has_bit words x ≡ true) ↔ IsAnswer board gap x
 answer_bits board gap place rest words below all narrowed x small =
@@ -84,7 +84,7 @@ answer_bits board gap place rest words below all narrowed x small =
       λ is. let each = answer.0 is in (narrowed.bits x small).1 (each.0, subst (All (BeatsPlace board x)) (sym whole) each.1),
     )
 
--- the smallest bit from a bound on is the smallest number from there on of which the fact holds that the bits show
+-- if bits show a fact, the smallest bit from a bound on is the smallest number from there on for which it holds
 pub smallest_bit : (P : ℕ → Type 0) (from : ℕ) (words : List ℕ) (found : Option ℕ)
     → ((x : ℕ) → x < MAX_LABELS → (has_bit words x ≡ true) ↔ P x) → ((x : ℕ) → P x → x < MAX_LABELS)
     → IsSmallest (HasBitFrom words from) found → IsSmallest (λ x. (from ≤ x) × P x) found

@@ -1,4 +1,4 @@
--- What tables show of the start holds of it.
+-- A claim that tables show holds of the start.
 use Rattle.std.proofs.Common.{ℕ, suc, List, inl, inr, arith}
 use Rattle.std.proofs.lemmas.Bool.{cases_lt}
 use Rattle.board_text.specs.PlainBoard.{PlainBoard, IsConfiguration}
@@ -15,7 +15,7 @@ use Rattle.positions.proofs.Values.{at_most_from_tree}
 use Rattle.positions.proofs.Finiteness.{some_value}
 use Rattle.positions.proofs.Tables.{tree_from_answers, tree_from_closed, tree_from_stops}
 
--- a labeller who lasts some number has that value or more
+-- a labeller that lasts a number of requests has that value or more
 at_least : (board : PlainBoard) (number : ℕ) → LabellerTree board number board.start
     → (value : Value) → HasValue board board.start value → Holds board (claims.AtLeast number)
 at_least board number lasts Forever has = inl has

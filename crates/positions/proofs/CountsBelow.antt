@@ -1,4 +1,4 @@
--- How many numbers below a bound pass a test.
+-- The count of the numbers below a bound that pass a test.
 use Rattle.std.proofs.Common.{◌≡◌, ℕ, zero, suc, ◌+◌, ◌*◌, ◌%◌, ◌^◌, ◌<◌, ◌≤◌, ◌↔◌, Bool, true, false, cond, nat_eq, List, [], ◌∷◌, ◌++◌, length, get_or, Contains, Option, Some, None, refl, sym, ap, ◌∙◌, subst, inl, inr, arith}
 use Rattle.std.specs.List.{AllPairs}
 use Rattle.std.specs.Int.{bit_at}
@@ -15,13 +15,13 @@ pub count_below : (ℕ → Bool) → ℕ → ℕ
 count_below test zero = 0
 count_below test (suc n) = count_below test n + cond (test n) 1 0
 
--- the numbers below a bound that pass a test, so many
+-- the numbers below a bound that pass a test, in ascending order; `size` is their count
 record AreMembers (test : ℕ → Bool) (bound size : ℕ) (members : List ℕ) : Type 0 where
   so_many : length members ≡ size
   ascending : AllPairs (λ first second. first < second) members
   each : (number : ℕ) → Contains members number ↔ ((number < bound) × (test number ≡ true))
 
--- ---- one bound more
+-- ---- the next bound
 
 one_more : (test : ℕ → Bool) (bound size : ℕ) (members : List ℕ) → test bound ≡ true → AreMembers test bound size members
     → AreMembers test (suc bound) (size + 1) (members ++ bound ∷ [])

@@ -6,7 +6,7 @@ use Rattle.std.proofs.lemmas.List.Elements.{All-get_or}
 use Rattle.positions.specs.Ranks.{digits_of}
 use Rattle.positions.proofs.Digits.{digits_below}
 
--- so many digits of a number
+-- the digits of a number, `count` of them
 pub record AreDigits (base count number : ℕ) (digits : List ℕ) : Type 0 where
   pub below : number < base ^ count
   pub same : digits_of base count number ≡ digits
@@ -15,7 +15,7 @@ pub record AreDigits (base count number : ℕ) (digits : List ℕ) : Type 0 wher
 abbrev pub IsRest : ℕ → ℕ → List ℕ → ℕ → ℕ → Type 0
 IsRest base count digits place rest = AreDigits base (count - place) rest (drop place digits)
 
--- the digit at the place, and the rest behind it
+-- the digit at the place, and the rest after it
 pub record IsNextRest (base count : ℕ) (digits : List ℕ) (place digit rest : ℕ) : Type 0 where
   pub digit_is : digit ≡ get_or digits place 0
   pub low : digit < base

@@ -67,7 +67,7 @@ number_of-append base (label ∷ front) back =
     add-mul (label * base ^ length front) (number_of base front) (base ^ length back) in
     omega arith
 
--- a list with a label between a front and a back
+-- the number of a list by a label, the labels before it and the labels after it
 pub number_of-between : (base : ℕ) (front : List ℕ) (label : ℕ) (back : List ℕ)
     → number_of base (front ++ label ∷ back) ≡ (number_of base front * base + label) * base ^ length back + number_of base back
 number_of-between base front label back =
@@ -77,7 +77,7 @@ number_of-between base front label back =
     let spread : (number_of base front * base + label) * base ^ length back ≡ number_of base front * base * base ^ length back + label * base ^ length back = add-mul (number_of base front * base) label (base ^ length back) in
     omega arith
 
--- a list with a label behind
+-- the number of a list with one more label at its end
 pub number_of-push : (base : ℕ) (labels : List ℕ) (label : ℕ) → number_of base (labels ++ label ∷ []) ≡ number_of base labels * base + label
 number_of-push base labels label =
     let none : base ^ 0 ≡ 1 = pow-zero base in

@@ -1,4 +1,4 @@
--- Of how many numbers a fact holds.
+-- The number of numbers for which a fact holds.
 use Rattle.std.proofs.Common.{◌≡◌, ◌≢◌, ℕ, zero, suc, ◌-◌, ◌<◌, ◌≤◌, ◌↔◌, List, [], ◌∷◌, length, get_or, Contains, refl, sym, ap, ◌∙◌, subst, inl, inr, arith}
 use Rattle.std.specs.List.{AllPairs}
 use Rattle.std.proofs.lemmas.Bool.{cases_eq, cases_lt}
@@ -13,7 +13,7 @@ IsAscending members = AllPairs (λ first second. first < second) members
 tail_ascends : (first : ℕ) (members : List ℕ) → IsAscending (first ∷ members) → IsAscending members
 tail_ascends first members ascends i j d less inside = ascends (suc i) (suc j) d (omega arith) (omega arith)
 
--- what is in a list with a first one is that one, or behind it and larger
+-- a number after the first of an ascending list is larger than the first
 behind_first : (first : ℕ) (members : List ℕ) (number : ℕ) → IsAscending (first ∷ members) → Contains members number → first < number
 behind_first first members number ascends among =
     let larger : first < get_or members among.0 number = ascends 0 (suc among.0) number (omega arith) (let inside : among.0 < length members = among.1 in omega arith) in
@@ -63,7 +63,7 @@ place_below members ascends (suc place) inside =
 
 -- ---- sizes
 
--- two facts that hold of the same numbers
+-- two facts that hold of the same numbers have the same size
 pub same_fact_size : (P Q : ℕ → Type 0) (size : ℕ) → ((number : ℕ) → P number ↔ Q number) → HasSize P size → HasSize Q size
 same_fact_size P Q size same has = record {
   members = has.members;

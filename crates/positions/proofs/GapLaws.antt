@@ -149,7 +149,7 @@ gap_of-member_of board gap label below =
 
 -- ---- answers
 
--- what a pebble may be put on doesn't depend on its own label
+-- the legal labels of a pebble don't depend on its own label
 legal_after_move : (board : PlainBoard) (configuration : List ℕ) (pebble old label : ℕ)
     → Legal board configuration pebble label ↔ Legal board (moved configuration pebble old) pebble label
 legal_after_move board configuration pebble old label = (
@@ -238,7 +238,7 @@ one_gap board first second one other antisymmetric first_is second_is answer oth
     ∙ ap (gap_of board (member_of board second other)) pebbles
     ∙ gap_of-member_of board second other second_is
 
--- a pebble dominates where its label is an answer of its gap
+-- a pebble dominates exactly if its label is an answer of its gap
 pub dominator_is_answer : (board : PlainBoard) (configuration : List ℕ) (pebble : ℕ) → IsConfiguration board configuration → pebble < board.pebbles
     → IsDominator board configuration pebble ↔ IsAnswer board (gap_of board configuration pebble) (get_or configuration pebble 0)
 dominator_is_answer board configuration pebble is inside =

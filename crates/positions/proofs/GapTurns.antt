@@ -1,4 +1,4 @@
--- How gaps are turned with the weights of a space.
+-- Gaps as numbers, by the weights of a space.
 use Rattle.std.proofs.Common.{◌≡◌, ℕ, ◌+◌, ◌-◌, ◌*◌, ◌/◌, ◌%◌, ◌^◌, ◌<◌, ◌≤◌, List, get_or, refl, sym, ap, ◌∙◌, subst, arith, mod-lt, mul-le-mul_right}
 use Rattle.std.proofs.Math.Nat.{pow-le-pow_right}
 use Rattle.board_text.specs.PlainBoard.{PlainBoard, IsBoard, places}
@@ -10,11 +10,11 @@ use Rattle.positions.specs.Inside.Weights.{AreNumbersOf, weight_of}
 use Rattle.positions.specs.declared.space.TheConstants.{MAX_CONFIGURATIONS}
 use Rattle.positions.proofs.Digits.{number_of-digits_of}
 use Rattle.positions.proofs.NumberParts.{Room, room_at, quotient, remainder}
-use Rattle.positions.proofs.Ranks.{rank_of-configuration_at, rank_below, configuration_at_is}
-use Rattle.positions.proofs.GapLaws.{positive_each, pebble_below, gap_below, others_of_gap, member_is}
+use Rattle.positions.proofs.Ranks.{rank_of-configuration_at, rank_below}
+use Rattle.positions.proofs.GapLaws.{positive_each, pebble_below, others_of_gap, member_is}
 use Rattle.positions.proofs.RankTurns.{rank_parts}
 
--- the first weight is how many gaps each pebble has
+-- the first weight is the number of gaps of each pebble
 pub first_weight : {labels pebbles size : ℕ} {words : List ℕ} (board : PlainBoard) (base : ℕ) (weights : List ℕ)
     → AreNumbersOf board labels pebbles base size weights words → get_or weights 0 0 ≡ gaps_each board
 first_weight board base weights are =
@@ -42,7 +42,7 @@ gap_divides board gap is few below =
     let product : board.pebbles * gaps_each board ≤ MAX_PEBBLES * gaps_each board = mul-le-mul_right (gaps_each board) is.pebbles.1 in
     (omega arith, omega arith)
 
--- a rank without a pebble's label, behind the pebble
+-- a pebble and a rank without the pebble's label give the number of their gap
 pub gap_is : {labels pebbles size : ℕ} {words : List ℕ} (board : PlainBoard) (base : ℕ) (weights : List ℕ) (rank pebble : ℕ)
     → AreNumbersOf board labels pebbles base size weights words → rank < configurations board → pebble < board.pebbles
     → pebble * get_or weights 0 0 + rank / get_or weights pebble 0 / base * get_or weights pebble 0 + rank % get_or weights pebble 0
@@ -62,13 +62,6 @@ gap_is board base weights rank pebble are below inside =
     let both : gap_of board (configuration_at board rank) pebble ≡ pebble * gaps_each board + (parts.before * weight + parts.behind) =
     ap (λ n. pebble * gaps_each board + n) parts.removed in
     omega arith
-
-pub gap_is_below : {labels pebbles size : ℕ} {words : List ℕ} (board : PlainBoard) (base : ℕ) (weights : List ℕ) (rank pebble : ℕ)
-    → AreNumbersOf board labels pebbles base size weights words → rank < configurations board → pebble < board.pebbles
-    → pebble * get_or weights 0 0 + rank / get_or weights pebble 0 / base * get_or weights pebble 0 + rank % get_or weights pebble 0 < gaps board
-gap_is_below board base weights rank pebble are below inside =
-    subst (λ n. n < gaps board) (sym (gap_is board base weights rank pebble are below inside))
-    (gap_below board (configuration_at board rank) pebble (configuration_at_is board rank below) inside)
 
 -- a gap's pebble, and the rank of its member with a label
 pub record IsMember (board : PlainBoard) (base each : ℕ) (weights : List ℕ) (gap label : ℕ) : Type 0 where

@@ -56,7 +56,7 @@ below_more words bound small has = record {
   ];
 }
 
--- ---- what two rows have both
+-- ---- bits that two rows share
 
 pub bit_of_both : (a b i : ℕ) → (nat_eq (bit_at (bit_and a b) i) 1 ≡ true) ↔ ((nat_eq (bit_at a i) 1 ≡ true) × (nat_eq (bit_at b i) 1 ≡ true))
 bit_of_both a b i =
@@ -72,7 +72,7 @@ bit_of_both a b i =
           eq-eqb (bit_at (bit_and a b) i) 1 (omega arith),
     )
 
--- the words that two rows have both
+-- the words of the bits that two rows share
 abbrev pub both_of : List ℕ → List ℕ → List ℕ
 both_of first second =
     bit_and (get_or first 0 0) (get_or second 0 0) ∷ bit_and (get_or first 1 0) (get_or second 1 0)
@@ -91,7 +91,7 @@ has_bit-both first second x small =
     subst (λ w. (nat_eq (bit_at w (x % 64)) 1 ≡ true) ↔ ((has_bit first x ≡ true) × (has_bit second x ≡ true))) (sym word)
     (bit_of_both (get_or first (x / 64) 0) (get_or second (x / 64) 0) (x % 64))
 
--- ---- how many bits are set
+-- ---- the number of bits that are set
 
 pub bit_of_word : (words : List ℕ) (k j : ℕ) → j < 64 → has_bit words (64 * k + j) ≡ nat_eq (bit_at (get_or words k 0) j) 1
 bit_of_word words k j small =
@@ -126,7 +126,7 @@ size_of_bits words bound count all is =
 abbrev pub NoneBefore : List ℕ → ℕ → ℕ → Type 0
 NoneBefore words bound place = (x : ℕ) → bound ≤ x → x < 64 * place → has_bit words x ≡ true → ⊥
 
--- of a word the bits from the bound on are kept
+-- a word without its bits below the bound
 abbrev pub Keeps : ℕ → ℕ → ℕ → Type 0
 Keeps bound place kept = (j : ℕ) → j < 64 → (bit_at kept j ≡ 1) ↔ (bound ≤ 64 * place + j)
 

@@ -9,12 +9,12 @@ use Rattle.std.proofs.lemmas.Nat.{le_or_l, le_or_r}
 use Rattle.std.proofs.lemmas.Nat.Bits.{bit_at-zero}
 use Rattle.board_text.specs.declared.board.TheConstants.{MAX_LABELS}
 use Rattle.board_text.specs.Domination.{has_bit}
-use Rattle.positions.specs.LabelWalk.{IsStep}
-use Rattle.positions.specs.Inside.LabelWalk.{HasCome}
+use Rattle.positions.specs.LabelWalk.{TakesSmallest}
+use Rattle.positions.specs.Inside.LabelWalk.{IsAtWord}
 use Rattle.positions.proofs.LowestBit.{none_empty, step_is}
 
 pub begins : (words : List ℕ) → length words ≡ 4
-    → HasCome words 0 (get_or words 0 0) (bit_or (bit_or (get_or words 1 0) (get_or words 2 0)) (get_or words 3 0))
+    → IsAtWord words 0 (get_or words 0 0) (bit_or (bit_or (get_or words 1 0) (get_or words 2 0)) (get_or words 3 0))
 begins words size = record {
   sized = size;
   inside = omega arith;
@@ -36,9 +36,9 @@ begins words size = record {
       ];
 }
 
--- an empty word is left behind, and the labels that are left are the same
-pub moves_on : (words : List ℕ) (place behind : ℕ) → place + 1 < 4 → HasCome words place 0 behind
-    → HasCome (set words place 0) (place + 1) (get_or (set words place 0) (place + 1) 0) behind
+-- an empty word is passed, and the rest of the labels stays the same
+pub moves_on : (words : List ℕ) (place behind : ℕ) → place + 1 < 4 → IsAtWord words place 0 behind
+    → IsAtWord (set words place 0) (place + 1) (get_or (set words place 0) (place + 1) 0) behind
 moves_on words place behind more come =
     let size = come.sized in
     let view : set (set words place 0) (place + 1) (get_or (set words place 0) (place + 1) 0) ≡ set words place 0 =
@@ -53,8 +53,8 @@ moves_on words place behind more come =
       empty = λ nothing later after few. get_or-set_other words place later 0 0 (λ same. omega arith) ∙ come.empty nothing later (omega arith) few;
     }
 
--- behind the last word that may have one no label is left
-pub none_behind : (words : List ℕ) (place behind : ℕ) → HasCome words place 0 behind → (behind ≡ 0) ⊎ (place + 1 ≡ 4)
+-- after the last word that may have a label, none is left
+pub none_behind : (words : List ℕ) (place behind : ℕ) → IsAtWord words place 0 behind → (behind ≡ 0) ⊎ (place + 1 ≡ 4)
     → (label : ℕ) → label < MAX_LABELS → has_bit (set words place 0) label ≡ true → ⊥
 none_behind words place behind come last label small bit = elim (cases_lt label (64 * place)) [
   | inl before ↦ come.none label before bit
@@ -75,8 +75,8 @@ none_behind words place behind come last label small bit = elim (cases_lt label 
 ]
 
 -- the lowest bit of the word is taken out
-pub takes_lowest : (words : List ℕ) (place word behind from : ℕ) → 0 < word → word < 2 ^ 64 → HasCome words place word behind
-    → IsStep (record { left = set words place word; from = from })
+pub takes_lowest : (words : List ℕ) (place word behind from : ℕ) → 0 < word → word < 2 ^ 64 → IsAtWord words place word behind
+    → TakesSmallest (record { left = set words place word; from = from })
     (record { left = set words place (bit_and word (word - 1)); from = 64 * place + trailing_zeros w64 word + 1 }) (64 * place + trailing_zeros w64 word)
 takes_lowest words place word behind from some fits come =
     let size = come.sized in
@@ -88,10 +88,10 @@ takes_lowest words place word behind from some fits come =
     let new : set (set words place word) place (bit_and (get_or (set words place word) place 0) (get_or (set words place word) place 0 - 1))
     ≡ set words place (bit_and word (word - 1)) =
     ap (λ (w : ℕ). set (set words place word) place (bit_and w (w - 1))) here ∙ set-set words place word (bit_and word (word - 1)) in
-    subst (λ (ws : List ℕ). IsStep (record { left = set words place word; from = from }) (record { left = ws; from = label + 1 }) label) new step
+    subst (λ (ws : List ℕ). TakesSmallest (record { left = set words place word; from = from }) (record { left = ws; from = label + 1 }) label) new step
 
-pub still_come : (words : List ℕ) (place word behind from : ℕ) → 0 < word → word < 2 ^ 64 → HasCome words place word behind
-    → HasCome words place (bit_and word (word - 1)) behind
+pub still_come : (words : List ℕ) (place word behind from : ℕ) → 0 < word → word < 2 ^ 64 → IsAtWord words place word behind
+    → IsAtWord words place (bit_and word (word - 1)) behind
 still_come words place word behind from some fits come = record {
   sized = come.sized;
   inside = come.inside;

@@ -5,10 +5,10 @@ use Rattle.std.proofs.lemmas.Bool.{cases_eq, cases_lt, cases_order, eqb-true, eq
 use Rattle.std.proofs.lemmas.List.{get_or-set_same, get_or-set_other}
 use Rattle.std.proofs.lemmas.Nat.Bits.{bit_at-suc, bit_at_lowest, bit_at-zero, bit_at-trailing_zeros}
 use Rattle.board_text.specs.Domination.{has_bit}
-use Rattle.positions.specs.LabelWalk.{IsStep}
+use Rattle.positions.specs.LabelWalk.{TakesSmallest}
 use Rattle.positions.proofs.LabelBits.{NoneBefore, bit_of_both, bit_of_word}
 
--- one less has no bit where the lowest is
+-- the number less 1 has no bit at the place of the lowest
 pred_same : (n k : ℕ) → 0 < n → bit_at n k ≡ 1 → ((i : ℕ) → i < k → bit_at n i ≡ 0) → bit_at (n - 1) k ≡ 0
 pred_same n zero some set none =
     let odd : n % 2 ≡ 1 = sym (bit_at_lowest n) ∙ set in
@@ -19,7 +19,7 @@ pred_same n (suc k) some set none =
     bit_at-suc (n - 1) k ∙ ap (λ (m : ℕ). bit_at m k) half
     ∙ pred_same (n / 2) k (omega arith) (sym (bit_at-suc n k) ∙ set) (λ i low. sym (bit_at-suc n i) ∙ none (suc i) (omega arith))
 
--- and the same bits above
+-- and has the same bits above it
 pred_above : (n k j : ℕ) → 0 < n → bit_at n k ≡ 1 → ((i : ℕ) → i < k → bit_at n i ≡ 0) → k < j → bit_at (n - 1) j ≡ bit_at n j
 pred_above n k zero some set none above = absurd (omega arith)
 pred_above n zero (suc j) some set none above =
@@ -33,7 +33,7 @@ pred_above n (suc k) (suc j) some set none above =
     ∙ pred_above (n / 2) k j (omega arith) (sym (bit_at-suc n k) ∙ set) (λ i low. sym (bit_at-suc n i) ∙ none (suc i) (omega arith)) (omega arith)
     ∙ sym (bit_at-suc n j)
 
--- the bits of a number and of one less are those above the lowest
+-- the bits that a number shares with the number less 1 are those above its lowest
 both_above : (n k j : ℕ) → 0 < n → bit_at n k ≡ 1 → ((i : ℕ) → i < k → bit_at n i ≡ 0)
     → (nat_eq (bit_at (bit_and n (n - 1)) j) 1 ≡ true) ↔ ((nat_eq (bit_at n j) 1 ≡ true) × (k < j))
 both_above n k j some set none = (
@@ -69,7 +69,7 @@ none_empty words place empty none x above low set = elim (cases_lt x (64 * place
 -- the first bit of the first word that has one is taken out
 pub step_is : (words : List ℕ) (place label from : ℕ) → length words ≡ 4 → place < 4 → 0 < get_or words place 0 → get_or words place 0 < 2 ^ 64 → NoneBefore words 0 place
     → label ≡ 64 * place + trailing_zeros w64 (get_or words place 0)
-    → IsStep (record { left = words; from = from }) (record { left = set words place (bit_and (get_or words place 0) (get_or words place 0 - 1)); from = label + 1 }) label
+    → TakesSmallest (record { left = words; from = from }) (record { left = set words place (bit_and (get_or words place 0) (get_or words place 0 - 1)); from = label + 1 }) label
 step_is words place label from size inside some fits none label_is =
     let word : ℕ = get_or words place 0 in
     let lowest : ℕ = trailing_zeros w64 word in

@@ -10,13 +10,13 @@ use Rattle.positions.specs.Inside.Weights.{AreNumbersOf, weight_of}
 use Rattle.positions.proofs.GapLaws.{positive_each, pebble_below}
 use Rattle.positions.proofs.GapTurns.{first_weight, member_is_rank}
 
--- a number with less than the rest of a part added
+-- an addend below the rest of the part changes only the last remainder
 pub record IsBehind (each part number more : ℕ) : Type 0 where
   pub whole : (number + more) / each ≡ number / each
   pub quotient : (number + more) % each / part ≡ number % each / part
   pub remainder : (number + more) % each % part ≡ number % each % part + more
 
--- in a whole of so many parts
+-- this holds if the whole is a multiple of the part
 pub behind : (each part parts number more : ℕ) → 0 < part → 0 < each → each ≡ parts * part → more < part - number % each % part → IsBehind each part number more
 behind each part parts number more some any whole_is less =
     let p : ℕ = number / each in
@@ -39,7 +39,7 @@ behind each part parts number more some any whole_is less =
       remainder = ap (λ n. n % part) rest ∙ mod-mul-add q part (r + more) near;
     }
 
--- what the gaps behind a gap have, up to the end of its run
+-- in a run of gaps the rank of each member grows by 1 from gap to gap
 pub record IsRun (board : PlainBoard) (gap run : ℕ) : Type 0 where
   pub some : 0 < run
   pub inside : gap + run ≤ gaps board

@@ -1,4 +1,4 @@
--- A list of labels as a number: what is before a place, the label there, and what is behind.
+-- A list of labels as a number: the part before a place, the label there, and the part after it.
 use Rattle.std.proofs.Common.{◌≡◌, ℕ, suc, ◌+◌, ◌-◌, ◌*◌, ◌/◌, ◌%◌, ◌^◌, ◌<◌, ◌≤◌, List, ◌∷◌, ◌++◌, length, get_or, take, drop, set, sym, ap, ◌∙◌, subst, arith}
 use Rattle.std.proofs.Math.Seq.{drop-cons}
 use Rattle.std.proofs.lemmas.Nat.{div-mul-add, mod-mul-add}
@@ -8,7 +8,7 @@ use Rattle.std.proofs.lemmas.List.Elements.{All-get_or, All-drop}
 use Rattle.positions.specs.Ranks.{number_of}
 use Rattle.positions.proofs.Digits.{number_below, number_of-append, number_of-between}
 
--- the number of a list by a place, whose label weighs so much: with that label, with another one, and without one
+-- the number of a list by a place and the weight there: with that label, with another one, and without one
 pub record Parts (base : ℕ) (labels : List ℕ) (place weight : ℕ) : Type 0 where
   pub before : ℕ
   pub behind : ℕ

@@ -1,4 +1,4 @@
--- How the weights of the pebbles are found, from the last pebble to the first.
+-- The weights of the pebbles, computed from the last pebble to the first.
 use Rattle.std.proofs.Common.{◌≡◌, ℕ, suc, ◌+◌, ◌-◌, ◌*◌, ◌^◌, ◌<◌, ◌≤◌, List, length, get_or, set, sym, ap, ◌∙◌, inl, inr, arith}
 use Rattle.std.proofs.Math.Nat.{pow-suc, pow-le-pow_left, pow-le-pow_right}
 use Rattle.std.proofs.lemmas.Bool.{cases_eq}
@@ -23,32 +23,26 @@ next_power board pebble next inside power =
     let one_more : suc (board.pebbles - (pebble + 1)) ≡ board.pebbles - pebble = omega arith in
     ap (λ n. n * places board) power ∙ sym (pow-suc (places board) (board.pebbles - (pebble + 1))) ∙ ap (λ n. places board ^ n) one_more
 
-pub weighed_more : (board : PlainBoard) (weights : List ℕ) (pebble next : ℕ) → IsBoard board → pebble < board.pebbles → next * places board ≤ MAX_CONFIGURATIONS
+-- each power is one of a board with few configurations
+pub weighed_more : (board : PlainBoard) (weights : List ℕ) (pebble next : ℕ) → IsBoard board
+    → configurations board ≤ MAX_CONFIGURATIONS → pebble < board.pebbles
     → IsWeighed board weights (pebble + 1) next → IsWeighed board (set weights pebble next) pebble (next * places board)
-weighed_more board weights pebble next is inside few weighed =
+weighed_more board weights pebble next is few inside weighed =
     let six : length weights ≡ MAX_PEBBLES = weighed.six in
-    let most : board.pebbles ≤ MAX_PEBBLES = is.pebbles.1 in
-    let within : pebble < length weights = omega arith in
+    let within : pebble < length weights = omega (arith, is.pebbles.1) in
     let left : board.pebbles - (pebble + 1) ≡ board.pebbles - 1 - pebble = omega arith in
+    let power = next_power board pebble next inside weighed.power in
+    let most : places board ^ (board.pebbles - pebble) ≤ configurations board = pow-le-pow_right (some_places board is) (omega arith) in
     record {
       six = length-set weights pebble next ∙ six;
-      few = few;
-      power = next_power board pebble next inside weighed.power;
+      few = omega arith;
+      power = power;
       weighs = λ other from below. elim (cases_eq other pebble) [
         | inl same ↦ ap (λ n. get_or (set weights pebble next) n 0) same ∙ get_or-set_same weights pebble next 0 within ∙ weighed.power
             ∙ ap (λ n. places board ^ n) left ∙ ap (weight_of board) (sym same)
         | inr differ ↦ get_or-set_other weights pebble other next 0 differ ∙ weighed.weighs other (omega arith) below
       ];
     }
-
--- each power is one of a board with few configurations
-pub weighed_few : (board : PlainBoard) (weights : List ℕ) (pebble next : ℕ) → IsBoard board
-    → configurations board ≤ MAX_CONFIGURATIONS → pebble < board.pebbles → IsWeighed board weights (pebble + 1) next
-    → next * places board ≤ MAX_CONFIGURATIONS
-weighed_few board weights pebble next is few inside weighed =
-    let power : next * places board ≡ places board ^ (board.pebbles - pebble) = next_power board pebble next inside weighed.power in
-    let most : places board ^ (board.pebbles - pebble) ≤ configurations board = pow-le-pow_right (some_places board is) (omega arith) in
-    omega arith
 
 -- the number of configurations of any board has eight bytes
 pub fits_power : (board : PlainBoard) → IsBoard board → configurations board < 2 ^ 64

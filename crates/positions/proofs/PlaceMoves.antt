@@ -13,7 +13,7 @@ use Rattle.positions.proofs.Configurations.{moved_is_configuration}
 use Rattle.positions.proofs.NumberParts.{Parts, parts_at}
 use Rattle.positions.proofs.Ranks.{rank_below, rank_of-configuration_at, configuration_at_is}
 
--- the label beats what the pebbles before a bound hold, but for one of them
+-- the label beats the labels of all pebbles below a bound, but for one of them
 abbrev pub BeatsOthers : PlainBoard → List ℕ → ℕ → ℕ → ℕ → Type 0
 BeatsOthers board held pebble bound label = (other : ℕ) → other < bound → other ≢ pebble → BeatsPlace board label (get_or held other 0)
 
@@ -45,14 +45,14 @@ beating_same board held words pebble bound blank are label small = (
 )
 
 module _ (position : Position) (board space : PlainBoard) (rank : ℕ) (held : List ℕ) (is : position_at board rank ≡ position) (has : HasPlaces board space rank held) where
-  -- a label is legal that beats all other pebbles
+  -- a label is legal exactly if it beats the labels of all other pebbles
   pub legal_is : (pebble label : ℕ) → ((label < board.labels) × BeatsOthers board held pebble board.pebbles label) ↔ Legal position.board position.configuration pebble label
   legal_is pebble label = subst (λ p. ((label < board.labels) × BeatsOthers board held pebble board.pebbles label) ↔ Legal p.board p.configuration pebble label) is (
     λ beats. record { is_label = beats.0; dominates = λ other inside differs. subst (BeatsPlace board label) (has.each other inside) (beats.1 other inside differs) },
     λ legal. (legal.is_label, λ other inside differs. subst (BeatsPlace board label) (sym (has.each other inside)) (legal.dominates other inside differs)),
   )
 
-  -- a pebble dominates whose label is legal where it is
+  -- a pebble dominates exactly if its own label is legal for it
   pub dominator_is : (pebble : ℕ) → pebble < position.board.pebbles → Legal position.board position.configuration pebble (get_or held pebble 0) ↔ IsDominator position.board position.configuration pebble
   dominator_is pebble inside =
       let there : pebble < board.pebbles = subst (λ p. pebble < p.board.pebbles) (sym is) inside in
@@ -67,7 +67,7 @@ module _ (position : Position) (board space : PlainBoard) (rank : ℕ) (held : L
       let most : board.pebbles ≤ MAX_PEBBLES = has.is_board.pebbles.1 in
       omega arith
 
-  -- what a label adds to the rank without the pebble's place
+  -- the rank of a move to a label: the rank without the pebble's place, and the label times the weight
   pub record IsLine (pebble weight : ℕ) : Type 0 where
     pub held_below : get_or held pebble 0 * weight ≤ rank
     pub ranks : (label : ℕ) → label < position.board.labels → rank - get_or held pebble 0 * weight + label * weight ≡ rank_of position.board (moved position.configuration pebble label)

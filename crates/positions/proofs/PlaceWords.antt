@@ -1,4 +1,4 @@
--- Places that are written one behind the other.
+-- Places that are written one after the other.
 use Rattle.std.proofs.Common.{◌≡◌, ℕ, ◌+◌, ◌<◌, ◌≤◌, List, [], ◌∷◌, ◌++◌, length, map, take, slice_index, sym, ap, ◌∙◌}
 use Rattle.std.proofs.lemmas.List.{take_more, take_all, flat_map_more, map-append}
 use Rattle.board_text.specs.Numerals.{spaced_texts}

@@ -31,7 +31,7 @@ near_of by factor number is few =
 pub quotient_is : (product quotient : ℕ) → IsNear product quotient → product / 8796093022208 ≡ quotient
 quotient_is product quotient is = (let least = is.least in let below = is.below in omega arith)
 
--- a number that the divisor is not often in
+-- if a number is at most a multiple of the divisor, its quotient is at most that factor
 pub few_times : (by number most : ℕ) → 0 < by → number ≤ most * by → number / by ≤ most
 few_times by number most some many = elim (cases_lt most (number / by)) [
   | inl more ↦

@@ -16,14 +16,14 @@ smaller_first base first second ones others each same less =
     let more : suc first * base ^ length ones ≡ first * base ^ length ones + base ^ length ones = suc-mul first (base ^ length ones) in
     omega arith
 
--- the same first label
+-- equal first labels weigh the same
 same_first : (base first second : ℕ) (ones others : List ℕ) → length ones ≡ length others → first ≡ second
     → first * base ^ length ones ≡ second * base ^ length others
 same_first base first second ones others size same = ap (λ n. n * base ^ length ones) same ∙ ap (λ n. second * base ^ n) size
 
 pub smaller_number : (base : ℕ) (ones others : List ℕ) → All (λ label. label < base) ones → length ones ≡ length others → ComesBefore ones others
     → number_of base ones < number_of base others
-smaller_number base ones others each same before = at before.place ones others each same before.same_before before.smaller_there
+smaller_number base ones others each same before = at before.index ones others each same before.same_before before.smaller_there
   where
     at : (place : ℕ) (ones others : List ℕ) → All (λ label. label < base) ones → length ones ≡ length others → take place ones ≡ take place others
         → get_or ones place 0 < get_or others place 0 → number_of base ones < number_of base others
@@ -48,12 +48,12 @@ comes_before base (first ∷ ones) [] each same less = absurd (omega arith)
 comes_before base (first ∷ ones) (second ∷ others) each same less =
     let size : length ones ≡ length others = omega arith in
     elim (cases_lt first second) [
-      | inl smaller ↦ record { place = 0; same_before = refl; smaller_there = smaller }
+      | inl smaller ↦ record { index = 0; same_before = refl; smaller_there = smaller }
       | inr larger ↦ elim (cases_eq first second) [
         | inl equal ↦
             let high : first * base ^ length ones ≡ second * base ^ length others = same_first base first second ones others size equal in
             let rest = comes_before base ones others (All-tail (λ l. l < base) second others each) size (omega arith) in
-            record { place = suc rest.place; same_before = (λ i. equal i ∷ rest.same_before i); smaller_there = rest.smaller_there }
+            record { index = suc rest.index; same_before = (λ i. equal i ∷ rest.same_before i); smaller_there = rest.smaller_there }
         | inr differ ↦
             let other : number_of base (second ∷ others) < number_of base (first ∷ ones) =
             smaller_first base second first others ones (All-tail (λ l. l < base) second others each) (sym size) (omega arith) in

@@ -1,4 +1,4 @@
--- How ranks are turned with the weights of a space.
+-- Ranks as numbers, by the weights of a space.
 use Rattle.std.proofs.Common.{◌≡◌, ℕ, ◌+◌, ◌-◌, ◌*◌, ◌/◌, ◌%◌, ◌^◌, ◌<◌, ◌≤◌, List, [], ◌∷◌, ◌++◌, length, get_or, take, refl, sym, ap, ◌∙◌, subst, arith}
 use Rattle.std.proofs.Math.Nat.{one-le-pow, pow-le-pow_right}
 use Rattle.std.proofs.lemmas.List.{take_more, length-take-le, take_all}
@@ -22,8 +22,7 @@ pub weight_positive : {labels pebbles size : ℕ} {words : List ℕ} (board : Pl
 weight_positive board base weights pebble are inside =
     subst (λ w. 0 < w) (sym (are.weighs pebble inside)) (one-le-pow (board.pebbles - 1 - pebble) (places board) (some_places board are.is_board))
 
--- the parts of a rank by a pebble, with its weight
--- the weight of a pebble, whatever is read where there is none
+-- the weight of a pebble is read alike with any default
 pub read_weight : {labels pebbles size : ℕ} {words : List ℕ} (board : PlainBoard) (base : ℕ) (weights : List ℕ) (pebble none : ℕ)
     → AreNumbersOf board labels pebbles base size weights words → length weights ≡ MAX_PEBBLES → pebble < board.pebbles → get_or weights pebble none ≡ get_or weights pebble 0
 read_weight board base weights pebble none are six inside = get_or_default weights pebble none 0 (omega (arith, six, are.is_board.pebbles.1))

@@ -16,8 +16,8 @@ use Rattle.positions.specs.Tuples.{tuple_of}
 use Rattle.positions.proofs.Digits.{length-digits_of}
 use Rattle.positions.proofs.GapLaws.{pebble_below, answer_beats_others}
 
--- a pebble of the second configuration has the place of the pebble `to` of it at the first, and
--- `from` turns `to` back
+-- each pebble of the second configuration has the place that `to` of it has at the first, and
+-- `from` is the inverse of `to`
 pub record AreRearranged (board : PlainBoard) (to from : ℕ → ℕ) (first second : List ℕ) : Type 0 where
   pub first_size : length first ≡ board.pebbles
   pub second_size : length second ≡ board.pebbles
@@ -35,7 +35,7 @@ module _ (board : PlainBoard) (to from : ℕ → ℕ) where
     to_other : (other : ℕ) → other < board.pebbles → other ≢ pebble → to other ≢ to pebble
     to_other other low differs same = differs (sym (are.from_to other low) ∙ ap from same ∙ are.from_to pebble inside)
 
-    -- a label is legal for a pebble exactly if it is for the one in whose place it stands
+    -- a label is legal for a pebble exactly if it is legal for the pebble that has its place at the first
     legal_there : Legal board first (to pebble) label → Legal board second pebble label
     legal_there legal = record {
       is_label = legal.is_label;
@@ -113,17 +113,17 @@ module _ (board : PlainBoard) (to from : ℕ → ℕ) where
       (labeller_too depth first second are has.0, adversary_too (suc depth) first second are has.1)
   value_too first second are Forever has = λ depth. labeller_too depth first second are (has depth)
 
--- ---- a place put in among others at two places
+-- ---- one more place, inserted among others at two places
 
--- the place of the k-th of the others, if one more stands at p
+-- the place of the k-th of the others, if one more is inserted at p
 abbrev place_beside : ℕ → ℕ → ℕ
 place_beside p k = k + (1 - (p - k))
 
--- which of the others stands at the place i, if one more stands at p
+-- the number of the other at the place i, if one more is inserted at p
 abbrev index_beside : ℕ → ℕ → ℕ
 index_beside p i = i - (1 - (p - i))
 
--- the place of the same, if one more stands at p instead of q
+-- the place of the one at i, if the inserted one moves from q to p
 abbrev shifted : ℕ → ℕ → ℕ → ℕ
 shifted p q i = cond (nat_eq i q) p (place_beside p (index_beside q i))
 

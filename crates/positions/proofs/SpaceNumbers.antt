@@ -1,4 +1,4 @@
--- What a space keeps, of the board that contracts see.
+-- The numbers of a space, by the board that contracts see.
 use Rattle.std.proofs.Common.{◌≡◌, subst}
 use Rattle.board_text.specs.PlainBoard.{PlainBoard}
 use Rattle.positions.specs.declared.space.Space.TheInside.{Inside}

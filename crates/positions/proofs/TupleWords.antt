@@ -30,7 +30,7 @@ bit_of_word row number bit small =
       λ is. same ∙ eq-eqb (bit_at (get_or row number 0) bit) 1 is,
     )
 
--- the bits that two words have both
+-- the bits that two words share
 pub bit_of_both_words : (first second bit : ℕ) → (bit_at (bit_and first second) bit ≡ 1) ↔ ((bit_at first bit ≡ 1) × (bit_at second bit ≡ 1))
 bit_of_both_words first second bit =
     let same : bit_at (bit_and first second) bit ≡ min (bit_at first bit) (bit_at second bit) = bit_at_and first second bit in
@@ -38,11 +38,11 @@ bit_of_both_words first second bit =
     let other : bit_at second bit < 2 = bit_at-lt second bit in
     (λ both. (omega arith, omega arith), λ each. (let left = each.0 in let right = each.1 in omega arith))
 
--- the labels of a column
+-- the word has the bits of the labels of a column
 abbrev pub IsEvery : PlainBoard → ℕ → ℕ → Type 0
 IsEvery board number word = (bit : ℕ) → bit < 64 → (bit_at word bit ≡ 1) ↔ (64 * number + bit < board.labels)
 
--- the labels of a column that dominate what a place holds
+-- the labels of a column that dominate the label of a place, or all if it holds none
 abbrev pub BeatsOne : PlainBoard → ℕ → ℕ → ℕ → Type 0
 BeatsOne board number place word = (bit : ℕ) → bit < 64 → (bit_at word bit ≡ 1) ↔ ((64 * number + bit < board.labels) × BeatsPlace board (64 * number + bit) place)
 
@@ -54,7 +54,7 @@ word_of_every board number every inside labels bit small = (
   λ less. (bit_of_word every number bit small).0 ((labels (64 * number + bit) (omega arith)).1 less),
 )
 
--- those of a column's labels that dominate a label
+-- the labels of a column that dominate a label
 pub beating_label : (board : PlainBoard) (number place every : ℕ) (row : List ℕ) → number < 4 → place < board.labels → IsEvery board number every
     → ((x : ℕ) → x < MAX_LABELS → (has_bit row x ≡ true) ↔ Beats board x place) → BeatsOne board number place (bit_and every (get_or row number 0))
 beating_label board number place every row inside held labels beats bit small = (
@@ -74,7 +74,7 @@ beating_blank board number place every none labels bit small = (
   λ is. (labels bit small).1 is.0,
 )
 
--- without places each label will do
+-- without places each label dominates
 pub no_places : (board : PlainBoard) (number every : ℕ) (words : List ℕ) → words ≡ every ∷ [] → IsEvery board number every → AreAllWords board number 0 words
 no_places board number every words is labels = subst (AreAllWords board number 0) (sym is) (record {
   each = λ tuple inside.
@@ -100,7 +100,7 @@ one_more_place board number held word beating place before beats bit small = (
   ),
 )
 
--- one more word
+-- one more word of the tuples with one more place
 pub one_more_word : (board : PlainBoard) (number count : ℕ) (fewer more : List ℕ) (place at beating : ℕ)
     → AreAllWords board number count fewer → AreTupleWords board number (suc count) more → length more ≡ place * length fewer + at → at < length fewer
     → BeatsOne board number place beating → AreTupleWords board number (suc count) (more ++ bit_and (get_or fewer at 0) beating ∷ [])
@@ -124,7 +124,7 @@ one_more_word board number count fewer more place at beating all so_far size ins
   new : ℕ
   new = bit_and (get_or fewer at 0) beating
 
--- all places have come first
+-- the words for one more place are whole after all places
 pub all_places : (board : PlainBoard) (number count : ℕ) (fewer more : List ℕ) → AreAllWords board number count fewer → AreTupleWords board number (suc count) more
     → length more ≡ places board * length fewer → AreAllWords board number (suc count) more
 all_places board number count fewer more all words size = record {

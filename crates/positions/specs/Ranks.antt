@@ -24,8 +24,8 @@ rank_of board configuration = number_of (places board) configuration
 abbrev pub configuration_at : PlainBoard → ℕ → List ℕ
 configuration_at board rank = digits_of (places board) board.pebbles rank
 
--- two lists agree before some place, and at that place the first has the smaller number
+-- two lists agree before some index, and at that index the first has the smaller number
 pub record ComesBefore (first second : List ℕ) : Type 0 where
-  pub place : ℕ
-  pub same_before : take place first ≡ take place second
-  pub smaller_there : slice_index first place < slice_index second place
+  pub index : ℕ
+  pub same_before : take index first ≡ take index second
+  pub smaller_there : slice_index first index < slice_index second index

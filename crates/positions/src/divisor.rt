@@ -1,4 +1,4 @@
-//! Division by a number that many numbers are divided by.
+//! Division of many numbers by one, without a division for each.
 
 ghost use Rattle.std.specs.Prelude.{◌≡◌, ◌*◌, ◌/◌, ◌%◌, ◌<◌, ◌≤◌};
 

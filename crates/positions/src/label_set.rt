@@ -104,11 +104,11 @@ impl LabelSet {
     {
         let bound = bound as usize;
         // Each word has its own step, so that the words can be kept in registers.
-        for place in 0..ROW_WORDS {
-            if bound < 64 * place + 64 {
-                let word = self.words[place] & bits_from(bound, place);
+        for number in 0..ROW_WORDS {
+            if bound < 64 * number + 64 {
+                let word = self.words[number] & bits_from(bound, number);
                 if word != 0 {
-                    return Some((64 * place) as u16 + word.trailing_zeros() as u16);
+                    return Some((64 * number) as u16 + word.trailing_zeros() as u16);
                 }
             }
         }
@@ -116,13 +116,13 @@ impl LabelSet {
     }
 }
 
-/// A mask of the bits of word `place` whose labels are at least `bound`.
-fn bits_from(bound: usize, place: usize) -> u64
-    requires word { place < ROW_WORDS }
-    requires bound { bound < 64 * place + 64 }
-    ensures { (bit : ℕ) → bit < 64 → (bit_at result bit ≡ 1) ↔ (bound ≤ 64 * place + bit) }
+/// A mask of the bits of word `number` whose labels are at least `bound`.
+fn bits_from(bound: usize, number: usize) -> u64
+    requires word { number < ROW_WORDS }
+    requires bound { bound < 64 * number + 64 }
+    ensures { (bit : ℕ) → bit < 64 → (bit_at result bit ≡ 1) ↔ (bound ≤ 64 * number + bit) }
 {
-    if bound <= 64 * place {
+    if bound <= 64 * number {
         u64::MAX
     } else {
         u64::MAX << (bound % 64)

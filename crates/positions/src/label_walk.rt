@@ -2,7 +2,7 @@
 
 ghost use Rattle.std.specs.Prelude.{◌≡◌, ℕ, ◌<◌, true, MatchOption};
 ghost use Rattle.board_text.specs.Domination.{has_bit};
-ghost use Rattle.positions.specs.LabelWalk.{IsStep};
+ghost use Rattle.positions.specs.LabelWalk.{TakesSmallest};
 
 use board_text::{MAX_LABELS, ROW_WORDS};
 use std::marker::Model;
@@ -13,25 +13,25 @@ use std::marker::Model;
 #[derive(Drop)]
 pub struct LabelWalk {
     words: [u64; ROW_WORDS],
-    /// The place of the word that the walk has come to.
-    place: usize,
+    /// The number of the word that the walk is at.
+    number: usize,
     /// The remaining bits of that word, which replace those in `words`.
     word: u64,
     /// 0 only if all words after the first are 0.
-    behind: u64,
+    later: u64,
     from: u16,
 }
 
 impl Model for LabelWalk {
     ghost use Rattle.std.specs.Prelude.{slice_set};
     ghost use Rattle.positions.specs.LabelWalk.{Walk};
-    ghost use Rattle.positions.specs.Inside.LabelWalk.{HasCome};
+    ghost use Rattle.positions.specs.Inside.LabelWalk.{IsAtWord};
 
     ghost Value = { Walk };
 
-    ghost view = { λ w. record { left = slice_set w.words w.place w.word; from = w.from } };
+    ghost view = { λ w. record { left = slice_set w.words w.number w.word; from = w.from } };
 
-    ghost invariant = { λ w. HasCome w.words w.place w.word w.behind };
+    ghost invariant = { λ w. IsAtWord w.words w.number w.word w.later };
 }
 
 impl LabelWalk {
@@ -41,9 +41,9 @@ impl LabelWalk {
     {
         LabelWalk {
             words,
-            place: 0,
+            number: 0,
             word: words[0],
-            behind: words[1] | words[2] | words[3],
+            later: words[1] | words[2] | words[3],
             from: 0,
         }
     }
@@ -51,17 +51,17 @@ impl LabelWalk {
     /// The next label, if one is left.
     pub fn take_next(&mut self) -> Option<u16>
         ensures { MatchOption result ((label : ℕ) → label < MAX_LABELS → has_bit self.old.left label ≡ true → ⊥)
-            (IsStep self.old self.new) }
+            (TakesSmallest self.old self.new) }
     {
         while self.word == 0 {
-            if self.behind == 0 || self.place + 1 == ROW_WORDS {
+            if self.later == 0 || self.number + 1 == ROW_WORDS {
                 return None;
             }
-            self.words[self.place] = 0;
-            self.place += 1;
-            self.word = self.words[self.place];
+            self.words[self.number] = 0;
+            self.number += 1;
+            self.word = self.words[self.number];
         }
-        let label = (64 * self.place) as u16 + self.word.trailing_zeros() as u16;
+        let label = (64 * self.number) as u16 + self.word.trailing_zeros() as u16;
         self.word &= self.word - 1;
         self.from = label + 1;
         Some(label)

@@ -2,12 +2,12 @@
 
 ghost use Rattle.std.specs.Prelude.{◌≡◌, ℕ, suc, ◌<◌, ◌≤◌, ◌↔◌, List, slice_index};
 ghost use Rattle.board_text.specs.PlainBoard.{PlainBoard, IsAntisymmetric, IsConfiguration};
-ghost use Rattle.positions.specs.declared.value.Value.{Value as Worth};
+ghost use Rattle.positions.specs.declared.value.Value.{Value as ValueData};
 ghost use Rattle.positions.specs.Game.{LabellerTree, AdversaryTree};
 ghost use Rattle.positions.specs.Gaps.{IsDominator};
 ghost use Rattle.positions.specs.Value.{HasValue, HasValueAtMost};
 ghost use Rattle.positions.specs.Table.{AnswerRow, RequestRow, Answers, IsClosed, IsListed, StopsAfter};
-ghost use Rattle.positions.specs.declared.claim.Claim.{Claim as Assertion};
+ghost use Rattle.positions.specs.declared.claim.Claim.{Claim as ClaimData};
 ghost use Rattle.positions.specs.Claim.{Shows, Holds};
 ghost use Rattle.positions.specs.Laws.{HasOneTree, HasOneValue, LastsLess, HasRequestTo, Occurs};
 
@@ -32,7 +32,8 @@ pub fn values_by_requests()
 
 /// No configuration has two values.
 pub fn one_value_at_most()
-    ensures { (board : PlainBoard) → (configuration : List ℕ) → (first : Worth) → (second : Worth)
+    ensures { (board : PlainBoard) → (configuration : List ℕ) → (first : ValueData)
+        → (second : ValueData)
         → HasValue board configuration first → HasValue board configuration second → first ≡ second }
 {}
 
@@ -63,7 +64,7 @@ pub fn one_dominator()
 
 /// A claim that tables show holds.
 pub fn shown_claims_hold()
-    ensures { (board : PlainBoard) → (labeller : List AnswerRow) → (adversary : List RequestRow) → (claim : Assertion)
+    ensures { (board : PlainBoard) → (labeller : List AnswerRow) → (adversary : List RequestRow) → (claim : ClaimData)
         → IsConfiguration board board.start → Shows board labeller adversary claim → Holds board claim }
 {}
 

@@ -3,7 +3,7 @@
 ghost use Rattle.std.specs.Prelude.{◌≡◌, ℕ, ◌<◌, ◌↔◌, List, slice_index};
 ghost use Rattle.board_text.specs.PlainBoard.{PlainBoard, IsAntisymmetric, IsConfiguration, places};
 ghost use Rattle.positions.specs.Game.{Legal, moved};
-ghost use Rattle.positions.specs.declared.value.Value.{Value as Worth};
+ghost use Rattle.positions.specs.declared.value.Value.{Value as ValueData};
 ghost use Rattle.positions.specs.Gaps.{gaps, gap_of, pebble_of, member_of, IsAnswer, IsDominator};
 ghost use Rattle.positions.specs.Tuples.{tuple_of};
 ghost use Rattle.positions.specs.Value.{HasValue};
@@ -55,7 +55,7 @@ pub fn pebbles_are_alike()
         → first < gaps board → second < gaps board → tuple_of board first ≡ tuple_of board second
         → IsAnswer board first label → IsAnswer board second label }
     ensures values { (board : PlainBoard) → (first : ℕ) → (second : ℕ) → (place : ℕ)
-        → (value : Worth) → first < gaps board → second < gaps board
+        → (value : ValueData) → first < gaps board → second < gaps board
         → tuple_of board first ≡ tuple_of board second
         → HasValue board (member_of board first place) value
         → HasValue board (member_of board second place) value }

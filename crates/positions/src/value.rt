@@ -1,3 +1,5 @@
+//! The value of a configuration.
+
 /// The number of requests that a labeller can answer from a configuration against every adversary.
 #[derive(Clone, Copy, Debug, PartialEq, Eq, PartialOrd, Ord)]
 pub enum Value {

@@ -11,7 +11,7 @@ use Rattle.proof_text.specs.Rules.{MeetsAnswers, AdversaryObeys, IsListedBelow}
 use Rattle.proof_check.proofs.FirstRows.{AreApart, find-the}
 
 module _ (board : PlainBoard) (rows : List RequestRow) (apart : AreApart (λ r. r.at) rows) (pebbles : All (λ (r : RequestRow). r.request < board.pebbles) rows) (obeys : AdversaryObeys board rows) where
-  -- the table requests what the configuration's row does
+  -- the table requests the pebble of the configuration's row
   request_by_row : (row : RequestRow) → Contains rows row → request_at rows row.at ≡ Some row.request
   request_by_row row is = ap (option_map (λ r. r.request)) (find-the (λ r. r.at) rows row apart is)
 

@@ -128,7 +128,7 @@ module _ (board : PlainBoard) (proof : PlainProof) where
   one_fault fault other not not_too (inr wrong) (inl memory) = absurd (not_too memory)
   one_fault fault other not not_too (inr wrong) (inr too) = document.one fault other wrong too
 
-  -- what the adversary's rows are found to be is what the document is found to be
+  -- if the start and the labeller's rows are right, a fault of the adversary's rows is the document's
   pub by_adversary : (found : Option CheckFault) → StartServes board proof → LabellerObeys board proof.labeller
       → MatchOption found (AdversaryObeys board proof.adversary) (AdversaryBreach board proof.adversary)
       → MatchOption found (BreaksNoRule board proof) (IsCheckFault board proof)

@@ -13,7 +13,7 @@ pub record IsFirst {R : Type 0} (IsRight : R → Type 0) (rows : List R) (row : 
   pub faulty : ¬ IsRight row
 
 module _ {R : Type 0} (IsRight : R → Type 0) where
-  -- what is answered of a row
+  -- the answer for a row says whether it is faulty
   abbrev pub Answered : Bor R → Bool → Type 0
   Answered row answer = (shown : Bor (Bor R)) × (shown.now ≡ row) × MatchBool answer (¬ IsRight shown.now.now) (IsRight shown.now.now)
 
@@ -53,14 +53,14 @@ module _ {R : Type 0} (IsRight : R → Type 0) where
       let first = first_shown xs answers each in
       subst (λ o. Found rows o) (sym is) (subst (λ l. Found l (slice_get (filter_by_mask xs answers) 0)) (shown ∙ same) first)
 
--- what is found wrong with the first faulty row is the fault of the rows
+-- the fault of the first faulty row is the fault of the rows
 pub fault_of_first : {R : Type 0} (IsRight : R → Type 0) (IsWrong : R → CheckFault → Type 0) (rows : List R) (row : R) (found : Option CheckFault)
     → IsFirst IsRight rows row → MatchOption found (IsRight row) (IsWrong row)
     → MatchOption found (All IsRight rows) (FirstFault IsRight IsWrong rows)
 fault_of_first IsRight IsWrong rows row None is right = absurd (is.faulty right)
 fault_of_first IsRight IsWrong rows row (Some fault) is wrong = record { row = row; first = is.first; wrong = wrong }
 
--- what is found of rows is found of what they stand for
+-- the fault of rows is the fault of the rows that they show
 pub fault_of_seen : {R X : Type 0} (f : R → X) (IsRight : X → Type 0) (IsWrong : X → CheckFault → Type 0) (rows : List R) (seen : List X) (found : Option CheckFault) → map f rows ≡ seen
     → MatchOption found (All (λ r. IsRight (f r)) rows) (FirstFault (λ r. IsRight (f r)) (λ r. IsWrong (f r)) rows)
     → MatchOption found (All IsRight seen) (FirstFault IsRight IsWrong seen)

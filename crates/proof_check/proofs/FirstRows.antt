@@ -12,7 +12,7 @@ use lib.Pointwise.{pointwise, bytes_decides}
 abbrev pub AreApart : {X : Type 0} → (X → List ℕ) → List X → Type 0
 AreApart at rows = AllPairs (λ first second. at first ≢ at second) rows
 
--- where something passes, an element does
+-- if `find` gives an element, some element passes
 pub some_passes : {X : Type 0} (p : X → Bool) (xs : List X) → IsSome (find p xs) → (x : X) × Contains xs x × (p x ≡ true)
 some_passes p xs some = elim (slice_get_cases xs (position_or_len p xs)).1 [
   | inl (x, inside, is, same) ↦ (x, (position_or_len p xs, inside, same), ap p (sym same) ∙ passes_at_first p xs x inside)

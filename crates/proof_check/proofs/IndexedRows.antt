@@ -3,22 +3,22 @@ use Rattle.std.proofs.Common.{◌≡◌, ◌≢◌, ℕ, ◌+◌, ◌<◌, ◌�
 use Rattle.std.proofs.lemmas.Bool.{cases_eq}
 use Rattle.std.proofs.lemmas.List.{length-set, length-replicate, get_or-replicate, get_or-set_same, get_or-set_other, get_or_default}
 use Rattle.proof_check.specs.Inside.RowIndex.{AreRanked}
-use Rattle.proof_check.specs.declared.row_index.TheConstants.{NO_PLACE}
+use Rattle.proof_check.specs.declared.row_index.TheConstants.{NO_ROW}
 
--- the places of the rows before this one are there, and nothing else is a place
+-- the table has the places of the rows before this one, and no other place
 pub record IsIndexBelow {X : Type 0} (rank : X → ℕ) (rows : List X) (size : ℕ) (places : List ℕ) (count : ℕ) : Type 0 where
   pub sized : length places ≡ size
   pub each : (place : ℕ) (d : X) → place < count → get_or places (rank (get_or rows place d)) 0 ≡ place
   pub only : (number : ℕ) (d : X) → number < size → get_or places number 0 < count → rank (get_or rows (get_or places number 0) d) ≡ number
-  pub none : (number : ℕ) → number < size → (get_or places number 0 < count) ⊎ (get_or places number 0 ≡ NO_PLACE)
+  pub none : (number : ℕ) → number < size → (get_or places number 0 < count) ⊎ (get_or places number 0 ≡ NO_ROW)
 
--- before the first row nothing is a place
-pub index_start : {X : Type 0} (rank : X → ℕ) (rows : List X) (size : ℕ) → IsIndexBelow rank rows size (replicate size NO_PLACE) 0
+-- before the first row the table has no place
+pub index_start : {X : Type 0} (rank : X → ℕ) (rows : List X) (size : ℕ) → IsIndexBelow rank rows size (replicate size NO_ROW) 0
 index_start rank rows size = record {
-  sized = length-replicate size NO_PLACE;
+  sized = length-replicate size NO_ROW;
   each = λ place d low. absurd (omega (arith, low));
   only = λ number d inside low. absurd (omega (arith, low));
-  none = λ number inside. inr (get_or-replicate size number NO_PLACE 0 inside);
+  none = λ number inside. inr (get_or-replicate size number NO_ROW 0 inside);
 }
 
 pub index_more : {X : Type 0} (rank : X → ℕ) (rows : List X) (size : ℕ) (places : List ℕ) (count : ℕ) (row : X) → AreRanked rank size rows → count < length rows → row ≡ get_or rows count row
@@ -59,7 +59,7 @@ index_more {X} rank rows size places count row are inside here index = record {
         let short : get_or places number 0 < count = elim (index.none number low) [ inl less ↦ less | inr empty ↦ omega (arith, lt, kept, empty, are.few, inside) ] in
         ap (λ (p : ℕ). rank (get_or rows p d)) kept ∙ index.only number d low short
 
-    none : (number : ℕ) → number < size → (number ≡ rank row) ⊎ (number ≢ rank row) → (get_or (set places (rank row) count) number 0 < count + 1) ⊎ (get_or (set places (rank row) count) number 0 ≡ NO_PLACE)
+    none : (number : ℕ) → number < size → (number ≡ rank row) ⊎ (number ≢ rank row) → (get_or (set places (rank row) count) number 0 < count + 1) ⊎ (get_or (set places (rank row) count) number 0 ≡ NO_ROW)
     none number low (inl same) =
         let stored : get_or (set places (rank row) count) number 0 ≡ count = ap (λ (n : ℕ). get_or (set places (rank row) count) n 0) same ∙ get_or-set_same places (rank row) count 0 in_places in
         inl (omega (arith, stored))

@@ -26,19 +26,19 @@ answers_by_row board rows row pebble apart is meets = record {
   legal = meets.legal;
 }
 
--- enough turns are enough where fewer are wanted
+-- if turns are enough for n + 1 requests, turns that are enough for one less are enough for n
 enough_less : (turns there : Turns) (number : ℕ) → IsEnough (Count (suc number)) turns → IsEnough (one_less turns) there → IsEnough (Count number) there
 enough_less (Count turns) (Count there) number enough most = let bound : suc number ≤ turns = enough in let less : turns - 1 ≤ there = most in omega arith
 enough_less (Count turns) Always number enough most = tt
 enough_less Always (Count there) number enough most = absurd most
 enough_less Always Always number enough most = tt
 
--- where some are still asked for, some are wanted after one
+-- if turns are enough for n + 1 requests and n isn't 0, some are wanted after one request
 wanted_less : (turns : Turns) (number : ℕ) → IsEnough (Count (suc number)) turns → 1 ≤ number → IsWanted (one_less turns)
 wanted_less (Count turns) number enough some = let bound : suc number ≤ turns = enough in omega arith
 wanted_less Always number enough some = tt
 
--- what serves some turns after one serves as many as are asked for
+-- if turns are enough for n + 1 requests, rows that serve one turn less serve n requests
 serves_less : (rows : List AnswerRow) (configuration : List ℕ) (turns : Turns) (number : ℕ)
     → IsEnough (Count (suc number)) turns → Serves rows configuration (one_less turns) → Serves rows configuration (Count number)
 serves_less rows configuration turns number enough serves = λ some.

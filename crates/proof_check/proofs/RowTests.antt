@@ -29,7 +29,7 @@ turns_tested rows configuration row wanted missing short true is some answers = 
         let only = is.only listed.row listed.among listed.at in
         true≢false (sym (answers.1 (subst (λ (r : AnswerRow). IsEnough wanted r.turns) only listed.enough)))
 
--- the adversary's row has a number below the bound or one that isn't
+-- the number of the adversary's row is below the bound or not
 pub number_tested : (rows : List RequestRow) (configuration : List ℕ) (row : RequestRow) (bound : ℕ) (missing large : CheckFault)
     (answer : Bool) → IsRowFor (λ r. r.at) rows configuration row → (answer ≡ false → row.left < bound) → (answer ≡ true → bound ≤ row.left)
     → MatchOption (then_some answer large) (IsListedBelow rows configuration bound) (IsUnservedBelow rows configuration bound missing large)
@@ -43,7 +43,7 @@ number_tested rows configuration row bound missing large true is low high = inr 
         let same = ap (λ (r : RequestRow). r.left) (is.only listed.row listed.among listed.at) in
         omega (arith, below, same, high refl)
 
--- what follows in each case
+-- facts that follow from right and from wrong take their places
 pub match_then : {A B : Type 0} {P Q : CheckFault → Type 0} (found : Option CheckFault) → (A → B)
     → ((fault : CheckFault) → P fault → Q fault) → MatchOption found A P → MatchOption found B Q
 match_then None right wrong is = right is
@@ -56,7 +56,7 @@ answer_is board row pebble below fits =
     let inside : pebble < length (take board.pebbles row.take) = omega (arith, length-take board.pebbles row.take, below, fits) in
     slice_get-get_or (take board.pebbles row.take) pebble 0 inside ∙ ap Some (get_or-take board.pebbles row.take pebble 0 below)
 
--- the result of a move
+-- the result of a move is a configuration
 pub result_is : (board : PlainBoard) (rank pebble label : ℕ) → rank < configurations board → label < board.labels
     → IsConfiguration board (moved (configuration_at board rank) pebble label)
 result_is board rank pebble label low is_label =

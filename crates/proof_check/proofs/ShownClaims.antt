@@ -57,9 +57,9 @@ shows board proof is rules = by proof.claim is.labeller.each rules.start_serves 
           subst (IsListed proof.labeller) start.at listed,
         )
 
--- ---- rows as they are looked at
+-- ---- rows with ranks
 
--- rows that stand for rows in ascending order are in order of their ranks
+-- if the rows shown are in ascending order, their rows are in order of their ranks
 are_ready : {R X : Type 0} (board : PlainBoard) (f : R → X) (at : X → List ℕ) (rank : R → ℕ) (IsRow : X → Type 0) (IsReady : R → Type 0)
     (rows : List R) → ((row : R) → at (f row) ≡ configuration_at board (rank row)) → ((row : R) → IsRow (f row) → IsReady row)
     → ((row : R) → IsReady row → rank row < configurations board) → AreRows board IsRow at (map f rows) → AreReady board IsReady rank rows

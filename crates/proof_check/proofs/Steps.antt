@@ -1,4 +1,4 @@
--- Steps of checking: of a step's faults there is one, and none if all is right.
+-- A step of checking has one fault at most, and none if all is right.
 use Rattle.std.proofs.Common.{◌≡◌, ℕ, List, [], ◌∷◌, ◌++◌, Option, Some, refl, sym, ◌∙◌, subst, arith, ◌⊎◌, inl, inr}
 use Rattle.std.specs.List.{All, Contains}
 use Rattle.std.proofs.lemmas.Bool.{cases_order}
@@ -8,13 +8,13 @@ use Rattle.board_text.specs.PlainBoard.{PlainBoard}
 use Rattle.proof_check.specs.declared.fault.CheckFault.{CheckFault}
 use Rattle.proof_check.specs.CheckFaults.{IsUnserved, FirstWrong, FirstFault, FirstTurn, NamesRanks}
 
--- no fault is wrong where the step is right, one at most is, and it names ranks of the board where the step's rows have such
+-- a fault means that the rule isn't kept, there is one at most, and it names ranks if the rows do
 pub record IsStep (board : PlainBoard) (Ranked Right : Type 0) (Wrong : CheckFault → Type 0) : Type 0 where
   pub apart : (fault : CheckFault) → Wrong fault → ¬ Right
   pub one : (fault other : CheckFault) → Wrong fault → Wrong other → fault ≡ other
   pub named : (fault : CheckFault) → Ranked → Wrong fault → NamesRanks board fault
 
--- the first row that isn't right is one of them
+-- the first row that isn't right is one of the rows
 pub among : {X : Type 0} {IsRight : X → Type 0} {rows : List X} {row : X} → FirstWrong IsRight rows row → Contains rows row
 among {X} {IsRight} {rows} {row} first =
     let there = Contains-append_right first.before (row ∷ first.after) row (0, omega arith, refl) in
@@ -49,7 +49,7 @@ module _ {board : PlainBoard} {Ranked : Type 0} where
     named = λ found ranked w. subst (NamesRanks board) (sym w.1) (names ranked);
   }
 
-  -- the same where less is right and less is wrong
+  -- the same for a rule that asks more, with fewer faults
   pub narrowed : {Right Narrow : Type 0} {Wrong Less : CheckFault → Type 0} → (Narrow → Right)
       → ((fault : CheckFault) → Less fault → Wrong fault) → IsStep board Ranked Right Wrong → IsStep board Ranked Narrow Less
   narrowed right wrong step = record {
@@ -58,7 +58,7 @@ module _ {board : PlainBoard} {Ranked : Type 0} where
     named = λ fault ranked w. step.named fault ranked (wrong fault w);
   }
 
-  -- what is asked only where something holds
+  -- a rule that is asked only if a fact holds
   pub where_so : {So Right : Type 0} {Wrong : CheckFault → Type 0} → IsStep board Ranked Right Wrong
       → IsStep board Ranked (So → Right) (λ fault. So × Wrong fault)
   where_so step = record {
@@ -67,7 +67,7 @@ module _ {board : PlainBoard} {Ranked : Type 0} where
     named = λ fault ranked w. step.named fault ranked w.1;
   }
 
-  -- two kinds of faults, of which no more than one is there
+  -- two kinds of faults that exclude each other
   pub either : {Right : Type 0} {First Second : CheckFault → Type 0} → IsStep board Ranked Right First → IsStep board Ranked Right Second
       → ((fault other : CheckFault) → First fault → ¬ Second other) → IsStep board Ranked Right (λ fault. First fault ⊎ Second fault)
   either {Right} {First} {Second} first second not_both = record { apart = apart; one = one; named = named }
@@ -86,7 +86,7 @@ module _ {board : PlainBoard} {Ranked : Type 0} where
       named fault ranked (inl w) = first.named fault ranked w
       named fault ranked (inr w) = second.named fault ranked w
 
-  -- where a row should serve
+  -- a row that should serve is missing or too short
   pub unserved : {Listed Served : Type 0} (missing short : CheckFault) → (Served → Listed)
       → (Ranked → NamesRanks board missing) → (Ranked → NamesRanks board short)
       → IsStep board Ranked Served (IsUnserved Listed Served missing short)
@@ -95,7 +95,7 @@ module _ {board : PlainBoard} {Ranked : Type 0} where
       (narrowed (λ is. is) (λ fault w. (w.1, w.2)) (kind short (λ fails. fails) there))
       (λ fault other a b. a.0 b.0)
 
-  -- what is asked of a number that is there
+  -- a rule for a number, if there is one
   pub of_some : {Right : Type 0} (Wrong : ℕ → CheckFault → Type 0) (o : Option ℕ)
       → ((number : ℕ) → o ≡ Some number → IsStep board Ranked Right (Wrong number))
       → IsStep board Ranked Right (λ fault. (number : ℕ) × (o ≡ Some number) × Wrong number fault)

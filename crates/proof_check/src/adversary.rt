@@ -6,7 +6,7 @@ ghost use Rattle.positions.specs.Ranks.{configuration_at, rank_of};
 ghost use Rattle.proof_text.specs.Proof.{request_row};
 ghost use Rattle.proof_text.specs.Rules.{IsListedBelow, MeetsAnswer, MeetsAnswers, StartIsBelow};
 ghost use Rattle.proof_check.specs.CheckFaults.{IsWrongAfter, IsWrongRequest, IsWrongBound};
-ghost use Rattle.proof_check.specs.Inside.Checker.{IsRequesting, AtRank, IsUnservedBelow};
+ghost use Rattle.proof_check.specs.Inside.Checker.{IsRequesting, HoldsAtRank, IsUnservedBelow};
 
 use crate::checked_row::CheckedRow;
 use crate::checker::Checker;
@@ -82,7 +82,7 @@ impl Checker<'_> {
         missing: CheckFault,
         large: CheckFault,
     ) -> Option<CheckFault>
-        ensures { AtRank self.now.board rank (λ configuration. MatchOption result
+        ensures { HoldsAtRank self.now.board rank (λ configuration. MatchOption result
             (IsListedBelow self.now.proof.adversary configuration (suc most))
             (IsUnservedBelow self.now.proof.adversary configuration (suc most) missing large)) }
     {

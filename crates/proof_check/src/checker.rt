@@ -27,11 +27,11 @@ pub(crate) struct Checker<'a> {
 }
 
 impl<'a> Model for Checker<'a> {
-    ghost use Rattle.proof_check.specs.Inside.Checker.{Checked, checked, IsChecker};
+    ghost use Rattle.proof_check.specs.Inside.Checker.{Checked, checked_document, IsChecker};
 
     ghost Value = { Checked };
 
-    ghost view = { λ c. checked c.board.now c.claim c.labeller c.adversary };
+    ghost view = { λ c. checked_document c.board.now c.claim c.labeller c.adversary };
 
     ghost invariant = { λ c. IsChecker c.board.now c.space c.labeller c.adversary };
 }

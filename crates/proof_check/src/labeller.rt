@@ -6,7 +6,7 @@ ghost use Rattle.proof_text.specs.Proof.{answer_row};
 ghost use Rattle.proof_text.specs.Rules as rules;
 ghost use Rattle.proof_text.specs.Rules.{one_less, Serves, MeetsRequest, MeetsRequests};
 ghost use Rattle.proof_check.specs.CheckFaults.{IsWrongAnswer, IsWrongAt, IsWrongStart};
-ghost use Rattle.proof_check.specs.Inside.Checker.{IsAnswering, AtRank, IsUnservedFor};
+ghost use Rattle.proof_check.specs.Inside.Checker.{IsAnswering, HoldsAtRank, IsUnservedFor};
 
 use crate::checked_row::CheckedRow;
 use crate::checker::Checker;
@@ -100,7 +100,7 @@ impl Checker<'_> {
         missing: CheckFault,
         short: CheckFault,
     ) -> Option<CheckFault>
-        ensures { AtRank self.now.board rank (λ configuration. MatchOption result
+        ensures { HoldsAtRank self.now.board rank (λ configuration. MatchOption result
             (Serves self.now.proof.labeller configuration wanted)
             (IsUnservedFor self.now.proof.labeller configuration wanted missing short)) }
     {

@@ -7,8 +7,8 @@ use proof_text::Ranked;
 use std::alloc::{AllocError, Global};
 use std::marker::Model;
 
-/// The entry of an index at a rank that no row has. It is no place.
-const NO_PLACE: u32 = u32::MAX;
+/// The entry of an index at a rank that no row has. It is the number of no row.
+const NO_ROW: u32 = u32::MAX;
 
 /// Below one row per 64 configurations rows are found by binary search, not by an index.
 const SEARCHED: usize = 64;
@@ -17,9 +17,8 @@ const SEARCHED: usize = 64;
 #[derive(Drop)]
 pub(crate) struct RowIndex<'a, R: Ranked> {
     rows: &'a [R],
-    /// At each row's rank its place; elsewhere a number that is no place. Empty if the rows are
-    /// searched.
-    places: Vec<u32>,
+    /// At each row's rank its number in `rows`; elsewhere `NO_ROW`. Empty if the rows are searched.
+    numbers: Vec<u32>,
 }
 
 impl<'a, R: Ranked> Model for RowIndex<'a, R> {
@@ -30,7 +29,7 @@ impl<'a, R: Ranked> Model for RowIndex<'a, R> {
 
     ghost view = { λ index. index.rows.now };
 
-    ghost invariant = { λ index. AreFound R.rank index.rows.now index.places.items };
+    ghost invariant = { λ index. AreFound R.rank index.rows.now index.numbers.items };
 }
 
 impl<'a, R: Ranked> RowIndex<'a, R> {
@@ -43,12 +42,12 @@ impl<'a, R: Ranked> RowIndex<'a, R> {
         requires { AreRanked R.rank size rows.now }
         ensures { IfOk result (λ index. index ≡ rows.now) }
     {
-        let places = if rows.len() < size as usize / SEARCHED {
+        let numbers = if rows.len() < size as usize / SEARCHED {
             Vec::new(alloc)
         } else {
-            places_of(alloc, size, rows)?
+            numbers_of(alloc, size, rows)?
         };
-        Ok(RowIndex { rows, places })
+        Ok(RowIndex { rows, numbers })
     }
 
     /// All rows.
@@ -62,8 +61,8 @@ impl<'a, R: Ranked> RowIndex<'a, R> {
     pub(crate) fn find(&self, rank: u32) -> Option<&'a R>
         ensures { MatchOption result (HasNone R.rank self.now rank) (λ row. IsRowOf R.rank self.now rank row.now) }
     {
-        match self.places.get(rank as usize) {
-            Some(place) => self.rows.get(*place as usize),
+        match self.numbers.get(rank as usize) {
+            Some(number) => self.rows.get(*number as usize),
             None => search(self.rows, rank),
         }
     }
@@ -75,19 +74,19 @@ fn search<R: Ranked>(rows: &[R], rank: u32) -> Option<&R>
     ensures { MatchOption result (HasNone R.rank rows.now rank) (λ row. IsRowOf R.rank rows.now rank row.now) }
 {
     match rows.binary_search_by_key(&rank, |row| row.rank()) {
-        Ok(place) => Some(&rows[place]),
+        Ok(number) => Some(&rows[number]),
         Err(_) => None,
     }
 }
 
-/// The place of each of `rows` at its rank, and elsewhere a number that is no place.
-fn places_of<R: Ranked>(alloc: Global, size: u32, rows: &[R]) -> Result<Vec<u32>, AllocError>
+/// The number of each of `rows` at its rank, and elsewhere `NO_ROW`.
+fn numbers_of<R: Ranked>(alloc: Global, size: u32, rows: &[R]) -> Result<Vec<u32>, AllocError>
     requires { AreRanked R.rank size rows.now }
-    ensures { IfOk result (λ places. IsIndex R.rank rows.now places.items) }
+    ensures { IfOk result (λ numbers. IsIndex R.rank rows.now numbers.items) }
 {
-    let mut places = vec![in alloc; NO_PLACE; size as usize]?;
-    for (place, row) in rows.iter().enumerate() {
-        places[row.rank() as usize] = place as u32;
+    let mut numbers = vec![in alloc; NO_ROW; size as usize]?;
+    for (number, row) in rows.iter().enumerate() {
+        numbers[row.rank() as usize] = number as u32;
     }
-    Ok(places)
+    Ok(numbers)
 }

@@ -13,7 +13,7 @@ use Rattle.proof_text.specs.declared.proof.LabellerRow.{LabellerRow}
 use Rattle.proof_text.specs.declared.proof.AdversaryRow.{AdversaryRow}
 use Rattle.proof_text.specs.Proof.{PlainProof, IsProof, IsClaim, AreAnswerRows, IsAnswerRow, IsRequestRow, asks_labeller, asks_adversary, answer_row, request_row, answer_rows, request_rows}
 use Rattle.board_text.specs.BoardText.{end_line}
-use Rattle.proof_text.specs.ProofText.{version_line, claim_words, claim_line, head, labeller_section, adversary_section, front, proof_text, labeller_lines, answer_line, request_line}
+use Rattle.proof_text.specs.ProofText.{version_line, claim_words, claim_line, first_two_lines, labeller_section, adversary_section, proof_text_before_end, proof_text, labeller_lines, answer_line, request_line}
 use Rattle.proof_text.specs.ProofFaults.{LabellerFault, AdversaryFault, HasProofFault, InAdversary, AnswerMisread, RequestMisread, end_number}
 use Rattle.proof_text.specs.Inside.RowForm.{PartRead, SectionFault, section_text, labeller_form, adversary_form}
 use Rattle.proof_text.proofs.SectionLemmas.{rows_seen, fault_seen}
@@ -44,7 +44,7 @@ adversary_section_seen board claim rows =
     ap (λ (text : List ℕ). cond (asks_adversary claim) text [])
     (section_seen (request_row board) (codes "adversary") (request_line board) rows)
 
--- how many lines a section has
+-- the number of lines of a section
 pub lines_are : {R X : Type 0} (f : R → X) (rows : List R) {asked wanted : Bool} {count lines : ℕ} → asked ≡ wanted → count ≡ length rows
     → lines ≡ cond asked (1 + count) 0 → lines ≡ cond wanted (1 + length (map f rows)) 0
 lines_are f rows e n l = rw (length-map rows f, ← n, ← e) l
@@ -54,16 +54,16 @@ lines_are f rows e n l = rw (length-map rows f, ← n, ← e) l
 -- the first two lines
 pub record HeadRead (claim : Claim) (text rest : List ℕ) : Type 0 where
   pub is_claim : IsClaim claim
-  pub spelled : text ≡ head claim ++ rest
+  pub spelled : text ≡ first_two_lines claim ++ rest
 
 pub head_read : (claim : Claim) (text a b : List ℕ) → text ≡ version_line ++ a → IsClaim claim × (a ≡ claim_line claim ++ b)
     → HeadRead claim text b
 head_read claim text a b e (is, f) = record { is_claim = is; spelled = rw (e, f) (sym (append_assoc version_line (claim_line claim) b)) }
 
--- all lines but the last
+-- all lines before the last
 pub record FrontRead (board : PlainBoard) (proof : PlainProof) (text rest : List ℕ) : Type 0 where
   pub is_proof : IsProof board proof
-  pub spelled : text ≡ front board proof ++ rest
+  pub spelled : text ≡ proof_text_before_end board proof ++ rest
 
 regroup : (a b c x : List ℕ) → a ++ (b ++ (c ++ x)) ≡ (a ++ (b ++ c)) ++ x
 regroup a b c x = simp append_assoc
@@ -124,7 +124,7 @@ module _ (board : PlainBoard) {claim : Claim} {text a : List ℕ} (start : HeadR
           let stand : b ≡ adversary_section board claim (request_rows board adversary) ++ d =
           rw (← adversary_section_seen board claim adversary) other.spelled in
           rw (start.spelled, answers_stand, stand)
-          (regroup (head claim) (labeller_section board claim (answer_rows board labeller))
+          (regroup (first_two_lines claim) (labeller_section board claim (answer_rows board labeller))
           (adversary_section board claim (request_rows board adversary)) d);
     }
 
@@ -140,12 +140,12 @@ module _ {board : PlainBoard} {proof : PlainProof} {text a : List ℕ} (read : F
     first,
     more,
     read.is_proof,
-    rw (read.spelled, taken) (sym (append_assoc (front board proof) end_line (first ∷ more))),
+    rw (read.spelled, taken) (sym (append_assoc (proof_text_before_end board proof) end_line (first ∷ more))),
     n,
   )
 
 -- a text that is written part by part
 pub printed : (claim : Claim) (labeller adversary t0 t1 t2 t3 t4 t5 t6 : List ℕ) → t0 ≡ [] → t1 ≡ t0 ++ version_line
     → t2 ≡ t1 ++ claim_words claim → t3 ≡ t2 ++ 10 ∷ [] → t4 ≡ t3 ++ labeller → t5 ≡ t4 ++ adversary → t6 ≡ t5 ++ end_line
-    → t6 ≡ (head claim ++ (labeller ++ adversary)) ++ end_line
+    → t6 ≡ (first_two_lines claim ++ (labeller ++ adversary)) ++ end_line
 printed claim labeller adversary t0 t1 t2 t3 t4 t5 t6 e0 e1 e2 e3 e4 e5 e6 = rw (e6, e5, e4, e3, e2, e1, e0) (simp append_assoc)

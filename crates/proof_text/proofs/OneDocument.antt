@@ -13,7 +13,7 @@ use Rattle.proof_text.specs.declared.fault.ProofKind.{ProofKind}
 use Rattle.proof_text.specs.declared.fault.ProofKind.TheVariants as kinds
 use Rattle.proof_text.specs.declared.proof.Proof.{Proof}
 use Rattle.proof_text.specs.Proof.{PlainProof, IsProof, IsDocument, plain_proof, IsClaim, IsAnswerRow, IsRequestRow, asks_labeller, asks_adversary}
-use Rattle.proof_text.specs.ProofText.{version_line, claim_line, head, answer_line, request_line, labeller_section, adversary_section, labeller_lines, front, proof_text}
+use Rattle.proof_text.specs.ProofText.{version_line, claim_line, first_two_lines, answer_line, request_line, labeller_section, adversary_section, labeller_lines, proof_text_before_end, proof_text}
 use Rattle.proof_text.specs.ProofFaults.{AdversaryFault, AnswerMisread, HasProofFault, LabellerFault, RequestMisread, end_number}
 use Rattle.proof_text.proofs.OneStep.{OneReading, Line, one_line}
 use Rattle.proof_text.proofs.OneRow.{answer_laws, request_laws}
@@ -21,7 +21,7 @@ use Rattle.proof_text.proofs.OneSection.{Part, one_part}
 
 -- ---- single lines
 
--- what is asked of a line that is always the same
+-- a constant line has no condition
 abbrev NoCondition : Unit {0} → Type 0
 NoCondition u = Unit {0}
 
@@ -40,7 +40,7 @@ one_claim c d x y p q e =
     let heads : get_or (claim_line c ++ x) 0 0 ≡ get_or (claim_line d ++ y) 0 0 = ap (λ (text : List ℕ). get_or text 0 0) e in
     absurd (omega (arith, heads))
 
--- ---- what is found in a text
+-- ---- a finding: the reading of a text
 
 -- a document, or a fault
 abbrev Finding : Type 0
@@ -101,23 +101,23 @@ module _ (board : PlainBoard) (is_board : IsBoard board) where
       (λ u rest yes. one_line IsClaim claim_line rest (fault 2 kinds.Claim) (AfterClaim board) one_claim
       (λ claim more is. one_after_claim claim more))
 
--- ---- what a document or a fault says, as a reading
+-- ---- a document or a fault is the finding of its text
 
 regroup : (a b c d : List ℕ) → (a ++ (b ++ c)) ++ d ≡ a ++ (b ++ (c ++ d))
 regroup a b c d = simp append_assoc
 
 head_read : (board : PlainBoard) (text : List ℕ) (claim : Claim) (rest : List ℕ) (found : Finding) → IsClaim claim
-    → text ≡ head claim ++ rest → AfterClaim board claim rest found → Reading board text found
+    → text ≡ first_two_lines claim ++ rest → AfterClaim board claim rest found → Reading board text found
 head_read board text claim rest found is e after =
     inr (tt, claim_line claim ++ rest, (tt, e ∙ append_assoc version_line (claim_line claim) rest), inr (claim, rest, (is, refl), after))
 
 front_read : (board : PlainBoard) (text : List ℕ) (proof : PlainProof) (rest : List ℕ) (found : Finding) → IsProof board proof
-    → text ≡ front board proof ++ rest → AfterFront proof rest found → Reading board text found
+    → text ≡ proof_text_before_end board proof ++ rest → AfterFront proof rest found → Reading board text found
 front_read board text proof rest found is e after =
     let labeller = labeller_section board proof.claim proof.labeller in
     let adversary = adversary_section board proof.claim proof.adversary in
     head_read board text proof.claim (labeller ++ (adversary ++ rest)) found is.claim
-    (e ∙ regroup (head proof.claim) labeller adversary rest)
+    (e ∙ regroup (first_two_lines proof.claim) labeller adversary rest)
     (inr (
       proof.labeller,
       adversary ++ rest,
@@ -141,7 +141,7 @@ fault_read board text line kinds.Claim not (e, rest, stands, lacks) =
 fault_read board text line kinds.End not (proof, rest, is, stands, e, lacks) =
     front_read board text proof rest _ is stands (inl (lacks, ap (λ (n : ℕ). fault n kinds.End) e))
 fault_read board text line kinds.Trailing not (proof, first, more, is, stands, e) =
-    front_read board text proof (end_line ++ first ∷ more) _ is (stands ∙ append_assoc (front board proof) end_line (first ∷ more))
+    front_read board text proof (end_line ++ first ∷ more) _ is (stands ∙ append_assoc (proof_text_before_end board proof) end_line (first ∷ more))
     (inr (tt, first ∷ more, (tt, refl), ap (λ (n : ℕ). fault n kinds.Trailing) e))
 fault_read board text line kinds.Memory not h = absurd (not refl)
 fault_read board text line kind not h = section_fault_read board text line kind not h

@@ -26,7 +26,7 @@ use Rattle.proof_text.proofs.SpelledRows.{count_small, star_is_no_number}
 
 -- ---- rows of either side
 
--- One row stands at the front of a text, or its fault.
+-- A text begins with one row at most or has one fault, and never both.
 pub record RowLaws {X : Type 0} (IsRow : X → Type 0) (at line : X → List ℕ) (Misread : List ℕ → ProofKind → Type 0) : Type 1 where
   pub one : OneReading IsRow line
   pub one_kind : (MayStand : List ℕ → Type 0) (rest : List ℕ) (kind other : ProofKind)
@@ -34,7 +34,7 @@ pub record RowLaws {X : Type 0} (IsRow : X → Type 0) (at line : X → List ℕ
   pub sound : (MayStand : List ℕ → Type 0) (row : X) (rest more : List ℕ) (kind : ProofKind)
       → IsRow row → MayStand (at row) → rest ≡ line row ++ more → RowFault IsRow at line Misread MayStand rest kind → ⊥
 
--- That follows where the words are read in one way: they are misread, or a row stands there.
+-- This holds if the words are read in one way: they are misread, or they are those of a row.
 module _ {X : Type 0} (IsRow : X → Type 0) (at line : X → List ℕ) (Misread : List ℕ → ProofKind → Type 0)
     (Read : List ℕ → Option ProofKind → Type 0)
     (one : OneReading IsRow line)
@@ -140,7 +140,7 @@ answer_words board row = record {
   take = map (place_word board.labels) row.answers;
 }
 
--- How a labeller's row is read: its words, whether they spell labels, and whether they spell turns.
+-- The reading of a labeller's row: its words, whether they spell labels, and whether they spell turns.
 abbrev AnswerRead : PlainBoard → Claim → List ℕ → Option ProofKind → Type 0
 AnswerRead board claim rest found =
     Line (AreAnswerWords board.pebbles board.labels (places board)) answer_words_line rest (Some kinds.Row)
@@ -211,7 +211,7 @@ one_request_words pebbles labels bound first second x y p q e =
 abbrev request_words : PlainBoard → RequestRow → RequestWords
 request_words board row = record { at = map (place_word board.labels) row.at; left = decimal row.left; ask = decimal row.request }
 
--- How an adversary's row is read.
+-- The reading of an adversary's row.
 abbrev RequestRead : PlainBoard → List ℕ → Option ProofKind → Type 0
 RequestRead board rest found =
     Line (AreRequestWords board.pebbles board.labels (places board)) request_words_line rest (Some kinds.Row)

@@ -78,7 +78,7 @@ module _ {X : Type 0} (board : PlainBoard) (IsRow : X → Type 0) (at : X → Li
     abbrev PartStands : List X → List ℕ → Type 0
     PartStands rows more = AreRows board IsRow at rows × (asked ≡ false → rows ≡ []) × (text ≡ cond asked (section rows) [] ++ more)
 
-    -- What is found of a section, whose head is the line of this number, and behind it. Where it isn't asked for, it is left out.
+    -- The finding at a section: its fault, or the finding after its rows. A section that isn't asked for is left out.
     abbrev pub Part : ℕ → (List X → List ℕ → F → Type 0) → F → Type 0
     Part head After found = Step (PartFault head) PartStands After found
 
@@ -95,7 +95,7 @@ module _ {X : Type 0} (board : PlainBoard) (IsRow : X → Type 0) (at : X → Li
       spelled = e ∙ append_assoc (number_line word (length rows)) (flat_map line rows) tail;
     }
 
-    -- of rows that have come the fewer are the first of the others
+    -- of two lists of rows that have come the shorter is a prefix of the other
     alike : (m n : ℕ) (ps qs : List X) (x y : List ℕ) → Come m ps x → Come n qs y
         → (m ≡ n) × (length ps ≤ length qs → Follow line ps qs x y)
     alike m n ps qs x y p q =
@@ -116,7 +116,7 @@ module _ {X : Type 0} (board : PlainBoard) (IsRow : X → Type 0) (at : X → Li
         go [] parts spelled = (sym (parts ∙ append-nil ps), spelled)
         go (r ∷ rs) parts spelled = absurd (omega (arith, ap length parts, length-append ps (r ∷ rs), same))
 
-    -- no row comes behind a faulty one
+    -- no row comes after a faulty one
     no_more : (m n : ℕ) (ps qs : List X) (x y : List ℕ) (kind : ProofKind) → Come m ps x → Come n qs y → length ps < length qs
         → RowFault IsRow at line Misread (MayFollow board at ps) x kind → ⊥
     no_more m n ps qs x y kind p q short faulty = go f.more f.parts f.spelled
@@ -146,7 +146,7 @@ module _ {X : Type 0} (board : PlainBoard) (IsRow : X → Type 0) (at : X → Li
       abbrev NoHead : ℕ → ProofKind → Type 0
       NoHead number kind = (kind ≡ kinds.Section) × (number ≡ head) × Lacks (InRange 0 MAX_CONFIGURATIONS) (number_line word) text
 
-      -- its fault is in its head or in a row
+      -- the fault of a section is in its head or in a row
       head_or_row : (number : ℕ) (kind : ProofKind) → kind ≢ kinds.Memory
           → InSection board IsRow at (number_line word) line (RowFault IsRow at line Misread) text head number kind
           → NoHead number kind ⊎ Faulty number kind
@@ -155,7 +155,7 @@ module _ {X : Type 0} (board : PlainBoard) (IsRow : X → Type 0) (at : X → Li
       head_or_row number kind not h =
           inr (record { count = h.0; rows = h.1; rest = h.2; come = h.3; short = h.4; number_is = h.5; fault = h.6 })
 
-      -- a row that has come shows that the head stands
+      -- if rows have come, the head isn't at fault
       head_stands : (number count : ℕ) (kind : ProofKind) (rows : List X) (rest : List ℕ) → NoHead number kind → Come count rows rest → ⊥
       head_stands number count kind rows rest f come = f.2 count (flat_map line rows ++ rest) (omega arith, come.few) come.spelled
 

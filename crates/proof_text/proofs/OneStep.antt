@@ -7,7 +7,7 @@ use Rattle.board_text.specs.LineForms.{Lacks}
 abbrev pub OneReading : {X : Type 0} → (X → Type 0) → (X → List ℕ) → Type 0
 OneReading {X} P form = (p q : X) (x y : List ℕ) → P p → P q → form p ++ x ≡ form q ++ y → (p ≡ q) × (x ≡ y)
 
--- What is found where something should be taken: its fault, or that it was taken, and what is found behind it.
+-- The finding at a step: its fault, or the finding after the thing taken.
 abbrev pub Step : {X F : Type 0} → (F → Type 0) → (X → List ℕ → Type 0) → (X → List ℕ → F → Type 0) → F → Type 0
 Step {X} Faulty Taken After found = Faulty found ⊎ ((x : X) × (more : List ℕ) × Taken x more × After x more found)
 
@@ -28,7 +28,7 @@ module _ {X F : Type 0} {Faulty : F → Type 0} {Taken : X → List ℕ → Type
       let s = step.same x y a b taken taken_too in
       one_after y b taken_too v w (subst (λ (more : List ℕ). After y more v) s.1 (subst (λ (z : X). After z a v) s.0 after)) later
 
--- What is found where a line of the form should stand: its fault, or what it says, and what is found behind it.
+-- The finding at a line of a form: a fault if the text doesn't begin with one, or the finding after it.
 abbrev Wanting : {X F : Type 0} → (X → Type 0) → (X → List ℕ) → List ℕ → F → F → Type 0
 Wanting P form text fault found = Lacks P form text × (found ≡ fault)
 
@@ -51,7 +51,7 @@ module _ {X F : Type 0} (P : X → Type 0) (form : X → List ℕ) (text : List 
   pub one_line : (v w : F) → Line P form text fault After v → Line P form text fault After w → v ≡ w
   one_line = one_step line_step After (λ x more stands. one_after x more stands.0)
 
--- A fault where something isn't right, and else what is found later.
+-- The finding is this fault if a fact fails, and else a later one.
 abbrev pub Unless : {F : Type 0} → F → Type 0 → (F → Type 0) → F → Type 0
 Unless fault Right Later found = ((¬ Right) × (found ≡ fault)) ⊎ (Right × Later found)
 

@@ -15,7 +15,7 @@ use Rattle.proof_text.specs.declared.proof.LabellerRow.{LabellerRow}
 use Rattle.proof_text.specs.declared.proof.AdversaryRow.{AdversaryRow}
 use Rattle.proof_text.specs.Proof.{IsAnswerRow, IsRequestRow, AreAnswerRows, AreRequestRows, IsPadded, answer_row, request_row, answer_rows, request_rows}
 
--- digits below the base are those of a number below its power
+-- digits below the base have a number below the base's power
 number_small : (base count number : ℕ) → 1 ≤ base → 1 ≤ count → All (λ label. label < base) (digits_of base count number) → number < base ^ count
 number_small base zero number some one each = absurd (omega arith)
 number_small base (suc count) number some one each =
@@ -25,7 +25,7 @@ number_small base (suc count) number some one each =
 pub rank_small : (board : PlainBoard) (rank : ℕ) → IsBoard board → IsConfiguration board (configuration_at board rank) → rank < configurations board
 rank_small board rank is_board is = number_small (places board) board.pebbles rank (some_places board is_board) is_board.pebbles.0 is.each_place
 
--- each row that is shown as one with a configuration of the board has a rank of the board
+-- each row whose shown row has a configuration of the board has a rank of the board
 ranks_below : {R X : Type 0} (board : PlainBoard) (IsRow : X → Type 0) (shown : R → X) (rank : R → ℕ)
     → ((row : R) → IsRow (shown row) → IsConfiguration board (configuration_at board (rank row)))
     → (rows : List R) → IsBoard board → All IsRow (map shown rows) → All (λ row. rank row < configurations board) rows

@@ -4,7 +4,7 @@ use Rattle.std.proofs.lemmas.List.{length-map, length-take, take_at, get_or-appe
 use Rattle.std.proofs.lemmas.Bool.{cases_lt}
 use Rattle.std.specs.Prelude.{not, Result, Ok, Err, OnOk}
 use Rattle.std.specs.Result.{is_ok}
-use Rattle.board_text.specs.LineForms.{closed}
+use Rattle.board_text.specs.LineForms.{with_line_feed}
 use Rattle.board_text.specs.Ranges.{AreNumbers}
 use Rattle.board_text.specs.PlaceForms.{place_word, SpellsPlace, SpellPlaces}
 use Rattle.board_text.specs.PlainBoard.{PlainBoard, IsBoard, IsConfiguration, places}
@@ -44,7 +44,7 @@ zero_behind n place = get_or-drop n six_zeros place 0 ∙ zero_at (n + place)
 
 -- ---- places and rows that were read
 
--- what a test that was negated tells
+-- a test whose negation is true is false
 misread : (Told : Bool → Type 0) (test : Bool) → Told test → not test ≡ true → Told false
 misread Told false told e = told
 misread Told true told e = absurd cc
@@ -60,12 +60,12 @@ module _ (labels bound : ℕ) (texts : List (List ℕ)) (places : List ℕ) (spe
   places_count : {count : ℕ} → length texts ≡ count → AreNumbers count bound places
   places_count e = (sym (length-map places (place_word labels)) ∙ ap length (sym spell.1) ∙ e, spell.0)
 
--- a row that stands here
+-- the text begins with the line of a row
 pub record RowRead {X : Type 0} (IsRow : X → Type 0) (line : X → List ℕ) (row : X) (old new : List ℕ) : Type 0 where
   pub is : IsRow row
   pub spelled : old ≡ line row ++ new
 
--- the rank of the configuration that was read to the front of these places
+-- the rank of the first places is that of the configuration that was read into them
 rank_read : (board : PlainBoard) (at behind : List ℕ) (pebbles rank : ℕ) → IsConfiguration board at → pebbles ≡ board.pebbles
     → rank ≡ rank_of board (take pebbles (at ++ behind)) → configuration_at board rank ≡ at
 rank_read board at behind pebbles rank is e ranked =
@@ -82,7 +82,7 @@ module _ {R : Type 0} (board : PlainBoard) (form : RowForm R) (least : ℕ) {row
 
 -- ---- a labeller's row
 
--- its words were taken, and they spell these values
+-- the words of the row were taken, and they spell these values
 pub record AnswerTaken (board : PlainBoard) (claim : Claim) (values : AnswerValues) (at answers old new : List ℕ) : Type 0 where
   words : AnswerWords
   are : AreAnswerWords board.pebbles board.labels (places board) words
@@ -100,7 +100,7 @@ answer_taken board {pebbles} is_board e f g (words, are, stands, spell) =
 
 module _ {board : PlainBoard} {claim : Claim} {values : AnswerValues} {at answers old new : List ℕ}
     (taken : AnswerTaken board claim values at answers old new) where
-  -- what its places and its answers spell
+  -- whether the words spell these places and these answers
   abbrev PlacesAre : Bool → Type 0
   PlacesAre right = SpellPlaces board.labels (places board) taken.words.at right at
 
@@ -149,7 +149,7 @@ module _ {board : PlainBoard} {claim : Claim} {values : AnswerValues} {at answer
           spelled = rw (← at_read.1, ← n.1, ← take_read.1) taken.stands;
         }
 
-    -- the row, with its configuration's rank and the zeros behind its answers
+    -- the row read has the rank of its configuration, and zeros after its answers
     pub ranked_answer : (turns : Turns) (pebbles rank : ℕ) → values.turns ≡ Some turns → pebbles ≡ board.pebbles
         → rank ≡ rank_of board (take pebbles (at ++ drop pebbles six_zeros))
         → RowRead (labeller_form board claim).IsRow (labeller_form board claim).line
@@ -240,9 +240,9 @@ module _ {board : PlainBoard} {values : RequestValues} {at old new : List ℕ} (
 
 -- ---- a line that is written
 
--- part by part, and closed where memory lasts
+-- the line is written part by part, and has its line feed unless it is out of memory
 pub line_written : {T E : Type 0} (r : Result T E) (a b c d e f t0 t1 t2 t3 t4 t5 t6 t7 : List ℕ) → t1 ≡ t0 ++ a → t2 ≡ t1 ++ b
     → t3 ≡ t2 ++ c → t4 ≡ t3 ++ d → t5 ≡ t4 ++ e → t6 ≡ t5 ++ f → t7 ≡ cond (is_ok r) (t6 ++ 10 ∷ []) t6
-    → OnOk r (t7 ≡ t0 ++ closed (a ++ (b ++ (c ++ (d ++ (e ++ f))))))
+    → OnOk r (t7 ≡ t0 ++ with_line_feed (a ++ (b ++ (c ++ (d ++ (e ++ f))))))
 line_written (Ok x) a b c d e f t0 t1 t2 t3 t4 t5 t6 t7 p q r s t u v = rw (v, u, t, s, r, q, p) (simp append_assoc)
 line_written (Err x) a b c d e f t0 t1 t2 t3 t4 t5 t6 t7 p q r s t u v = tt

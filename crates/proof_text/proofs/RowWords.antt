@@ -1,4 +1,4 @@
--- How the words of a row come apart.
+-- The words of a row are taken apart.
 use Rattle.std.proofs.Common.{◌≡◌, ℕ, ◌⊎◌, List, [], ◌∷◌, ◌++◌, get_or, sym, ap, ◌∙◌, append_assoc, arith, inl, inr}
 use Rattle.std.specs.Prelude.{codes}
 use Rattle.std.specs.Str.Parse.{IsNumeral}
@@ -9,7 +9,7 @@ use Rattle.board_text.specs.LineForms.{NoDigit}
 use Rattle.board_text.specs.Numerals.{spaced_texts}
 use Rattle.board_text.specs.PlaceForms.{ArePlaceTexts}
 use Rattle.board_text.proofs.Cited.{digits_split, texts_unique}
-use Rattle.proof_text.specs.RowWords.{AnswerWords, RequestWords, IsTurnsText, AreAnswerWords, AreRequestWords, answer_words_line, request_words_line}
+use Rattle.proof_text.specs.RowWords.{AnswerWords, RequestWords, IsTurnsText, answer_words_line, request_words_line}
 use Rattle.proof_text.specs.Inside.Reading.{position_text}
 
 -- a space and a line feed are no digits
@@ -46,6 +46,17 @@ position_unique count labels bound ws vs x y are_ws are_vs e =
     let s = texts_unique count labels bound ws vs (codes " for " ++ x) (codes " for " ++ y) are_ws are_vs (no_digit_space (codes "for " ++ x)) (no_digit_space (codes "for " ++ y)) texts in
     (s.0, append_cancel_left (codes " for ") x y s.1)
 
+-- what follows the position that was taken from a row, and then the word that was
+pub after_position : {pebbles labels bound : ℕ} (texts at : List (List ℕ)) (old rest more : List ℕ)
+    → ArePlaceTexts pebbles labels bound texts → ArePlaceTexts pebbles labels bound at
+    → old ≡ position_text texts rest → old ≡ position_text at more → rest ≡ more
+after_position texts at old rest more are_texts are p e = (position_unique _ _ _ texts at rest more are_texts are (sym p ∙ e)).1
+
+pub after_word : (text word rest new more : List ℕ) → IsTurnsText text → IsTurnsText word → (NoDigit new ⊎ (text ≡ codes "*"))
+    → rest ≡ text ++ new → rest ≡ word ++ 32 ∷ more → new ≡ 32 ∷ more
+after_word text word rest new more is_text is stops p e =
+    (turns_unique text word new (32 ∷ more) is_text is stops (no_digit_space more) (sym p ∙ e)).1
+
 -- ---- a labeller's row
 
 regroup : (a b c d e f more : List ℕ) → ((a ++ (b ++ (c ++ (d ++ (e ++ f))))) ++ 10 ∷ []) ++ more ≡ a ++ (b ++ (c ++ (d ++ (e ++ (f ++ 10 ∷ more)))))
@@ -53,18 +64,6 @@ regroup a b c d e f more = simp append_assoc
 
 pub answer_parts : (words : AnswerWords) (more : List ℕ) → answer_words_line words ++ more ≡ position_text words.at (words.turns ++ (codes " take" ++ (spaced_texts words.take ++ 10 ∷ more)))
 answer_parts words more = regroup (codes "at") (spaced_texts words.at) (codes " for ") words.turns (codes " take") (spaced_texts words.take) more
-
--- the position of a row that stands here, and what follows it
-pub answer_position : (pebbles labels bound : ℕ) (words : AnswerWords) (texts : List (List ℕ)) (old rest more : List ℕ) → AreAnswerWords pebbles labels bound words → ArePlaceTexts pebbles labels bound texts
-    → old ≡ position_text texts rest → old ≡ answer_words_line words ++ more → (texts ≡ words.at) × (rest ≡ words.turns ++ (codes " take" ++ (spaced_texts words.take ++ 10 ∷ more)))
-answer_position pebbles labels bound words texts old rest more are are_texts p e =
-    position_unique pebbles labels bound texts words.at rest (words.turns ++ (codes " take" ++ (spaced_texts words.take ++ 10 ∷ more))) are_texts are.at (sym p ∙ e ∙ answer_parts words more)
-
--- its turns
-pub answer_turns : (words : AnswerWords) (text rest new more : List ℕ) → IsTurnsText words.turns → IsTurnsText text → (NoDigit new ⊎ (text ≡ codes "*"))
-    → rest ≡ text ++ new → rest ≡ words.turns ++ (codes " take" ++ (spaced_texts words.take ++ 10 ∷ more)) → (text ≡ words.turns) × (new ≡ codes " take" ++ (spaced_texts words.take ++ 10 ∷ more))
-answer_turns words text rest new more is is_text stops p e =
-    turns_unique text words.turns new (codes " take" ++ (spaced_texts words.take ++ 10 ∷ more)) is_text is stops (no_digit_space (codes "take" ++ (spaced_texts words.take ++ 10 ∷ more))) (sym p ∙ e)
 
 pub answer_taken : (at take : List (List ℕ)) (turns old a b c d new : List ℕ) → old ≡ position_text at a → a ≡ turns ++ b → b ≡ codes " take" ++ c → c ≡ spaced_texts take ++ d → d ≡ (10 ∷ []) ++ new
     → old ≡ answer_words_line (record { at = at; turns = turns; take = take }) ++ new
@@ -74,21 +73,6 @@ answer_taken at take turns old a b c d new p q r s t = rw (p, q, r, s, t) (sym (
 
 pub request_parts : (words : RequestWords) (more : List ℕ) → request_words_line words ++ more ≡ position_text words.at (words.left ++ (codes " ask " ++ (words.ask ++ 10 ∷ more)))
 request_parts words more = regroup (codes "at") (spaced_texts words.at) (codes " for ") words.left (codes " ask ") words.ask more
-
-pub request_position : (pebbles labels bound : ℕ) (words : RequestWords) (texts : List (List ℕ)) (old rest more : List ℕ) → AreRequestWords pebbles labels bound words → ArePlaceTexts pebbles labels bound texts
-    → old ≡ position_text texts rest → old ≡ request_words_line words ++ more → (texts ≡ words.at) × (rest ≡ words.left ++ (codes " ask " ++ (words.ask ++ 10 ∷ more)))
-request_position pebbles labels bound words texts old rest more are are_texts p e =
-    position_unique pebbles labels bound texts words.at rest (words.left ++ (codes " ask " ++ (words.ask ++ 10 ∷ more))) are_texts are.at (sym p ∙ e ∙ request_parts words more)
-
-pub request_left : (words : RequestWords) (text rest new more : List ℕ) → IsNumeral 10 words.left → IsNumeral 10 text → NoDigit new
-    → rest ≡ text ++ new → rest ≡ words.left ++ (codes " ask " ++ (words.ask ++ 10 ∷ more)) → (text ≡ words.left) × (new ≡ codes " ask " ++ (words.ask ++ 10 ∷ more))
-request_left words text rest new more is is_text stops p e =
-    numerals_unique text words.left new (codes " ask " ++ (words.ask ++ 10 ∷ more)) is_text is stops (no_digit_space (codes "ask " ++ (words.ask ++ 10 ∷ more))) (sym p ∙ e)
-
-pub request_ask : (words : RequestWords) (text rest new more : List ℕ) → IsNumeral 10 words.ask → IsNumeral 10 text → NoDigit new
-    → rest ≡ text ++ new → rest ≡ words.ask ++ 10 ∷ more → (text ≡ words.ask) × (new ≡ 10 ∷ more)
-request_ask words text rest new more is is_text stops p e =
-    numerals_unique text words.ask new (10 ∷ more) is_text is stops (no_digit_lf more) (sym p ∙ e)
 
 pub request_taken : (at : List (List ℕ)) (left ask old a b c d new : List ℕ) → old ≡ position_text at a → a ≡ left ++ b → b ≡ codes " ask " ++ c → c ≡ ask ++ d → d ≡ (10 ∷ []) ++ new
     → old ≡ request_words_line (record { at = at; left = left; ask = ask }) ++ new

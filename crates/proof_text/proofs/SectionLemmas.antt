@@ -18,7 +18,7 @@ use Rattle.proof_text.specs.Proof.{AreRows, IsBefore}
 use Rattle.proof_text.specs.ProofFaults.{MayFollow, RowsCome, RowFault, InSection}
 use Rattle.proof_text.specs.Inside.RowForm.{RowForm, IsFrom, LineFault, NextRow, PartRead, SectionFault, at_of}
 
--- what comes after the last row comes after all
+-- a configuration that may follow the last row comes after all rows
 follows_all : {X : Type 0} (board : PlainBoard) (at : X → List ℕ) (rows : List X) (configuration : List ℕ)
     → AllPairs (λ first second. IsBefore board (at first) (at second)) rows → MayFollow board at rows configuration
     → (k : ℕ) (d : X) → k < length rows → IsBefore board (at (get_or rows k d)) configuration
@@ -44,7 +44,7 @@ last_is {X} rows before row last e =
     let same : length before ≡ length rows = omega (arith, ap length e, length_push rows row, length_push before last) in
     sym (get_or_at rows row [] row (length rows) refl) ∙ ap (λ (l : List X). get_or l (length rows) row) e ∙ get_or_at before last [] row (length rows) same
 
--- the rows so far, where ranks may follow from the least on
+-- a configuration may follow the rows so far exactly if its rank is the least one or more
 abbrev pub FollowsFrom : {X : Type 0} → PlainBoard → (X → List ℕ) → List X → ℕ → Type 0
 FollowsFrom board at rows least = (configuration : List ℕ) → (MayFollow board at rows configuration → least ≤ rank_of board configuration) × (least ≤ rank_of board configuration → MayFollow board at rows configuration)
 
@@ -111,7 +111,7 @@ module _ {R : Type 0} (board : PlainBoard) (form : RowForm R) where
       (count, rows, rest, come, short, e, (row, is, more, spelled, λ follows. early ((from (at_of board form row)).0 follows)))
   line_fault_in text number line count least rows rest kind come short e from h = (count, rows, rest, come, short, e, h)
 
--- ---- what rows stand for
+-- ---- rows that show rows
 
 some_of : {R : Type 0} (rows : List R) → 0 < length rows → R
 some_of [] some = absurd (omega arith)
@@ -147,7 +147,7 @@ module _ {R X : Type 0} (board : PlainBoard) (f : R → X) (IsRow : R → Type 0
       (f row, seen row is, more, spelled, λ follows. early (follows_seen rows (at (f row)) follows))
   row_fault_seen Misread rows rest kind h = h
 
-  -- the fault of a section of rows is that of what they stand for
+  -- the fault of a section of rows is the fault of the rows that they show
   pub fault_seen : (section_line : ℕ → List ℕ) (Misread : List ℕ → ProofKind → Type 0) (text : List ℕ) (number line : ℕ) (kind : ProofKind)
       → InSection board IsRow (λ row. at (f row)) section_line (λ row. row_line (f row)) (RowFault IsRow (λ row. at (f row)) (λ row. row_line (f row)) Misread) text number line kind
       → InSection board IsSeen at section_line row_line (RowFault IsSeen at row_line Misread) text number line kind

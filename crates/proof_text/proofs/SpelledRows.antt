@@ -25,7 +25,7 @@ pub count_small : (claim : Claim) (n : ℕ) → AreTurns claim (Count n) → n <
 count_small Forever n are = absurd are
 count_small claim n are = omega (arith, are.1)
 
--- only turns without end are for ever
+-- only the claim `forever` has turns without end
 pub no_star_turns : (claim : Claim) → claim ≢ Forever → AreTurns claim Always → ⊥
 no_star_turns Forever not are = not refl
 no_star_turns claim not are = are
@@ -68,12 +68,12 @@ pub pebble_of : (pebbles : ℕ) (r : Option ℕ) (text : List ℕ) (numeral : Nu
 pebble_of pebbles (Some n) text numeral small says h = (h.0, spells_number text numeral n says h.1)
 pebble_of pebbles None text numeral small says h = spells_none pebbles text numeral small says h
 
--- what was taken where a star was
+-- if a star was found, it was taken
 pub taken_star : (r : Option (Unit {0})) (old new : List ℕ) → true ≡ is_some r → MatchOption r ((more : List ℕ) → old ≢ codes "*" ++ more) (λ _. old ≡ codes "*" ++ new) → old ≡ codes "*" ++ new
 taken_star (Some u) old new is h = h
 taken_star None old new is h = absurd cc
 
--- nothing was taken where no star was
+-- if no star was found, nothing was taken
 pub not_taken : (r : Option (Unit {0})) (old new : List ℕ) → false ≡ is_some r → MatchOption r (new ≡ old) (λ _. Unit {0}) → new ≡ old
 not_taken (Some u) old new is h = absurd cc
 not_taken None old new is h = h

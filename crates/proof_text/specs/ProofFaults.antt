@@ -14,7 +14,7 @@ use Rattle.proof_text.specs.declared.fault.ProofKind.TheVariants as kinds
 use Rattle.proof_text.specs.Proof.{PlainProof, IsProof, IsClaim, asks_labeller, asks_adversary, AreTurns, IsAnswerRow, IsRequestRow}
 use Rattle.proof_text.specs.Proof.{AreAnswerRows, AreRows, IsBefore}
 use Rattle.proof_text.specs.ProofText.{version_line, claim_line, turns_text, answer_line, request_line}
-use Rattle.proof_text.specs.ProofText.{head, labeller_section, front, proof_text, labeller_lines, adversary_lines}
+use Rattle.proof_text.specs.ProofText.{first_two_lines, labeller_section, proof_text_before_end, proof_text, labeller_lines, adversary_lines}
 use Rattle.proof_text.specs.RowWords.{AnswerWords, RequestWords, AreAnswerWords, AreRequestWords, answer_words_line, request_words_line}
 use Rattle.proof_text.specs.declared.proof.TheConstants.{MOST_TURNS}
 use Rattle.board_text.specs.Numerals.{SpellsBelow}
@@ -128,7 +128,7 @@ pub record LabellerFault (board : PlainBoard) (text : List ℕ) (line : ℕ) (ki
   pub rest : List ℕ
   pub is_claim : IsClaim claim
   pub asked : asks_labeller claim ≡ true
-  pub spelled : text ≡ head claim ++ rest
+  pub spelled : text ≡ first_two_lines claim ++ rest
   pub fault : InLabeller board claim rest 3 line kind
 
 -- The adversary's section that the claim asks for has the fault, and the labeller's section, if
@@ -141,7 +141,7 @@ pub record AdversaryFault (board : PlainBoard) (text : List ℕ) (line : ℕ) (k
   pub asked : asks_adversary claim ≡ true
   pub are_rows : AreAnswerRows board claim labeller
   pub none : asks_labeller claim ≡ false → labeller ≡ []
-  pub spelled : text ≡ head claim ++ (labeller_section board claim labeller ++ rest)
+  pub spelled : text ≡ first_two_lines claim ++ (labeller_section board claim labeller ++ rest)
   pub fault : InAdversary board rest (3 + labeller_lines claim labeller) line kind
 
 -- the number of the line `end`
@@ -154,7 +154,7 @@ abbrev pub HasProofFault : PlainBoard → List ℕ → ℕ → ProofKind → Typ
 HasProofFault board text line kinds.Version = (line ≡ 1) × Lacks (λ (u : Unit {0}). Unit {0}) (λ u. version_line) text
 HasProofFault board text line kinds.Claim = (line ≡ 2) × (rest : List ℕ) × (text ≡ version_line ++ rest) × Lacks IsClaim claim_line rest
 HasProofFault board text line kinds.End =
-    (proof : PlainProof) × (rest : List ℕ) × IsProof board proof × (text ≡ front board proof ++ rest) × (line ≡ end_number proof)
+    (proof : PlainProof) × (rest : List ℕ) × IsProof board proof × (text ≡ proof_text_before_end board proof ++ rest) × (line ≡ end_number proof)
     × Lacks (λ (u : Unit {0}). Unit {0}) (λ u. end_line) rest
 HasProofFault board text line kinds.Trailing =
     (proof : PlainProof) × (first : ℕ) × (more : List ℕ) × IsProof board proof × (text ≡ proof_text board proof ++ first ∷ more)

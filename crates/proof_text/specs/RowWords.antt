@@ -1,7 +1,7 @@
 -- The words of a row, whether or not they spell numbers in range.
 use Rattle.std.specs.Prelude.{◌≡◌, ℕ, ◌⊎◌, List, ◌++◌, codes}
 use Rattle.std.specs.Str.Parse.{IsNumeral}
-use Rattle.board_text.specs.LineForms.{closed}
+use Rattle.board_text.specs.LineForms.{with_line_feed}
 use Rattle.board_text.specs.Numerals.{spaced_texts}
 use Rattle.board_text.specs.PlaceForms.{ArePlaceTexts}
 
@@ -34,8 +34,8 @@ pub record AreRequestWords (pebbles labels bound : ℕ) (words : RequestWords) :
   pub ask : IsNumeral 10 words.ask
 
 abbrev pub answer_words_line : AnswerWords → List ℕ
-answer_words_line words = closed
+answer_words_line words = with_line_feed
     (codes "at" ++ (spaced_texts words.at ++ (codes " for " ++ (words.turns ++ (codes " take" ++ spaced_texts words.take)))))
 
 abbrev pub request_words_line : RequestWords → List ℕ
-request_words_line words = closed (codes "at" ++ (spaced_texts words.at ++ (codes " for " ++ (words.left ++ (codes " ask " ++ words.ask)))))
+request_words_line words = with_line_feed (codes "at" ++ (spaced_texts words.at ++ (codes " for " ++ (words.left ++ (codes " ask " ++ words.ask)))))

@@ -12,7 +12,7 @@ use std::alloc::AllocError;
 use std::fmt::Write;
 
 /// Takes the line of a claim from `text`, and returns the claim.
-pub(crate) fn claim(text: &mut LineReader<'_>) -> Option<Claim>
+pub(crate) fn read_claim(text: &mut LineReader<'_>) -> Option<Claim>
     ensures { Takes IsClaim claim_line result text.old text.new }
 {
     if text.begins_with(b'v') {

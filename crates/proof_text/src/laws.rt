@@ -8,8 +8,8 @@ ghost use Rattle.proof_text.specs.ProofText.{proof_text};
 ghost use Rattle.proof_text.specs.ProofFaults.{HasProofFault};
 ghost use Rattle.proof_text.specs.declared.fault.ProofKind.{ProofKind as Kind};
 ghost use Rattle.proof_text.specs.declared.fault.ProofKind.TheVariants.{Memory as OutOfMemory};
-ghost use Rattle.proof_text.specs.declared.proof.LabellerRow.{LabellerRow as RankedAnswers};
-ghost use Rattle.proof_text.specs.declared.proof.AdversaryRow.{AdversaryRow as RankedRequest};
+ghost use Rattle.proof_text.specs.declared.proof.LabellerRow.{LabellerRow as LabellerRowData};
+ghost use Rattle.proof_text.specs.declared.proof.AdversaryRow.{AdversaryRow as AdversaryRowData};
 
 use crate::proof::MOST_TURNS;
 
@@ -37,12 +37,13 @@ pub fn one_fault()
 
 /// Rows whose plain forms, with configurations for ranks, are the same are the same in each field.
 pub fn one_row_of_a_rank()
-    ensures labeller { (board : PlainBoard) → (first : RankedAnswers) → (second : RankedAnswers)
+    ensures labeller { (board : PlainBoard) → (first : LabellerRowData) → (second : LabellerRowData)
         → first.at < configurations board → second.at < configurations board → IsPadded board first → IsPadded board second
         → answer_row board first ≡ answer_row board second
         → (first.at ≡ second.at) × (first.turns ≡ second.turns)
         × ((pebble : ℕ) → slice_index first.take pebble ≡ slice_index second.take pebble) }
-    ensures adversary { (board : PlainBoard) → (first : RankedRequest) → (second : RankedRequest)
+    ensures adversary { (board : PlainBoard) → (first : AdversaryRowData)
+        → (second : AdversaryRowData)
         → first.at < configurations board → second.at < configurations board
         → request_row board first ≡ request_row board second → first ≡ second }
 {}

@@ -4,7 +4,7 @@ ghost use Rattle.std.specs.Prelude.{◌≡◌, ◌≢◌, ℕ, ◌+◌, ◌<◌,
 ghost use Rattle.positions.specs.declared.turns.Turns.TheVariants.{Count, Always};
 ghost use Rattle.board_text.specs.declared.line_reader.Numeral.TheVariants.{Number};
 ghost use Rattle.proof_text.specs.Proof.{AreTurns};
-ghost use Rattle.proof_text.specs.Inside.Reading.{TakesPosition, TakesTurns, TakesAnswerWords, TakesRequestWords};
+ghost use Rattle.proof_text.specs.Inside.Reading.{TakesConfiguration, TakesTurns, TakesAnswerWords, TakesRequestWords};
 
 use crate::proof::MOST_TURNS;
 use board_text::line_reader::{LineReader, Numeral};
@@ -13,7 +13,7 @@ use positions::{Claim, Turns};
 /// The values of the words of a labeller's row, beside its places and its answers.
 #[derive(Clone, Copy)]
 pub(crate) struct AnswerValues {
-    /// Each place of the position is one of the board.
+    /// Each place of the configuration is one of the board.
     pub are_places: bool,
     /// The turns, if the claim allows them.
     pub turns: Option<Turns>,
@@ -24,7 +24,7 @@ pub(crate) struct AnswerValues {
 /// The values of the words of an adversary's row, beside its places.
 #[derive(Clone, Copy)]
 pub(crate) struct RequestValues {
-    /// Each place of the position is one of the board.
+    /// Each place of the configuration is one of the board.
     pub are_places: bool,
     /// The number of answers left, if it is in range.
     pub left: Option<u32>,
@@ -46,7 +46,7 @@ pub(crate) fn answer_words(
     requires places { (labels ≤ places) × (places ≤ labels + 1) }
     ensures { TakesAnswerWords (length at.old) labels places claim result at.new take.new text.old text.new }
 {
-    let are_places = position(text, labels, places, at)?;
+    let are_places = configuration(text, labels, places, at)?;
     let turns = turns(text, claim)?;
     text.take(b" take")?;
     let are_answers = text.places(take, labels, labels)?;
@@ -71,7 +71,7 @@ pub(crate) fn request_words(
     requires places { (labels ≤ places) × (places ≤ labels + 1) }
     ensures { TakesRequestWords pebbles labels places result at.new text.old text.new }
 {
-    let are_places = position(text, labels, places, at)?;
+    let are_places = configuration(text, labels, places, at)?;
     let left = text.numeral()?.within(0, MOST_TURNS);
     text.take(b" ask ")?;
     let ask = text.numeral()?.below(pebbles as u16);
@@ -83,12 +83,17 @@ pub(crate) fn request_words(
     })
 }
 
-/// Takes `at`, the places of a position, and ` for `. `Some(true)`: each is one of `places` places,
-/// and they are written.
-fn position(text: &mut LineReader<'_>, labels: u16, places: u16, at: &mut [u16]) -> Option<bool>
+/// Takes `at`, the places of a configuration, and ` for `. `Some(true)`: each is one of `places`
+/// places, and they are written.
+fn configuration(
+    text: &mut LineReader<'_>,
+    labels: u16,
+    places: u16,
+    at: &mut [u16],
+) -> Option<bool>
     requires some { 0 < length at.old }
     requires places { (labels ≤ places) × (places ≤ labels + 1) }
-    ensures { TakesPosition (length at.old) labels places (option_map (λ are. (are, at.new)) result) text.old text.new }
+    ensures { TakesConfiguration (length at.old) labels places (option_map (λ are. (are, at.new)) result) text.old text.new }
 {
     text.take(b"at")?;
     let are_places = text.places(at, labels, places)?;

@@ -3,7 +3,7 @@
 ghost use Rattle.std.specs.Prelude.{◌≡◌, ◌<◌, ◌++◌, OnOk, refl, string_bytes};
 ghost use Rattle.board_text.specs.PlainBoard.{PlainBoard};
 ghost use Rattle.positions.specs.Ranks.{configurations};
-ghost use Rattle.positions.specs.declared.claim.Claim.{Claim as Claimed};
+ghost use Rattle.positions.specs.declared.claim.Claim.{Claim as ClaimData};
 ghost use Rattle.proof_text.specs.Inside.RowForm.{RowForm, NextRow, labeller_form, adversary_form};
 
 use crate::fault::ProofKind;
@@ -16,11 +16,12 @@ use std::alloc::AllocError;
 
 /// A row of one side's section.
 pub(crate) trait Row: Ranked + Copy {
-    ghost form: { PlainBoard → Claimed → RowForm Self };
+    ghost form: { PlainBoard → ClaimData → RowForm Self };
 
     /// The word at the head of the section.
     fn word() -> &'static str
-        ensures { (board : PlainBoard) → (claim : Claimed) → result.now ≡ (form board claim).word };
+        ensures { (board : PlainBoard) → (claim : ClaimData)
+            → result.now ≡ (form board claim).word };
 
     /// Whether a document with `claim` has the section.
     fn is_asked(claim: Claim) -> bool
@@ -37,10 +38,10 @@ pub(crate) trait Row: Ranked + Copy {
 
     /// Appends the row's line to `text`.
     fn write(&self, text: &mut String, space: &Space) -> Result<(), AllocError>
-        requires { (claim : Claimed) → (form space.now claim).rank self.now < configurations space.now }
-        ensures { OnOk result ((claim : Claimed) → string_bytes text.new ≡ string_bytes text.old ++ (form space.now claim).line self.now) };
+        requires { (claim : ClaimData) → (form space.now claim).rank self.now < configurations space.now }
+        ensures { OnOk result ((claim : ClaimData) → string_bytes text.new ≡ string_bytes text.old ++ (form space.now claim).line self.now) };
 
-    ghost same_rank: { (board : PlainBoard) → (claim : Claimed) → (row : Self)
+    ghost same_rank: { (board : PlainBoard) → (claim : ClaimData) → (row : Self)
         → (form board claim).rank row ≡ Self.rank row };
 }
 

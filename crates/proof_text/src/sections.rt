@@ -2,7 +2,7 @@
 
 ghost use Rattle.std.specs.Prelude.{◌≡◌, ◌<◌, ◌≤◌, ◌+◌, ◌++◌, true, if◌then◌else◌, All, IfOk, IfErr, OnOk, string_bytes};
 ghost use Rattle.positions.specs.Ranks.{configurations};
-ghost use Rattle.positions.specs.declared.claim.Claim.{Claim as Claimed};
+ghost use Rattle.positions.specs.declared.claim.Claim.{Claim as ClaimData};
 ghost use Rattle.proof_text.specs.Inside.RowForm.{PartRead, SectionFault, section_text};
 
 use crate::fault::{ProofFault, ProofKind};
@@ -57,7 +57,7 @@ pub(crate) fn write_part<R: Row>(
     claim: Claim,
     rows: &[R],
 ) -> Result<(), AllocError>
-    requires { (other : Claimed) → All (λ row. (R.form space.now other).rank row < configurations space.now) rows.now }
+    requires { (other : ClaimData) → All (λ row. (R.form space.now other).rank row < configurations space.now) rows.now }
     ensures { OnOk result (string_bytes text.new ≡ string_bytes text.old ++ section_text (R.form space.now claim) rows.now) }
 {
     if !R::is_asked(claim) {

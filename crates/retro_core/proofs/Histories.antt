@@ -1,10 +1,10 @@
--- What the steps of a round answer, and what came before: each lost try and each closed gap has its cause.
+-- Each lost try and each closed gap of a history has a step as its cause.
 use Rattle.std.proofs.Common.{◌≡◌, ◌≢◌, ◌⊎◌, ℕ, zero, suc, ◌+◌, ◌-◌, ◌<◌, ◌≤◌, ◌==◌, Bool, true, false, cond, List, [], ◌∷◌, ◌++◌, length, set, refl, sym, ap, ◌∙◌, inl, inr, subst, arith, Option, Some, None, slice_get, get_or, slice_index, get_or-set_other}
 use Rattle.std.proofs.lemmas.Option.{none-some, same_Some}
 use Rattle.index_lists.specs.Lists.{times}
 use Rattle.index_lists.proofs.Cited.{cond_same, cond_other, times-append, times-here, times-later}
 use Rattle.solver.specs.Solving.{Solving, IsSolving}
-use Rattle.retro_core.specs.Round.{PlainSeat, Round, spent, seat_at, all_won, IsLawful, IsOpening, first_of, seat_struck, seat_tried, first_is_open}
+use Rattle.retro_core.specs.Round.{PlainSeat, Round, spent_seat, seat_at, all_won, IsLawful, IsOpening, first_of, seat_struck, seat_tried, first_is_open}
 use Rattle.retro_core.specs.Round.{seat_kept, seat_new, seat_joined}
 use Rattle.retro_core.specs.declared.step.Step.{Step}
 use Rattle.retro_core.specs.declared.step.Step.TheVariants as steps
@@ -17,25 +17,25 @@ use Rattle.retro_core.proofs.SeatSums.{total-set, total-cut, total-glue, times-t
 use Rattle.retro_core.proofs.RoundLaws.{seat-there}
 use Rattle.retro_core.proofs.RoundSteps.{stepped, try-lawful}
 
--- ---- what was won before
+-- ---- configurations that were won before
 
--- a seat with something in one of its lists is one of the list
-seat-with : (list : PlainSeat → List ℕ) → list spent ≡ [] → (seats : List PlainSeat) (id : ℕ) → 0 < length (list (get_or seats id spent)) → slice_get seats id ≡ Some (get_or seats id spent)
+-- a seat with an entry in one of its lists is one of the list
+seat-with : (list : PlainSeat → List ℕ) → list spent_seat ≡ [] → (seats : List PlainSeat) (id : ℕ) → 0 < length (list (get_or seats id spent_seat)) → slice_get seats id ≡ Some (get_or seats id spent_seat)
 seat-with list none [] id some = absurd (let gone = ap length none in omega arith)
 seat-with list none (v ∷ seats) zero some = refl
 seat-with list none (v ∷ seats) (suc id) some = seat-with list none seats id some
 
--- how often a configuration is won before a step and after it, and whether the step answers that it won it
+-- the number of times that a configuration is won, before a step and after it, agrees with the step's answer
 pub record IsWonBy (answer : Seen) (c before after : ℕ) : Type 0 where
   pub keeps : before ≤ after
   pub told : answer ≡ seen.Tried c true → 0 < after
   pub from : 0 < after → (0 < before) ⊎ (answer ≡ seen.Tried c true)
 
--- a step that wins nothing
+-- a step that isn't a won try leaves the won lists
 won-none : (answer : Seen) (c before after : ℕ) → (answer ≡ seen.Tried c true → ⊥) → after ≡ before → IsWonBy answer c before after
 won-none answer c before after other same = record { keeps = omega arith; told = λ e. absurd (other e); from = λ some. inl (omega arith) }
 
--- a try
+-- a try puts the configuration into a won list exactly if it says that it won
 won-try : (config : ℕ) (won : Bool) (v : PlainSeat) (opened : Bool) (c before after : ℕ) → config ≡ first_of v.owed → won ≡ opened
     → after + times c v.won ≡ before + times c (seat_tried opened v).won → IsWonBy (seen.Tried config won) c before after
 won-try config won v false c before after first open_is moved = record {
@@ -102,10 +102,10 @@ won-step before (steps.Join into from) seen.Joined after does c =
     let v : PlainSeat = seat_at before into in
     let u : PlainSeat = seat_at before from in
     let sum = times-append c v.won u.won in
-    let glue = total-glue (λ (w : PlainSeat). times c w.won) seats into from v u (seat_joined v u) spent (seat-there seats into does.has_into) (seat-there seats from does.has_from) does.differ (omega arith) in
+    let glue = total-glue (λ (w : PlainSeat). times c w.won) seats into from v u (seat_joined v u) spent_seat (seat-there seats into does.has_into) (seat-there seats from does.has_from) does.differ (omega arith) in
     let is = ap (λ r. times c (all_won r)) does.after_is in
     let old = times-together c (λ w. w.won) seats in
-    let new = times-together c (λ w. w.won) (set (set seats into (seat_joined v u)) from spent) in
+    let new = times-together c (λ w. w.won) (set (set seats into (seat_joined v u)) from spent_seat) in
     won-none seen.Joined c (times c (all_won before)) (times c (all_won after)) (not-joined-tried c) (omega arith)
   where
     not-joined-tried : (c : ℕ) → seen.Joined ≡ seen.Tried c true → ⊥
@@ -123,7 +123,7 @@ won-step before (steps.Join into from) (seen.Struck config closed) after does c 
 won-step before (steps.Join into from) (seen.Tried config won) after does c = absurd does
 won-step before (steps.Join into from) (seen.Parted new_seat) after does c = absurd does
 
--- a try is lost only where the configuration stands in a won list
+-- a try is lost only if the configuration is in a won list
 lost-now : (before : Round) (step : Step) (c : ℕ) (after : Round) → IsSolving before.solving → IsLawful before → Does before step (seen.Tried c false) after → 0 < times c (all_won before)
 lost-now before (steps.Try id) c after sol law does =
     subst (λ x. 0 < times x (all_won before)) (sym does.first) ((try-lawful before sol law id does.some_owed).not_won (sym does.won_is))
@@ -151,7 +151,7 @@ lost-after first (one ∷ more) last sol law lead (suc place) c at =
       | inr found ↦ inr (suc found.0, (let low = found.1 in omega arith), found.2)
     ]
 
--- the same from an opening, at which nothing is won
+-- the same from an opening, when no configuration is won
 pub lost-opened : (s : Solving) (width : ℕ) (first : Round) (made : List (Step × Seen)) (last : Round) → IsSolving s → IsOpening s width first → LeadTo first made last
     → (place c : ℕ) → answer_at made place ≡ Some (seen.Tried c false) → IsWonBefore made place c
 lost-opened s width first made last sol opens lead place c at =
@@ -161,7 +161,7 @@ lost-opened s width first made last sol opens lead place c at =
       | inr found ↦ found
     ]
 
--- what was won stays won
+-- a won configuration stays won
 pub won-stays : (first : Round) (made : List (Step × Seen)) (last : Round) → LeadTo first made last → (c : ℕ) → times c (all_won first) ≤ times c (all_won last)
 won-stays first [] last same c = let e = ap (λ r. times c (all_won r)) same in omega arith
 won-stays first (one ∷ more) last lead c =
@@ -169,7 +169,7 @@ won-stays first (one ∷ more) last lead c =
     let rest = won-stays lead.0 more last lead.2 c in
     omega arith
 
--- what is told as won stands in a won list at the end
+-- a configuration that an answer says is won is in a won list at the end
 pub won-told : (first : Round) (made : List (Step × Seen)) (last : Round) → LeadTo first made last → (place c : ℕ) → answer_at made place ≡ Some (seen.Tried c true) → 0 < times c (all_won last)
 won-told first [] last lead place c at = absurd (none-some _ at)
 won-told first (one ∷ more) last lead zero c at =
@@ -180,11 +180,11 @@ won-told first (one ∷ more) last lead (suc place) c at = won-told lead.0 more 
 
 -- ---- gaps that are closed
 
--- the answer tells that the gap was closed
+-- the answer says that the gap was closed
 abbrev pub Closes : Seen → ℕ → Type 0
 Closes answer gap = (config : ℕ) × (answer ≡ seen.Struck config (Some gap))
 
--- a gap's count before a step and after it, and whether the step tells that the gap is closed
+-- the counts of a gap before a step and after it agree with the step's answer
 record IsCounted (answer : Seen) (gap before after : ℕ) : Type 0 where
   down : after ≤ before
   closes : Closes answer gap → (before ≡ 1) × (after ≡ 0)
@@ -273,7 +273,7 @@ counts-fall first (one ∷ more) last lead g =
 closes-first : (one : Step × Seen) (g c : ℕ) → Some one.1 ≡ Some (seen.Struck c (Some g)) → Closes one.1 g
 closes-first one g c at = (c, same_Some _ _ at)
 
--- where a gap is told as closed it had a count, and has none at the end
+-- a gap that an answer says is closed had a count, and has none at the end
 pub closed-gone : (first : Round) (made : List (Step × Seen)) (last : Round) → LeadTo first made last → (g place : ℕ) → IsClosedAt made g place
     → (0 < slice_index first.counts g) × (slice_index last.counts g ≡ 0)
 closed-gone first [] last lead g place at = absurd (none-some _ at.1)
@@ -289,7 +289,7 @@ closed-gone first (one ∷ more) last lead g (suc place) at =
     let some = rest.0 in
     (omega arith, rest.1)
 
--- it is told once
+-- at most one answer says that a gap is closed
 pub closed-once : (first : Round) (made : List (Step × Seen)) (last : Round) → LeadTo first made last → (g one_place other_place : ℕ) → IsClosedAt made g one_place → IsClosedAt made g other_place → one_place ≡ other_place
 closed-once first [] last lead g p q at there = absurd (none-some _ at.1)
 closed-once first (one ∷ more) last lead g zero zero at there = refl
@@ -303,7 +303,7 @@ closed-once first (one ∷ more) last lead g (suc p) zero at there = absurd (
     omega arith)
 closed-once first (one ∷ more) last lead g (suc p) (suc q) at there = ap suc (closed-once lead.0 more last lead.2 g p q at there)
 
--- and always, where it had a count and has none at the end
+-- if a gap had a count and has none at the end, some answer says that it is closed
 pub closed-always : (first : Round) (made : List (Step × Seen)) (last : Round) → LeadTo first made last → (g : ℕ) → 0 < slice_index first.counts g → slice_index last.counts g ≡ 0
     → (place : ℕ) × IsClosedAt made g place
 closed-always first [] last same g some none = absurd (let e = ap (λ r. slice_index r.counts g) same in omega arith)
@@ -314,19 +314,19 @@ closed-always first (one ∷ more) last lead g some none = elim (same_or_not (sl
 
 -- ---- one step more
 
--- steps that lead to a round, and a step of that round
+-- steps that lead to a round, and one step from that round
 pub lead-more : (first : Round) (made : List (Step × Seen)) (last : Round) (step : Step) (answer : Seen) (after : Round) → LeadTo first made last → Does last step answer after
     → LeadTo first (made ++ (step, answer) ∷ []) after
 lead-more first [] last step answer after same does = (after, subst (λ r. Does r step answer after) (sym same) does, refl)
 lead-more first (one ∷ more) last step answer after lead does = (lead.0, lead.1, lead-more lead.0 more last step answer after lead.2 does)
 
--- what was answered before stays
+-- the answers before the last step stay
 pub answer-before : (made : List (Step × Seen)) (one : Step × Seen) (place : ℕ) (answer : Seen) → answer_at made place ≡ Some answer → answer_at (made ++ one ∷ []) place ≡ Some answer
 answer-before [] one place answer at = absurd (none-some _ at)
 answer-before (first ∷ made) one zero answer at = at
 answer-before (first ∷ made) one (suc place) answer at = answer-before made one place answer at
 
--- and the step more stands at the end
+-- the answer of the last step is the last
 pub answer-last : (made : List (Step × Seen)) (one : Step × Seen) → answer_at (made ++ one ∷ []) (length made) ≡ Some one.1
 answer-last [] one = refl
 answer-last (first ∷ made) one = answer-last made one

@@ -1,15 +1,15 @@
--- The gap in which a configuration is struck, and how many answers of a gap lead to a list of configurations.
+-- The gap in which a configuration is struck, and the number of a gap's answers that lead into a list.
 use Rattle.std.proofs.Common.{◌≡◌, ◌≢◌, ◌⊎◌, ℕ, zero, suc, ◌+◌, ◌<◌, ◌≤◌, ◌==◌, ◌&&◌, not, Bool, true, false, cond, List, [], ◌∷◌, refl, sym, ap, ◌∙◌, inl, inr, subst, arith}
 use Rattle.std.specs.List.{filter}
 use Rattle.index_lists.specs.Lists.{times}
 use Rattle.index_lists.proofs.Cited.{times-here, times-later, cond_same, cond_other, same_is, differ_is}
-use Rattle.solver.specs.Inside.Arena.{Arena, count_below, live, Dominant}
+use Rattle.solver.specs.Inside.Arena.{Arena, count_below, live_answers, IsDominant}
 use Rattle.solver.proofs.Cited.{IsArena, without, count_below-none, strike-home, strike-other, strike-none, stands, stands-true, stands-false, live-same, true_or_false, true_not_false, same_or_not}
 use Rattle.retro_core.proofs.Rules.{tally, home_among}
 
 -- ---- homes
 
--- one of the first pebbles dominates, and its gap is the home; or none does, and the home is no gap
+-- one of the first pebbles dominates, and the home is its gap; or none does, and the home is no gap
 pub record IsHomed (a : Arena) (rank count : ℕ) : Type 0 where
   pub pebble : ℕ
   pub below : pebble < count
@@ -45,7 +45,7 @@ home-cases a rank (suc p) = elim (true_or_false (a.is_answer (a.gap rank p) (a.p
 ]
 
 -- the home is the gap of the dominating pebble
-pub home-of : (a : Arena) → IsArena a → (rank p : ℕ) → rank < a.configurations → Dominant a rank p → home_among a rank a.pebbles ≡ a.gap rank p
+pub home-of : (a : Arena) → IsArena a → (rank p : ℕ) → rank < a.configurations → IsDominant a rank p → home_among a rank a.pebbles ≡ a.gap rank p
 home-of a is rank p i dominant = elim (home-cases a rank a.pebbles) [
   | inl found ↦ found.home_is ∙ ap (a.gap rank) (is.one_dominator rank found.pebble p i found.below dominant.0 found.answer dominant.1)
   | inr homeless ↦ absurd (homeless.none p dominant.0 dominant.1)
@@ -70,9 +70,9 @@ without-first x y ranks none = elim (same_or_not y x) [
 first_one : (x : ℕ) (ranks : List ℕ) → times x (x ∷ ranks) ≡ 1 + times x ranks
 first_one x ranks = let one = cond_same {A = ℕ} x x 1 0 refl in omega arith
 
--- the answers of a gap that lead to a list without doubles are as many as the list has configurations that are struck in the gap
+-- the answers of a gap that lead into a list are as many as the configurations of the list that are struck in it
 pub live-tally : (a : Arena) → IsArena a → (g : ℕ) (ranks : List ℕ) → g < a.gaps → ((x : ℕ) → 0 < times x ranks → x < a.configurations) → ((x : ℕ) → times x ranks ≤ 1)
-    → live a (stands ranks) g ≡ tally (λ x. home_among a x a.pebbles) g ranks
+    → live_answers a (stands ranks) g ≡ tally (λ x. home_among a x a.pebbles) g ranks
 live-tally a is g [] i inside once = count_below-none a.places (λ v. a.is_answer g v && false) (λ v j. and_false (a.is_answer g v))
 live-tally a is g (x ∷ ranks) i inside once =
     let first : times x (x ∷ ranks) ≡ 1 + times x ranks = first_one x ranks in
@@ -80,9 +80,9 @@ live-tally a is g (x ∷ ranks) i inside once =
     let low : x < a.configurations = inside x (omega arith) in
     let above : ℕ → Bool = stands (x ∷ ranks) in
     let is_above : above x ≡ true = stands-true (x ∷ ranks) x (omega arith) in
-    let rest : live a (stands ranks) g ≡ tally (λ y. home_among a y a.pebbles) g ranks =
+    let rest : live_answers a (stands ranks) g ≡ tally (λ y. home_among a y a.pebbles) g ranks =
     live-tally a is g ranks i (λ y h. inside y (omega arith)) (λ y. let o = once y in omega arith) in
-    let less : live a (without above x) g ≡ live a (stands ranks) g = live-same a is (without above x) (stands ranks) g i (λ y j. without-first x y ranks no_more) in
+    let less : live_answers a (without above x) g ≡ live_answers a (stands ranks) g = live-same a is (without above x) (stands ranks) g i (λ y j. without-first x y ranks no_more) in
     elim (home-cases a x a.pebbles) [
       | inr homeless ↦ (
           let same = strike-none a is above x g (λ p dominant. homeless.none p dominant.0 dominant.1) i in
@@ -91,8 +91,8 @@ live-tally a is g (x ∷ ranks) i inside once =
           omega arith)
       | inl found ↦ elim (same_or_not g (a.gap x found.pebble)) [
         | inl here ↦ (
-            let struck : live a (without above x) g + 1 ≡ live a above g =
-            subst (λ h. live a (without above x) h + 1 ≡ live a above h) (sym here) (strike-home a is above x found.pebble low (found.below, found.answer) is_above) in
+            let struck : live_answers a (without above x) g + 1 ≡ live_answers a above g =
+            subst (λ h. live_answers a (without above x) h + 1 ≡ live_answers a above h) (sym here) (strike-home a is above x found.pebble low (found.below, found.answer) is_above) in
             let one : ◌≡◌ {A = ℕ} (cond (home_among a x a.pebbles == g) 1 0) 1 = cond_same {A = ℕ} (home_among a x a.pebbles) g 1 0 (found.home_is ∙ sym here) in
             omega arith)
         | inr elsewhere ↦ (
@@ -116,12 +116,12 @@ answer-sum true f g h e = e
 answer-sum false f g h e = refl
 
 pub live-sum : (a : Arena) → IsArena a → (f g h : ℕ → Bool) (gap : ℕ) → gap < a.gaps
-    → ((c : ℕ) → c < a.configurations → ◌≡◌ {A = ℕ} (cond (f c) 1 0) (cond (g c) 1 0 + cond (h c) 1 0)) → live a f gap ≡ live a g gap + live a h gap
+    → ((c : ℕ) → c < a.configurations → ◌≡◌ {A = ℕ} (cond (f c) 1 0) (cond (g c) 1 0 + cond (h c) 1 0)) → live_answers a f gap ≡ live_answers a g gap + live_answers a h gap
 live-sum a is f g h gap i each =
     count-sum a.places (λ v. a.is_answer gap v && f (a.member gap v)) (λ v. a.is_answer gap v && g (a.member gap v)) (λ v. a.is_answer gap v && h (a.member gap v))
     (λ v j. answer-sum (a.is_answer gap v) (f (a.member gap v)) (g (a.member gap v)) (h (a.member gap v)) (each (a.member gap v) (is.member_in gap v i j)))
 
--- ---- a list without what fails a test
+-- ---- filtered lists
 
 pub tally-filter : (home : ℕ → ℕ) (test : ℕ → Bool) (g : ℕ) (ranks : List ℕ) → ((x : ℕ) → 0 < times x ranks → test x ≡ false → home x ≢ g) → tally home g (filter test ranks) ≡ tally home g ranks
 tally-filter home test g [] fails = refl

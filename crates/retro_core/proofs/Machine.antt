@@ -1,4 +1,4 @@
--- The steps as the machine makes them: what its code reads and writes is the step, and the round after it is lawful.
+-- The machine's code makes the steps of a round, and keeps rounds lawful.
 use Rattle.std.proofs.Common.{◌≡◌, ◌≢◌, ℕ, zero, suc, ◌+◌, ◌-◌, ◌<◌, ◌≤◌, ◌==◌, Bool, true, false, cond, List, [], ◌∷◌, ◌++◌, length, map, set, refl, sym, ap, ◌∙◌, subst, arith, Option, Some, None, get_or, get_or-set_other}
 use Rattle.std.specs.Option.{is_none}
 use Rattle.std.proofs.lemmas.Bool.Decides.{nat_tests}
@@ -10,8 +10,8 @@ use Rattle.positions.specs.Counts.{IsSmallest}
 use Rattle.solver.specs.declared.word.TheConstants.{OPEN}
 use Rattle.solver.specs.Solving.{Solving, IsSolving}
 use Rattle.solver.specs.Words.{value_of_word}
-use Rattle.retro_core.specs.Round.{PlainSeat, Round, spent, seat_at, IsDue, IsLawful, first_of, seat_struck, seat_tried, seat_kept, round_of}
-use Rattle.retro_core.specs.Round.{seat_new, seat_joined, struck, first_is_open, tried}
+use Rattle.retro_core.specs.Round.{PlainSeat, Round, spent_seat, seat_at, IsDue, IsLawful, first_of, seat_struck, seat_tried, seat_kept, round_of}
+use Rattle.retro_core.specs.Round.{seat_new, seat_joined, round_struck, first_is_open, round_tried}
 use Rattle.retro_core.specs.declared.step.Step.TheVariants as steps
 use Rattle.retro_core.specs.declared.step.StepFault.TheVariants as faults
 use Rattle.retro_core.specs.Stepping.{Strikes, Tries, Splits, Joins, ClosesGap, Refuses}
@@ -22,14 +22,14 @@ use Rattle.retro_core.proofs.RoundSteps.{first-due, strike-lawful, try-lawful, s
 
 -- ---- seats as the code reads them
 
-pub seat-inside : (seats : List PlainSeat) (id : ℕ) → 0 < (get_or seats id spent).width → id < length seats
+pub seat-inside : (seats : List PlainSeat) (id : ℕ) → 0 < (get_or seats id spent_seat).width → id < length seats
 seat-inside [] id wide = absurd (omega arith)
 seat-inside (v ∷ seats) zero wide = omega arith
 seat-inside (v ∷ seats) (suc id) wide = let rest = seat-inside seats id wide in omega arith
 
--- the default doesn't matter for a live seat
-pub seat-read : (seats : List PlainSeat) (id : ℕ) (v : PlainSeat) → 0 < (get_or seats id spent).width → v ≡ get_or seats id v → v ≡ get_or seats id spent
-seat-read seats id v wide e = e ∙ get_or_default seats id v spent (seat-inside seats id wide)
+-- a seat that has a width is read alike with any default
+pub seat-read : (seats : List PlainSeat) (id : ℕ) (v : PlainSeat) → 0 < (get_or seats id spent_seat).width → v ≡ get_or seats id v → v ≡ get_or seats id spent_seat
+seat-read seats id v wide e = e ∙ get_or_default seats id v spent_seat (seat-inside seats id wide)
 
 pub some-of : (n : ℕ) (b : Bool) → b ≡ (n == 0) → b ≡ false → 0 < n
 some-of n b is no_more = grind (arith, nat_tests)
@@ -40,11 +40,11 @@ module _ (s : Solving) (w : ℕ) (counts : List ℕ) (values : List (Option ℕ)
   abbrev pub here : Round
   here = round_of s w counts values seats
 
-  pub wide : 0 < (get_or seats id spent).width
+  pub wide : 0 < (get_or seats id spent_seat).width
   wide = subst (λ r. 0 < (seat_at r id).width) (sym is) has_width
 
-  -- what a seat has to strike or owes, as it was read
-  pub read-list : (list : PlainSeat → List ℕ) (v : PlainSeat) (ranks : List ℕ) → v ≡ get_or seats id v → ranks ≡ list v → ranks ≡ list (get_or seats id spent)
+  -- the list of a seat that was read is the list of the round's seat
+  pub read-list : (list : PlainSeat → List ℕ) (v : PlainSeat) (ranks : List ℕ) → v ≡ get_or seats id v → ranks ≡ list v → ranks ≡ list (get_or seats id spent_seat)
   read-list list v ranks v_is e = e ∙ ap list (seat-read seats id v wide v_is)
 
   -- ---- strike
@@ -54,7 +54,7 @@ module _ (s : Solving) (w : ℕ) (counts : List ℕ) (values : List (Option ℕ)
       let todo = read-list (λ u. u.todo) v ranks v_is e in
       subst (λ (l : List ℕ). IsDue s.board (get_or l 0 0) s.rounds) (sym todo) (first-due here law id (subst (λ (l : List ℕ). 0 < length l) todo some))
 
-  -- some pebble dominates what is to be struck
+  -- the first configuration to strike has a dominator
   pub dominated : (v : PlainSeat) (ranks : List ℕ) (found : Option ℕ) → v ≡ get_or seats id v → ranks ≡ v.todo → 0 < length ranks
       → IsSmallest (IsDominator s.board (configuration_at s.board (get_or ranks 0 0))) found → found ≡ None → ⊥
   dominated v ranks found v_is e some smallest none =
@@ -71,7 +71,7 @@ module _ (s : Solving) (w : ℕ) (counts : List ℕ) (values : List (Option ℕ)
       → v' ≡ get_or seats id v' → after ≡ seat_struck s gap count v' → IsStriking ranks gap count after closed
   striking v ranks pebble gap count v' after closed v_is e some dominates gap_is count_is v'_is after_is =
       let b = s.board in
-      let seat : PlainSeat = get_or seats id spent in
+      let seat : PlainSeat = get_or seats id spent_seat in
       let todo : ranks ≡ seat.todo = read-list (λ u. u.todo) v ranks v_is e in
       let some' : 0 < length seat.todo = subst (λ (l : List ℕ). 0 < length l) todo some in
       let dominates' : IsDominator b (configuration_at b (first_of seat.todo)) pebble = subst (λ (l : List ℕ). IsDominator b (configuration_at b (get_or l 0 0)) pebble) todo dominates in
@@ -79,12 +79,12 @@ module _ (s : Solving) (w : ℕ) (counts : List ℕ) (values : List (Option ℕ)
       let done = strike-lawful here sol law id pebble some' dominates' in
       let left : 0 < get_or counts gap 0 = subst (λ g. 0 < get_or counts g 0) gap_same done.some_left in
       let seat_is : after ≡ seat_struck s gap (get_or counts gap 0) seat = after_is ∙ ap (seat_struck s gap count) (seat-read seats id v' wide v'_is) ∙ ap (λ n. seat_struck s gap n seat) count_is in
-      let same : struck here id gap ≡ round_of s w (set counts gap (count - 1)) values (set seats id after) =
+      let same : round_struck here id gap ≡ round_of s w (set counts gap (count - 1)) values (set seats id after) =
       ap (λ n. round_of s w (set counts gap (n - 1)) values (set seats id (seat_struck s gap (get_or counts gap 0) seat))) (sym count_is)
       ∙ ap (λ u. round_of s w (set counts gap (count - 1)) values (set seats id u)) (sym seat_is) in
       record {
         some_left = omega arith;
-        lawful = subst IsLawful same (subst (λ g. IsLawful (struck here id g)) gap_same done.lawful);
+        lawful = subst IsLawful same (subst (λ g. IsLawful (round_struck here id g)) gap_same done.lawful);
         strikes = λ closed_is. subst (λ r. Strikes r id (get_or ranks 0 0) closed (round_of s w (set counts gap (count - 1)) values (set seats id after))) is (record {
           some_todo = some';
           first = ap (λ (l : List ℕ). get_or l 0 0) todo;
@@ -97,12 +97,12 @@ module _ (s : Solving) (w : ℕ) (counts : List ℕ) (values : List (Option ℕ)
         });
       }
 
-  -- where a strike takes memory, it closes the gap
+  -- a strike that closes its gap takes memory, so it may be refused
   pub closing : (v : PlainSeat) (ranks : List ℕ) (pebble gap count : ℕ) → v ≡ get_or seats id v → ranks ≡ v.todo → 0 < length ranks
       → IsDominator s.board (configuration_at s.board (get_or ranks 0 0)) pebble → gap ≡ gap_of s.board (configuration_at s.board (get_or ranks 0 0)) pebble → count ≡ get_or counts gap 0
       → count ≡ 1 → Refuses old (steps.Strike id) faults.Memory
   closing v ranks pebble gap count v_is e some dominates gap_is count_is one =
-      let todo : ranks ≡ (get_or seats id spent).todo = read-list (λ u. u.todo) v ranks v_is e in
+      let todo : ranks ≡ (get_or seats id spent_seat).todo = read-list (λ u. u.todo) v ranks v_is e in
       subst (λ r. (0 < length (seat_at r id).todo) × ClosesGap r id) is (
         subst (λ (l : List ℕ). 0 < length l) todo some,
         record {
@@ -130,13 +130,13 @@ module _ (s : Solving) (w : ℕ) (counts : List ℕ) (values : List (Option ℕ)
       → word ≡ get_or values (get_or ranks 0 0) word → won ≡ is_none word → values' ≡ cond won (set values (get_or ranks 0 0) (Some (suc s.rounds))) values
       → v' ≡ get_or seats id v' → after ≡ seat_tried won v' → IsTrying ranks won values' after
   trying v ranks word won values' v' after v_is e some word_is won_is values_are v'_is after_is =
-      let seat : PlainSeat = get_or seats id spent in
+      let seat : PlainSeat = get_or seats id spent_seat in
       let owed : ranks ≡ seat.owed = read-list (λ u. u.owed) v ranks v_is e in
       let first : get_or ranks 0 0 ≡ first_of seat.owed = ap (λ (l : List ℕ). get_or l 0 0) owed in
       let some' : 0 < length seat.owed = subst (λ (l : List ℕ). 0 < length l) owed some in
       let done = try-lawful here sol law id some' in
       let open_is : won ≡ first_is_open here id = won_is ∙ ap is_none (word_is ∙ get_or_default values (get_or ranks 0 0) word None (owed-read v ranks v_is e some) ∙ ap (λ x. get_or values x None) first) in
-      let same : round_of s w counts values' (set seats id after) ≡ tried here id =
+      let same : round_of s w counts values' (set seats id after) ≡ round_tried here id =
       ap (λ (l : List (Option ℕ)). round_of s w counts l (set seats id after)) (values_are ∙ ap (λ x. cond won (set values x (Some (suc s.rounds))) values) first)
       ∙ ap (λ u. round_of s w counts (cond won (set values (first_of seat.owed) (Some (suc s.rounds))) values) (set seats id u)) (after_is ∙ ap (seat_tried won) (seat-read seats id v' wide v'_is))
       ∙ ap (λ o. round_of s w counts (cond o (set values (first_of seat.owed) (Some (suc s.rounds))) values) (set seats id (seat_tried o seat))) open_is in
@@ -154,7 +154,7 @@ module _ (s : Solving) (w : ℕ) (counts : List ℕ) (values : List (Option ℕ)
   pub splitting : (v half : PlainSeat) (pushed : List PlainSeat) (v' after : PlainSeat) (new_seat : ℕ) → (seat_at old id).width ≢ 1 → v ≡ get_or seats id v → half ≡ seat_new v → pushed ≡ seats ++ half ∷ []
       → v' ≡ get_or pushed id v' → after ≡ seat_kept v' → IsSplitting (set pushed id after) new_seat
   splitting v half pushed v' after new_seat not_one v_is half_is pushed_is v'_is after_is =
-      let seat : PlainSeat = get_or seats id spent in
+      let seat : PlainSeat = get_or seats id spent_seat in
       let inside : id < length seats = seat-inside seats id wide in
       let two : 2 ≤ seat.width = two_of seat.width wide (λ e. not_one (ap (λ r. (seat_at r id).width) (sym is) ∙ e)) in
       let half_same : half ≡ seat_new seat = half_is ∙ ap seat_new (seat-read seats id v wide v_is) in
@@ -171,7 +171,7 @@ module _ (s : Solving) (w : ℕ) (counts : List ℕ) (values : List (Option ℕ)
       two_of : (n : ℕ) → 0 < n → n ≢ 1 → 2 ≤ n
       two_of n some more = omega (arith, more)
 
-      in_front : (xs ys : List PlainSeat) (i : ℕ) (d : PlainSeat) → i < length xs → get_or (xs ++ ys) i d ≡ get_or xs i spent
+      in_front : (xs ys : List PlainSeat) (i : ℕ) (d : PlainSeat) → i < length xs → get_or (xs ++ ys) i d ≡ get_or xs i spent_seat
       in_front [] ys i d low = absurd (omega arith)
       in_front (x ∷ xs) ys zero d low = refl
       in_front (x ∷ xs) ys (suc i) d low = in_front xs ys i d (omega arith)
@@ -179,48 +179,51 @@ module _ (s : Solving) (w : ℕ) (counts : List ℕ) (values : List (Option ℕ)
   -- ---- join
 
   module _ (from : ℕ) (from_has_width : 0 < (seat_at old from).width) (differ : id ≢ from) where
-    pub from_wide : 0 < (get_or seats from spent).width
+    pub from_wide : 0 < (get_or seats from spent_seat).width
     from_wide = subst (λ r. 0 < (seat_at r from).width) (sym is) from_has_width
 
-    -- the seat that is joined into, as it is read after the other was taken out
-    pub into-read : (v : PlainSeat) → v ≡ get_or (set seats from spent) id v → v ≡ get_or seats id spent
-    into-read v v_is = v_is ∙ get_or-set_other seats from id spent v differ ∙ get_or_default seats id v spent (seat-inside seats id wide)
+    -- after the other seat was taken out, the seat that is joined into reads as before
+    pub into-read : (v : PlainSeat) → v ≡ get_or (set seats from spent_seat) id v → v ≡ get_or seats id spent_seat
+    into-read v v_is = v_is ∙ get_or-set_other seats from id spent_seat v differ ∙ get_or_default seats id v spent_seat (seat-inside seats id wide)
 
-    pub widths-fit : (v u : PlainSeat) → v ≡ get_or seats id spent → u ≡ get_or seats from spent → v.width + u.width ≤ w
+    pub widths-fit : (v u : PlainSeat) → v ≡ get_or seats id spent_seat → u ≡ get_or seats from spent_seat
+        → v.width + u.width ≤ w
     widths-fit v u v_is u_is =
         let at = seat-there seats id wide in
         let there = seat-there seats from from_wide in
         let mine = ap (λ (x : PlainSeat). x.width) v_is in
         let other = ap (λ (x : PlainSeat). x.width) u_is in
-        let without = total-set (λ x. x.width) seats from (get_or seats from spent) spent there in
-        let part = total-at (λ x. x.width) (set seats from spent) id (get_or seats id spent)
-        (subst (λ (o : Option PlainSeat). o ≡ Some (get_or seats id spent)) (sym (get-elsewhere seats from id spent (λ e. differ (sym e)))) at) in
+        let without = total-set (λ x. x.width) seats from (get_or seats from spent_seat) spent_seat there in
+        let part = total-at (λ x. x.width) (set seats from spent_seat) id (get_or seats id spent_seat)
+        (subst (λ (o : Option PlainSeat). o ≡ Some (get_or seats id spent_seat)) (sym (get-elsewhere seats from id spent_seat (λ e. differ (sym e)))) at) in
         let all = law.widths in
         omega arith
 
-    -- where nothing was taken over, all is put back
-    pub put-back : (v u : PlainSeat) → v ≡ get_or seats id spent → u ≡ get_or seats from spent → set (set (set seats from spent) id v) from u ≡ seats
+    -- if the lists couldn't be taken over, both seats are put back and the list of seats is as before
+    pub put-back : (v u : PlainSeat) → v ≡ get_or seats id spent_seat → u ≡ get_or seats from spent_seat → set (set (set seats from spent_seat) id v) from u ≡ seats
     put-back v u v_is u_is =
-        ap (λ (l : List PlainSeat). set l from u) (set_comm seats from id spent v (λ e. differ (sym e)))
-        ∙ set-set (set seats id v) from spent u
+        ap (λ (l : List PlainSeat). set l from u) (set_comm seats from id spent_seat v (λ e. differ (sym e)))
+        ∙ set-set (set seats id v) from spent_seat u
         ∙ ap (λ x. set (set seats id x) from u) v_is
-        ∙ ap (λ (l : List PlainSeat). set l from u) (set-get_or seats id spent)
-        ∙ ap (set seats from) u_is ∙ set-get_or seats from spent
+        ∙ ap (λ (l : List PlainSeat). set l from u) (set-get_or seats id spent_seat)
+        ∙ ap (set seats from) u_is ∙ set-get_or seats from spent_seat
 
     pub record IsJoining (seats' : List PlainSeat) : Type 0 where
       pub lawful : IsLawful (round_of s w counts values seats')
       pub joins : Joins old id from (round_of s w counts values seats')
 
-    pub joining : (v u after : PlainSeat) → v ≡ get_or seats id spent → u ≡ get_or seats from spent → after ≡ seat_joined v u → IsJoining (set (set seats from spent) id after)
+    pub joining : (v u after : PlainSeat) → v ≡ get_or seats id spent_seat → u ≡ get_or seats from spent_seat → after ≡ seat_joined v u → IsJoining (set (set seats from spent_seat) id after)
     joining v u after v_is u_is after_is =
-        let seat : PlainSeat = get_or seats id spent in
-        let other : PlainSeat = get_or seats from spent in
-        let same : set (set seats from spent) id after ≡ set (set seats id (seat_joined seat other)) from spent =
-        set_comm seats from id spent after (λ e. differ (sym e))
-        ∙ ap (λ x. set (set seats id x) from spent) (after_is ∙ ap (λ x. seat_joined x u) v_is ∙ ap (seat_joined seat) u_is) in
+        let seat : PlainSeat = get_or seats id spent_seat in
+        let other : PlainSeat = get_or seats from spent_seat in
+        let same : set (set seats from spent_seat) id after ≡ set
+        (set seats id (seat_joined seat other)) from spent_seat =
+        set_comm seats from id spent_seat after (λ e. differ (sym e))
+        ∙ ap (λ x. set (set seats id x) from spent_seat) (after_is ∙ ap (λ x. seat_joined x u) v_is ∙ ap (seat_joined seat) u_is) in
         record {
           lawful = subst (λ (l : List PlainSeat). IsLawful (round_of s w counts values l)) (sym same) (join-lawful here sol law id from differ wide from_wide);
-          joins = subst (λ r. Joins r id from (round_of s w counts values (set (set seats from spent) id after))) is
+          joins = subst (λ r. Joins r id from (round_of s w counts values (set (set seats from spent_seat) id after)))
+              is
               (record { differ = differ; has_into = wide; has_from = from_wide; after_is = ap (round_of s w counts values) same });
         }
 
@@ -229,7 +232,7 @@ module _ (s : Solving) (w : ℕ) (counts : List ℕ) (values : List (Option ℕ)
 
 -- ---- values as words
 
--- a word is open exactly if it stands for no value
+-- a word is open exactly if it says no value
 pub open-word : (word : ℕ) → (word == OPEN) ≡ is_none (value_of_word word)
 open-word word = by (word == OPEN)
   where
@@ -237,13 +240,13 @@ open-word word = by (word == OPEN)
     by true = refl
     by false = refl
 
--- the values after a configuration has won the next one
+-- the values after a configuration has got the next value
 pub values-won : (words : List ℕ) (rank next : ℕ) → next < OPEN → map value_of_word (set words rank next) ≡ set (map value_of_word words) rank (Some next)
 values-won words rank next small =
     map-set value_of_word words rank next
     ∙ ap (set (map value_of_word words) rank) (cond_other next OPEN None (Some next) (λ e. omega arith))
 
--- a try as the machine makes it: the word of the first that is owed is read, and the next value is written there if it is open
+-- the machine's try: the first owed configuration's word is read, and gets the next value if it is open
 module _ (s : Solving) (w : ℕ) (counts words : List ℕ) (seats : List PlainSeat) (old : Round) (is : round_of s w counts (map value_of_word words) seats ≡ old)
     (sol : IsSolving s) (law : IsLawful (round_of s w counts (map value_of_word words) seats)) (id : ℕ) (has_width : 0 < (seat_at old id).width) where
   pub owed-word : (v : PlainSeat) (ranks : List ℕ) → v ≡ get_or seats id v → ranks ≡ v.owed → 0 < length ranks → get_or ranks 0 0 < length words
@@ -276,7 +279,7 @@ module _ (s : Solving) (w : ℕ) (counts words : List ℕ) (seats : List PlainSe
       by true = values-won words rank (round + 1) small ∙ (let next : round + 1 ≡ suc s.rounds = omega arith in ap (λ (n : ℕ). set values rank (Some n)) next)
       by false = refl
 
--- ---- what a branch answers
+-- ---- the answers of a branch
 
 pub count-then : (count gap : ℕ) (closed : Option ℕ) → count ≡ 1 → closed ≡ Some gap → closed ≡ cond (count == 1) (Some gap) None
 count-then count gap closed one e = e ∙ ap (λ (n : ℕ). cond (n == 1) (Some gap) None) (sym one)

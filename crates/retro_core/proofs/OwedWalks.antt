@@ -1,7 +1,7 @@
--- What a walk along a list has appended.
+-- The entries that a walk along a list has appended.
 use Rattle.std.proofs.Common.{◌≡◌, ℕ, List, ◌++◌}
 
--- what was appended so far, and what is left, are the whole list
+-- the appended entries and the rest are the whole list
 pub record IsOwing (xs initial owed left : List ℕ) : Type 0 where
   pub more : List ℕ
   pub grown : owed ≡ initial ++ more

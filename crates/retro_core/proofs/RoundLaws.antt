@@ -1,4 +1,4 @@
--- A lawful round keeps the rules by numbers, and the other way round; so each step leads from a lawful round to a lawful one.
+-- A round is lawful exactly if it keeps the rules by numbers, so each step keeps rounds lawful.
 use Rattle.std.proofs.Common.{◌≡◌, ℕ, zero, suc, ◌+◌, ◌<◌, ◌≤◌, List, [], ◌∷◌, length, refl, sym, ap, ◌∙◌, inl, inr, subst, arith, Option, Some, None, get_or, slice_get, slice_index}
 use Rattle.std.proofs.lemmas.Bool.{cases_lt}
 use Rattle.std.proofs.lemmas.Option.{get_or_from_slice_get}
@@ -11,10 +11,10 @@ use Rattle.positions.specs.Ranks.{configurations, rank_of, configuration_at}
 use Rattle.positions.specs.Gaps.{gaps, member_of, IsAnswer}
 use Rattle.positions.specs.Counts.{HasSize}
 use Rattle.positions.proofs.Cited.{same_size, same_value}
-use Rattle.solver.specs.Inside.Arena.{live, lasts}
+use Rattle.solver.specs.Inside.Arena.{live_answers, lasts}
 use Rattle.solver.specs.Inside.BoardArena.{arena_of}
 use Rattle.solver.specs.Solving.{Solving, IsSolving, AnswerLasts, source, IsWorth}
-use Rattle.retro_core.specs.Round.{PlainSeat, Round, spent, all_todo, all_owed, all_won, IsDue, IsLawful}
+use Rattle.retro_core.specs.Round.{PlainSeat, Round, spent_seat, all_todo, all_owed, all_won, IsDue, IsLawful}
 use Rattle.retro_core.proofs.Rules.{Fits, tally, home_among, value_before, rules_of, held_in, AreKept}
 use Rattle.solver.proofs.Cited.{same_or_not, some_same, arena_is, live-size, above-size, stands, stands-true, stands-some}
 use Rattle.retro_core.proofs.Homes.{live-tally}
@@ -24,19 +24,20 @@ use Rattle.retro_core.proofs.RoundStart.{same-word, base-is, to-win-is, struck-i
 
 -- ---- seats by their numbers
 
-pub seat-there : (seats : List PlainSeat) (id : ℕ) → 0 < (get_or seats id spent).width → slice_get seats id ≡ Some (get_or seats id spent)
+pub seat-there : (seats : List PlainSeat) (id : ℕ) → 0 < (get_or seats id spent_seat).width → slice_get seats id ≡ Some (get_or seats id spent_seat)
 seat-there [] id wide = absurd (omega arith)
 seat-there (v ∷ seats) zero wide = refl
 seat-there (v ∷ seats) (suc id) wide = seat-there seats id wide
 
-seat-here : (seats : List PlainSeat) (id : ℕ) (v : PlainSeat) → slice_get seats id ≡ Some v → get_or seats id spent ≡ v
-seat-here seats id v e = get_or_from_slice_get seats id v spent e
+seat-here : (seats : List PlainSeat) (id : ℕ) (v : PlainSeat) → slice_get seats id ≡ Some v
+    → get_or seats id spent_seat ≡ v
+seat-here seats id v e = get_or_from_slice_get seats id v spent_seat e
 
--- a number that no seat has is spent
-seat-fits : (seats : List PlainSeat) → All Fits seats → (id : ℕ) → Fits (get_or seats id spent)
+-- the seat of a number is spent if it has no width
+seat-fits : (seats : List PlainSeat) → All Fits seats → (id : ℕ) → Fits (get_or seats id spent_seat)
 seat-fits seats fits id = elim (cases_lt id (length seats)) [
-  | inl below ↦ fits id spent below
-  | inr past ↦ λ none. get_or_past seats id spent past
+  | inl below ↦ fits id spent_seat below
+  | inr past ↦ λ none. get_or_past seats id spent_seat past
 ]
 
 -- ---- the rules, as a caller sees them
@@ -48,7 +49,7 @@ word_at round rank = get_or round.values rank None
 abbrev pub RoundKept : Round → Type 0
 RoundKept round = AreKept (rules_of round.solving round.width) (slice_index round.counts) (word_at round) round.seats
 
--- so many answers of a gap lead to a list of configurations
+-- the tally of a gap is the number of its answers that lead into the list
 pub waiting-size : (b : PlainBoard) → IsBoard b → (ranks : List ℕ) (g : ℕ) → g < gaps b → ((x : ℕ) → 0 < times x ranks → x < configurations b) → ((x : ℕ) → times x ranks ≤ 1)
     → HasSize (λ label. IsAnswer b g label × (0 < times (rank_of b (member_of b g label)) ranks)) (tally (λ x. home_among (arena_of b) x b.pebbles) g ranks)
 waiting-size b board_is ranks g i inside once =
@@ -61,7 +62,7 @@ waiting-size b board_is ranks g i inside once =
 same_number : (m n : ℕ) → Finite m ≡ Finite n → m ≡ n
 same_number m n e = cc
 
--- what is owed or won
+-- the entries of a configuration in owed and won lists are summed over the seats
 held-times : (round : Round) (x : ℕ) → sum_by (held_in x) round.seats ≡ times x (all_owed round) + times x (all_won round)
 held-times round x =
     let s = total-sum (λ v. times x v.owed) (λ v. times x v.won) round.seats in
@@ -130,13 +131,13 @@ lawful-of round sol counts_length values_length kept =
       spent_seats = seat-fits round.seats kept.fits;
     }
 
--- what the count of a lawful round is
+-- the count of a lawful round is the number of answers above its value and of those still to strike
 count-is : (round : Round) → IsSolving round.solving → IsLawful round → (g : ℕ) → g < gaps round.solving.board
-    → slice_index round.counts g ≡ live (arena_of round.solving.board) (lasts (arena_of round.solving.board) (suc round.solving.rounds)) g + tally (λ x. home_among (arena_of round.solving.board) x round.solving.board.pebbles) g (all_todo round)
+    → slice_index round.counts g ≡ live_answers (arena_of round.solving.board) (lasts (arena_of round.solving.board) (suc round.solving.rounds)) g + tally (λ x. home_among (arena_of round.solving.board) x round.solving.board.pebbles) g (all_todo round)
 count-is round sol law g i =
     let b = round.solving.board in
     let count = law.counts g i in
-    let above = same_size (AnswerLasts b g (suc round.solving.rounds)) count.above (live (arena_of b) (lasts (arena_of b) (suc round.solving.rounds)) g) count.are_above (above-size b sol.is_board (suc round.solving.rounds) g i) in
+    let above = same_size (AnswerLasts b g (suc round.solving.rounds)) count.above (live_answers (arena_of b) (lasts (arena_of b) (suc round.solving.rounds)) g) count.are_above (above-size b sol.is_board (suc round.solving.rounds) g i) in
     let waiting = same_size (λ label. IsAnswer b g label × (0 < times (rank_of b (member_of b g label)) (all_todo round))) count.waiting (tally (λ x. home_among (arena_of b) x b.pebbles) g (all_todo round)) count.are_waiting
     (waiting-size b sol.is_board (all_todo round) g i (λ x h. (law.due x h).worth.is_rank) law.due_once) in
     let sum = count.sum in
@@ -179,7 +180,7 @@ kept-of round sol law =
           ];
       widths = law.widths;
       fits = λ id d below none.
-          let here = get_or_default round.seats id d spent below in
+          let here = get_or_default round.seats id d spent_seat below in
           here ∙ law.spent_seats id (sym (ap (λ (u : PlainSeat). u.width) here) ∙ none);
     }
   where
@@ -193,7 +194,7 @@ kept-of round sol law =
 
 -- ---- open members
 
--- an open member of a gap is a configuration, and stands once
+-- an open member of a gap is a configuration, and is listed once
 pub source-rank : (s : Solving) → IsSolving s → (g rank : ℕ) → g < gaps s.board → 0 < times rank (source s g) → rank < configurations s.board
 source-rank s sol g rank i h =
     let m = sol.sources.members g rank i h in

@@ -1,4 +1,4 @@
--- A solver's values, open members and dominators are what a round takes from the game, and its lists are ready for the first step.
+-- A solver's values, open members and dominators fit the rules, and its lists are ready for the first step.
 use Rattle.std.proofs.Common.{◌≡◌, ◌⊎◌, ℕ, zero, suc, ◌+◌, ◌<◌, ◌≤◌, ◌↔◌, Bool, true, false, cond, List, refl, sym, ap, ◌∙◌, inl, inr, subst, arith, Option, Some, None}
 use Rattle.std.specs.List.{filter}
 use Rattle.std.proofs.lemmas.Bool.{cases_lt}
@@ -11,7 +11,7 @@ use Rattle.positions.specs.Ranks.{configurations, rank_of, configuration_at}
 use Rattle.positions.specs.Gaps.{gaps, gap_of, member_of, IsDominator}
 use Rattle.positions.specs.Counts.{HasSize}
 use Rattle.positions.proofs.Cited.{same_size}
-use Rattle.solver.specs.Inside.Arena.{Arena, count_below, live, lasts, dominated}
+use Rattle.solver.specs.Inside.Arena.{Arena, count_below, live_answers, lasts, is_dominated}
 use Rattle.solver.specs.Inside.BoardArena.{arena_of}
 use Rattle.solver.specs.Solving.{Solving, IsSolving, AnswerLasts, bucket, source, IsWorth, AreToStrike}
 use Rattle.retro_core.specs.Round.{IsDue}
@@ -21,7 +21,7 @@ use Rattle.retro_core.proofs.Homes.{home-cases, home-of, live-tally, live-sum, t
 
 -- ---- the value before a round
 
--- a test that holds of the numbers below v and of no other
+-- a test that holds exactly of the numbers below v has the count v
 count-prefix : (n v : ℕ) (test : ℕ → Bool) → v ≤ n → ((k : ℕ) → k < n → k < v → test k ≡ true) → ((k : ℕ) → k < n → v ≤ k → test k ≡ false) → count_below n test ≡ v
 count-prefix zero v test most low high = omega arith
 count-prefix (suc n) v test most low high = elim (cases_lt n v) [
@@ -33,7 +33,7 @@ count-prefix (suc n) v test most low high = elim (cases_lt n v) [
       ap (λ (b : Bool). count_below n test + cond b 1 0) (high n (omega arith) past) ∙ (omega arith))
 ]
 
--- what doesn't last longer than the round has a value of at most the round's
+-- a configuration that doesn't last longer than the round has a value of at most the round's
 pub record Stops (a : Arena) (round rank : ℕ) : Type 0 where
   pub value : ℕ
   pub most : value ≤ round
@@ -64,13 +64,13 @@ base-value a is round rank value i most lasting stopping =
       | inl more ↦ absurd (true_not_false (lasts a (suc value) rank) (lasts-at-most a is (suc value) (suc k) rank i (omega arith) more) stopping)
     ]))
 
--- two words that stand for the same values
+-- two words that say the same values are equal
 pub same-word : (one other : Option ℕ) → ((v : ℕ) → one ≡ Some v → other ≡ Some v) → ((v : ℕ) → other ≡ Some v → one ≡ Some v) → one ≡ other
 same-word (Some n) other there back = sym (there n refl)
 same-word None None there back = refl
 same-word None (Some n) there back = back n refl
 
--- the word before a round is the value, where that is at most the round's
+-- the word before a round says a value exactly if it is the configuration's and at most the round's
 pub base-is : (b : PlainBoard) → IsBoard b → (round rank value : ℕ) → rank < configurations b
     → (value_before (arena_of b) round rank ≡ Some value) ↔ ((value ≤ round) × HasValue b (configuration_at b rank) (Finite value))
 base-is b board_is round rank value i =
@@ -86,7 +86,7 @@ base-is b board_is round rank value i =
       λ has. let last = lasts_of_value b board_is value rank i has.1 in base-value a is round rank value i has.0 last.0 last.1,
     )
 
--- ---- what a round takes from the game
+-- ---- the rules of a round, from the game
 
 -- an open member of a gap lasts longer than the round
 record IsOpenMember (s : Solving) (g rank : ℕ) : Type 0 where
@@ -108,7 +108,7 @@ open-member s sol g rank in_gaps there =
       own = ap (λ x. (arena_of b).gap x ((arena_of b).pebble g)) m.2 ∙ is.gap_of_member g m.0 in_gaps m.1;
     }
 
--- a configuration is to be won exactly where it has the next value
+-- a configuration is to be won exactly if it has the next value
 pub to-win-is : (s : Solving) → IsSolving s → (width rank : ℕ) → IsToWin (rules_of s width) rank ↔ IsWorth s.board rank (suc s.rounds)
 to-win-is s sol width rank =
     let b = s.board in
@@ -117,7 +117,7 @@ to-win-is s sol width rank =
     let r = s.rounds in (
       λ win.
           let member = open-member s sol win.gap rank win.is_gap win.is_open in
-          let stopping : lasts a (suc (suc r)) rank ≡ false = next-closed a (lasts a (suc r)) rank (a.pebble win.gap) (is.pebble_in win.gap win.is_gap) (ap (live a (lasts a (suc r))) member.own ∙ win.none_above) in
+          let stopping : lasts a (suc (suc r)) rank ≡ false = next-closed a (lasts a (suc r)) rank (a.pebble win.gap) (is.pebble_in win.gap win.is_gap) (ap (live_answers a (lasts a (suc r))) member.own ∙ win.none_above) in
           record { is_rank = member.is_rank; has_value = value_of_lasts b sol.is_board (suc r) rank member.is_rank member.lasting stopping },
       λ worth.
           let i : rank < configurations b = worth.is_rank in
@@ -138,7 +138,7 @@ to-win-is s sol width rank =
           },
     )
 
--- a configuration is to be struck exactly where it has the round's value and a dominating pebble
+-- a configuration is to be struck exactly if it has the round's value and a dominator
 pub struck-in-is : (s : Solving) → IsSolving s → (width rank : ℕ) → IsStruckIn (rules_of s width) rank ↔ IsDue s.board rank s.rounds
 struck-in-is s sol width rank =
     let b = s.board in
@@ -162,7 +162,7 @@ struck-in-is s sol width rank =
           },
     )
 
--- the gap in which a configuration is struck is that of its dominating pebble
+-- the gap in which a configuration is struck is that of its dominator
 pub home-is : (s : Solving) → IsSolving s → (rank pebble : ℕ) → rank < configurations s.board → IsDominator s.board (configuration_at s.board rank) pebble
     → home_among (arena_of s.board) rank s.board.pebbles ≡ gap_of s.board (configuration_at s.board rank) pebble
 home-is s sol rank pebble i dominates =
@@ -177,10 +177,10 @@ sound-is s sol width = record {
 
 -- ---- before the first step
 
--- the numbers of a gap's answers that last so long, and of those that last one more, differ by those that are filed at the round's value
+-- the answers that last the round are those that last one request more and those filed at the round's value
 live-splits : (s : Solving) → IsSolving s → (g : ℕ) → g < gaps s.board
-    → live (arena_of s.board) (lasts (arena_of s.board) s.rounds) g
-    ≡ live (arena_of s.board) (lasts (arena_of s.board) (suc s.rounds)) g + live (arena_of s.board) (stands (bucket s s.rounds)) g
+    → live_answers (arena_of s.board) (lasts (arena_of s.board) s.rounds) g
+    ≡ live_answers (arena_of s.board) (lasts (arena_of s.board) (suc s.rounds)) g + live_answers (arena_of s.board) (stands (bucket s s.rounds)) g
 live-splits s sol g in_gaps = live-sum a is (lasts a r) (lasts a (suc r)) (stands (bucket s r)) g in_gaps (λ c i. elim (true_or_false (lasts a (suc r) c)) [
   | inl more ↦ by (lasts a r c) (lasts a (suc r) c) (stands (bucket s r) c) (lasts-less a is r c i more) (inl (
     more,
@@ -221,9 +221,9 @@ live-splits s sol g in_gaps = live-sum a is (lasts a r) (lasts a (suc r)) (stand
     none : (f g h : Bool) → f ≡ false → g ≡ false → h ≡ false → ◌≡◌ {A = ℕ} (cond f 1 0) (cond g 1 0 + cond h 1 0)
     none f g h e d c = rw (e, d, c) refl
 
-first-count : (s : Solving) → IsSolving s → (gap count : ℕ) → gap < gaps s.board → HasSize (AnswerLasts s.board gap s.rounds) count → count ≡ live (arena_of s.board) (lasts (arena_of s.board) s.rounds) gap
+first-count : (s : Solving) → IsSolving s → (gap count : ℕ) → gap < gaps s.board → HasSize (AnswerLasts s.board gap s.rounds) count → count ≡ live_answers (arena_of s.board) (lasts (arena_of s.board) s.rounds) gap
 first-count s sol g count i size =
-    same_size (AnswerLasts s.board g s.rounds) count (live (arena_of s.board) (lasts (arena_of s.board) s.rounds) g) size (above-size s.board sol.is_board s.rounds g i)
+    same_size (AnswerLasts s.board g s.rounds) count (live_answers (arena_of s.board) (lasts (arena_of s.board) s.rounds) g) size (above-size s.board sol.is_board s.rounds g i)
 
 pub ready-is : (s : Solving) → IsSolving s → (width : ℕ) (count : ℕ → ℕ) (value : ℕ → Option ℕ) (todo : List ℕ) → 0 < width
     → ((gap : ℕ) → gap < gaps s.board → HasSize (AnswerLasts s.board gap s.rounds) (count gap))
@@ -235,19 +235,19 @@ ready-is s sol width count value todo some_width counts values to_strike =
     let is = arena_is b sol.is_board in
     let r = s.rounds in
     let home : ℕ → ℕ = λ x. home_among a x b.pebbles in
-    let picked : todo ≡ filter (dominated a) (bucket s r) = to_strike (dominated a) (dominated-tells b) in
-    let from_bucket : (x : ℕ) → 0 < times x todo → (dominated a x ≡ true) × (0 < times x (bucket s r)) = λ x h.
-    let h' : 0 < times x (filter (dominated a) (bucket s r)) = subst (λ (xs : List ℕ). 0 < times x xs) picked h in
-    let fewer = times-filter-le (dominated a) x (bucket s r) in
-    (times-filter-true (dominated a) x (bucket s r) h', omega arith) in
+    let picked : todo ≡ filter (is_dominated a) (bucket s r) = to_strike (is_dominated a) (dominated-tells b) in
+    let from_bucket : (x : ℕ) → 0 < times x todo → (is_dominated a x ≡ true) × (0 < times x (bucket s r)) = λ x h.
+    let h' : 0 < times x (filter (is_dominated a) (bucket s r)) = subst (λ (xs : List ℕ). 0 < times x xs) picked h in
+    let fewer = times-filter-le (is_dominated a) x (bucket s r) in
+    (times-filter-true (is_dominated a) x (bucket s r) h', omega arith) in
     record {
       counts = λ g i.
           let first = first-count s sol g (count g) i (counts g i) in
           let split = live-splits s sol g i in
           let stand = live-tally a is g (bucket s r) i (sol.buckets.ranks r) (sol.buckets.once r) in
           let pick : tally home g todo ≡ tally home g (bucket s r) =
-          ap (tally home g) picked ∙ tally-filter home (dominated a) g (bucket s r) (λ x h fails e. elim (home-cases a x b.pebbles) [
-            | inl found ↦ true_not_false (dominated a x) (dominated-by a x found.pebble (found.below, found.answer)) fails
+          ap (tally home g) picked ∙ tally-filter home (is_dominated a) g (bucket s r) (λ x h fails e. elim (home-cases a x b.pebbles) [
+            | inl found ↦ true_not_false (is_dominated a x) (dominated-by a x found.pebble (found.below, found.answer)) fails
             | inr homeless ↦ let at : home x ≡ g = e in let none = homeless.home_is in omega arith
           ]) in
           omega arith;
@@ -263,12 +263,12 @@ ready-is s sol width count value todo some_width counts values to_strike =
             pebble = dominated.0;
             dominates = dominated.1;
           });
-      once = λ x. let few = sol.buckets.once r x in let fewer = times-filter-le (dominated a) x (bucket s r) in let same = ap (times x) picked in omega arith;
+      once = λ x. let few = sol.buckets.once r x in let fewer = times-filter-le (is_dominated a) x (bucket s r) in let same = ap (times x) picked in omega arith;
       settled = λ g x i none. elim (cases_lt 0 (times x (source s g))) [
         | inr nothing ↦ omega arith
         | inl some ↦ absurd (
             let member = open-member s sol g x i some in
-            let gives : 0 < live a (lasts a r) g = subst (λ h. 0 < live a (lasts a r) h) member.own (next-gives a (lasts a r) x (a.pebble g) member.lasting (is.pebble_in g i)) in
+            let gives : 0 < live_answers a (lasts a r) g = subst (λ h. 0 < live_answers a (lasts a r) h) member.own (next-gives a (lasts a r) x (a.pebble g) member.lasting (is.pebble_in g i)) in
             let first = first-count s sol g (count g) i (counts g i) in
             omega arith)
       ];

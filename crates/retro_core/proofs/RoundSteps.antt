@@ -1,4 +1,4 @@
--- Each step leads from a lawful round to a lawful one; the opening is lawful; and at the end all of the next value is won.
+-- Openings are lawful, steps keep rounds lawful, and a worked-off round has won all of the next value.
 use Rattle.std.proofs.Common.{drop, ◌≡◌, ◌≢◌, ◌⊎◌, ℕ, suc, ◌-◌, ◌<◌, ◌≤◌, Bool, true, false, cond, List, [], ◌∷◌, length, map, set, refl, sym, ap, ◌∙◌, inl, inr, subst, arith, Option, Some, None, get_or, slice_index, length-set, get_or-set_same, get_or-set_other}
 use Rattle.std.specs.Option.{is_none}
 use Rattle.std.proofs.lemmas.List.{length-map}
@@ -11,13 +11,13 @@ use Rattle.positions.specs.Game.{LabellerTree}
 use Rattle.positions.specs.Ranks.{configurations, rank_of, configuration_at}
 use Rattle.positions.specs.Gaps.{gaps, gap_of, member_of, IsAnswer, IsDominator}
 use Rattle.positions.proofs.Cited.{same_size, size_zero, configuration_at_is, gap_below}
-use Rattle.solver.specs.Inside.Arena.{live, lasts}
+use Rattle.solver.specs.Inside.Arena.{live_answers, lasts}
 use Rattle.solver.specs.Inside.BoardArena.{arena_of}
 use Rattle.solver.specs.Solving.{Solving, IsSolving, AnswerLasts, AreToStrike}
 use Rattle.solver.specs.Words.{value_of_word, AreFirstCounts, AreFirstValues}
-use Rattle.retro_core.specs.Round.{PlainSeat, Round, spent, seat_at, all_todo, all_owed, all_won, IsDue, IsLawful, round_of}
-use Rattle.retro_core.specs.Round.{opening, IsOpening, IsWorkedOff, HasWonAll, first_of}
-use Rattle.retro_core.specs.Round.{seat_tried, struck, first_is_open, tried, split, joined}
+use Rattle.retro_core.specs.Round.{PlainSeat, Round, spent_seat, seat_at, all_todo, all_owed, all_won, IsDue, IsLawful, round_of}
+use Rattle.retro_core.specs.Round.{opening_round, IsOpening, IsWorkedOff, HasWonAll, first_of}
+use Rattle.retro_core.specs.Round.{seat_tried, round_struck, first_is_open, round_tried, round_split, round_joined}
 use Rattle.retro_core.specs.declared.step.Step.{Step}
 use Rattle.retro_core.specs.declared.step.Step.TheVariants as steps
 use Rattle.retro_core.specs.declared.step.Seen.{Seen}
@@ -32,8 +32,8 @@ use Rattle.retro_core.proofs.RoundLaws.{word_at, seat-there, lawful-of, kept-of}
 
 -- ---- live seats
 
--- a seat with something in one of its lists has a width
-wide-with : (list : PlainSeat → List ℕ) → list spent ≡ [] → (round : Round) → IsLawful round → (id : ℕ) → 0 < length (list (seat_at round id)) → 0 < (seat_at round id).width
+-- a seat with an entry in one of its lists has a width
+wide-with : (list : PlainSeat → List ℕ) → list spent_seat ≡ [] → (round : Round) → IsLawful round → (id : ℕ) → 0 < length (list (seat_at round id)) → 0 < (seat_at round id).width
 wide-with list none round law id some = elim (cases_lt 0 (seat_at round id).width) [
   | inl wide ↦ wide
   | inr no_width ↦ absurd (let gone = ap (λ v. length (list v)) (law.spent_seats id (omega arith)) ∙ ap length none in omega arith)
@@ -41,7 +41,7 @@ wide-with list none round law id some = elim (cases_lt 0 (seat_at round id).widt
 
 -- ---- strike
 
--- the first that a seat has to strike has the round's value and a dominating pebble
+-- the first configuration that a seat has to strike has the round's value and a dominator
 pub first-due : (round : Round) → IsLawful round → (id : ℕ) → 0 < length (seat_at round id).todo → IsDue round.solving.board (first_of (seat_at round id).todo) round.solving.rounds
 first-due round law id some =
     let v = seat_at round id in
@@ -55,7 +55,7 @@ first-due round law id some =
 pub record IsStruck (round : Round) (id gap : ℕ) : Type 0 where
   pub gap_in : gap < gaps round.solving.board
   pub some_left : 0 < slice_index round.counts gap
-  pub lawful : IsLawful (struck round id gap)
+  pub lawful : IsLawful (round_struck round id gap)
 
 pub strike-lawful : (round : Round) → IsSolving round.solving → IsLawful round → (id pebble : ℕ) → 0 < length (seat_at round id).todo
     → IsDominator round.solving.board (configuration_at round.solving.board (first_of (seat_at round id).todo)) pebble
@@ -78,12 +78,12 @@ strike-lawful round sol law id pebble some dominates =
     subst (IsStruck round id) home (record {
       gap_in = in_gaps;
       some_left = done.some_left;
-      lawful = lawful-of (struck round id (k.home c)) sol (length-set round.counts (k.home c) (n - 1) ∙ law.counts_length) law.values_length done.kept;
+      lawful = lawful-of (round_struck round id (k.home c)) sol (length-set round.counts (k.home c) (n - 1) ∙ law.counts_length) law.values_length done.kept;
     })
 
 -- ---- try
 
--- the round after a try that found the word open or not
+-- the round after a try, by whether the try found the word open
 abbrev pub tried_as : Bool → Round → ℕ → Round
 tried_as is_open round seat = record round {
   values = cond is_open (set round.values (first_of (seat_at round seat).owed) (Some (suc round.solving.rounds))) round.values;
@@ -94,7 +94,7 @@ pub record IsTried (round : Round) (id : ℕ) : Type 0 where
   pub is_rank : first_of (seat_at round id).owed < configurations round.solving.board
   pub word : (word_at round (first_of (seat_at round id).owed) ≡ None) ⊎ (word_at round (first_of (seat_at round id).owed) ≡ Some (suc round.solving.rounds))
   pub not_won : first_is_open round id ≡ false → 0 < times (first_of (seat_at round id).owed) (all_won round)
-  pub lawful : IsLawful (tried round id)
+  pub lawful : IsLawful (round_tried round id)
 
 pub try-lawful : (round : Round) → IsSolving round.solving → IsLawful round → (id : ℕ) → 0 < length (seat_at round id).owed → IsTried round id
 try-lawful round sol law id some =
@@ -137,13 +137,13 @@ try-lawful round sol law id some =
 
 -- ---- split and join
 
-pub split-lawful : (round : Round) → IsSolving round.solving → IsLawful round → (id : ℕ) → 2 ≤ (seat_at round id).width → IsLawful (split round id)
-split-lawful round sol law id wide = lawful-of (split round id) sol law.counts_length law.values_length
+pub split-lawful : (round : Round) → IsSolving round.solving → IsLawful round → (id : ℕ) → 2 ≤ (seat_at round id).width → IsLawful (round_split round id)
+split-lawful round sol law id wide = lawful-of (round_split round id) sol law.counts_length law.values_length
     (splits (rules_of round.solving round.width) (slice_index round.counts) (word_at round) round.seats id (seat_at round id) (kept-of round sol law) (seat-there round.seats id (omega arith)) wide)
 
 pub join-lawful : (round : Round) → IsSolving round.solving → IsLawful round → (into from : ℕ) → into ≢ from → 0 < (seat_at round into).width → 0 < (seat_at round from).width
-    → IsLawful (joined round into from)
-join-lawful round sol law into from differ wide other_wide = lawful-of (joined round into from) sol law.counts_length law.values_length
+    → IsLawful (round_joined round into from)
+join-lawful round sol law into from differ wide other_wide = lawful-of (round_joined round into from) sol law.counts_length law.values_length
     (joins (rules_of round.solving round.width) (slice_index round.counts) (word_at round) round.seats into from (seat_at round into) (seat_at round from) (kept-of round sol law)
     (seat-there round.seats into wide) (seat-there round.seats from other_wide) differ wide)
 
@@ -151,22 +151,22 @@ join-lawful round sol law into from differ wide other_wide = lawful-of (joined r
 
 pub opening-lawful : (s : Solving) → IsSolving s → (width : ℕ) (counts : List ℕ) (values : List (Option ℕ)) (todo : List ℕ) → 0 < width
     → length counts ≡ gaps s.board → length values ≡ configurations s.board
-    → AreFirstCounts s counts → AreFirstValues s values → AreToStrike s todo → IsOpening s width (opening s width counts values todo)
+    → AreFirstCounts s counts → AreFirstValues s values → AreToStrike s todo → IsOpening s width (opening_round s width counts values todo)
 opening-lawful s sol width counts values todo some_width counts_length values_length counts_are values_are to_strike = record {
   ranks = todo;
   to_strike = to_strike;
   is = refl;
-  lawful = lawful-of (opening s width counts values todo) sol counts_length values_length
+  lawful = lawful-of (opening_round s width counts values todo) sol counts_length values_length
       (opens (rules_of s width) (slice_index counts) (λ x. get_or values x None) todo
       (ready-is s sol width (slice_index counts) (λ x. get_or values x None) todo some_width counts_are values_are to_strike));
 }
 
 -- ---- the end
 
-none-together : (list : PlainSeat → List ℕ) → list spent ≡ [] → (seats : List PlainSeat) → ((id : ℕ) → list (get_or seats id spent) ≡ []) → (x : ℕ) → times x (flat_map list seats) ≡ 0
+none-together : (list : PlainSeat → List ℕ) → list spent_seat ≡ [] → (seats : List PlainSeat) → ((id : ℕ) → list (get_or seats id spent_seat) ≡ []) → (x : ℕ) → times x (flat_map list seats) ≡ 0
 none-together list none seats each x = times-together x list seats ∙ by seats each
   where
-    by : (seats : List PlainSeat) → ((id : ℕ) → list (get_or seats id spent) ≡ []) → sum_by (λ v. times x (list v)) seats ≡ 0
+    by : (seats : List PlainSeat) → ((id : ℕ) → list (get_or seats id spent_seat) ≡ []) → sum_by (λ v. times x (list v)) seats ≡ 0
     by [] each = refl
     by (v ∷ seats) each =
         let here = ap (times x) (each 0) in
@@ -174,7 +174,7 @@ none-together list none seats each x = times-together x list seats ∙ by seats 
         let first = sum_by-cons (λ v. times x (list v)) v seats in
         omega arith
 
--- with no work left, what is won is what has the next value, each once
+-- if no work is left, the won configurations are those of the next value, each once
 pub worked-off : (round : Round) → IsBoard round.solving.board → IsLawful round → IsWorkedOff round → HasWonAll round
 worked-off round board_is law off = λ rank. (
   law.won_once rank,
@@ -196,7 +196,7 @@ worked-off round board_is law off = λ rank. (
         let back : rank_of b (member_of b g v) ≡ rank = is.member_of_gap rank p i found.1 in
         let at : configuration_at b rank ≡ member_of b g v = ap (configuration_at b) (sym back) ∙ at_member b g v in_gaps low in
         let count = law.counts g in_gaps in
-        let above : count.above ≡ 0 = same_size (AnswerLasts b g (suc r)) count.above (live a (lasts a (suc r)) g) count.are_above (above-size b board_is (suc r) g in_gaps) ∙ found.2 in
+        let above : count.above ≡ 0 = same_size (AnswerLasts b g (suc r)) count.above (live_answers a (lasts a (suc r)) g) count.are_above (above-size b board_is (suc r) g in_gaps) ∙ found.2 in
         let no_todo : (x : ℕ) → times x (all_todo round) ≡ 0 = none-together (λ u. u.todo) refl round.seats off.no_todo in
         let no_owed : (x : ℕ) → times x (all_owed round) ≡ 0 = none-together (λ u. u.owed) refl round.seats off.no_owed in
         let waiting : count.waiting ≡ 0 = same_size (λ label. IsAnswer b g label × (0 < times (rank_of b (member_of b g label)) (all_todo round))) count.waiting 0 count.are_waiting
@@ -217,8 +217,8 @@ stepped before (steps.Strike seat) (seen.Struck config closed) after sol law doe
     let first : config ≡ first_of (seat_at before seat).todo = does.first in
     let b = before.solving.board in
     let done = strike-lawful before sol law seat does.pebble does.some_todo (subst (λ x. IsDominator b (configuration_at b x) does.pebble) first does.dominates) in
-    let same : struck before seat (gap_of b (configuration_at b (first_of (seat_at before seat).todo)) does.pebble) ≡ after =
-    ap (struck before seat) (ap (λ x. gap_of b (configuration_at b x) does.pebble) (sym first) ∙ sym does.gap_is) ∙ sym does.after_is in
+    let same : round_struck before seat (gap_of b (configuration_at b (first_of (seat_at before seat).todo)) does.pebble) ≡ after =
+    ap (round_struck before seat) (ap (λ x. gap_of b (configuration_at b x) does.pebble) (sym first) ∙ sym does.gap_is) ∙ sym does.after_is in
     (subst IsLawful same done.lawful, ap (λ r. r.solving) does.after_is)
 stepped before (steps.Try seat) (seen.Tried config won) after sol law does = (subst IsLawful (sym does.after_is) (try-lawful before sol law seat does.some_owed).lawful, ap (λ r. r.solving) does.after_is)
 stepped before (steps.Split seat) (seen.Parted new_seat) after sol law does = (subst IsLawful (sym does.after_is) (split-lawful before sol law seat does.wide), ap (λ r. r.solving) does.after_is)
@@ -268,5 +268,5 @@ pub opening-state : (s : Solving) → IsSolving s → (width : ℕ) (counts word
     → IsOpening s width (round_of s width counts (map value_of_word words) seats)
 opening-state s sol width counts words lent_counts lent_words seats todo some counts_length words_length counts_are values_are to_strike counts_same words_same seats_are =
     subst (λ (l : List PlainSeat). IsOpening s width (round_of s width counts (map value_of_word words) l)) (sym seats_are)
-    (subst (λ (p : List ℕ × List ℕ). IsOpening s width (opening s width p.0 (map value_of_word p.1) todo)) (λ i. (sym counts_same i, sym words_same i))
+    (subst (λ (p : List ℕ × List ℕ). IsOpening s width (opening_round s width p.0 (map value_of_word p.1) todo)) (λ i. (sym counts_same i, sym words_same i))
     (opening-lawful s sol width lent_counts (map value_of_word lent_words) todo some counts_length (length-map lent_words value_of_word ∙ words_length) counts_are values_are to_strike))

@@ -1,16 +1,16 @@
--- A round by numbers alone: what it takes from the game, and what its steps keep.
+-- The rules of a round, by numbers alone.
 use Rattle.std.specs.Prelude.{◌≡◌, ℕ, zero, suc, ◌+◌, ◌<◌, ◌≤◌, ◌==◌, cond, List, [], ◌∷◌, Option, Some, None}
 use Rattle.std.specs.List.{All, sum_by}
 use Rattle.index_lists.specs.Lists.{times}
 use Rattle.positions.specs.Ranks.{configurations}
 use Rattle.positions.specs.Gaps.{gaps}
-use Rattle.solver.specs.Inside.Arena.{Arena, count_below, live, lasts}
+use Rattle.solver.specs.Inside.Arena.{Arena, count_below, live_answers, lasts}
 use Rattle.solver.specs.Inside.BoardArena.{arena_of}
 use Rattle.solver.specs.Solving.{Solving, source}
-use Rattle.retro_core.specs.Round.{PlainSeat, spent}
+use Rattle.retro_core.specs.Round.{PlainSeat, spent_seat}
 
--- the value and the width of a round, the numbers of gaps and of configurations; how many answers of a gap lead above the value,
--- its members above it; the gap in which a configuration is struck, if that is one, and its value before the round, if it has one
+-- the value and the width of a round, the numbers of gaps and configurations; for each gap the number of its answers
+-- above the value and its members above it; for each configuration the gap in which it is struck and its value before
 pub record Rules : Type 0 where
   pub round : ℕ
   pub width : ℕ
@@ -21,30 +21,30 @@ pub record Rules : Type 0 where
   pub home : ℕ → ℕ
   pub base : ℕ → Option ℕ
 
--- how many of a list are struck in the gap
+-- the number of entries of a list that are struck in the gap
 abbrev pub tally : (ℕ → ℕ) → ℕ → List ℕ → ℕ
 tally home gap [] = 0
 tally home gap (rank ∷ ranks) = cond (home rank == gap) 1 0 + tally home gap ranks
 
--- it has the round's value and a gap in which it is struck
+-- the configuration has the round's value and a gap in which it is struck
 pub record IsStruckIn (k : Rules) (rank : ℕ) : Type 0 where
   pub is_rank : rank < k.size
   pub has_gap : k.home rank < k.gaps
   pub has_value : k.base rank ≡ Some k.round
 
--- it is an open member of a gap that has no answer above the round's value
+-- the configuration is an open member of a gap that has no answer above the round's value
 pub record IsToWin (k : Rules) (rank : ℕ) : Type 0 where
   pub gap : ℕ
   pub is_gap : gap < k.gaps
   pub none_above : k.live gap ≡ 0
   pub is_open : 0 < times rank (k.opens gap)
 
--- the value word of a configuration that stands so often in won lists
+-- the value word of a configuration that is in won lists this number of times
 abbrev pub value_word : Rules → ℕ → ℕ → Option ℕ
 value_word k rank zero = k.base rank
 value_word k rank (suc more) = Some (suc k.round)
 
--- how often it is owed or won
+-- the number of times that a seat owes a configuration or has won it
 abbrev pub held_in : ℕ → PlainSeat → ℕ
 held_in rank seat = times rank seat.owed + times rank seat.won
 
@@ -52,7 +52,7 @@ held_in rank seat = times rank seat.owed + times rank seat.won
 pub record AreSound (k : Rules) : Type 0 where
   pub opened : (gap rank : ℕ) → gap < k.gaps → 0 < times rank (k.opens gap) → (rank < k.size) × (k.base rank ≡ None)
 
--- what is known of the words and of the list to strike before the first step
+-- the words and the list to strike before the first step
 pub record AreReadyLists (k : Rules) (count : ℕ → ℕ) (value : ℕ → Option ℕ) (todo : List ℕ) : Type 0 where
   pub counts : (gap : ℕ) → gap < k.gaps → count gap ≡ k.live gap + tally k.home gap todo
   pub values : (rank : ℕ) → rank < k.size → value rank ≡ k.base rank
@@ -63,7 +63,7 @@ pub record AreReadyLists (k : Rules) (count : ℕ → ℕ) (value : ℕ → Opti
 
 -- a seat without a width is spent
 abbrev pub Fits : PlainSeat → Type 0
-Fits seat = seat.width ≡ 0 → seat ≡ spent
+Fits seat = seat.width ≡ 0 → seat ≡ spent_seat
 
 -- the words and the seats keep the rules
 pub record AreKept (k : Rules) (count : ℕ → ℕ) (value : ℕ → Option ℕ) (seats : List PlainSeat) : Type 0 where
@@ -77,12 +77,12 @@ pub record AreKept (k : Rules) (count : ℕ → ℕ) (value : ℕ → Option ℕ
   pub widths : sum_by (λ seat. seat.width) seats ≡ k.width
   pub fits : All Fits seats
 
--- the gap of a dominating pebble among the first so many, or a number that no gap has
+-- the gap of the dominator, if it is among the first pebbles, or a number that no gap has
 abbrev pub home_among : Arena → ℕ → ℕ → ℕ
 home_among a rank zero = a.gaps
 home_among a rank (suc pebble) = cond (a.is_answer (a.gap rank pebble) (a.place rank pebble)) (a.gap rank pebble) (home_among a rank pebble)
 
--- the value of a configuration, if it is at most the round's: how often it lasts one request more
+-- the value of a configuration if it is at most the round's: the number of requests that it lasts
 abbrev pub value_before : Arena → ℕ → ℕ → Option ℕ
 value_before a round rank = cond (lasts a (suc round) rank) None (Some (count_below round (λ k. lasts a (suc k) rank)))
 
@@ -93,7 +93,7 @@ rules_of s width = record {
   width = width;
   gaps = gaps s.board;
   size = configurations s.board;
-  live = live (arena_of s.board) (lasts (arena_of s.board) (suc s.rounds));
+  live = live_answers (arena_of s.board) (lasts (arena_of s.board) (suc s.rounds));
   opens = source s;
   home = λ rank. home_among (arena_of s.board) rank s.board.pebbles;
   base = value_before (arena_of s.board) s.rounds;

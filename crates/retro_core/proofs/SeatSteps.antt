@@ -5,7 +5,7 @@ use Rattle.std.proofs.lemmas.List.Elements.{All-cons, All-push, All-set}
 use Rattle.std.proofs.lemmas.List.Sums.{sum_by-le-sum_by}
 use Rattle.index_lists.specs.Lists.{times}
 use Rattle.index_lists.proofs.Cited.{cond_same, cond_other, times-append}
-use Rattle.retro_core.specs.Round.{PlainSeat, spent, first_of, seat_tried, seat_kept, seat_new, seat_joined}
+use Rattle.retro_core.specs.Round.{PlainSeat, spent_seat, first_of, seat_tried, seat_kept, seat_new, seat_joined}
 use Rattle.retro_core.proofs.Rules.{Fits, Rules, tally, IsStruckIn, IsToWin, value_word, held_in, AreSound, AreReadyLists, AreKept}
 use Rattle.solver.proofs.Cited.{same_or_not}
 use Rattle.retro_core.proofs.SeatSums.{total-set, total-at, total-cut, total-glue, times-cut, tally-append, tally-cut}
@@ -19,7 +19,7 @@ none_if x y ne = cond_other {A = ℕ} x y 1 0 ne
 pub times_here : (x : ℕ) (xs : List ℕ) → times x (x ∷ xs) ≡ 1 + times x xs
 times_here x xs = let h = one_if x x refl in omega arith
 
--- the first and the rest
+-- a list is its first element and the rest
 pub split_first : (xs : List ℕ) → 0 < length xs → xs ≡ first_of xs ∷ drop 1 xs
 split_first [] h = absurd (omega arith)
 split_first (x ∷ xs) h = refl
@@ -35,11 +35,11 @@ word_some k c (suc n) h = refl
 one_more : (x c : ℕ) (xs : List ℕ) → times x (xs ++ c ∷ []) ≡ times x xs + cond (c == x) 1 0
 one_more x c xs = let r = times-append x xs (c ∷ []) in omega arith
 
--- the seat after it struck where it found the count n
+-- the seat after a strike that found the count n
 abbrev pub seat_after : Rules → ℕ → PlainSeat → PlainSeat
 seat_after k n v = record v { todo = drop 1 v.todo; owed = cond (n == 1) (v.owed ++ k.opens (k.home (first_of v.todo))) v.owed }
 
--- what a strike does to the owed list, as its entries are counted
+-- the entries of the owed list after a strike
 owed-after : (k : Rules) (v : PlainSeat) (n x : ℕ)
     → ((n ≡ 1) × (times x (seat_after k n v).owed ≡ times x v.owed + times x (k.opens (k.home (first_of v.todo)))))
     ⊎ ((n ≢ 1) × (times x (seat_after k n v).owed ≡ times x v.owed))
@@ -129,7 +129,7 @@ strikes k count value seats id v count' law at wide some_todo here elsewhere =
       };
     }
 
--- the first that a seat owes has no value yet, or the next one; and what the try leaves
+-- the first owed configuration is open, and the try that wins it keeps the rules
 pub record IsWon (k : Rules) (count : ℕ → ℕ) (value : ℕ → Option ℕ) (seats : List PlainSeat) (id : ℕ) (v : PlainSeat) (value' : ℕ → Option ℕ) : Type 0 where
   pub open_yet : value (first_of v.owed) ≡ None
   pub kept : value' (first_of v.owed) ≡ Some (suc k.round) → ((x : ℕ) → x < k.size → x ≢ first_of v.owed → value' x ≡ value x) → AreKept k count value' (set seats id (seat_tried true v))
@@ -220,7 +220,7 @@ module _ (k : Rules) (count : ℕ → ℕ) (value : ℕ → Option ℕ) (seats :
         fits = All-set Fits seats id w (λ no_width. absurd (omega arith)) law.fits;
       }
 
-  -- the first that the seat owes is won or not, as its word tells
+  -- the first owed configuration is won or not, by its word
   pub tries : ((value' : ℕ → Option ℕ) → IsWon k count value seats id v value') ⊎ IsNotWon k count value seats id v
   tries =
       let f : ℕ = first_of v.owed in
@@ -232,7 +232,7 @@ module _ (k : Rules) (count : ℕ → ℕ) (value : ℕ → Option ℕ) (seats :
         | inr nz ↦ inr (record { has_next = word ∙ word_some k f T (omega arith); stands = omega arith; kept = not-won-keeps (omega arith) })
       ]
 
--- seats that hold together what others held keep what these kept
+-- seats whose lists together are the same keep the rules too
 same-kept : (k : Rules) (count : ℕ → ℕ) (value : ℕ → Option ℕ) (seats all : List PlainSeat) → AreKept k count value seats
     → ((x : ℕ) → sum_by (λ u. times x u.todo) all ≡ sum_by (λ u. times x u.todo) seats) → ((g : ℕ) → sum_by (λ u. tally k.home g u.todo) all ≡ sum_by (λ u. tally k.home g u.todo) seats)
     → ((x : ℕ) → sum_by (λ u. times x u.won) all ≡ sum_by (λ u. times x u.won) seats) → ((x : ℕ) → sum_by (held_in x) all ≡ sum_by (held_in x) seats)
@@ -264,17 +264,17 @@ splits k count value seats id v law at wide =
     (total-cut (λ u. u.width) seats id v a b at (omega arith)) (All-push Fits (set seats id a) b (All-set Fits seats id a (λ none. absurd (omega arith)) law.fits) (λ none. absurd (omega arith)))
 
 pub joins : (k : Rules) (count : ℕ → ℕ) (value : ℕ → Option ℕ) (seats : List PlainSeat) (id other : ℕ) (v u : PlainSeat) → AreKept k count value seats → slice_get seats id ≡ Some v → slice_get seats other ≡ Some u
-    → id ≢ other → 0 < v.width → AreKept k count value (set (set seats id (seat_joined v u)) other spent)
+    → id ≢ other → 0 < v.width → AreKept k count value (set (set seats id (seat_joined v u)) other spent_seat)
 joins k count value seats id other v u law at there differ wide =
     let a : PlainSeat = seat_joined v u in
-    let all : List PlainSeat = set (set seats id a) other spent in
+    let all : List PlainSeat = set (set seats id a) other spent_seat in
     same-kept k count value seats all law
-    (λ x. total-glue (λ w. times x w.todo) seats id other v u a spent at there differ (let s = times-append x v.todo u.todo in omega arith))
-    (λ g. total-glue (λ w. tally k.home g w.todo) seats id other v u a spent at there differ (let s = tally-append k.home g v.todo u.todo in omega arith))
-    (λ x. total-glue (λ w. times x w.won) seats id other v u a spent at there differ (let s = times-append x v.won u.won in omega arith))
-    (λ x. total-glue (held_in x) seats id other v u a spent at there differ (let s = times-append x v.won u.won in let t = times-append x v.owed u.owed in omega arith))
-    (total-glue (λ w. w.width) seats id other v u a spent at there differ (omega arith))
-    (All-set Fits (set seats id a) other spent (λ none. refl) (All-set Fits seats id a (λ none. absurd (omega arith)) law.fits))
+    (λ x. total-glue (λ w. times x w.todo) seats id other v u a spent_seat at there differ (let s = times-append x v.todo u.todo in omega arith))
+    (λ g. total-glue (λ w. tally k.home g w.todo) seats id other v u a spent_seat at there differ (let s = tally-append k.home g v.todo u.todo in omega arith))
+    (λ x. total-glue (λ w. times x w.won) seats id other v u a spent_seat at there differ (let s = times-append x v.won u.won in omega arith))
+    (λ x. total-glue (held_in x) seats id other v u a spent_seat at there differ (let s = times-append x v.won u.won in let t = times-append x v.owed u.owed in omega arith))
+    (total-glue (λ w. w.width) seats id other v u a spent_seat at there differ (omega arith))
+    (All-set Fits (set seats id a) other spent_seat (λ none. refl) (All-set Fits seats id a (λ none. absurd (omega arith)) law.fits))
 
 pub opens : (k : Rules) (count : ℕ → ℕ) (value : ℕ → Option ℕ) (todo : List ℕ) → AreReadyLists k count value todo → AreKept k count value (record { width = k.width; todo = todo; owed = []; won = [] } ∷ [])
 opens k count value todo ready = record {

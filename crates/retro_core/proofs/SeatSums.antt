@@ -1,4 +1,4 @@
--- Sums over a list, how they change where one element changes, and what all seats have.
+-- Sums over the list of seats when one seat changes, and the entries of all seats together.
 use Rattle.std.proofs.Common.{◌≡◌, ◌≢◌, ℕ, zero, suc, ◌+◌, ◌≤◌, List, [], ◌∷◌, ◌++◌, take, drop, set, refl, ap, subst, ◌∙◌, arith, Some, slice_get}
 use Rattle.std.specs.List.{flat_map, sum_by}
 use Rattle.std.proofs.lemmas.List.Sums.{sum_by-cons, sum_by_push, sum_by-set, get_or-le-sum_by}
@@ -14,7 +14,7 @@ module _ {X : Type 0} where
       subst (λ (u : X). sum_by f (set xs i w) + f u ≡ sum_by f xs + f w) (get_or_from_slice_get xs i v v e)
       (sum_by-set f xs i w v (slice_get_within xs i v e))
 
-  -- one part is at most the whole
+  -- the part of one element is at most the sum
   pub total-at : (f : X → ℕ) (xs : List X) (i : ℕ) (v : X) → slice_get xs i ≡ Some v → f v ≤ sum_by f xs
   total-at f xs i v e = subst (λ (u : X). f u ≤ sum_by f xs) (get_or_from_slice_get xs i v v e) (get_or-le-sum_by f xs i v (slice_get_within xs i v e))
 
@@ -24,7 +24,7 @@ module _ {X : Type 0} where
       let r = total-sum f h xs in
       omega (arith, r, sum_by-cons (λ y. f y + h y) x xs, sum_by-cons f x xs, sum_by-cons h x xs)
 
-  -- another element of a list with one element changed
+  -- a change of one element leaves the others
   pub get-elsewhere : (xs : List X) (id other : ℕ) (a : X) → id ≢ other → slice_get (set xs id a) other ≡ slice_get xs other
   get-elsewhere [] id other a ne = refl
   get-elsewhere (x ∷ xs) zero zero a ne = absurd (ne refl)
@@ -32,11 +32,11 @@ module _ {X : Type 0} where
   get-elsewhere (x ∷ xs) (suc id) zero a ne = refl
   get-elsewhere (x ∷ xs) (suc id) (suc other) a ne = get-elsewhere xs id other a (λ e. ne (ap suc e))
 
-  -- a sum where one element is cut in two
+  -- a sum stays the same if one element is cut in two
   pub total-cut : (f : X → ℕ) (xs : List X) (id : ℕ) (v a b : X) → slice_get xs id ≡ Some v → f a + f b ≡ f v → sum_by f (set xs id a ++ b ∷ []) ≡ sum_by f xs
   total-cut f xs id v a b at e = omega (arith, e, total-set f xs id v a at, sum_by_push f (set xs id a) b)
 
-  -- a sum where two elements are made one
+  -- a sum stays the same if two elements together give as much as before
   pub total-glue : (f : X → ℕ) (xs : List X) (id other : ℕ) (v u a b : X) → slice_get xs id ≡ Some v → slice_get xs other ≡ Some u → id ≢ other
       → f a + f b ≡ f v + f u → sum_by f (set (set xs id a) other b) ≡ sum_by f xs
   total-glue f xs id other v u a b at there ne e =
@@ -56,7 +56,7 @@ tally-cut home g zero xs = omega arith
 tally-cut home g (suc n) [] = refl
 tally-cut home g (suc n) (y ∷ xs) = let r = tally-cut home g n xs in omega arith
 
--- what is counted in lists one after the other
+-- the entries of lists one after the other are summed over the lists
 pub times-together : (x : ℕ) (list : PlainSeat → List ℕ) (seats : List PlainSeat) → times x (flat_map list seats) ≡ sum_by (λ v. times x (list v)) seats
 times-together x list [] = refl
 times-together x list (v ∷ seats) =

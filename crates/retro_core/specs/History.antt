@@ -1,4 +1,4 @@
--- The answers of the steps of a round, place by place.
+-- The answers of the steps of a round, in the order of the steps.
 use Rattle.std.specs.Prelude.{◌≡◌, ℕ, List, map, slice_get, Option, Some}
 use Rattle.retro_core.specs.declared.step.Step.{Step}
 use Rattle.retro_core.specs.declared.step.Seen.{Seen}
@@ -6,8 +6,8 @@ use Rattle.retro_core.specs.declared.step.Seen.TheVariants as seen
 
 -- the answer of the step at a place of a list of steps, counted from 0
 abbrev pub answer_at : List (Step × Seen) → ℕ → Option Seen
-answer_at steps place = slice_get (map (λ made. made.1) steps) place
+answer_at steps index = slice_get (map (λ made. made.1) steps) index
 
 -- the step at the place is a strike that closed the gap, and answered so
 abbrev pub IsClosedAt : List (Step × Seen) → ℕ → ℕ → Type 0
-IsClosedAt steps gap place = (config : ℕ) × (answer_at steps place ≡ Some (seen.Struck config (Some gap)))
+IsClosedAt steps gap index = (config : ℕ) × (answer_at steps index ≡ Some (seen.Struck config (Some gap)))

@@ -48,12 +48,12 @@ abbrev pub member_rank : Round → ℕ → ℕ → ℕ
 member_rank round gap place = rank_of (board_of round) (member_of (board_of round) gap place)
 
 -- a seat that was joined into another
-abbrev pub spent : PlainSeat
-spent = record { width = 0; todo = []; owed = []; won = [] }
+abbrev pub spent_seat : PlainSeat
+spent_seat = record { width = 0; todo = []; owed = []; won = [] }
 
 -- the seat of a number; a number that no seat has yet is like a spent one
 abbrev pub seat_at : Round → ℕ → PlainSeat
-seat_at round seat = slice_index_or round.seats seat spent
+seat_at round seat = slice_index_or round.seats seat spent_seat
 
 -- the configurations that all seats have to strike
 abbrev pub all_todo : Round → List ℕ
@@ -106,17 +106,17 @@ pub record IsLawful (round : Round) : Type 0 where
       → (0 < times (member_rank round gap label) (all_owed round))
       ⊎ (0 < times (member_rank round gap label) (all_won round))
   pub widths : sum_by (λ seat. seat.width) round.seats ≡ round.width
-  pub spent_seats : (seat : ℕ) → (seat_at round seat).width ≡ 0 → seat_at round seat ≡ spent
+  pub spent_seats : (seat : ℕ) → (seat_at round seat).width ≡ 0 → seat_at round seat ≡ spent_seat
 
 -- the round with one seat, which has the whole width and all to strike
-abbrev pub opening : Solving → ℕ → List ℕ → List (Option ℕ) → List ℕ → Round
-opening s width counts values ranks = round_of s width counts values (record { width = width; todo = ranks; owed = []; won = [] } ∷ [])
+abbrev pub opening_round : Solving → ℕ → List ℕ → List (Option ℕ) → List ℕ → Round
+opening_round s width counts values ranks = round_of s width counts values (record { width = width; todo = ranks; owed = []; won = [] } ∷ [])
 
 -- one seat has the whole width and all to strike, and nothing is owed or won
 pub record IsOpening (s : Solving) (width : ℕ) (round : Round) : Type 0 where
   pub ranks : List ℕ
   pub to_strike : AreToStrike s ranks
-  pub is : round ≡ opening s width round.counts round.values ranks
+  pub is : round ≡ opening_round s width round.counts round.values ranks
   pub lawful : IsLawful round
 
 -- no seat has anything to strike or owed
@@ -159,8 +159,8 @@ seat_joined into from = record {
 }
 
 -- the round after the seat struck in the gap
-abbrev pub struck : Round → ℕ → ℕ → Round
-struck round seat gap = record round {
+abbrev pub round_struck : Round → ℕ → ℕ → Round
+round_struck round seat gap = record round {
   counts = slice_set round.counts gap (slice_index round.counts gap - 1);
   seats = slice_set round.seats seat (seat_struck round.solving gap (slice_index round.counts gap) (seat_at round seat));
 }
@@ -170,21 +170,21 @@ abbrev pub first_is_open : Round → ℕ → Bool
 first_is_open round seat = is_none (slice_index_or round.values (first_of (seat_at round seat).owed) None)
 
 -- the round after the seat tried to win the first that it owes
-abbrev pub tried : Round → ℕ → Round
-tried round seat = record round {
+abbrev pub round_tried : Round → ℕ → Round
+round_tried round seat = record round {
   values = cond (first_is_open round seat)
       (slice_set round.values (first_of (seat_at round seat).owed) (Some (next_value round))) round.values;
   seats = slice_set round.seats seat (seat_tried (first_is_open round seat) (seat_at round seat));
 }
 
 -- the round after the seat was split
-abbrev pub split : Round → ℕ → Round
-split round seat = record round {
+abbrev pub round_split : Round → ℕ → Round
+round_split round seat = record round {
   seats = slice_set round.seats seat (seat_kept (seat_at round seat)) ++ seat_new (seat_at round seat) ∷ [];
 }
 
 -- the round after one seat was joined into another
-abbrev pub joined : Round → ℕ → ℕ → Round
-joined round into from = record round {
-  seats = slice_set (slice_set round.seats into (seat_joined (seat_at round into) (seat_at round from))) from spent;
+abbrev pub round_joined : Round → ℕ → ℕ → Round
+round_joined round into from = record round {
+  seats = slice_set (slice_set round.seats into (seat_joined (seat_at round into) (seat_at round from))) from spent_seat;
 }

@@ -8,7 +8,7 @@ use Rattle.retro_core.specs.declared.step.Seen.{Seen}
 use Rattle.retro_core.specs.declared.step.Seen.TheVariants as seen
 use Rattle.retro_core.specs.declared.step.StepFault.{StepFault}
 use Rattle.retro_core.specs.declared.step.StepFault.TheVariants as faults
-use Rattle.retro_core.specs.Round.{Round, board_of, seat_at, first_of, struck, first_is_open, tried, split, joined}
+use Rattle.retro_core.specs.Round.{Round, board_of, seat_at, first_of, round_struck, first_is_open, round_tried, round_split, round_joined}
 
 -- the seat strikes the first that it has to strike in the gap of the pebble that dominates there
 pub record Strikes (round : Round) (seat config : ℕ) (closed : Option ℕ) (after : Round) : Type 0 where
@@ -19,27 +19,27 @@ pub record Strikes (round : Round) (seat config : ℕ) (closed : Option ℕ) (af
   pub gap : ℕ
   pub gap_is : gap ≡ gap_of (board_of round) (configuration_at (board_of round) config) pebble
   pub closed_is : closed ≡ cond (slice_index round.counts gap == 1) (Some gap) None
-  pub after_is : after ≡ struck round seat gap
+  pub after_is : after ≡ round_struck round seat gap
 
 -- the seat wins the first that it owes if that has no value yet
 pub record Tries (round : Round) (seat config : ℕ) (won : Bool) (after : Round) : Type 0 where
   pub some_owed : 0 < length (seat_at round seat).owed
   pub first : config ≡ first_of (seat_at round seat).owed
   pub won_is : won ≡ first_is_open round seat
-  pub after_is : after ≡ tried round seat
+  pub after_is : after ≡ round_tried round seat
 
 -- the seat gives half of its width to a new one
 pub record Splits (round : Round) (seat new_seat : ℕ) (after : Round) : Type 0 where
   pub wide : 2 ≤ (seat_at round seat).width
   pub next_number : new_seat ≡ length round.seats
-  pub after_is : after ≡ split round seat
+  pub after_is : after ≡ round_split round seat
 
 -- one seat gives all that it has to another
 pub record Joins (round : Round) (into from : ℕ) (after : Round) : Type 0 where
   pub differ : into ≡ from → ⊥
   pub has_into : 0 < (seat_at round into).width
   pub has_from : 0 < (seat_at round from).width
-  pub after_is : after ≡ joined round into from
+  pub after_is : after ≡ round_joined round into from
 
 -- the step is done, answers this, and leads to the round after it
 abbrev pub Does : Round → Step → Seen → Round → Type 0

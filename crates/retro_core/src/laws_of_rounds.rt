@@ -6,12 +6,13 @@ ghost use Rattle.positions.specs.Ranks.{configurations};
 ghost use Rattle.positions.specs.Gaps.{gaps};
 ghost use Rattle.solver.specs.Solving.{Solving, IsSolving, AreToStrike};
 ghost use Rattle.solver.specs.Words.{AreFirstCounts, AreFirstValues};
-ghost use Rattle.retro_core.specs.Round.{Round, opening, IsOpening, IsLawful, IsWorkedOff, all_won};
+ghost use Rattle.retro_core.specs.Round.{Round, opening_round, IsOpening, IsLawful, IsWorkedOff};
+ghost use Rattle.retro_core.specs.Round.{all_won};
 ghost use Rattle.retro_core.specs.Round.{HasWonAll};
 ghost use Rattle.retro_core.specs.Stepping.{Does, LeadTo};
 ghost use Rattle.retro_core.specs.History.{answer_at, IsClosedAt};
-ghost use Rattle.retro_core.specs.declared.step.Step.{Step as Doing};
-ghost use Rattle.retro_core.specs.declared.step.Seen.{Seen as Answer};
+ghost use Rattle.retro_core.specs.declared.step.Step.{Step as StepData};
+ghost use Rattle.retro_core.specs.declared.step.Seen.{Seen as SeenData};
 ghost use Rattle.retro_core.specs.declared.step.Seen.TheVariants as answers;
 
 /// A round opens lawfully with a solver's counts, its values and the configurations that it has to
@@ -20,14 +21,14 @@ pub fn rounds_open_lawfully()
     ensures { (s : Solving) → IsSolving s → (width : ℕ) → 0 < width → (counts : List ℕ) → (values : List (Option ℕ)) → (ranks : List ℕ)
         → length counts ≡ gaps s.board → length values ≡ configurations s.board
         → AreFirstCounts s counts → AreFirstValues s values → AreToStrike s ranks
-        → IsOpening s width (opening s width counts values ranks) }
+        → IsOpening s width (opening_round s width counts values ranks) }
 {}
 
 /// Each step of a lawful round leads to a lawful one, and so do any steps, in any order and of any seats.
 pub fn steps_keep_rounds_lawful()
-    ensures one { (before : Round) → (step : Doing) → (seen : Answer) → (after : Round)
+    ensures one { (before : Round) → (step : StepData) → (seen : SeenData) → (after : Round)
         → IsSolving before.solving → IsLawful before → Does before step seen after → IsLawful after }
-    ensures any { (first : Round) → (steps : List (Doing × Answer)) → (last : Round)
+    ensures any { (first : Round) → (steps : List (StepData × SeenData)) → (last : Round)
         → IsSolving first.solving → IsLawful first → LeadTo first steps last → IsLawful last × (last.solving ≡ first.solving) }
 {}
 
@@ -36,7 +37,7 @@ pub fn steps_keep_rounds_lawful()
 /// and in whatever order.
 pub fn worked_off_rounds_have_won_all()
     ensures lawful { (round : Round) → IsSolving round.solving → IsLawful round → IsWorkedOff round → HasWonAll round }
-    ensures opened { (s : Solving) → (width : ℕ) → (first : Round) → (steps : List (Doing × Answer)) → (last : Round)
+    ensures opened { (s : Solving) → (width : ℕ) → (first : Round) → (steps : List (StepData × SeenData)) → (last : Round)
         → IsSolving s → IsOpening s width first → LeadTo first steps last → IsWorkedOff last → (last.solving ≡ s) × HasWonAll last }
 {}
 
@@ -45,16 +46,16 @@ pub fn worked_off_rounds_have_won_all()
 /// configuration that is answered as won is in a won list at the end. A gap is answered as closed
 /// at most once, only if it had a count at first and has none at the end, and always then.
 pub fn answers_have_a_cause()
-    ensures lost { (s : Solving) → (width : ℕ) → (first : Round) → (steps : List (Doing × Answer)) → (last : Round)
+    ensures lost { (s : Solving) → (width : ℕ) → (first : Round) → (steps : List (StepData × SeenData)) → (last : Round)
         → IsSolving s → IsOpening s width first → LeadTo first steps last
-        → (place : ℕ) → (config : ℕ) → answer_at steps place ≡ Some (answers.Tried config false)
-        → (earlier : ℕ) × (earlier < place) × (answer_at steps earlier ≡ Some (answers.Tried config true)) }
-    ensures won { (first : Round) → (steps : List (Doing × Answer)) → (last : Round) → LeadTo first steps last
-        → (place : ℕ) → (config : ℕ) → answer_at steps place ≡ Some (answers.Tried config true) → 0 < times config (all_won last) }
-    ensures closed_once { (first : Round) → (steps : List (Doing × Answer)) → (last : Round) → LeadTo first steps last → (gap : ℕ)
-        → (place : ℕ) → (other : ℕ) → IsClosedAt steps gap place → IsClosedAt steps gap other → place ≡ other }
-    ensures closed_only { (first : Round) → (steps : List (Doing × Answer)) → (last : Round) → LeadTo first steps last → (gap : ℕ)
-        → (place : ℕ) → IsClosedAt steps gap place → (0 < slice_index first.counts gap) × (slice_index last.counts gap ≡ 0) }
-    ensures closed_always { (first : Round) → (steps : List (Doing × Answer)) → (last : Round) → LeadTo first steps last → (gap : ℕ)
-        → 0 < slice_index first.counts gap → slice_index last.counts gap ≡ 0 → (place : ℕ) × IsClosedAt steps gap place }
+        → (index : ℕ) → (config : ℕ) → answer_at steps index ≡ Some (answers.Tried config false)
+        → (earlier : ℕ) × (earlier < index) × (answer_at steps earlier ≡ Some (answers.Tried config true)) }
+    ensures won { (first : Round) → (steps : List (StepData × SeenData)) → (last : Round) → LeadTo first steps last
+        → (index : ℕ) → (config : ℕ) → answer_at steps index ≡ Some (answers.Tried config true) → 0 < times config (all_won last) }
+    ensures closed_once { (first : Round) → (steps : List (StepData × SeenData)) → (last : Round) → LeadTo first steps last → (gap : ℕ)
+        → (index : ℕ) → (other : ℕ) → IsClosedAt steps gap index → IsClosedAt steps gap other → index ≡ other }
+    ensures closed_only { (first : Round) → (steps : List (StepData × SeenData)) → (last : Round) → LeadTo first steps last → (gap : ℕ)
+        → (index : ℕ) → IsClosedAt steps gap index → (0 < slice_index first.counts gap) × (slice_index last.counts gap ≡ 0) }
+    ensures closed_always { (first : Round) → (steps : List (StepData × SeenData)) → (last : Round) → LeadTo first steps last → (gap : ℕ)
+        → 0 < slice_index first.counts gap → slice_index last.counts gap ≡ 0 → (index : ℕ) × IsClosedAt steps gap index }
 {}

@@ -7,7 +7,8 @@ ghost use Rattle.std.specs.Prelude.{None, Some, IfOk, IfErr};
 ghost use Rattle.positions.specs.Ranks.{configurations};
 ghost use Rattle.positions.specs.Gaps.{gaps};
 ghost use Rattle.solver.specs.Solving.{IsSolving};
-ghost use Rattle.retro_core.specs.Round.{board_of, seat_at, spent, IsOpening, IsLawful, round_of};
+ghost use Rattle.retro_core.specs.Round.{board_of, seat_at, spent_seat, IsOpening, IsLawful};
+ghost use Rattle.retro_core.specs.Round.{round_of};
 ghost use Rattle.retro_core.specs.Stepping.{Does, IsAllowed, LacksSeat, Refuses};
 
 use crate::seat::Seat;

@@ -3,7 +3,7 @@
 ghost use Rattle.std.specs.Prelude.{◌≡◌, ◌+◌, ◌++◌, ◌^◌, ◌<◌, true, false, [], length, is_ok, if◌then◌else◌, IfOk};
 ghost use Rattle.positions.specs.Gaps.{gaps};
 ghost use Rattle.solver.specs.Solving.{source};
-ghost use Rattle.retro_core.specs.Round.{spent, seat_struck, seat_tried, seat_kept, seat_new, seat_joined};
+ghost use Rattle.retro_core.specs.Round.{spent_seat, seat_struck, seat_tried, seat_kept, seat_new, seat_joined};
 
 use board_text::Memory;
 use index_lists::ListStore;
@@ -46,7 +46,7 @@ impl Seat {
 
     /// A seat of width 0 with empty lists.
     pub(crate) fn spent(alloc: Global) -> Seat
-        ensures { result ≡ spent }
+        ensures { result ≡ spent_seat }
     {
         Seat::first(alloc, 0, Vec::new(alloc))
     }

@@ -19,7 +19,7 @@ use Rattle.runs.specs.CheckRun.{RanCheck}
 use Rattle.runs.specs.Verdicts.{IsChecked, IsVerdict}
 use Rattle.runs.specs.Run.{Bytes, Ran}
 use Rattle.runs.specs.SolveRun.{IsSolution, IsSolved}
-use Rattle.runs.specs.Texts.{BringsNoBoard, BringsNoProof, IsMemory, IsSmallBoard, IsWrongBoard}
+use Rattle.runs.specs.Texts.{HasNoBoard, HasNoProof, IsMemory, IsSmallBoard, IsWrongBoard}
 use Rattle.runs.specs.declared.fault.RunFault.{RunFault}
 use Rattle.runs.specs.declared.fault.RunFault.TheVariants.{Board, TooLarge, Proof, Memory, Worker, Read, Write, Limit}
 use Rattle.runs.specs.declared.verdicts.Verdict.{Verdict}
@@ -64,7 +64,7 @@ module _ (text written : List ℕ) (value : Value) (solution : IsSolution text v
   same_board : (board : PlainBoard) → IsBoard board → text ≡ board_text board → solution.0 ≡ board
   same_board board is spelled = one_board solution.0 board solution.1.is_board is (sym solution.1.spelled ∙ spelled)
 
-  pub no_fault_of_board : (fault : RunFault) → BringsNoBoard text fault → IsMemory fault
+  pub no_fault_of_board : (fault : RunFault) → HasNoBoard text fault → IsMemory fault
   no_fault_of_board (Board fault) wrong = absurd (not_wrong text solution.0 solution.1 (Board fault) wrong)
   no_fault_of_board TooLarge wrong = absurd (not_wrong text solution.0 solution.1 TooLarge wrong)
   no_fault_of_board Memory wrong = refl
@@ -83,7 +83,7 @@ module _ (text written : List ℕ) (value : Value) (solution : IsSolution text v
     accepts_text verdict line is =
         accepts board value written small.is_board small.few solved is.proof verdict is.is_proof is.text_is is.verdict_is
 
-    pub no_fault_of_document : (fault : RunFault) → BringsNoProof board written fault → IsMemory fault
+    pub no_fault_of_document : (fault : RunFault) → HasNoProof board written fault → IsMemory fault
     no_fault_of_document (Proof fault) wrong =
         absurd (wrong.1 (faultless_document board written fault.line fault.kind solved.document small.is_board
         (is_formed board solved.document small.is_board.start small.few solved.is_document) solved.text_is wrong.0))

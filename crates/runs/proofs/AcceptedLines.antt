@@ -1,7 +1,7 @@
--- What an accepted line says of the board.
+-- The claim that an accepted line says of the board.
 use Rattle.std.proofs.Common.{◌≤◌, arith, get_or, ◌≡◌, ℕ, List, [], ◌∷◌, ◌++◌, codes, sym, ap, ◌∙◌, subst}
 use Rattle.std.specs.Fmt.{decimal}
-use Rattle.board_text.specs.LineForms.{closed}
+use Rattle.board_text.specs.LineForms.{with_line_feed}
 use Rattle.board_text.specs.PlainBoard.{PlainBoard, IsBoard}
 use Rattle.positions.specs.Claim.{Shows, Holds}
 use Rattle.positions.specs.declared.claim.Claim.{Claim}
@@ -20,8 +20,8 @@ use Rattle.runs.specs.Meaning.{AcceptsLeast, CanAnswer}
 use Rattle.runs.specs.declared.verdicts.Verdict.{Verdict}
 use Rattle.runs.specs.declared.verdicts.Verdict.TheVariants.{Accepted, Refused}
 
--- the line says which claim it is
-least_only : (claim : Claim) (number : ℕ) → IsClaim claim → number ≤ MOST_TURNS → closed (codes "accepted " ++ claim_words claim) ≡ closed (codes "accepted least " ++ decimal number) → claim ≡ AtLeast number
+-- a line that says `least` is that of a claim `least`
+least_only : (claim : Claim) (number : ℕ) → IsClaim claim → number ≤ MOST_TURNS → with_line_feed (codes "accepted " ++ claim_words claim) ≡ with_line_feed (codes "accepted least " ++ decimal number) → claim ≡ AtLeast number
 least_only (Exactly n) number is few same = absurd (other (ap (λ (l : List ℕ). get_or l 9 0) same))
   where
     other : ◌≡◌ {A = ℕ} 118 108 → ⊥
@@ -39,13 +39,13 @@ least_only (AtLeast n) number is few same =
     let digits : decimal n ≡ decimal number = append_cancel_left (codes "accepted least ") (decimal n) (decimal number) words in
     ap AtLeast (decimal_injective n number (omega (arith, is)) (omega (arith, few)) digits)
 
-refused_differs : (board : PlainBoard) (fault : CheckFault) (number : ℕ) → closed (codes "refused " ++ fault_words board fault) ≡ closed (codes "accepted least " ++ decimal number) → ⊥
+refused_differs : (board : PlainBoard) (fault : CheckFault) (number : ℕ) → with_line_feed (codes "refused " ++ fault_words board fault) ≡ with_line_feed (codes "accepted least " ++ decimal number) → ⊥
 refused_differs board fault number same = other (ap (λ (l : List ℕ). get_or l 0 0) same)
   where
     other : ◌≡◌ {A = ℕ} 114 97 → ⊥
     other is = absurd (omega (arith, is))
 
-can_answer_by : (text : List ℕ) (number : ℕ) (verdict : Verdict) → number ≤ MOST_TURNS → IsAnswered text verdict (closed (codes "accepted least " ++ decimal number)) → CanAnswer text number
+can_answer_by : (text : List ℕ) (number : ℕ) (verdict : Verdict) → number ≤ MOST_TURNS → IsAnswered text verdict (with_line_feed (codes "accepted least " ++ decimal number)) → CanAnswer text number
 can_answer_by text number (Refused fault) few is = absurd (refused_differs is.board fault number (sym is.line_is))
 can_answer_by text number (Accepted shown) few is =
     let claim : shown.claim ≡ is.proof.claim = is.verdict_is.0 in

@@ -41,7 +41,7 @@ total_last : (n : ℕ) (g : ℕ → ℕ) → total (suc n) g ≡ total n g + g n
 total_last zero g = omega arith
 total_last (suc n) g = let rest = total_last n (λ j. g (suc j)) in omega (arith, rest)
 
--- just one number below a bound is a given one
+-- just one number below the bound is this one
 one_hit : (n v : ℕ) → v < n → total n (λ j. cond (v == j) 1 0) ≡ 1
 one_hit zero v below = absurd (omega arith)
 one_hit (suc n) zero below =
@@ -65,7 +65,7 @@ one_hit (suc n) (suc v) below =
       | inr other ↦ let next : suc v ≢ suc j = λ e. other (omega arith) in rw (differ_is v j other, differ_is (suc v) (suc j) next) refl
     ]
 
--- numbers in classes: those of all classes are all numbers
+-- the counts of all classes add up to the number of numbers
 all_classes : (of : ℕ → ℕ) (classes n : ℕ) → ((k : ℕ) → k < n → of k < classes) → total classes (λ j. count_below n (λ k. of k == j)) ≡ n
 all_classes of classes zero below = total_same classes (λ j. count_below 0 (λ k. of k == j)) (λ j. 0) (λ j _. refl) ∙ total_zero classes
 all_classes of classes (suc n) below =

@@ -1,4 +1,4 @@
--- How the ends of runs are told.
+-- The outcomes of runs, by their results.
 use Rattle.std.proofs.Common.{◌≡◌, ◌≢◌, ◌↔◌, ℕ, List, sym, ap, ◌∙◌, inl, inr}
 use Rattle.std.proofs.lemmas.Result.{MatchResult-from_both, IfErr-at_err, IfErr-weaker}
 use Rattle.std.specs.Prelude.{Result, Ok, Err, IfOk, IfErr}
@@ -11,7 +11,7 @@ use Rattle.runs.specs.Outcomes.{EndsAs, outcome_of_check, outcome_of_run}
 use Rattle.runs.specs.PlayRun.{PlayFails, RanPlay}
 use Rattle.runs.specs.Run.{Bytes, Fails, Ran, Stream}
 use Rattle.runs.specs.SolveRun.{CannotSolve}
-use Rattle.runs.specs.Texts.{BringsNoBoard}
+use Rattle.runs.specs.Texts.{HasNoBoard}
 use Rattle.runs.specs.declared.checking.TheConstants.{MAX_PROOF_BYTES}
 use Rattle.runs.specs.declared.reading.TheConstants.{MAX_BOARD_BYTES}
 use Rattle.runs.specs.declared.fault.RunFault.{RunFault}
@@ -21,23 +21,23 @@ use Rattle.runs.specs.declared.outcome.Outcome.TheVariants.{Broken}
 use Rattle.runs.specs.declared.verdicts.Verdict.{Verdict}
 use Rattle.runs.specs.declared.verdicts.Verdict.TheVariants.{Accepted as AcceptedAs, Refused as RefusedFor}
 
--- a broken check had this fault
+-- a check whose outcome is broken gave this fault
 pub broken_check : (r : Result Verdict RunFault) (fault : RunFault) → outcome_of_check r ≡ Broken fault → r ≡ Err fault
 broken_check (Ok (AcceptedAs shown)) fault is = cc
 broken_check (Ok (RefusedFor why)) fault is = cc
 broken_check (Err why) fault is = let same : why ≡ fault = cc in ap (λ f. Err f) same
 
--- a broken run had this fault
+-- a run whose outcome is broken gave this fault
 pub broken_run : {A : Type 0} (r : Result A RunFault) (fault : RunFault) → outcome_of_run r ≡ Broken fault → r ≡ Err fault
 broken_run (Ok answer) fault is = cc
 broken_run (Err why) fault is = let same : why ≡ fault = cc in ap (λ f. Err f) same
 
--- a run that ends so ends as its clauses say
+-- the outcome of a run is one that its clauses allow
 module _ {A : Type 0} (told : Result A RunFault → Outcome) (r : Result A RunFault) (Answers : A → Type 0) (Breaks : RunFault → Type 0) where
   pub ends : (outcome : Outcome) → outcome ≡ told r → IfOk r Answers → IfErr r Breaks → EndsAs told Answers Breaks outcome
   ends outcome is ok fault = (r, MatchResult-from_both r Answers Breaks ok fault, is)
 
--- nothing was written before a fault that is told
+-- if the outcome is a fault other than of writing, the output was kept
 module _ {A : Type 0} (told : Result A RunFault → Outcome)
     (broken : (r : Result A RunFault) (fault : RunFault) → told r ≡ Broken fault → r ≡ Err fault)
     (r : Result A RunFault) (outcome : Outcome) (is : outcome ≡ told r) where
@@ -48,7 +48,7 @@ module _ {A : Type 0} (told : Result A RunFault → Outcome)
   told_as fault breaks Failed same =
       ((λ failed. is ∙ ap told (same.0 failed) ∙ breaks), (λ broke. same.1 (broken r fault (sym is ∙ broke))))
 
--- ---- what a run says follows from what another says
+-- ---- the failure of one run follows from that of another
 
 module _ {A : Type 0} (P : List ℕ → A → List ℕ → Type 0) (Nothing More : List ℕ → RunFault → Type 0)
     (more : (text : List ℕ) (fault : RunFault) → Nothing text fault → More text fault) (read written : Bytes) where
@@ -57,15 +57,15 @@ module _ {A : Type 0} (P : List ℕ → A → List ℕ → Type 0) (Nothing More
   fails_wider limit fault (inr (inl (text, gave, says))) = inr (inl (text, gave, more text fault says))
   fails_wider limit fault (inr (inr cut)) = inr (inr cut)
 
--- what is untouched of a document
+-- the fact that a failed check kept its output may be exchanged for one that follows
 check_untouched : (board_limit proof_limit : ℕ) (Old New : Type 0) → (Old → New) → (board proof written : Bytes)
     (fault : RunFault) → CheckFails board_limit proof_limit Old board proof written fault
     → CheckFails board_limit proof_limit New board proof written fault
 check_untouched board_limit proof_limit Old New to board proof written fault (inl (none, kept)) = inl (none, to kept)
 check_untouched board_limit proof_limit Old New to board proof written fault (inr rest) = inr rest
 
--- one worker fails as several can
-pub any_worker : (workers : ℕ) (text : List ℕ) (fault : RunFault) → BringsNoBoard text fault
+-- a fault of one worker is one that several workers can give
+pub any_worker : (workers : ℕ) (text : List ℕ) (fault : RunFault) → HasNoBoard text fault
     → CannotSolve workers text fault
 any_worker workers text Memory h = tt
 any_worker workers text (Board fault) h = h
@@ -76,7 +76,7 @@ any_worker workers text Read h = absurd h
 any_worker workers text Write h = absurd h
 any_worker workers text Limit h = absurd h
 
--- several workers fail as they do
+-- a fault of several workers is one that they can give
 pub these_workers : (workers : ℕ) (text : List ℕ) (fault : RunFault) → CannotSolve workers text fault
     → CannotSolve workers text fault
 these_workers workers text fault h = h

@@ -27,8 +27,8 @@ use Rattle.std.proofs.lemmas.List.{append_assoc, append-nil, length-append, take
 use Rattle.std.proofs.Math.Seq.{take-append-add}
 use Rattle.std.specs.Prelude.{Option, None, Some}
 use Rattle.std.specs.Io.KnownBytes.{Appends}
-use Rattle.board_text.specs.LineForms.{closed}
-use Rattle.board_text.specs.Streams.{AppendsFront}
+use Rattle.board_text.specs.LineForms.{with_line_feed}
+use Rattle.board_text.specs.Streams.{AppendsPrefix}
 use Rattle.runs.specs.Run.{stream_of}
 use Rattle.runs.specs.Serving.{IsEnding, IsExplained, IsForPerson, IsSaid, IsWritten}
 use Rattle.runs.specs.declared.outcome.Outcome.{Outcome}
@@ -41,11 +41,11 @@ both (Some xs) (Some ys) None s t first second = absurd second
 both (Some xs) (Some ys) (Some zs) s t first second =
     second ∙ ap (λ (l : List ℕ). l ++ t) first ∙ append_assoc xs s t
 
-wider : (a b : Option (List ℕ)) (s t : List ℕ) → AppendsFront a b s → AppendsFront a b (s ++ t)
+wider : (a b : Option (List ℕ)) (s t : List ℕ) → AppendsPrefix a b s → AppendsPrefix a b (s ++ t)
 wider a b s t (n, low, part) =
     (n, omega (arith, low, length-append s t), subst (Appends a b) (sym (take-append-le n s t low)) part)
 
-then_front : (a b c : Option (List ℕ)) (s t : List ℕ) → Appends a b s → AppendsFront b c t → AppendsFront a c (s ++ t)
+then_front : (a b c : Option (List ℕ)) (s t : List ℕ) → Appends a b s → AppendsPrefix b c t → AppendsPrefix a c (s ++ t)
 then_front a b c s t first (n, low, part) = (
   length s + n,
   omega (arith, low, length-append s t),
@@ -80,7 +80,7 @@ module _ {W : Type 0} (known : W → Option (List ℕ)) (failed : W → Bool) wh
       let rest : c ≡ b = same broke in (
         inr (
           ap failed rest ∙ broke,
-          subst (λ (o : Option (List ℕ)). AppendsFront (known a) o (s ++ t)) (sym (ap
+          subst (λ (o : Option (List ℕ)). AppendsPrefix (known a) o (s ++ t)) (sym (ap
               known rest)) (wider (known a) (known b) s t front),
         ),
         (λ none. rest ∙ kept (nothing s t none).0),
@@ -122,7 +122,7 @@ module _ {W : Type 0} (known : W → Option (List ℕ)) (failed : W → Bool) wh
         more then,
   )
 
-  -- what serves says, of a writer that hasn't failed before
+  -- the clauses of serving, if the writer hadn't failed before
   module _ (a : W) (ready : failed a ≡ false) where
     pub ended : (b : W) (terminal : Bool) (outcome : Outcome)
         → ((said : List ℕ) × IsEnding terminal outcome said × IsMore known failed a b said)
@@ -148,7 +148,7 @@ pub was_true : (b : Bool) → not b ≡ false → b ≡ true
 was_true true is = refl
 was_true false is = cc
 
--- no greeting but for a job that is typed, at two terminals
+-- there is a greeting only if a job is typed at two terminals
 pub no_greeting : (input errors typed : Bool) → (input && errors) ≡ false → IsForPerson (input && errors && typed) []
 no_greeting false errors typed is = refl
 no_greeting true false typed is = refl
@@ -161,7 +161,7 @@ untyped true true false is = refl
 untyped true true true is = cc
 
 pub typed_line : (input errors typed : Bool) (words : List ℕ) → (input && errors) ≡ true → typed ≡ true
-    → IsForPerson (input && errors && typed) (closed words)
+    → IsForPerson (input && errors && typed) (with_line_feed words)
 typed_line true true true words both is = (words, refl)
 typed_line true true false words both is = cc
 typed_line true false typed words both is = cc
@@ -169,9 +169,10 @@ typed_line false errors typed words both is = cc
 
 -- a line that was written in parts
 pub line_of_parts : (about colon number words : List ℕ)
-    → about ++ (colon ++ (number ++ (words ++ closed []))) ≡ closed (about ++ (colon ++ (number ++ words)))
+    → about ++ (colon ++ (number ++ (words ++ with_line_feed []))) ≡ with_line_feed
+    (about ++ (colon ++ (number ++ words)))
 line_of_parts about colon number words = sym (
-    append_assoc about (colon ++ (number ++ words)) (closed [])
-    ∙ ap (λ (l : List ℕ). about ++ l) (append_assoc colon (number ++ words) (closed [])
-    ∙ ap (λ (l : List ℕ). colon ++ l) (append_assoc number words (closed [])))
+    append_assoc about (colon ++ (number ++ words)) (with_line_feed [])
+    ∙ ap (λ (l : List ℕ). about ++ l) (append_assoc colon (number ++ words) (with_line_feed [])
+    ∙ ap (λ (l : List ℕ). colon ++ l) (append_assoc number words (with_line_feed [])))
     )

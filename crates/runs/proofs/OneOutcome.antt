@@ -19,7 +19,7 @@ use Rattle.runs.specs.Texts.{IsSmallBoard, IsWrongBoard}
 use Rattle.runs.specs.declared.fault.RunFault.{RunFault}
 use Rattle.runs.specs.declared.fault.RunFault.TheVariants.{Board, TooLarge, Proof, Memory, Worker, Read, Write, Limit}
 
--- a bound is known by what is below it
+-- two bounds with the same numbers below them are equal
 same_bound : (P : ℕ → Type 0) (first second : ℕ) → ((number : ℕ) → number < first ↔ P number) → ((number : ℕ) → number < second ↔ P number)
     → first ≡ second
 same_bound P first second one other = elim (cases_order first second) [
@@ -71,7 +71,7 @@ module _ (text : List ℕ) where
         one.2.text_is ∙ ap (proof_text board) document ∙ sym solved.text_is,
       )
 
-  -- what is wrong is a fault of the text, or that its board is too large
+  -- a fault of a text is one of the board's text, or that the board is too large
   wrong_is : (fault : RunFault) → IsWrongBoard text fault
       → ((told : BoardFault) × (fault ≡ Board told) × IsWrongBoard text (Board told)) ⊎ ((fault ≡ TooLarge) × IsWrongBoard text TooLarge)
   wrong_is (Board told) wrong = inl (told, refl, wrong)

@@ -14,7 +14,7 @@ use Rattle.round_workers.proofs.Cited.{value_few}
 use Rattle.solver.specs.Sizes.{HasCount, IsGreatest}
 use Rattle.runs.specs.Report.{AreCounts, IsCountOfValues, IsReportOf, head_lines, start_value_line, count_line, count_lines, end_lines}
 
--- so many values are counted, and their lines are written
+-- the values below a bound are counted, and their lines are written
 pub record IsCountedTo (board : PlainBoard) (bound : ℕ) (before text : List ℕ) : Type 0 where
   pub counts : List ℕ
   pub so_many : length counts ≡ bound
@@ -56,7 +56,7 @@ counted_all board bound number before text is end all = (
   is.written,
 )
 
--- up to the greatest value
+-- the number of values is one more than the greatest
 pub values_to : (board : PlainBoard) (greatest : ℕ) → IsGreatest (Occurs board) (Some greatest) → IsCountOfValues board (greatest + 1)
 values_to board greatest is value = (
   λ inside. (greatest, omega arith, is.0),
@@ -69,7 +69,7 @@ no_values board none value = (λ inside. absurd (omega arith), λ above. absurd 
 pub value_fits : (board : PlainBoard) (greatest : ℕ) → IsGreatest (Occurs board) (Some greatest) → configurations board ≤ MAX_CONFIGURATIONS → Fits w32 (greatest + 1)
 value_fits board greatest is few = let low = value_few board is.0.0 greatest is.0.1 is.0.2 in omega (arith, low, few)
 
--- the parts of a report, one behind the other
+-- the parts of a report, one after the other
 pub whole_report : (board : PlainBoard) (start : Value) (counts : List ℕ) (forever : ℕ) (empty head begun counted whole : List ℕ)
     → empty ≡ [] → head ≡ empty ++ head_lines board → begun ≡ head ++ start_value_line start → counted ≡ begun ++ count_lines 0 counts → whole ≡ counted ++ end_lines forever
     → HasValue board board.start start → AreCounts board counts → HasCount board Forever forever → IsReportOf board whole
@@ -81,7 +81,7 @@ whole_report board start counts forever empty head begun counted whole none firs
       (second ∙ ap (λ (t : List ℕ). t ++ start_value_line start) (first ∙ ap (λ (t : List ℕ). t ++ head_lines board) none)));
 }
 
--- four texts, one behind the other
+-- four texts, one after the other
 pub four_parts : (old first second third fourth one two three four : List ℕ) → one ≡ old ++ first → two ≡ one ++ second → three ≡ two ++ third → four ≡ three ++ fourth
     → four ≡ old ++ (first ++ second ++ third ++ fourth)
 four_parts old first second third fourth one two three four is_one is_two is_three is_four =

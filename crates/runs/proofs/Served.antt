@@ -1,4 +1,4 @@
--- How words are served.
+-- The words of a command line are served.
 use Rattle.std.proofs.Common.{◌≡◌, ◌↔◌, ◌<◌, ◌≤◌, ◌⊎◌, ℕ, List, [], length, ap, sym, subst, ◌∙◌, inl, inr}
 use Rattle.std.proofs.lemmas.Bool.{cases_lt}
 use Rattle.std.proofs.lemmas.List.{length-map}
@@ -7,7 +7,7 @@ use Rattle.std.specs.Borrow.{Bor}
 use Rattle.std.specs.Io.KnownBytes.{Appends}
 use Rattle.clap.specs.Walk.{Text, texts}
 use Rattle.clap.specs.Words.{fault_of, subcommand_of}
-use Rattle.board_text.specs.Streams.{AppendsFront}
+use Rattle.board_text.specs.Streams.{AppendsPrefix}
 use Rattle.command_line.specs.Commands.{program}
 use Rattle.command_line.specs.Reading.{IsReadAs}
 use Rattle.command_line.specs.declared.asked.Job.{Job}
@@ -21,16 +21,16 @@ use Rattle.runs.specs.declared.fault.RunFault.{RunFault}
 use Rattle.runs.specs.declared.fault.RunFault.TheVariants.{Write}
 use Rattle.runs.specs.declared.outcome.Outcome.TheVariants.{Broken, Done}
 
--- what a write of a text tells
+-- after a write the text is written, or the stream has failed
 pub written : (stream : Stream) (text : List ℕ) (r : Result (Unit {0}) RunFault)
     → OnOk r (Appends stream.bytes.old stream.bytes.new text)
-    → OnErr r (AppendsFront stream.bytes.old stream.bytes.new text) → IfErr r (λ f. f ≡ Write)
+    → OnErr r (AppendsPrefix stream.bytes.old stream.bytes.new text) → IfErr r (λ f. f ≡ Write)
     → (stream.HasFailed ↔ (r ≡ Err Write)) → IsWritten stream text
 written stream text (Ok done) appends front told failed =
     inl ((λ has. let bad : Ok done ≡ Err Write = failed.0 has in cc), appends)
 written stream text (Err fault) appends front told failed = inr (failed.1 (ap (λ f. Err f) told), front)
 
--- what a write of help tells
+-- after help is written the run is done, or the stream has failed
 pub helped : (output : Stream) (r : Result (Unit {0}) RunFault) → IfErr r (λ f. f ≡ Write)
     → (output.HasFailed ↔ (r ≡ Err Write)) → (Ends : Outcome → Type 0) → Ends (outcome_of_run r)
     → ((output.HasFailed → ⊥) × Ends Done) ⊎ (output.HasFailed × Ends (Broken Write))
@@ -39,7 +39,7 @@ helped output (Ok done) told failed Ends ends =
 helped output (Err fault) told failed Ends ends =
     inr (failed.1 (ap (λ f. Err f) told), subst (λ f. Ends (Broken f)) told ends)
 
--- what the words ask for
+-- the job that the words ask for
 module _ (words : List (Bor Text)) (r : Result Job JobFault) (joined : (r ≡ Ok Joined) ↔ (length words ≤ 1)) where
   as_many : length (texts words) ≡ length words
   as_many = length-map words (λ (s : Bor Text). s.now)
@@ -61,7 +61,7 @@ module _ (words : List (Bor Text)) (r : Result Job JobFault) (joined : (r ≡ Ok
             )
       ]
 
-  -- words that ask for no job are more than the program's name
+  -- if the words ask for no job, there are more than the program's name
   pub more_words : (fault : JobFault) → r ≡ Err fault → 1 < length (texts words)
   more_words fault is =
       elim (cases_lt 1 (length words)) [

@@ -1,4 +1,4 @@
--- Each text of a small board has a solution and a report, and what isn't such a text has a fault.
+-- Each text of a small board has a solution and a report, and each other text has a fault.
 use Rattle.std.proofs.Common.{◌≡◌, ℕ, suc, ◌<◌, ◌≤◌, ◌↔◌, ◌⊎◌, inl, inr, Bool, true, false, List, length, refl, sym, subst, arith}
 use Rattle.std.proofs.lemmas.Bool.{cases_lt}
 use Rattle.board_text.specs.PlainBoard.{PlainBoard, IsConfiguration}
@@ -23,7 +23,7 @@ use Rattle.runs.specs.Texts.{IsSmallBoard, IsWrongBoard}
 use Rattle.runs.specs.declared.fault.RunFault.{RunFault}
 use Rattle.runs.specs.declared.fault.RunFault.TheVariants.{Board, TooLarge}
 
--- ---- of how many numbers a fact holds
+-- ---- the size of a fact
 
 holds : {A : Type 0} → A ⊎ ¬ A → Bool
 holds (inl first) = true
@@ -34,7 +34,7 @@ unfolding holds
 holds-true (inl first) = (λ _. refl, λ _. first)
 holds-true (inr second) = (λ is. absurd (second is), λ same. absurd cc)
 
--- a fact that is decided below a bound holds of so many numbers below it
+-- a fact that is decided for each number below a bound has a size there
 some_size : (P : ℕ → Type 0) (bound : ℕ) → ((number : ℕ) → number < bound → P number ⊎ ¬ P number)
     → (size : ℕ) × HasSize (λ number. (number < bound) × P number) size
 some_size P bound decided = (count_below (λ number. holds (both number)) bound, size_of _ (λ number. holds (both number)) bound says)
@@ -80,7 +80,7 @@ module _ (board : PlainBoard) where
             (subst (λ (c : List ℕ). HasValue board c (Finite value)) (sym (configuration_at-rank_of board occurs.0 occurs.1)) occurs.2))
       ]
 
-  -- a finite value that doesn't occur is above all that do
+  -- a finite value that doesn't occur is above all values that do
   values_end : (number : ℕ) × IsCountOfValues board number
   values_end =
       let not_or : (value : ℕ) → (¬ Occurs board value) ⊎ ¬ ¬ Occurs board value =

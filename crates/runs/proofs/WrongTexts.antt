@@ -1,10 +1,10 @@
--- Why a joined text has no answer.
+-- The reasons why a joined text has no answer.
 use Rattle.std.proofs.Common.{◌≡◌, ℕ, List, ◌++◌, take, drop, sym, ap, ◌∙◌, take-append-drop}
 use Rattle.board_text.specs.PlainBoard.{PlainBoard, IsBoard}
 use Rattle.board_text.specs.BoardText.{board_text}
 use Rattle.runs.specs.Verdicts.{CannotAnswer, BeginsWithBoard}
-use Rattle.runs.specs.Joined.{IsFrontLen}
-use Rattle.runs.specs.Texts.{BringsNoBoard, BringsNoProof, IsSmallBoard}
+use Rattle.runs.specs.Joined.{IsBoardLength}
+use Rattle.runs.specs.Texts.{HasNoBoard, HasNoProof, IsSmallBoard}
 use Rattle.runs.specs.declared.fault.RunFault.{RunFault}
 use Rattle.runs.specs.declared.fault.RunFault.TheVariants.{Board, TooLarge, Proof, Memory, Worker, Read, Write, Limit}
 
@@ -12,8 +12,9 @@ pub begins_with : (text front rest : List ℕ) (board : PlainBoard) → IsBoard 
     → BeginsWithBoard text board rest
 begins_with text front rest board is whole spelled = record { is_board = is; text_is = whole ∙ ap (λ (f : List ℕ). f ++ rest) spelled }
 
-pub no_board : (text front rest : List ℕ) (size : ℕ) (fault : RunFault) → IsFrontLen text size → front ≡ take size text
-    → text ≡ front ++ rest → BringsNoBoard front fault → CannotAnswer text fault
+pub no_board : (text front rest : List ℕ) (size : ℕ) (fault : RunFault) → IsBoardLength text size
+    → front ≡ take size text
+    → text ≡ front ++ rest → HasNoBoard front fault → CannotAnswer text fault
 no_board text front rest size (Board fault) first is whole (has, no_memory) = (size, first, rw (← is) has, no_memory)
 no_board text front rest size Memory first is whole h = tt
 no_board text front rest size TooLarge first is whole (board, is_board, spelled, many) =
@@ -25,7 +26,7 @@ no_board text front rest size Write first is whole h = absurd h
 no_board text front rest size Limit first is whole h = absurd h
 
 pub no_proof : (text front rest : List ℕ) (board : PlainBoard) (fault : RunFault) → IsSmallBoard front board → text ≡ front ++ rest
-    → BringsNoProof board rest fault → CannotAnswer text fault
+    → HasNoProof board rest fault → CannotAnswer text fault
 no_proof text front rest board (Proof fault) small whole (has, no_memory) =
     (board, rest, begins_with text front rest board small.is_board whole small.spelled, small.few, has, no_memory)
 no_proof text front rest board Memory small whole h = tt

@@ -2,7 +2,7 @@
 use Rattle.std.specs.Prelude.{ℕ, ◌⊎◌, List}
 use Rattle.board_text.specs.PlainBoard.{PlainBoard}
 use Rattle.runs.specs.Run.{Bytes, Gave, IsUnread}
-use Rattle.runs.specs.Texts.{BringsNoBoard, IsSmallBoard}
+use Rattle.runs.specs.Texts.{HasNoBoard, IsSmallBoard}
 use Rattle.runs.specs.declared.fault.RunFault.{RunFault}
 
 -- the reader gave all, which is the text of this small board
@@ -11,7 +11,7 @@ GaveBoard read board = (text : List ℕ) × Gave read text × IsSmallBoard text 
 
 -- the faults of a reader that gave no small board
 abbrev pub GaveNoBoard : ℕ → Bytes → RunFault → Type 0
-GaveNoBoard limit read fault = IsUnread limit read fault ⊎ ((text : List ℕ) × Gave read text × BringsNoBoard text fault)
+GaveNoBoard limit read fault = IsUnread limit read fault ⊎ ((text : List ℕ) × Gave read text × HasNoBoard text fault)
 
 -- a small board was read, and this was done with it
 abbrev pub RanOn : Bytes → (PlainBoard → Type 0) → Type 0

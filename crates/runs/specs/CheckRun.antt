@@ -3,7 +3,7 @@ use Rattle.std.specs.Prelude.{ℕ}
 use Rattle.runs.specs.Verdicts.{IsChecked}
 use Rattle.runs.specs.BoardRun.{RanOn, FailsOn}
 use Rattle.runs.specs.Run.{Bytes, Ran, Fails}
-use Rattle.runs.specs.Texts.{BringsNoProof}
+use Rattle.runs.specs.Texts.{HasNoProof}
 use Rattle.runs.specs.declared.verdicts.Verdict.{Verdict}
 use Rattle.runs.specs.declared.fault.RunFault.{RunFault}
 
@@ -14,4 +14,4 @@ RanCheck board proof written verdict = RanOn board (λ b. Ran (IsChecked b) proo
 -- the faults of a check without a verdict; if there is no board, the document is untouched
 abbrev pub CheckFails : ℕ → ℕ → Type 0 → Bytes → Bytes → Bytes → RunFault → Type 0
 CheckFails board_limit proof_limit IsUntouched board proof written fault =
-    FailsOn board_limit board IsUntouched (λ b. Fails (IsChecked b) (BringsNoProof b) proof_limit proof written) fault
+    FailsOn board_limit board IsUntouched (λ b. Fails (IsChecked b) (HasNoProof b) proof_limit proof written) fault

@@ -1,7 +1,7 @@
 -- The line of each fault.
 use Rattle.std.specs.Prelude.{ℕ, List, ◌++◌, codes}
 use Rattle.std.specs.Fmt.{decimal}
-use Rattle.board_text.specs.LineForms.{closed}
+use Rattle.board_text.specs.LineForms.{with_line_feed}
 use Rattle.board_text.specs.declared.fault.BoardKind.{BoardKind}
 use Rattle.board_text.specs.declared.fault.BoardKind.TheVariants as board_kinds
 use Rattle.proof_text.specs.declared.fault.ProofKind.{ProofKind}
@@ -39,15 +39,15 @@ name_of_proof_kind proof_kinds.Memory = codes "Memory"
 
 -- the line with this number, of a text, has a fault of this kind
 abbrev pub line_at : List ℕ → ℕ → List ℕ → List ℕ
-line_at text number kind = closed (text ++ codes " fault line " ++ decimal number ++ codes " " ++ kind)
+line_at text number kind = with_line_feed (text ++ codes " fault line " ++ decimal number ++ codes " " ++ kind)
 
 -- the line that says the fault
 abbrev pub line_of_fault : RunFault → List ℕ
 line_of_fault (Board fault) = line_at (codes "board") fault.line (name_of_board_kind fault.kind)
-line_of_fault TooLarge = closed (codes "board too large")
+line_of_fault TooLarge = with_line_feed (codes "board too large")
 line_of_fault (Proof fault) = line_at (codes "proof") fault.line (name_of_proof_kind fault.kind)
-line_of_fault Memory = closed (codes "out of memory")
-line_of_fault Worker = closed (codes "worker not started")
-line_of_fault Read = closed (codes "read fault")
-line_of_fault Write = closed (codes "write fault")
-line_of_fault Limit = closed (codes "input too long")
+line_of_fault Memory = with_line_feed (codes "out of memory")
+line_of_fault Worker = with_line_feed (codes "worker not started")
+line_of_fault Read = with_line_feed (codes "read fault")
+line_of_fault Write = with_line_feed (codes "write fault")
+line_of_fault Limit = with_line_feed (codes "input too long")

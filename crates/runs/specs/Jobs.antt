@@ -12,7 +12,7 @@ use Rattle.runs.specs.NestedText.{IsNestedText}
 use Rattle.runs.specs.Outcomes.{EndsAs, outcome_of_check, outcome_of_run}
 use Rattle.runs.specs.PlayRun.{IsBrokenOff, IsOver, PlayFails, RanPlay}
 use Rattle.runs.specs.Report.{Reports}
-use Rattle.runs.specs.Run.{Bytes, Fails, Ran, Stream, Wrote, WroteFront}
+use Rattle.runs.specs.Run.{Bytes, Fails, Ran, Stream, Wrote, WrotePrefix}
 use Rattle.runs.specs.SolveRun.{CannotSolve}
 use Rattle.runs.specs.Verdicts.{CannotAnswer, IsAnswered}
 use Rattle.runs.specs.declared.checking.TheConstants.{MAX_JOINED_BYTES, MAX_PROOF_BYTES}
@@ -87,7 +87,7 @@ WritesNested levels pebbles output outcome =
     EndsAs {Answer = Unit {0}} outcome_of_run
     (λ answer. Wrote (IsNestedText levels pebbles) output.bytes)
     (λ fault. (fault ≡ Memory)
-    ⊎ ((fault ≡ Write) × WroteFront (IsNestedText levels pebbles) output.bytes)) outcome
+    ⊎ ((fault ≡ Write) × WrotePrefix (IsNestedText levels pebbles) output.bytes)) outcome
     × WritesWhole output outcome
 
 module _ (at : List ℕ → File) (input output : Stream) where

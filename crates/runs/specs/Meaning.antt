@@ -1,7 +1,7 @@
 -- The meaning of an accepted document for the start of its board.
 use Rattle.std.specs.Prelude.{◌≡◌, ℕ, ◌≤◌, List, ◌++◌, codes}
 use Rattle.std.specs.Fmt.{decimal}
-use Rattle.board_text.specs.LineForms.{closed}
+use Rattle.board_text.specs.LineForms.{with_line_feed}
 use Rattle.board_text.specs.PlainBoard.{PlainBoard, IsBoard}
 use Rattle.board_text.specs.BoardText.{board_text}
 use Rattle.positions.specs.Game.{LabellerTree}
@@ -13,7 +13,7 @@ use Rattle.runs.specs.declared.verdicts.Verdict.{Verdict}
 -- the text was answered with the line `accepted least k`, k being a number that documents have
 abbrev pub AcceptsLeast : List ℕ → ℕ → Type 0
 AcceptsLeast text number =
-    (number ≤ MOST_TURNS) × (verdict : Verdict) × IsAnswered text verdict (closed (codes "accepted least " ++ decimal number))
+    (number ≤ MOST_TURNS) × (verdict : Verdict) × IsAnswered text verdict (with_line_feed (codes "accepted least " ++ decimal number))
 
 -- the text begins with a board's; a table answers this number of requests from its start, whichever
 -- they are, and the labeller has a tree of that depth

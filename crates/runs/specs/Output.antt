@@ -1,7 +1,7 @@
 -- The one line that a check writes.
 use Rattle.std.specs.Prelude.{ℕ, List, [], ◌++◌, codes}
 use Rattle.std.specs.Fmt.{decimal}
-use Rattle.board_text.specs.LineForms.{closed}
+use Rattle.board_text.specs.LineForms.{with_line_feed}
 use Rattle.board_text.specs.PlaceForms.{spaced_places}
 use Rattle.board_text.specs.PlainBoard.{PlainBoard}
 use Rattle.positions.specs.Ranks.{configuration_at}
@@ -42,5 +42,5 @@ fault_words board faults.Memory = []
 
 -- the line of a verdict
 abbrev pub line_of : PlainBoard → Verdict → List ℕ
-line_of board (Accepted shown) = closed (codes "accepted " ++ claim_words shown.claim)
-line_of board (Refused fault) = closed (codes "refused " ++ fault_words board fault)
+line_of board (Accepted shown) = with_line_feed (codes "accepted " ++ claim_words shown.claim)
+line_of board (Refused fault) = with_line_feed (codes "refused " ++ fault_words board fault)

@@ -1,7 +1,7 @@
 -- The report of a board: how many of its configurations have each value.
 use Rattle.std.specs.Prelude.{◌≡◌, ℕ, suc, ◌<◌, ◌≤◌, ◌↔◌, List, [], ◌∷◌, ◌++◌, length, slice_index, codes}
 use Rattle.std.specs.Fmt.{decimal}
-use Rattle.board_text.specs.LineForms.{closed}
+use Rattle.board_text.specs.LineForms.{with_line_feed}
 use Rattle.board_text.specs.PlainBoard.{PlainBoard}
 use Rattle.positions.specs.declared.value.Value.{Value}
 use Rattle.positions.specs.declared.value.Value.TheVariants.{Finite, Forever}
@@ -37,22 +37,23 @@ pub record IsReport (board : PlainBoard) (report : Report) : Type 0 where
 
 -- the line of a word and a number
 abbrev pub size_line : List ℕ → ℕ → List ℕ
-size_line word number = closed (word ++ codes " " ++ decimal number)
+size_line word number = with_line_feed (word ++ codes " " ++ decimal number)
 
 -- the first lines, with the numbers of labels, pebbles and configurations of the board
 abbrev pub head_lines : PlainBoard → List ℕ
 head_lines board =
-    closed (codes "report 1") ++ size_line (codes "labels") board.labels
+    with_line_feed (codes "report 1") ++ size_line (codes "labels") board.labels
     ++ size_line (codes "pebbles") board.pebbles
     ++ size_line (codes "configurations") (configurations board)
 
 -- the line of the start's value
 abbrev pub start_value_line : Value → List ℕ
-start_value_line value = closed (codes "start " ++ claim_words (claim_of value))
+start_value_line value = with_line_feed (codes "start " ++ claim_words (claim_of value))
 
 -- the line of a value and the number of configurations that have it
 abbrev pub count_line : ℕ → ℕ → List ℕ
-count_line value count = closed (codes "value " ++ decimal value ++ codes ": " ++ decimal count)
+count_line value count =
+    with_line_feed (codes "value " ++ decimal value ++ codes ": " ++ decimal count)
 
 -- the lines of the counts of a value and of the values after it
 abbrev pub count_lines : ℕ → List ℕ → List ℕ
@@ -61,7 +62,8 @@ count_lines value (count ∷ counts) = count_line value count ++ count_lines (su
 
 -- the last lines
 abbrev pub end_lines : ℕ → List ℕ
-end_lines forever = closed (codes "forever: " ++ decimal forever) ++ closed (codes "end")
+end_lines forever = with_line_feed (codes "forever: " ++ decimal forever)
+    ++ with_line_feed (codes "end")
 
 -- the text of a report
 abbrev pub report_text : PlainBoard → Report → List ℕ

@@ -2,7 +2,7 @@
 use Rattle.std.specs.Prelude.{◌≡◌, ◌≢◌, ◌↔◌, ℕ, ◌<◌, ◌≤◌, ◌⊎◌, Bool, true, List, Option, Result}
 use Rattle.std.specs.Prelude.{Err, IfErr, length}
 use Rattle.std.specs.Io.KnownBytes.{Consumes, Appends}
-use Rattle.board_text.specs.Streams.{GaveAll, AppendsFront}
+use Rattle.board_text.specs.Streams.{GaveAll, AppendsPrefix}
 use Rattle.runs.specs.declared.fault.RunFault.{RunFault}
 use Rattle.runs.specs.declared.fault.RunFault.TheVariants.{Memory, Read, Write, Limit}
 
@@ -59,8 +59,8 @@ abbrev pub Wrote : (List ℕ → Type 0) → Bytes → Type 0
 Wrote IsIt written = (text : List ℕ) × IsIt text × Appends written.old written.new text
 
 -- a prefix of such a text was written
-abbrev pub WroteFront : (List ℕ → Type 0) → Bytes → Type 0
-WroteFront IsIt written = (text : List ℕ) × IsIt text × AppendsFront written.old written.new text
+abbrev pub WrotePrefix : (List ℕ → Type 0) → Bytes → Type 0
+WrotePrefix IsIt written = (text : List ℕ) × IsIt text × AppendsPrefix written.old written.new text
 
 -- ---- a run over one reader, whose text decides the answer and the bytes written
 
@@ -75,4 +75,4 @@ module _ {Answer : Type 0} (Says : List ℕ → Answer → List ℕ → Type 0) 
   Fails SaysNothing limit read written fault =
       IsUnread limit read fault
       ⊎ ((text : List ℕ) × Gave read text × SaysNothing text fault)
-      ⊎ ((text : List ℕ) × (answer : Answer) × Gave read text × WroteFront (Says text answer) written × (fault ≡ Write))
+      ⊎ ((text : List ℕ) × (answer : Answer) × Gave read text × WrotePrefix (Says text answer) written × (fault ≡ Write))

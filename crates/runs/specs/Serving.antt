@@ -4,8 +4,8 @@ use Rattle.std.specs.Prelude.{length, codes, string_bytes}
 use Rattle.std.specs.Io.KnownBytes.{Appends}
 use Rattle.clap.specs.Walk.{Text, texts}
 use Rattle.clap.specs.Words.{fault_of, subcommand_of, takes}
-use Rattle.board_text.specs.LineForms.{closed}
-use Rattle.board_text.specs.Streams.{AppendsFront}
+use Rattle.board_text.specs.LineForms.{with_line_feed}
+use Rattle.board_text.specs.Streams.{AppendsPrefix}
 use Rattle.command_line.specs.Commands.{program}
 use Rattle.command_line.specs.Reading.{IsReadAs, Shows}
 use Rattle.command_line.specs.declared.asked.Job.{Job}
@@ -35,11 +35,11 @@ Asks words job =
 abbrev pub IsWritten : Stream → List ℕ → Type 0
 IsWritten stream text =
     ((stream.HasFailed → ⊥) × Appends stream.bytes.old stream.bytes.new text)
-    ⊎ (stream.HasFailed × AppendsFront stream.bytes.old stream.bytes.new text)
+    ⊎ (stream.HasFailed × AppendsPrefix stream.bytes.old stream.bytes.new text)
 
 -- a line for a person, if the stream is a terminal; else nothing
 abbrev pub IsForPerson : Bool → List ℕ → Type 0
-IsForPerson true text = (words : List ℕ) × (text ≡ closed words)
+IsForPerson true text = (words : List ℕ) × (text ≡ with_line_feed words)
 IsForPerson false text = text ≡ []
 
 -- the text, and at a terminal one line after it that explains it
@@ -110,5 +110,6 @@ module _ (at : List ℕ → File) (terminals : Terminals) (input output errors :
   -- the same, if the words are there and are text
   abbrev pub Serves : Words → Type 0
   Serves (Given words) = ServesWords (texts words.now)
-  Serves NotText = IsRefusedWith (closed (codes "error: a word on the command line is not text"))
+  Serves NotText = IsRefusedWith
+      (with_line_feed (codes "error: a word on the command line is not text"))
   Serves OutOfMemory = HasNoMemory

@@ -29,14 +29,14 @@ IsWrongProof board text (Proof fault) = proof_faults.HasProofFault board text fa
 IsWrongProof board text fault = ⊥
 
 -- the same, or out of memory
-abbrev pub BringsNoBoard : List ℕ → RunFault → Type 0
-BringsNoBoard text Memory = Unit {0}
-BringsNoBoard text fault = IsWrongBoard text fault
+abbrev pub HasNoBoard : List ℕ → RunFault → Type 0
+HasNoBoard text Memory = Unit {0}
+HasNoBoard text fault = IsWrongBoard text fault
 
 -- the same, or out of memory
-abbrev pub BringsNoProof : PlainBoard → List ℕ → RunFault → Type 0
-BringsNoProof board text Memory = Unit {0}
-BringsNoProof board text fault = IsWrongProof board text fault
+abbrev pub HasNoProof : PlainBoard → List ℕ → RunFault → Type 0
+HasNoProof board text Memory = Unit {0}
+HasNoProof board text fault = IsWrongProof board text fault
 
 -- out of memory
 abbrev pub IsMemory : RunFault → Type 0

@@ -14,7 +14,7 @@ use Rattle.proof_text.specs.Rules.{BreaksNoRule}
 use Rattle.proof_text.specs.declared.fault.ProofKind.TheVariants as proof_kinds
 use Rattle.proof_check.specs.CheckFaults.{IsCheckFault}
 use Rattle.proof_check.specs.declared.fault.CheckFault.TheVariants as check_faults
-use Rattle.runs.specs.Joined.{IsFrontLen}
+use Rattle.runs.specs.Joined.{IsBoardLength}
 use Rattle.runs.specs.Output.{line_of}
 use Rattle.runs.specs.declared.verdicts.Verdict.{Verdict}
 use Rattle.runs.specs.declared.verdicts.Verdict.TheVariants.{Accepted, Refused}
@@ -57,7 +57,7 @@ pub record BeginsWithBoard (text : List ℕ) (board : PlainBoard) (rest : List �
 -- the fault of a text without a verdict
 abbrev pub IsWrongText : List ℕ → RunFault → Type 0
 IsWrongText text (Board fault) =
-    (size : ℕ) × IsFrontLen text size × board_faults.HasBoardFault (take size text) fault.line fault.kind
+    (size : ℕ) × IsBoardLength text size × board_faults.HasBoardFault (take size text) fault.line fault.kind
     × (fault.kind ≢ board_kinds.Memory)
 IsWrongText text TooLarge =
     (board : PlainBoard) × (rest : List ℕ) × BeginsWithBoard text board rest × (MAX_CONFIGURATIONS < configurations board)

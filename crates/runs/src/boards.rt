@@ -1,7 +1,7 @@
 //! The small board that a text is.
 
 ghost use Rattle.std.specs.Prelude.{IfOk, IfErr};
-ghost use Rattle.runs.specs.Texts.{IsSmallBoard, BringsNoBoard};
+ghost use Rattle.runs.specs.Texts.{IsSmallBoard, HasNoBoard};
 
 use crate::fault::RunFault;
 use board_text::{Board, parse};
@@ -11,7 +11,7 @@ use std::alloc::Global;
 /// The board whose text is `text`. It has at most `MAX_CONFIGURATIONS` configurations.
 pub fn small_board(alloc: Global, text: &[u8]) -> Result<Board, RunFault>
     ensures found { IfOk result (IsSmallBoard text.now) }
-    ensures fault { IfErr result (BringsNoBoard text.now) }
+    ensures fault { IfErr result (HasNoBoard text.now) }
 {
     let board = parse(alloc, text)?;
     if !is_small(&board) {

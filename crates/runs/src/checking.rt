@@ -3,9 +3,9 @@
 ghost use Rattle.std.specs.Prelude.{◌≡◌, ◌⊎◌, true, false, IfOk, IfErr};
 ghost use Rattle.runs.specs.Verdicts.{CannotAnswer, IsAnswered};
 ghost use Rattle.runs.specs.CheckRun.{RanCheck, CheckFails};
-ghost use Rattle.runs.specs.Run.{Ran, Fails, TellsStreams, Wrote, WroteFront, bytes_of, stream_of};
+ghost use Rattle.runs.specs.Run.{Ran, Fails, TellsStreams, Wrote, WrotePrefix, bytes_of, stream_of};
 ghost use Rattle.runs.specs.declared.fault.RunFault.TheVariants.{Write};
-ghost use Rattle.runs.specs.declared.verdicts.Verdict.{Verdict as Judgement};
+ghost use Rattle.runs.specs.declared.verdicts.Verdict.{Verdict as VerdictData};
 
 use crate::fault::RunFault;
 use crate::reading::{MAX_BOARD_BYTES, read_board, read_text};
@@ -92,7 +92,7 @@ fn answer_joined<W: Sink>(
     ensures ok { IfOk result (λ verdict. Wrote (IsAnswered text.now verdict)
         (bytes_of W.contents writer.old writer.new)) }
     ensures fault { IfErr result (λ fault. CannotAnswer text.now fault ⊎ ((fault ≡ Write)
-        × (verdict : Judgement) × WroteFront (IsAnswered text.now verdict)
+        × (verdict : VerdictData) × WrotePrefix (IsAnswered text.now verdict)
         (bytes_of W.contents writer.old writer.new))) }
     ensures streams { TellsStreams result ⊥
         (stream_of W.contents W.has_failed writer.old writer.new) }

@@ -1,7 +1,7 @@
 //! The line that says a fault. It takes no memory, so that it can be said that memory is out.
 
 ghost use Rattle.std.specs.Prelude.{◌≡◌, ◌<◌, ◌≤◌, length};
-ghost use Rattle.board_text.specs.LineForms.{closed};
+ghost use Rattle.board_text.specs.LineForms.{with_line_feed};
 ghost use Rattle.runs.specs.FaultLines.{line_at as words_at, line_of_fault, name_of_board_kind, name_of_proof_kind};
 
 use crate::fault::RunFault;
@@ -35,7 +35,7 @@ pub fn fault_line(fault: RunFault) -> FaultLine
 /// A line of these words.
 fn line(words: &str) -> FaultLine
     requires { length words.now < MAX_LINE_BYTES }
-    ensures { result.bytes ≡ closed words.now }
+    ensures { result.bytes ≡ with_line_feed words.now }
 {
     let mut line = ArrayString::new();
     line.push_str(words);

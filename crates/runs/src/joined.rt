@@ -1,13 +1,13 @@
 //! The board and the document of a joined input.
 
 ghost use Rattle.std.specs.Prelude.{◌≡◌, ◌↔◌, ◌≤◌, ◌<◌, IsTrue, length, ℕ, List};
-ghost use Rattle.runs.specs.Joined.{IsEndLine, IsFrontLen};
+ghost use Rattle.runs.specs.Joined.{IsEndLine, IsBoardLength};
 
 /// The number of bytes of `input` up to and with its first line that is exactly `end` and a line
 /// feed; all of them if there is no such line.
-pub fn front_len(input: &[u8]) -> usize
+pub fn board_length(input: &[u8]) -> usize
     ensures within { result ≤ length input.now }
-    ensures first { IsFrontLen input.now result }
+    ensures first { IsBoardLength input.now result }
 {
     for at in 0..input.len() {
         if is_end_line(input, at) {
@@ -24,7 +24,7 @@ fn is_end_line(input: &[u8], at: usize) -> bool
     (at == 0 || input[at - 1] == b'\n') && input[at..].starts_with(b"end\n")
 }
 
-/// An input has one prefix up to its first line `end`.
-pub fn one_front()
-    ensures { (input : List ℕ) (m n : ℕ) → IsFrontLen input m → IsFrontLen input n → m ≡ n }
+/// The board's length in an input is one number.
+pub fn one_board_length()
+    ensures { (input : List ℕ) (m n : ℕ) → IsBoardLength input m → IsBoardLength input n → m ≡ n }
 {}

@@ -8,18 +8,18 @@ ghost use Rattle.positions.specs.Claim.{Holds, claim_of};
 ghost use Rattle.proof_text.specs.Proof.{PlainProof, IsProof};
 ghost use Rattle.proof_text.specs.ProofText.{proof_text};
 ghost use Rattle.proof_check.specs.declared.checking.Shown.{Shown as ShownClaim};
-ghost use Rattle.positions.specs.declared.value.Value.{Value as Worth};
+ghost use Rattle.positions.specs.declared.value.Value.{Value as ValueData};
 ghost use Rattle.runs.specs.Verdicts.{IsChecked, IsVerdict};
 ghost use Rattle.runs.specs.Headline.{ShowsValue, IsAccepted};
 ghost use Rattle.strategies.specs.Meaning.{Means};
 ghost use Rattle.runs.specs.Report.{Report as CountReport, IsReport, IsReportOf, IsReportOfText};
 ghost use Rattle.runs.specs.Run.{Bytes, Ran};
 ghost use Rattle.runs.specs.SolveRun.{IsSolution, IsSolved};
-ghost use Rattle.runs.specs.Texts.{BringsNoBoard, BringsNoProof, IsMemory, IsSmallBoard, IsWrongBoard};
+ghost use Rattle.runs.specs.Texts.{HasNoBoard, HasNoProof, IsMemory, IsSmallBoard, IsWrongBoard};
 ghost use Rattle.runs.specs.CheckRun.{RanCheck};
 ghost use Rattle.runs.specs.Meaning.{AcceptsLeast, CanAnswer};
 ghost use Rattle.runs.specs.declared.fault.RunFault.{RunFault as Fault};
-ghost use Rattle.runs.specs.declared.verdicts.Verdict.{Verdict as Judgement};
+ghost use Rattle.runs.specs.declared.verdicts.Verdict.{Verdict as VerdictData};
 ghost use Rattle.runs.specs.declared.verdicts.Verdict.TheVariants.{Accepted};
 
 use crate::checking::{MAX_JOINED_BYTES, MAX_PROOF_BYTES};
@@ -30,14 +30,14 @@ use positions::MAX_CONFIGURATIONS;
 /// text has one fault, and no text has both.
 pub fn solution_or_fault()
     ensures solution { (text : List ℕ) → (board : PlainBoard) → IsSmallBoard text board
-        → (value : Worth) × (written : List ℕ) × IsSolution text value written }
-    ensures one { (text : List ℕ) → (value : Worth) → (worth : Worth) → (written : List ℕ) → (other : List ℕ)
+        → (value : ValueData) × (written : List ℕ) × IsSolution text value written }
+    ensures one { (text : List ℕ) → (value : ValueData) → (worth : ValueData) → (written : List ℕ) → (other : List ℕ)
         → IsSolution text value written → IsSolution text worth other → (value ≡ worth) × (written ≡ other) }
     ensures either { (text : List ℕ)
-        → ((value : Worth) × (written : List ℕ) × IsSolution text value written) ⊎ ((fault : Fault) × IsWrongBoard text fault) }
+        → ((value : ValueData) × (written : List ℕ) × IsSolution text value written) ⊎ ((fault : Fault) × IsWrongBoard text fault) }
     ensures one_fault { (text : List ℕ) → (fault : Fault) → (other : Fault) → IsWrongBoard text fault → IsWrongBoard text other
         → fault ≡ other }
-    ensures not_both { (text : List ℕ) → (value : Worth) → (written : List ℕ) → (fault : Fault)
+    ensures not_both { (text : List ℕ) → (value : ValueData) → (written : List ℕ) → (fault : Fault)
         → IsSolution text value written → IsWrongBoard text fault → ⊥ }
 {}
 
@@ -66,15 +66,15 @@ pub fn accepted_claims_hold()
 /// forever comes with a strategy that is closed over all requests and lists the start. A check
 /// accepts the bytes written.
 pub fn solved_boards_show_their_value()
-    ensures value { (text : List ℕ) → (value : Worth) → (written : List ℕ) → IsSolution text value written → ShowsValue text value written }
-    ensures accepted { (text : List ℕ) → (value : Worth) → (written : List ℕ) → IsSolution text value written
+    ensures value { (text : List ℕ) → (value : ValueData) → (written : List ℕ) → IsSolution text value written → ShowsValue text value written }
+    ensures accepted { (text : List ℕ) → (value : ValueData) → (written : List ℕ) → IsSolution text value written
         → IsAccepted text value written }
 {}
 
 /// Any document of the format whose text was written means the value. So the strategies that a
 /// reader finds in the bytes are those of which `solved_boards_show_their_value` speaks.
 pub fn written_documents_mean_the_value()
-    ensures { (text : List ℕ) → (value : Worth) → (written : List ℕ) → (board : PlainBoard) → (document : PlainProof)
+    ensures { (text : List ℕ) → (value : ValueData) → (written : List ℕ) → (board : PlainBoard) → (document : PlainProof)
         → IsAccepted text value written → IsBoard board → IsProof board document
         → text ≡ board_text board → written ≡ proof_text board document → Means board document value }
 {}
@@ -83,18 +83,18 @@ pub fn written_documents_mean_the_value()
 /// check of the same board and of the bytes written answers this, or runs out of memory: neither of
 /// the two texts has a fault.
 pub fn printed_documents_are_accepted()
-    ensures verdict { (board : PlainBoard) → (value : Worth) → (text : List ℕ) → IsBoard board → configurations board ≤ MAX_CONFIGURATIONS
-        → IsSolved board value text → (proof : PlainProof) → (verdict : Judgement) → IsProof board proof → text ≡ proof_text board proof
+    ensures verdict { (board : PlainBoard) → (value : ValueData) → (text : List ℕ) → IsBoard board → configurations board ≤ MAX_CONFIGURATIONS
+        → IsSolved board value text → (proof : PlainProof) → (verdict : VerdictData) → IsProof board proof → text ≡ proof_text board proof
         → IsVerdict board proof verdict → verdict ≡ Accepted (record { claim = claim_of value }) }
-    ensures text { (text : List ℕ) → (written : List ℕ) → (value : Worth) → (board : PlainBoard) → (verdict : Judgement) → (line : List ℕ)
+    ensures text { (text : List ℕ) → (written : List ℕ) → (value : ValueData) → (board : PlainBoard) → (verdict : VerdictData) → (line : List ℕ)
         → IsSolution text value written → IsSmallBoard text board → IsChecked board written verdict line
         → verdict ≡ Accepted (record { claim = claim_of value }) }
-    ensures faultless_board { (text : List ℕ) → (written : List ℕ) → (value : Worth) → IsSolution text value written
-        → (fault : Fault) → BringsNoBoard text fault → IsMemory fault }
-    ensures faultless_document { (text : List ℕ) → (written : List ℕ) → (value : Worth) → (board : PlainBoard) → (fault : Fault)
-        → IsSolution text value written → IsSmallBoard text board → BringsNoProof board written fault → IsMemory fault }
+    ensures faultless_board { (text : List ℕ) → (written : List ℕ) → (value : ValueData) → IsSolution text value written
+        → (fault : Fault) → HasNoBoard text fault → IsMemory fault }
+    ensures faultless_document { (text : List ℕ) → (written : List ℕ) → (value : ValueData) → (board : PlainBoard) → (fault : Fault)
+        → IsSolution text value written → IsSmallBoard text board → HasNoProof board written fault → IsMemory fault }
     ensures runs { (bytes : List ℕ) → (text : List ℕ) → (solve_left : Option (List ℕ)) → (board_left : Option (List ℕ))
-        → (proof_left : Option (List ℕ)) → (written : Bytes) → (value : Worth) → (verdict : Judgement)
+        → (proof_left : Option (List ℕ)) → (written : Bytes) → (value : ValueData) → (verdict : VerdictData)
         → Ran IsSolution (record { old = Some bytes; new = solve_left }) (record { old = Some []; new = Some text }) value
         → RanCheck (record { old = Some bytes; new = board_left }) (record { old = Some text; new = proof_left }) written verdict
         → verdict ≡ Accepted (record { claim = claim_of value }) }

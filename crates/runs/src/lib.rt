@@ -30,7 +30,7 @@ pub use fault::RunFault;
 pub use fault_lines::{FaultLine, MAX_LINE_BYTES, fault_line};
 pub use folder::{Folder, System, Trouble};
 pub use jobs::{Ended, carry_out};
-pub use joined::{front_len, one_front};
+pub use joined::{board_length, one_board_length};
 pub use laws::{
     accepted_claims_hold, limits, printed_documents_are_accepted, report_or_fault, reports_add_up,
     solution_or_fault, solved_boards_show_their_value, written_documents_mean_the_value,

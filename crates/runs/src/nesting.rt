@@ -3,7 +3,7 @@
 ghost use Rattle.std.specs.Prelude.{◌≡◌, ◌≢◌, ◌↔◌, true, false, Err, IfOk, IfErr, OnOk, string_bytes};
 ghost use Rattle.board_text.specs.Ranges.{InRange};
 ghost use Rattle.runs.specs.NestedText.{IsNestedText};
-ghost use Rattle.runs.specs.Run.{Wrote, WroteFront, bytes_of};
+ghost use Rattle.runs.specs.Run.{Wrote, WrotePrefix, bytes_of};
 ghost use Rattle.runs.specs.Texts.{IsMemory};
 ghost use Rattle.runs.specs.declared.fault.RunFault.TheVariants.{Memory, Write};
 
@@ -29,7 +29,7 @@ pub fn run_nested<W: Sink>(
     requires ready { W.has_failed writer.old ≡ false }
     ensures ok { OnOk result (Wrote (IsNestedText levels pebbles) (bytes_of W.contents writer.old writer.new)) }
     ensures kinds { IfErr result (λ fault. fault ≢ Write → (fault ≡ Memory) × (writer.new ≡ writer.old)) }
-    ensures front { result ≡ Err Write → WroteFront (IsNestedText levels pebbles) (bytes_of W.contents writer.old writer.new) }
+    ensures prefix { result ≡ Err Write → WrotePrefix (IsNestedText levels pebbles) (bytes_of W.contents writer.old writer.new) }
     ensures write { (W.has_failed writer.new ≡ true) ↔ (result ≡ Err Write) }
 {
     let text = nested_text(alloc, levels, pebbles)?;

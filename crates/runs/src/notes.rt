@@ -8,7 +8,7 @@ use crate::checking::{MAX_JOINED_BYTES, MAX_PROOF_BYTES};
 use crate::fault::RunFault;
 use crate::folder::Trouble;
 use crate::hints::{board_hint, proof_hint, trouble_hint};
-use crate::joined::front_len;
+use crate::joined::board_length;
 use crate::outcome::Outcome;
 use crate::reading::MAX_BOARD_BYTES;
 use crate::watched::head_of;
@@ -115,7 +115,7 @@ impl Origin<'static, 'static> {
 impl<'h> Origin<'static, 'h> {
     /// The board with which the joined input `text` begins, and the document after it.
     pub(crate) fn joined(text: &'h [u8]) -> (Origin<'static, 'h>, Origin<'static, 'h>) {
-        let (board, document) = text.split_at(front_len(text));
+        let (board, document) = text.split_at(board_length(text));
         let input = Origin::standard_input(PROOF_LIMITS);
         let board = Origin {
             head: head_of(board),

@@ -9,7 +9,7 @@ ghost use Rattle.runs.specs.Report.{count_line, count_lines, end_lines, head_lin
 ghost use Rattle.runs.specs.Report.{size_line, start_value_line};
 ghost use Rattle.runs.specs.Run.{Ran, Fails, TellsStreams, bytes_of, stream_of};
 ghost use Rattle.runs.specs.SolveRun.{CannotSolve};
-ghost use Rattle.runs.specs.Texts.{BringsNoBoard};
+ghost use Rattle.runs.specs.Texts.{HasNoBoard};
 
 use crate::boards::small_board;
 use crate::fault::RunFault;
@@ -43,7 +43,7 @@ pub fn run_report<R: Source, W: Sink>(
     requires writer_ready { W.has_failed writer.old ≡ false }
     ensures ok { IfOk result (Ran Reports (bytes_of R.remaining reader.old reader.new)
         (bytes_of W.contents writer.old writer.new)) }
-    ensures fault { IfErr result (Fails Reports BringsNoBoard MAX_BOARD_BYTES
+    ensures fault { IfErr result (Fails Reports HasNoBoard MAX_BOARD_BYTES
         (bytes_of R.remaining reader.old reader.new) (bytes_of W.contents writer.old writer.new)) }
     ensures streams { TellsStreams result (R.has_failed reader.new ≡ true)
         (stream_of W.contents W.has_failed writer.old writer.new) }
@@ -83,7 +83,7 @@ pub fn run_report_by<R: Source, W: Sink>(
 /// The report of the board whose text is `text`. Its values are found on this thread.
 pub fn report_text(alloc: Global, text: &[u8]) -> Result<String, RunFault>
     ensures report { IfOk result (λ report. IsReportOfText text.now (string_bytes report)) }
-    ensures fault { IfErr result (BringsNoBoard text.now) }
+    ensures fault { IfErr result (HasNoBoard text.now) }
 {
     let board = small_board(alloc, text)?;
     let values = values_of(alloc, &board)?;

@@ -7,7 +7,7 @@ ghost use Rattle.runs.specs.Headline.{Solution};
 ghost use Rattle.runs.specs.Run.{Ran, Fails, TellsStreams, bytes_of, stream_of};
 ghost use Rattle.runs.specs.SolveRun.{CannotSolve, IsSolved};
 ghost use Rattle.runs.specs.Inside.SolveRun.{IsRefused};
-ghost use Rattle.runs.specs.Texts.{BringsNoBoard, IsMemory};
+ghost use Rattle.runs.specs.Texts.{HasNoBoard, IsMemory};
 
 use crate::boards::small_board;
 use crate::fault::RunFault;
@@ -40,7 +40,7 @@ pub fn run_solve<R: Source, W: Sink>(
     requires writer_ready { W.has_failed writer.old ≡ false }
     ensures ok { IfOk result (Ran Solution (bytes_of R.remaining reader.old reader.new)
         (bytes_of W.contents writer.old writer.new)) }
-    ensures fault { IfErr result (Fails Solution BringsNoBoard MAX_BOARD_BYTES
+    ensures fault { IfErr result (Fails Solution HasNoBoard MAX_BOARD_BYTES
         (bytes_of R.remaining reader.old reader.new) (bytes_of W.contents writer.old writer.new)) }
     ensures streams { TellsStreams result (R.has_failed reader.new ≡ true)
         (stream_of W.contents W.has_failed writer.old writer.new) }
@@ -91,7 +91,7 @@ pub struct Solved {
 /// shows that value. It is found on this thread.
 pub fn solve_text(alloc: Global, text: &[u8]) -> Result<Solved, RunFault>
     ensures ok { IfOk result (λ solved. Solution text.now solved.value (string_bytes solved.text)) }
-    ensures fault { IfErr result (BringsNoBoard text.now) }
+    ensures fault { IfErr result (HasNoBoard text.now) }
 {
     let board = small_board(alloc, text)?;
     let values = values_of(alloc, &board)?;

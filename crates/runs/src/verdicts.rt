@@ -5,11 +5,11 @@ ghost use Rattle.proof_text.specs.Proof.{IsDocument, plain_proof};
 ghost use Rattle.positions.specs.Ranks.{configurations};
 ghost use Rattle.runs.specs.Verdicts.{IsAnswered, IsChecked, IsVerdict, CannotAnswer};
 ghost use Rattle.runs.specs.Inside.Verdicts.{NamesRanksOf};
-ghost use Rattle.runs.specs.Texts.{BringsNoProof, IsMemory};
+ghost use Rattle.runs.specs.Texts.{HasNoProof, IsMemory};
 
 use crate::boards::small_board;
 use crate::fault::RunFault;
-use crate::joined::front_len;
+use crate::joined::board_length;
 use crate::output::line;
 use board_text::Board;
 use positions::{MAX_CONFIGURATIONS, Space};
@@ -43,8 +43,8 @@ pub fn check_joined_text(
     ensures answered { IfOk result (λ answer. IsAnswered text.now answer.verdict (string_bytes answer.line)) }
     ensures fault { IfErr result (CannotAnswer text.now) }
 {
-    let (front, rest) = text.split_at(front_len(text));
-    let board = small_board(alloc, front)?;
+    let (board_bytes, rest) = text.split_at(board_length(text));
+    let board = small_board(alloc, board_bytes)?;
     check_text(rt, alloc, &board, rest)
 }
 
@@ -59,7 +59,7 @@ pub fn check_text(
 ) -> Result<VerdictLine, RunFault>
     requires few { configurations board.now ≤ MAX_CONFIGURATIONS }
     ensures checked { IfOk result (λ answer. IsChecked board.now text.now answer.verdict (string_bytes answer.line)) }
-    ensures fault { IfErr result (BringsNoProof board.now text.now) }
+    ensures fault { IfErr result (HasNoProof board.now text.now) }
 {
     let space = Space::new(board);
     let proof = parse(alloc, &space, text)?;

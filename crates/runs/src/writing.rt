@@ -2,7 +2,7 @@
 
 ghost use Rattle.std.specs.Prelude.{◌≡◌, ◌↔◌, true, false, Err, IfErr, OnOk, OnErr};
 ghost use Rattle.std.specs.Io.KnownBytes.{Appends};
-ghost use Rattle.board_text.specs.Streams.{AppendsFront};
+ghost use Rattle.board_text.specs.Streams.{AppendsPrefix};
 ghost use Rattle.runs.specs.Inside.Writing.{IsMore};
 ghost use Rattle.runs.specs.declared.fault.RunFault.TheVariants.{Write};
 
@@ -14,7 +14,7 @@ use board_text::{Failed, Sink, write_all};
 pub(crate) fn write_text<W: Sink>(writer: &mut W, text: &str) -> Result<(), RunFault>
     requires ready { W.has_failed writer.old ≡ false }
     ensures ok { OnOk result (Appends (W.contents writer.old) (W.contents writer.new) text.now) }
-    ensures front { OnErr result (AppendsFront (W.contents writer.old) (W.contents writer.new) text.now) }
+    ensures prefix { OnErr result (AppendsPrefix (W.contents writer.old) (W.contents writer.new) text.now) }
     ensures fault { IfErr result (λ fault. fault ≡ Write) }
     ensures failed { (W.has_failed writer.new ≡ true) ↔ (result ≡ Err Write) }
 {

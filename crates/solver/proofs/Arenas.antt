@@ -1,4 +1,4 @@
--- What proofs alone say of the game on numbers.
+-- The facts of the game on numbers that only proofs use.
 use Rattle.std.proofs.Common.{◌≡◌, ℕ, ◌<◌, ◌==◌, ◌&&◌, not, Bool, true, false, suc, List, length, slice_index}
 use Rattle.solver.specs.Inside.Arena.{Arena, lasts}
 use Rattle.solver.specs.Inside.Tables.{is_open}
@@ -16,11 +16,11 @@ pub record IsArena (a : Arena) : Type 0 where
   pub one_dominator : (c p q : ℕ) → c < a.configurations → p < a.pebbles → q < a.pebbles
       → a.is_answer (a.gap c p) (a.place c p) ≡ true → a.is_answer (a.gap c q) (a.place c q) ≡ true → p ≡ q
 
--- the test without one number
+-- the test that fails at c and else gives the result of the test
 abbrev pub without : (ℕ → Bool) → ℕ → ℕ → Bool
 without above c x = above x && not (x == c)
 
--- the test holds of what lasts r + 1 requests, and of nothing that doesn't last r
+-- the test holds if a labeller lasts r + 1 requests, and fails if a labeller doesn't last r
 pub record IsBetween (a : Arena) (r : ℕ) (above : ℕ → Bool) : Type 0 where
   pub lower : (y : ℕ) → y < a.configurations → lasts a (suc r) y ≡ true → above y ≡ true
   pub upper : (y : ℕ) → y < a.configurations → above y ≡ true → lasts a r y ≡ true

@@ -41,7 +41,7 @@ map-ascends f grows from n = λ i j d less low.
     let next = get_or-map-range_with_len f from n j (from + j) d (omega (arith, low, size)) refl in
     rw (at, next) (grows (from + i) (from + j) (omega (arith, less)))
 
--- those members that pass a test ascend
+-- the members of a gap that pass a test are in ascending rank
 pub members-ascend : (b : PlainBoard) → IsBoard b → (test : ℕ → Bool) (gap from n : ℕ)
     → AllPairs (λ first second. first < second) (members_from (arena_of b) test gap from n)
 members-ascend b is test gap from n = AllPairs-filter (λ first second. first < second) test _

@@ -16,7 +16,7 @@ use Rattle.board_text.proofs.Cited.{label_is_place}
 use Rattle.positions.proofs.Cited.{some_tree, not_both_trees, beats_or_not, rank_below, rank_of-configuration_at, configuration_at-rank_of}
 use Rattle.positions.proofs.Cited.{configuration_at_is, gap_below, pebble_of-gap_of, member_of-gap_of, own_member, pebble_below, member_is}
 use Rattle.positions.proofs.Cited.{label_of_member, gap_of-member_of, legal_is_answer, answer_beats_others, one_gap}
-use Rattle.solver.specs.Inside.Arena.{lasts, Dominant}
+use Rattle.solver.specs.Inside.Arena.{lasts, IsDominant}
 use Rattle.solver.specs.Inside.BoardArena.{beats, beats_place, answers, arena_of}
 use Rattle.solver.proofs.Arenas.{IsArena}
 use Rattle.solver.proofs.Counts.{some_below, count_below-some}
@@ -100,7 +100,7 @@ arena_is b is = record {
 
 -- ---- trees
 
--- the configuration that an answer of a gap leads to
+-- the rank of a gap's member with a place is that of the configuration after the answer
 after_answer : (b : PlainBoard) (c p v : ℕ) → c < configurations b → p < b.pebbles → v < places b
     → configuration_at b (rank_of b (member_of b (gap_of b (configuration_at b c) p) v)) ≡ moved (configuration_at b c) p v
 after_answer b c p v i j k =
@@ -146,7 +146,7 @@ fails_of_stops b is k c i stops = elim (true_or_false (lasts (arena_of b) k c)) 
   | inl e ↦ absurd (not_both_trees b k (configuration_at b c) (tree_of_lasts b is k c i e) stops)
 ]
 
--- a value, by how long the labeller lasts
+-- a configuration that lasts j requests and not j + 1 has the value j
 pub value_of_lasts : (b : PlainBoard) → IsBoard b → (j c : ℕ) → c < configurations b → lasts (arena_of b) j c ≡ true → lasts (arena_of b) (suc j) c ≡ false
     → HasValue b (configuration_at b c) (Finite j)
 value_of_lasts b is j c i lasting stopping = (tree_of_lasts b is j c i lasting, stops_of_fails b is (suc j) c i stopping)
@@ -158,7 +158,7 @@ lasts_of_value b is j c i value = (lasts_of_tree b is j c i value.0, fails_of_st
 -- ---- dominators
 
 pub dominant_is : (b : PlainBoard) → (c p : ℕ) → c < configurations b → p < b.pebbles
-    → IsDominator b (configuration_at b c) p ↔ Dominant (arena_of b) c p
+    → IsDominator b (configuration_at b c) p ↔ IsDominant (arena_of b) c p
 dominant_is b c p i j =
     let at = configuration_at b c in
     let ok = configuration_at_is b c i in
@@ -172,6 +172,6 @@ dominant_is b c p i j =
           record { is_pebble = j; has_label = own.is_label; dominates = own.dominates },
     )
 
--- a pebble that dominates holds a label
-pub dominant_label : (b : PlainBoard) → IsBoard b → (c p : ℕ) → c < configurations b → Dominant (arena_of b) c p → (arena_of b).place c p < b.labels
+-- a pebble that dominates all others holds a label
+pub dominant_label : (b : PlainBoard) → IsBoard b → (c p : ℕ) → c < configurations b → IsDominant (arena_of b) c p → (arena_of b).place c p < b.labels
 dominant_label b is c p i dominant = ((dominant_is b c p i dominant.0).1 dominant).has_label

@@ -6,21 +6,21 @@ use Rattle.positions.specs.Gaps.{gaps}
 use Rattle.positions.specs.declared.space.TheConstants.{MAX_CONFIGURATIONS}
 use Rattle.solver.specs.Inside.Arena.{Arena}
 use Rattle.solver.specs.Inside.BoardArena.{arena_of}
-use Rattle.solver.specs.Inside.Stage.{PlainStage, filed, IsFiled, IsKept, Closes}
+use Rattle.solver.specs.Inside.Stage.{PlainStage, rank_filed, IsFiled, IsKept, Closes}
 use Rattle.solver.specs.Inside.Tables.{is_open}
 use Rattle.solver.proofs.Arenas.{IsArena, IsClosing}
 use Rattle.solver.proofs.BoardArenas.{arena_is}
 use Rattle.solver.proofs.FiledRanks.{listed-away, filed-once}
 use Rattle.solver.proofs.ListedWords.{closing-step, closing-end, shut-more, shut-same, all-shut}
 
--- a board with few configurations, a value that is a word, and one of the board's gaps
+-- a board that isn't too large, a value of at most its number of configurations, and one of its gaps
 pub record IsToClose (s : PlainStage) (gap : ℕ) : Type 0 where
   pub is_board : IsBoard s.board
   pub few : configurations s.board ≤ MAX_CONFIGURATIONS
   pub low : s.value ≤ configurations s.board
   pub is_gap : gap < gaps s.board
 
--- the open ones of the first members are filed
+-- the gap's members with a place below `place` are filed if they were open, and nothing else changes
 pub record IsClosingGap (s : PlainStage) (gap place : ℕ) (now : PlainStage) : Type 0 where
   pub kept : IsKept s now
   pub strikes_is : now.strikes ≡ s.strikes
@@ -46,7 +46,7 @@ module _ (s : PlainStage) (gap place rank : ℕ) (now : PlainStage) (to_close : 
   pub in_words : rank < length now.values
   in_words = let size = length_is in let low = rank_in in omega arith
 
-  pub gap-takes : is_open now.values rank ≡ true → IsClosingGap s gap (place + 1) (filed now rank)
+  pub gap-takes : is_open now.values rank ≡ true → IsClosingGap s gap (place + 1) (rank_filed now rank)
   gap-takes still =
       let value_is : now.value ≡ s.value = so_far.kept.value_is in
       let few = to_close.few in

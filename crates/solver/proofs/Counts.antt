@@ -1,4 +1,4 @@
--- How many numbers below a bound pass a test.
+-- The count of the numbers below a bound that pass a test.
 use Rattle.std.proofs.Common.{◌≡◌, ℕ, ◌+◌, ◌<◌, ◌≤◌, ◌≢◌, ◌⊎◌, inl, inr, Bool, true, false, cond, zero, suc, refl, arith}
 use Rattle.solver.specs.Inside.Arena.{count_below}
 
@@ -32,7 +32,7 @@ pub some_below : (n : ℕ) (f : ℕ → Bool) → 0 < count_below n f → (k : �
 some_below zero f h = absurd (omega arith)
 some_below (suc n) f h = step-some n f (f n) refl h (some_below n f)
 
--- what holds of one number is counted
+-- if a number passes, the count isn't 0
 pub count_below-some : (n : ℕ) (f : ℕ → Bool) (k : ℕ) → k < n → f k ≡ true → 0 < count_below n f
 count_below-some n f k h e = grind (arith, none_below n f)
 
@@ -61,7 +61,7 @@ step-without n k f g h one off same (inr e) rest =
 lt_or_eq : (k n : ℕ) → k < suc n → (k < n) ⊎ (k ≡ n)
 lt_or_eq k n h = grind arith
 
--- a number that no longer passes is one less, where nothing else changes
+-- if the tests differ at one number alone, the counts differ by 1
 pub count_below-without : (n k : ℕ) (f g : ℕ → Bool) → k < n → f k ≡ true → g k ≡ false → ((j : ℕ) → j < n → j ≢ k → f j ≡ g j) → count_below n g + 1 ≡ count_below n f
 count_below-without zero k f g h one off same = absurd (omega arith)
 count_below-without (suc n) k f g h one off same =
@@ -78,7 +78,7 @@ step-less n k f g off one implies (inr e) rest =
     let gn : g n ≡ true = rw (← e) one in
     rw (fn, gn) (omega arith)
 
--- where all that pass f pass g, and some k passes g alone, g counts more
+-- if g passes all numbers that f passes, and one more, g has the larger count
 pub count_below-less : (n k : ℕ) (f g : ℕ → Bool) → k < n → f k ≡ false → g k ≡ true → ((j : ℕ) → j < n → f j ≡ true → g j ≡ true) → count_below n f < count_below n g
 count_below-less zero k f g h off one implies = absurd (omega arith)
 count_below-less (suc n) k f g h off one implies = step-less n k f g off one implies (lt_or_eq k n h) (λ lt. count_below-less n k f g lt off one (λ j i. implies j (omega arith)))

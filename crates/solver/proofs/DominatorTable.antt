@@ -1,4 +1,4 @@
--- Noting the dominators gap by gap.
+-- The dominators are noted gap by gap.
 use Rattle.std.proofs.Common.{◌≡◌, ◌≢◌, ℕ, ◌+◌, ◌*◌, ◌<◌, ◌≤◌, inl, inr, true, sym, ap, ◌∙◌, subst, arith, List, ◌++◌, length, take, drop, Some, None, slice_index, slice_set, get_or-set_other, get_or-set_same}
 use Rattle.std.proofs.Math.ListN.{length-set}
 use Rattle.std.proofs.lemmas.Bool.{cases_lt}
@@ -12,7 +12,7 @@ use Rattle.positions.specs.Ranks.{configurations, configuration_at}
 use Rattle.positions.specs.Gaps.{gaps, pebble_of, IsAnswer, IsDominator}
 use Rattle.positions.specs.Counts.{HasSize, IsSmallest}
 use Rattle.positions.proofs.Cited.{same_fact_size}
-use Rattle.solver.specs.Inside.Arena.{Dominant}
+use Rattle.solver.specs.Inside.Arena.{IsDominant}
 use Rattle.solver.specs.Inside.BoardArena.{arena_of}
 use Rattle.solver.specs.Inside.Opening.{AreAnswers, AreNoted}
 use Rattle.solver.specs.Inside.Stored.{AreDominators}
@@ -31,7 +31,7 @@ has_few words label has = has.0
 abbrev pub IsBitFrom : List ℕ → ℕ → ℕ → Type 0
 IsBitFrom words from x = (from ≤ x) × HasLabel words x
 
--- ---- how many answers
+-- ---- the number of answers
 
 pub answers_sized : (b : PlainBoard) (gap count : ℕ) (words : List ℕ) → AreAnswers b gap words → HasSize (λ x. (x < MAX_LABELS) × (has_bit words x ≡ true)) count → HasSize (IsAnswer b gap) count
 answers_sized b gap count words are size =
@@ -42,9 +42,9 @@ answers_sized b gap count words are size =
     ))
     size
 
--- ---- before the first gap and behind the last
+-- ---- before the first gap and after the last
 
--- a vector that was lent as a slice
+-- a vector whose slice was lent and written
 pub written : (items new : List ℕ) (n : ℕ) → length new ≡ n → take n (new ++ drop (length new) items) ≡ new
 written items new n size = take_at new (drop (length new) items) n size
 
@@ -70,19 +70,19 @@ noted-all b is dominators noted = record {
   ];
 }
   where
-    within : (c p : ℕ) → c < configurations b → Dominant (arena_of b) c p → MAX_LABELS * (arena_of b).gap c p + (arena_of b).place c p < MAX_LABELS * gaps b
+    within : (c p : ℕ) → c < configurations b → IsDominant (arena_of b) c p → MAX_LABELS * (arena_of b).gap c p + (arena_of b).place c p < MAX_LABELS * gaps b
     within c p i d =
         let gap_in : (arena_of b).gap c p < gaps b = (arena_is b is).gap_in c p i d.0 in
         let label_in : (arena_of b).place c p < b.labels = dominant_label b is c p i d in
         let few : b.labels ≤ MAX_LABELS = is.labels.1 in
         omega arith
 
--- ---- one answer more
+-- ---- one more answer
 
 module _ (b : PlainBoard) (is : IsBoard b) (gap from : ℕ) (words : List ℕ) (dominators : List ℕ) (in_gaps : gap < gaps b) (are : AreAnswers b gap words)
     (noted : AreNoted b (MAX_LABELS * gap + from) dominators) where
-  -- what comes before the next gap and not before the bound is an answer of this gap
-  late : (c p : ℕ) → c < configurations b → Dominant (arena_of b) c p → MAX_LABELS * gap + from ≤ MAX_LABELS * (arena_of b).gap c p + (arena_of b).place c p
+  -- a pair of a gap and a label in the range of this gap, from the bound on, is an answer of this gap
+  late : (c p : ℕ) → c < configurations b → IsDominant (arena_of b) c p → MAX_LABELS * gap + from ≤ MAX_LABELS * (arena_of b).gap c p + (arena_of b).place c p
       → MAX_LABELS * (arena_of b).gap c p + (arena_of b).place c p < MAX_LABELS * gap + MAX_LABELS
       → ((arena_of b).gap c p ≡ gap) × IsBitFrom words from ((arena_of b).place c p)
   late c p i d after before =
@@ -114,7 +114,7 @@ module _ (b : PlainBoard) (is : IsBoard b) (gap from : ℕ) (words : List ℕ) (
     leads : (arena_of b).is_answer gap label ≡ true
     leads = (answers_is b gap label in_gaps).1 ((are.bits label next.0.1.0).0 next.0.1.1)
 
-    dominant-there : Dominant (arena_of b) ((arena_of b).member gap label) (pebble_of b gap)
+    dominant-there : IsDominant (arena_of b) ((arena_of b).member gap label) (pebble_of b gap)
     dominant-there =
         let a = arena_of b in
         let ok = arena_is b is in
@@ -122,8 +122,8 @@ module _ (b : PlainBoard) (is : IsBoard b) (gap from : ℕ) (words : List ℕ) (
         let label_is = ok.place_of_member gap label in_gaps low_place in
         (ok.pebble_in gap in_gaps, rw (gap_is, label_is) leads)
 
-    -- what else was to be noted is noted before
-    earlier : (c p : ℕ) → c < configurations b → Dominant (arena_of b) c p → c ≢ (arena_of b).member gap label
+    -- every other pair before the next label was noted before
+    earlier : (c p : ℕ) → c < configurations b → IsDominant (arena_of b) c p → c ≢ (arena_of b).member gap label
         → MAX_LABELS * (arena_of b).gap c p + (arena_of b).place c p < MAX_LABELS * gap + (label + 1) → MAX_LABELS * (arena_of b).gap c p + (arena_of b).place c p < MAX_LABELS * gap + from
     earlier c p i d other before = elim (cases_lt (MAX_LABELS * (arena_of b).gap c p + (arena_of b).place c p) (MAX_LABELS * gap + from)) [
       | inl early ↦ early
@@ -142,20 +142,20 @@ module _ (b : PlainBoard) (is : IsBoard b) (gap from : ℕ) (words : List ℕ) (
         let a = arena_of b in
         let ok = arena_is b is in
         let i0 : rank < configurations b = (let inside = ok.member_in gap label in_gaps low_place in omega arith) in
-        let d0 : Dominant a rank pebble = subst (λ p. Dominant a rank p) (sym pebble_is) (subst (λ c. Dominant a c (pebble_of b gap)) (sym rank_is) dominant-there) in
+        let d0 : IsDominant a rank pebble = subst (λ p. IsDominant a rank p) (sym pebble_is) (subst (λ c. IsDominant a c (pebble_of b gap)) (sym rank_is) dominant-there) in
         let place : rank < length dominators = (let size = noted.noted_length in omega arith) in
         let here_is : (c : ℕ) → c ≡ rank → slice_index (slice_set dominators rank pebble) c ≡ pebble =
         λ c here. ap (slice_index (slice_set dominators rank pebble)) here ∙ get_or-set_same dominators rank pebble 0 place in
         record {
           noted_length = length-set dominators rank pebble ∙ noted.noted_length;
           sound = λ c i e. elim (same_or_not c rank) [
-            | inl here ↦ subst (λ q. Dominant a c q) (sym (here_is c here)) (subst (λ x. Dominant a x pebble) (sym here) d0)
+            | inl here ↦ subst (λ q. IsDominant a c q) (sym (here_is c here)) (subst (λ x. IsDominant a x pebble) (sym here) d0)
             | inr other ↦
                 let same = get_or-set_other dominators rank c pebble 0 other in
-                subst (λ q. Dominant a c q) (sym same) (noted.sound c i (λ z. e (same ∙ z)))
+                subst (λ q. IsDominant a c q) (sym same) (noted.sound c i (λ z. e (same ∙ z)))
           ];
           found = λ c p i d before. elim (same_or_not c rank) [
-            | inl here ↦ here_is c here ∙ (let d' = subst (λ x. Dominant a x p) here d in ok.one_dominator rank pebble p i0 d0.0 d'.0 d0.1 d'.1)
+            | inl here ↦ here_is c here ∙ (let d' = subst (λ x. IsDominant a x p) here d in ok.one_dominator rank pebble p i0 d0.0 d'.0 d0.1 d'.1)
             | inr other ↦ get_or-set_other dominators rank c pebble 0 other ∙ noted.found c p i d (earlier c p i d (λ e. other (e ∙ sym rank_is)) before)
           ];
         }

@@ -1,4 +1,4 @@
--- How many answers of a gap lead to where a test holds.
+-- Counts of a gap's answers, as sizes in the game's terms.
 use Rattle.std.proofs.Common.{◌≡◌, ℕ, ◌+◌, ◌<◌, ◌&&◌, ◌↔◌, Bool, true, false, cond, zero, suc, refl, arith, sym, ap, ◌∙◌, subst, List, [], ◌∷◌, Contains, length, slice_index}
 use Rattle.board_text.specs.PlainBoard.{PlainBoard, IsBoard, places}
 use Rattle.board_text.proofs.Cited.{label_is_place}
@@ -8,7 +8,7 @@ use Rattle.positions.specs.Gaps.{gaps, member_of, IsAnswer}
 use Rattle.positions.specs.Counts.{HasSize}
 use Rattle.positions.proofs.Cited.{size_of, count_below as count_to, count_below-zero as count_to-zero, count_below-add as count_to-add}
 use Rattle.positions.proofs.Cited.{same_size, size_zero}
-use Rattle.solver.specs.Inside.Arena.{count_below, live, lasts}
+use Rattle.solver.specs.Inside.Arena.{count_below, live_answers, lasts}
 use Rattle.solver.specs.Inside.BoardArena.{answers, arena_of}
 use Rattle.solver.specs.Solving.{AnswerLasts}
 use Rattle.solver.specs.Inside.Tables.{IsCounted}
@@ -48,9 +48,9 @@ count-same test (suc n) =
     ∙ ap (λ m. m + count_to (λ k. test (n + k)) 1) (count-same test n)
     ∙ ap (λ m. count_below n test + m) (count-one (λ k. test (n + k)) ∙ ap (λ k. cond {A = ℕ} (test k) 1 0) same)
 
--- so many answers lead to where the test holds
+-- if the test says whether P holds, the count is the number of answers for which P holds
 pub live-size : (b : PlainBoard) (g : ℕ) (above : ℕ → Bool) (P : ℕ → Type 0) → g < gaps b
-    → ((v : ℕ) → v < places b → (above ((arena_of b).member g v) ≡ true) ↔ P v) → HasSize (λ v. IsAnswer b g v × P v) (live (arena_of b) above g)
+    → ((v : ℕ) → v < places b → (above ((arena_of b).member g v) ≡ true) ↔ P v) → HasSize (λ v. IsAnswer b g v × P v) (live_answers (arena_of b) above g)
 live-size b g above P i means =
     let test : ℕ → Bool = λ v. answers b g v && above ((arena_of b).member g v) in
     subst (HasSize (λ v. IsAnswer b g v × P v)) (count-same test (places b))
@@ -61,16 +61,16 @@ live-size b g above P i means =
           ((answers_is b g v i).0 both.0, (means v passes.0).0 both.1),
     )))
 
--- so many answers of a gap last so long
-pub above-size : (b : PlainBoard) → IsBoard b → (depth g : ℕ) → g < gaps b → HasSize (AnswerLasts b g depth) (live (arena_of b) (lasts (arena_of b) depth) g)
+-- the count is the number of answers after which a labeller lasts `depth` requests
+pub above-size : (b : PlainBoard) → IsBoard b → (depth g : ℕ) → g < gaps b → HasSize (AnswerLasts b g depth) (live_answers (arena_of b) (lasts (arena_of b) depth) g)
 above-size b board_is depth g i = live-size b g (lasts (arena_of b) depth) (λ v. LabellerTree b depth (member_of b g v)) i (λ v j.
     let low = (arena_is b board_is).member_in g v i j in (
       λ e. subst (LabellerTree b depth) (at_member b g v i j) (tree_of_lasts b board_is depth (rank_of b (member_of b g v)) low e),
       λ tree. lasts_of_tree b board_is depth (rank_of b (member_of b g v)) low (subst (LabellerTree b depth) (sym (at_member b g v i j)) tree),
     ))
 
--- so many answers there are
-pub answers-size : (b : PlainBoard) (g n : ℕ) → g < gaps b → HasSize (IsAnswer b g) n → n ≡ live (arena_of b) (lasts (arena_of b) 0) g
+-- the number of a gap's answers is the count of those that last 0 requests
+pub answers-size : (b : PlainBoard) (g n : ℕ) → g < gaps b → HasSize (IsAnswer b g) n → n ≡ live_answers (arena_of b) (lasts (arena_of b) 0) g
 answers-size b g n i size =
     let test : ℕ → Bool = λ v. answers b g v && true in
     same_size (IsAnswer b g) n (count_below (places b) test) size

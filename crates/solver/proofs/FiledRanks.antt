@@ -4,12 +4,12 @@ use Rattle.std.proofs.Math.ListN.{length-set}
 use Rattle.std.proofs.lemmas.Bool.{cases_lt}
 use Rattle.std.proofs.lemmas.List.{ext_get_or}
 use Rattle.std.proofs.lemmas.List.FromFn.{length-map-range_with_len, get_or-map-range_with_len}
-use Rattle.index_lists.specs.Lists.{Lists, times, AreLists, AreSame, pushed}
+use Rattle.index_lists.specs.Lists.{Lists, times, AreLists, AreSame, node_pushed}
 use Rattle.index_lists.proofs.Cited.{cond_same, cond_other, times-append}
 use Rattle.board_text.specs.PlainBoard.{PlainBoard}
 use Rattle.positions.specs.Ranks.{configurations}
 use Rattle.positions.specs.declared.space.TheConstants.{MAX_CONFIGURATIONS}
-use Rattle.solver.specs.Inside.Stage.{first_lists, PlainStage, stage_of, filed_at, listed, filed, IsFiled}
+use Rattle.solver.specs.Inside.Stage.{first_lists, PlainStage, stage_of, filed_at, rank_listed, rank_filed, IsFiled}
 use Rattle.solver.specs.Inside.Tables.{is_open}
 use Rattle.solver.proofs.LastingRanks.{same_or_not}
 use Rattle.solver.proofs.ListedWords.{open_word, times_one, times_none}
@@ -29,14 +29,14 @@ list-shown s are l = elim (cases_lt l s.lists) [
       ∙ sym (are.beyond l outside)
 ]
 
--- what is filed at a value is a list of the store
+-- the list of a value is the store's list of this number
 pub filed-shown : (b : PlainBoard) (value : ℕ) (values counts : List ℕ) (s : Lists) (strikes : List ℕ) (v : PlainStage)
     → stage_of b value values counts s strikes ≡ v → AreLists s → (l : ℕ) → filed_at v l ≡ s.list l
 filed-shown b value values counts s strikes v view are l = ap (λ (w : PlainStage). filed_at w l) (sym view) ∙ list-shown s are l
 
 -- ---- a push at one of the lists
 
-module _ (s s' : Lists) (to node : ℕ) (same : AreSame s' (pushed s to node)) where
+module _ (s s' : Lists) (to node : ℕ) (same : AreSame s' (node_pushed s to node)) where
   pub push-here : s'.list to ≡ s.list to ++ node ∷ []
   push-here = same.same_list to ∙ cond_same to to (s.list to ++ node ∷ []) (s.list to) refl
 
@@ -64,37 +64,37 @@ module _ (s s' : Lists) (to node : ℕ) (same : AreSame s' (pushed s to node)) w
       ])
 
   pub push-shown : (b : PlainBoard) (value : ℕ) (values counts strikes : List ℕ) (v : PlainStage) → value ≡ to → to < s.lists
-      → stage_of b value values counts s strikes ≡ v → stage_of b value values counts s' strikes ≡ listed v node
+      → stage_of b value values counts s strikes ≡ v → stage_of b value values counts s' strikes ≡ rank_listed v node
   push-shown b value values counts strikes v here inside view =
-      subst (λ (w : PlainStage). stage_of b value values counts s' strikes ≡ listed w node) view
+      subst (λ (w : PlainStage). stage_of b value values counts s' strikes ≡ rank_listed w node) view
       (rw (same.same_lists, here) (ap (λ (bs : List (List ℕ)). record (stage_of b to values counts s strikes) { buckets = bs })
       (set-shown inside)))
 
 -- ---- the stage after a configuration is listed
 
 module _ (s : PlainStage) (rank : ℕ) where
-  pub listed-here : s.value < length s.buckets → filed_at (listed s rank) s.value ≡ filed_at s s.value ++ rank ∷ []
+  pub listed-here : s.value < length s.buckets → filed_at (rank_listed s rank) s.value ≡ filed_at s s.value ++ rank ∷ []
   listed-here inside = get_or-set_same s.buckets s.value (filed_at s s.value ++ rank ∷ []) [] inside
 
-  pub listed-away : (v : ℕ) → v ≢ s.value → filed_at (listed s rank) v ≡ filed_at s v
+  pub listed-away : (v : ℕ) → v ≢ s.value → filed_at (rank_listed s rank) v ≡ filed_at s v
   listed-away v away = get_or-set_other s.buckets s.value v (filed_at s s.value ++ rank ∷ []) [] away
 
-  -- how often a configuration stands in a list then
-  pub listed-times : s.value < length s.buckets → (v x : ℕ) → times x (filed_at (listed s rank) v) ≡ times x (filed_at s v) + cond (v == s.value) (times x (rank ∷ [])) 0
+  -- the list of the current value has the filed configuration once more, and every other list is as before
+  pub listed-times : s.value < length s.buckets → (v x : ℕ) → times x (filed_at (rank_listed s rank) v) ≡ times x (filed_at s v) + cond (v == s.value) (times x (rank ∷ [])) 0
   listed-times inside v x = elim (same_or_not v s.value) [
-    | inl here ↦ ap (λ w. times x (filed_at (listed s rank) w)) here ∙ ap (times x) (listed-here inside) ∙ times-append x (filed_at s s.value) (rank ∷ [])
+    | inl here ↦ ap (λ w. times x (filed_at (rank_listed s rank) w)) here ∙ ap (times x) (listed-here inside) ∙ times-append x (filed_at s s.value) (rank ∷ [])
         ∙ (let at = ap (λ w. times x (filed_at s w)) here in let more = cond_same {A = ℕ} v s.value (times x (rank ∷ [])) 0 here in omega arith)
     | inr away ↦ ap (times x) (listed-away v away) ∙ (let none = cond_other {A = ℕ} v s.value (times x (rank ∷ [])) 0 away in omega arith)
   ]
 
--- an open configuration stands in no list
+-- an open configuration is in no list
 pub open-free : (s : PlainStage) (rank : ℕ) → IsFiled s → configurations s.board ≤ MAX_CONFIGURATIONS → rank < configurations s.board → is_open s.values rank ≡ true → (v : ℕ) → times rank (filed_at s v) ≡ 0
 open-free s rank are few i still v = elim (cases_lt (configurations s.board) v) [
   | inl beyond ↦ ap (times rank) (past s.buckets v (let size = are.lists_length in omega arith))
   | inr low ↦ are.once v rank low i ∙ cond_other (slice_index s.values rank) v 1 0 (let word = open_word s.values rank still in λ e. omega arith)
 ]
 
-pub filed-once : (s : PlainStage) (rank : ℕ) → IsFiled s → configurations s.board ≤ MAX_CONFIGURATIONS → s.value ≤ configurations s.board → rank < configurations s.board → is_open s.values rank ≡ true → IsFiled (filed s rank)
+pub filed-once : (s : PlainStage) (rank : ℕ) → IsFiled s → configurations s.board ≤ MAX_CONFIGURATIONS → s.value ≤ configurations s.board → rank < configurations s.board → is_open s.values rank ≡ true → IsFiled (rank_filed s rank)
 filed-once s rank are few low i still = record {
   values_length = length-set s.values rank s.value ∙ are.values_length;
   lists_length = length-set s.buckets s.value (filed_at s s.value ++ rank ∷ []) ∙ are.lists_length;

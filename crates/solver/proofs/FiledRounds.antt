@@ -1,4 +1,4 @@
--- What a finished round has won is filed: all that the next round begins with is there.
+-- After the won configurations of a finished round are filed, the stage is ready for the next round.
 use Rattle.std.proofs.Common.{◌≡◌, ℕ, ◌+◌, ◌-◌, ◌<◌, ◌≤◌, inl, inr, true, false, suc, arith, sym, ap, ◌∙◌, subst, List, [], ◌∷◌, ◌++◌, length, take, drop, slice_index, slice_set, get_or, get_or-set_other, get_or-set_same}
 use Rattle.std.proofs.lemmas.Bool.{cases_lt}
 use Rattle.std.proofs.lemmas.List.{take_more, take-append-drop}
@@ -9,12 +9,12 @@ use Rattle.positions.specs.Gaps.{gaps}
 use Rattle.positions.specs.Counts.{HasSize}
 use Rattle.positions.specs.declared.space.TheConstants.{MAX_CONFIGURATIONS}
 use Rattle.positions.proofs.Cited.{same_size}
-use Rattle.solver.specs.Inside.Arena.{Arena, live, lasts}
+use Rattle.solver.specs.Inside.Arena.{Arena, live_answers, lasts}
 use Rattle.solver.specs.Inside.BoardArena.{arena_of}
 use Rattle.solver.specs.Ending.{IsRoundEnd}
 use Rattle.solver.specs.Solving.{IsWorth}
 use Rattle.solver.specs.Solving.{AnswerLasts}
-use Rattle.solver.specs.Inside.Stage.{PlainStage, filed, as_solving, IsKept, IsStriking, IsUnstruck, FilesAll, TakesCounts}
+use Rattle.solver.specs.Inside.Stage.{PlainStage, rank_filed, as_solving, IsKept, IsStriking, IsUnstruck, FilesAll, TakesCounts}
 use Rattle.solver.specs.Inside.Tables.{is_open, is_unstruck, IsCounted, AreWords}
 use Rattle.solver.proofs.Arenas.{IsArena}
 use Rattle.solver.proofs.BoardArenas.{arena_is, value_of_lasts, lasts_of_value}
@@ -28,7 +28,7 @@ use Rattle.solver.proofs.StageStrikes.{unstruck-none, filed-counting}
 -- ---- filing one after the other
 
 pub files-more : (s : PlainStage) (ranks : List ℕ) (rank : ℕ) (now : PlainStage) → configurations s.board ≤ MAX_CONFIGURATIONS → s.value ≤ configurations s.board
-    → rank < configurations s.board → is_open s.values rank ≡ true → times rank ranks ≡ 0 → FilesAll s ranks now → FilesAll s (ranks ++ rank ∷ []) (filed now rank)
+    → rank < configurations s.board → is_open s.values rank ≡ true → times rank ranks ≡ 0 → FilesAll s ranks now → FilesAll s (ranks ++ rank ∷ []) (rank_filed now rank)
 files-more s ranks rank now few low i still new so_far =
     let value_is : now.value ≡ s.value = so_far.kept.value_is in
     let same : configurations now.board ≡ configurations s.board = ap configurations so_far.kept.board_is in
@@ -51,7 +51,7 @@ files-more s ranks rank now few low i still new so_far =
       filed_are = filed-once now rank so_far.filed_are (omega (arith, few, same)) (omega (arith, low, same, value_is)) (omega (arith, i, same)) open_now;
     }
 
--- what stands at a place of a list of different numbers: it is in the list, and isn't among those before it
+-- the number at a place of a list without repetitions: it is in the list, and not among those before it
 pub record IsNextOf (xs : List ℕ) (i : ℕ) : Type 0 where
   pub there : 0 < times (get_or xs i 0) xs
   pub new : times (get_or xs i 0) (take i xs) ≡ 0
@@ -83,7 +83,7 @@ module _ (s : PlainStage) (unstruck : IsUnstruck s) where
   rounds-is : s.value - 1 ≡ r
   rounds-is = let v = unstruck.value_is in omega arith
 
-  -- what has the value is open yet
+  -- a configuration that has the next value is open
   worth-lasts : (x : ℕ) → IsWorth s.board x (suc (s.value - 1)) → (lasts a (suc r) x ≡ true) × (lasts a (suc (suc r)) x ≡ false)
   worth-lasts x worth = subst (λ k. (lasts a (suc k) x ≡ true) × (lasts a (suc (suc k)) x ≡ false)) rounds-is (lasts_of_value s.board unstruck.small.is_board (suc (s.value - 1)) x worth.is_rank worth.has_value)
 
@@ -94,7 +94,7 @@ module _ (s : PlainStage) (unstruck : IsUnstruck s) where
 
   module _ (won counts : List ℕ) (end : IsRoundEnd (as_solving s false) won counts)
       (m t : PlainStage) (files : FilesAll s won m) (takes : TakesCounts m counts t) where
-    -- what wasn't won lasts one request more if it lasts so many
+    -- a configuration that lasts the round and wasn't won lasts one request more
     lost-lasts : (x : ℕ) → x < configurations s.board → times x won ≡ 0 → lasts a (suc r) x ≡ true → lasts a (suc (suc r)) x ≡ true
     lost-lasts x i none e = elim (true_or_false (lasts a (suc (suc r)) x)) [
       | inl so ↦ so
@@ -134,7 +134,7 @@ module _ (s : PlainStage) (unstruck : IsUnstruck s) where
     end-counts = record {
       counts_length = takes.counts_length ∙ ap length files.counts_is ∙ unstruck.stage.counts_are.counts_length;
       counted = λ g i. takes.each g (subst (λ b. g < gaps b) (sym files.kept.board_is) i)
-          ∙ same_size (AnswerLasts s.board g (suc r)) (slice_index counts g) (live a (lasts a (suc r)) g)
+          ∙ same_size (AnswerLasts s.board g (suc r)) (slice_index counts g) (live_answers a (lasts a (suc r)) g)
           (subst (λ k. HasSize (AnswerLasts s.board g (suc k)) (slice_index counts g)) rounds-is (end.above g i))
           (above-size s.board unstruck.small.is_board (suc r) g i);
     }

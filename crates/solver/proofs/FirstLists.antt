@@ -1,4 +1,4 @@
--- What has the word 0 is listed, in ascending rank.
+-- The configurations with the word 0 are listed, in ascending rank.
 use Rattle.std.proofs.Common.{◌≡◌, ◌≢◌, ℕ, ◌+◌, ◌<◌, ◌≤◌, ◌==◌, inl, inr, Bool, true, false, cond, zero, suc, refl, arith, sym, ap, ◌∙◌, subst, List, [], ◌∷◌, ◌++◌, length, get_or, slice_index}
 use Rattle.std.specs.List.{AllPairs}
 use Rattle.std.proofs.Math.ListN.{length-set}
@@ -8,16 +8,16 @@ use Rattle.index_lists.specs.Lists.{times}
 use Rattle.index_lists.proofs.Cited.{cond_same, cond_other, times-here, times-more, times-append}
 use Rattle.positions.specs.Ranks.{configurations}
 use Rattle.positions.specs.declared.space.TheConstants.{MAX_CONFIGURATIONS}
-use Rattle.solver.specs.Inside.Arena.{Arena, next, lasts}
+use Rattle.solver.specs.Inside.Arena.{Arena, is_answered, lasts}
 use Rattle.solver.specs.Inside.BoardArena.{arena_of}
-use Rattle.solver.specs.Inside.Stage.{PlainStage, filed_at, listed, IsUnlisted, IsOpened}
+use Rattle.solver.specs.Inside.Stage.{PlainStage, filed_at, rank_listed, IsUnlisted, IsOpened}
 use Rattle.solver.specs.Inside.Tables.{is_open, AreWords, AreFirstWords}
 use Rattle.solver.specs.declared.word.TheConstants.{OPEN}
 use Rattle.solver.proofs.FiledRanks.{listed-here, listed-away}
 use Rattle.solver.proofs.LastingRanks.{same_or_not, true_or_false}
 use Rattle.solver.proofs.ListedWords.{times_one, times_none}
 
--- of the configurations below a rank those with the word 0 are listed
+-- the configurations below a rank that have the word 0 are listed
 pub record IsListing (s : PlainStage) (rank : ℕ) (now : PlainStage) : Type 0 where
   pub board_is : now.board ≡ s.board
   pub value_is : now.value ≡ 0
@@ -38,7 +38,7 @@ in_list (x ∷ xs) zero d h = times-here x x xs refl
 in_list (x ∷ xs) (suc k) d h = times-more x (get_or xs k d) xs (in_list xs k d (omega arith))
 
 module _ (s : PlainStage) (rank : ℕ) (now : PlainStage) (so_far : IsListing s rank now) where
-  -- what comes next is in no list
+  -- the next configuration is in no list
   pub next-free : (v : ℕ) → times rank (filed_at now v) ≡ 0
   next-free zero = elim (cases_lt 0 (times rank (filed_at now 0))) [
     | inl some ↦ absurd (let low = so_far.below rank some in omega arith)
@@ -65,12 +65,12 @@ module _ (s : PlainStage) (rank : ℕ) (now : PlainStage) (so_far : IsListing s 
   }
 
   -- the list of 0 after a push
-  longer : filed_at (listed now rank) 0 ≡ filed_at now 0 ++ rank ∷ []
+  longer : filed_at (rank_listed now rank) 0 ≡ filed_at now 0 ++ rank ∷ []
   longer =
       let value_is : now.value ≡ 0 = so_far.value_is in
-      ap (filed_at (listed now rank)) (sym value_is) ∙ listed-here now rank (let size = so_far.lists_length in omega arith) ∙ ap (λ v. filed_at now v ++ rank ∷ []) value_is
+      ap (filed_at (rank_listed now rank)) (sym value_is) ∙ listed-here now rank (let size = so_far.lists_length in omega arith) ∙ ap (λ v. filed_at now v ++ rank ∷ []) value_is
 
-  pub listing-more : slice_index s.values rank ≡ 0 → IsListing s (rank + 1) (listed now rank)
+  pub listing-more : slice_index s.values rank ≡ 0 → IsListing s (rank + 1) (rank_listed now rank)
   listing-more none = record {
     board_is = so_far.board_is;
     value_is = so_far.value_is;
@@ -103,19 +103,19 @@ module _ (s : PlainStage) (rank : ℕ) (now : PlainStage) (so_far : IsListing s 
 
 -- ---- all of them
 
-first-open : (a : Arena) (words : List ℕ) → AreFirstWords a words → (x : ℕ) → x < a.configurations → is_open words x ≡ next a (lasts a 0) x
-first-open a words are x i = ap (λ w. w == OPEN) (are.each x i) ∙ by (next a (lasts a 0) x)
+first-open : (a : Arena) (words : List ℕ) → AreFirstWords a words → (x : ℕ) → x < a.configurations → is_open words x ≡ is_answered a (lasts a 0) x
+first-open a words are x i = ap (λ w. w == OPEN) (are.each x i) ∙ by (is_answered a (lasts a 0) x)
   where
     by : (t : Bool) → (cond {A = ℕ} t OPEN 0 == OPEN) ≡ t
     by true = refl
     by false = refl
 
-first-zero : (a : Arena) (words : List ℕ) → AreFirstWords a words → (x : ℕ) → x < a.configurations → is_open words x ≡ false → (slice_index words x ≡ 0) × (next a (lasts a 0) x ≡ false)
+first-zero : (a : Arena) (words : List ℕ) → AreFirstWords a words → (x : ℕ) → x < a.configurations → is_open words x ≡ false → (slice_index words x ≡ 0) × (is_answered a (lasts a 0) x ≡ false)
 first-zero a words are x i shut =
-    let stuck : next a (lasts a 0) x ≡ false = sym (first-open a words are x i) ∙ shut in
+    let stuck : is_answered a (lasts a 0) x ≡ false = sym (first-open a words are x i) ∙ shut in
     (are.each x i ∙ ap (λ t. cond {A = ℕ} t OPEN 0) stuck, stuck)
 
--- the first words say how long each configuration lasts
+-- the first words are right before the first round
 first-are-words : (a : Arena) (words : List ℕ) → AreFirstWords a words → AreWords a (lasts a 0) words
 first-are-words a words are = record {
   values_length = are.words_length;
@@ -147,7 +147,7 @@ all-listed s rank now are few all l = record {
     below (suc v) x h = absurd (let none = ap (times x) (l.others (suc v) (omega arith)) in omega arith)
 
     other-word : (v x : ℕ) → suc v ≤ configurations s.board → x < configurations s.board → slice_index s.values x ≢ suc v
-    other-word v x low i e = elim (true_or_false (next (arena_of s.board) (lasts (arena_of s.board) 0) x)) [
+    other-word v x low i e = elim (true_or_false (is_answered (arena_of s.board) (lasts (arena_of s.board) 0) x)) [
       | inl going ↦ let word = are.words_are.each x i ∙ ap (λ t. cond {A = ℕ} t OPEN 0) going in omega arith
       | inr stuck ↦ let word = are.words_are.each x i ∙ ap (λ t. cond {A = ℕ} t OPEN 0) stuck in omega arith
     ]

@@ -1,8 +1,8 @@
--- The words before the first round: 0 where some gap has no answer.
+-- The words before the first round: 0 if some gap of the configuration has no answer, else open.
 use Rattle.std.proofs.Common.{◌≡◌, ℕ, ◌+◌, ◌-◌, ◌<◌, ◌⊎◌, inl, inr, cond, arith, sym, ap, ◌∙◌, subst, List, length, slice_index}
 use Rattle.std.proofs.lemmas.Bool.{cases_lt}
-use Rattle.solver.specs.Inside.Arena.{Arena, next, lasts}
-use Rattle.solver.specs.Inside.Opening.{IsRun, IsStoppedMember, AreStopping, IsWritten}
+use Rattle.solver.specs.Inside.Arena.{Arena, is_answered, lasts}
+use Rattle.solver.specs.Inside.Opening.{AreAdjacent, IsZeroedMember, AreZeroed, IsWritten}
 use Rattle.solver.specs.Inside.Tables.{IsCounted, AreFirstWords}
 use Rattle.solver.specs.declared.word.TheConstants.{OPEN}
 use Rattle.solver.proofs.Arenas.{IsArena}
@@ -11,7 +11,7 @@ use Rattle.solver.proofs.LastingRanks.{true_or_false, same_or_not, next-gives, n
 
 -- ---- the members of a run of gaps
 
--- a word after that is 0 or as before
+-- each word is 0 or as before
 written_or : (first : ℕ) (counts words new : List ℕ) → IsWritten first counts (length counts) words new → (x : ℕ)
     → (slice_index new x ≡ slice_index words x) ⊎ ((slice_index new x ≡ 0) × ((k : ℕ) × (k < length counts) × (slice_index counts k ≡ 0) × (first + k ≡ x)))
 written_or first counts words new w x = elim (cases_lt x first) [
@@ -29,14 +29,14 @@ written_or first counts words new w x = elim (cases_lt x first) [
   ]
 ]
 
-pub stopping-more : (a : Arena) → IsArena a → (gap place first : ℕ) (counts old words new : List ℕ) → IsRun a gap (length counts) → place < a.places → first ≡ a.member gap place
-    → IsWritten first counts (length counts) words new → AreStopping a gap counts place old words → AreStopping a gap counts (place + 1) old new
+pub stopping-more : (a : Arena) → IsArena a → (gap place first : ℕ) (counts old words new : List ℕ) → AreAdjacent a gap (length counts) → place < a.places → first ≡ a.member gap place
+    → IsWritten first counts (length counts) words new → AreZeroed a gap counts place old words → AreZeroed a gap counts (place + 1) old new
 stopping-more a is gap place first counts old words new run low first_is written so_far = record {
   same_length = written.same_length ∙ so_far.same_length;
-  stopped = λ x i stop most. elim (written_or first counts words new written x) [
+  zeroed = λ x i stop most. elim (written_or first counts words new written x) [
     | inr zero_is ↦ zero_is.0
     | inl same ↦ same ∙ elim (cases_lt (a.place x (a.pebble (gap + stop.more))) place) [
-      | inl before ↦ so_far.stopped x i stop before
+      | inl before ↦ so_far.zeroed x i stop before
       | inr last ↦
           let below = stop.low in
           let within = run.inside in
@@ -68,16 +68,16 @@ stopping-more a is gap place first counts old words new run low first_is written
 
 -- ---- gap by gap
 
--- the members of those of the first gaps that have no answer have the word 0, and all others are open
+-- the members of the first gaps that have no answer have the word 0, and all other configurations are open
 pub record AreStopped (a : Arena) (counts : List ℕ) (gap : ℕ) (words : List ℕ) : Type 0 where
   pub words_length : length words ≡ a.configurations
   pub either : (x : ℕ) → x < a.configurations → (slice_index words x ≡ OPEN) ⊎ (slice_index words x ≡ 0)
   pub sound : (x : ℕ) → x < a.configurations → slice_index words x ≡ 0 → (p : ℕ) × (p < a.pebbles) × (slice_index counts (a.gap x p) ≡ 0)
   pub found : (x p : ℕ) → x < a.configurations → p < a.pebbles → a.gap x p < gap → slice_index counts (a.gap x p) ≡ 0 → slice_index words x ≡ 0
 
--- a run of gaps more
-pub stopped-more : (a : Arena) → IsArena a → (counts part : List ℕ) (gap : ℕ) (words new : List ℕ) → IsRun a gap (length part) → ((k : ℕ) → k < length part → slice_index part k ≡ slice_index counts (gap + k))
-    → AreStopping a gap part a.places words new → AreStopped a counts gap words → AreStopped a counts (gap + length part) new
+-- one more run of gaps
+pub stopped-more : (a : Arena) → IsArena a → (counts part : List ℕ) (gap : ℕ) (words new : List ℕ) → AreAdjacent a gap (length part) → ((k : ℕ) → k < length part → slice_index part k ≡ slice_index counts (gap + k))
+    → AreZeroed a gap part a.places words new → AreStopped a counts gap words → AreStopped a counts (gap + length part) new
 stopped-more a is counts part gap words new run part_is stopping so_far = record {
   words_length = stopping.same_length ∙ so_far.words_length;
   either = λ x i. elim (stopping.others x i) [
@@ -102,20 +102,20 @@ stopped-more a is counts part gap words new run part_is stopping so_far = record
         let at : gap + k ≡ a.gap x p = omega arith in
         let below : k < length part = omega arith in
         let pebble_is : a.pebble (gap + k) ≡ p = ap a.pebble at ∙ is.pebble_of_gap x p i j in
-        let stop : IsStoppedMember a gap part x = record {
+        let stop : IsZeroedMember a gap part x = record {
           more = k;
           low = below;
           none = part_is k below ∙ ap (slice_index counts) at ∙ none;
           member = ap (a.gap x) pebble_is ∙ sym at;
         } in
-        stopping.stopped x i stop (is.place_in x (a.pebble (gap + k)) i (subst (λ q. q < a.pebbles) (sym pebble_is) j))
+        stopping.zeroed x i stop (is.place_in x (a.pebble (gap + k)) i (subst (λ q. q < a.pebbles) (sym pebble_is) j))
   ];
 }
 
 pub first-words : (a : Arena) → IsArena a → (counts words : List ℕ) → IsCounted a (lasts a 0) counts → AreStopped a counts a.gaps words → AreFirstWords a words
 first-words a is counts words counted stopped = record {
   words_length = stopped.words_length;
-  each = λ x i. elim (true_or_false (next a (lasts a 0) x)) [
+  each = λ x i. elim (true_or_false (is_answered a (lasts a 0) x)) [
     | inl going ↦ elim (stopped.either x i) [
       | inl still ↦ still ∙ sym (ap (λ t. cond {A = ℕ} t OPEN 0) going)
       | inr stop ↦ absurd (

@@ -1,8 +1,8 @@
--- How long a labeller lasts.
+-- The number of requests that a labeller lasts.
 use Rattle.std.proofs.Common.{◌≡◌, ◌≢◌, ℕ, ◌+◌, ◌-◌, ◌<◌, ◌≤◌, ◌⊎◌, ◌==◌, ◌&&◌, inl, inr, Bool, true, false, zero, suc, refl, arith, sym, ap, ◌∙◌, subst, Some, None}
 use Rattle.std.proofs.lemmas.Bool.Decides.{nat_tests}
 pub use Rattle.index_lists.proofs.Cited.{same_is, differ_is}
-use Rattle.solver.specs.Inside.Arena.{Arena, live, next, lasts}
+use Rattle.solver.specs.Inside.Arena.{Arena, live_answers, is_answered, lasts}
 use Rattle.solver.proofs.Arenas.{IsArena}
 use Rattle.solver.proofs.Counts.{count_below-same, count_below-none, none_below, some_below, count_below-some, count_below-le}
 
@@ -26,34 +26,35 @@ zero_is n e = grind (arith, nat_tests)
 pub positive_is : (n : ℕ) → 0 < n → n == 0 ≡ false
 positive_is n e = grind (arith, nat_tests)
 
--- next holds exactly where each gap has a live answer
-pub next-gives : (a : Arena) (above : ℕ → Bool) (c p : ℕ) → next a above c ≡ true → p < a.pebbles → 0 < live a above (a.gap c p)
-next-gives a above c p e h = not_zero _ (none_below a.pebbles (λ q. live a above (a.gap c q) == 0) (is_zero _ e) p h)
+-- if each request is answered, each gap of the configuration has a live answer
+pub next-gives : (a : Arena) (above : ℕ → Bool) (c p : ℕ) → is_answered a above c ≡ true → p < a.pebbles → 0 < live_answers a above (a.gap c p)
+next-gives a above c p e h =
+    not_zero _ (none_below a.pebbles (λ q. live_answers a above (a.gap c q) == 0) (is_zero _ e) p h)
 
-pub next-from : (a : Arena) (above : ℕ → Bool) (c : ℕ) → ((p : ℕ) → p < a.pebbles → 0 < live a above (a.gap c p)) → next a above c ≡ true
-next-from a above c each = zero_is _ (count_below-none a.pebbles (λ q. live a above (a.gap c q) == 0) (λ p h. positive_is _ (each p h)))
+pub next-from : (a : Arena) (above : ℕ → Bool) (c : ℕ) → ((p : ℕ) → p < a.pebbles → 0 < live_answers a above (a.gap c p)) → is_answered a above c ≡ true
+next-from a above c each = zero_is _ (count_below-none a.pebbles (λ q. live_answers a above (a.gap c q) == 0) (λ p h. positive_is _ (each p h)))
 
--- next fails exactly where some gap has none
-pub next-fails : (a : Arena) (above : ℕ → Bool) (c : ℕ) → next a above c ≡ false → (p : ℕ) × (p < a.pebbles) × (live a above (a.gap c p) ≡ 0)
+-- if some request isn't answered, some gap of the configuration has no live answer
+pub next-fails : (a : Arena) (above : ℕ → Bool) (c : ℕ) → is_answered a above c ≡ false → (p : ℕ) × (p < a.pebbles) × (live_answers a above (a.gap c p) ≡ 0)
 next-fails a above c e =
-    let w = some_below a.pebbles (λ q. live a above (a.gap c q) == 0) (not_zero _ e) in
+    let w = some_below a.pebbles (λ q. live_answers a above (a.gap c q) == 0) (not_zero _ e) in
     (w.0, w.1, is_zero _ w.2)
 
-pub next-closed : (a : Arena) (above : ℕ → Bool) (c p : ℕ) → p < a.pebbles → live a above (a.gap c p) ≡ 0 → next a above c ≡ false
-next-closed a above c p h e = positive_is _ (count_below-some a.pebbles (λ q. live a above (a.gap c q) == 0) p h (zero_is _ e))
+pub next-closed : (a : Arena) (above : ℕ → Bool) (c p : ℕ) → p < a.pebbles → live_answers a above (a.gap c p) ≡ 0 → is_answered a above c ≡ false
+next-closed a above c p h e = positive_is _ (count_below-some a.pebbles (λ q. live_answers a above (a.gap c q) == 0) p h (zero_is _ e))
 
-pub live-le : (a : Arena) → IsArena a → (f h : ℕ → Bool) (g : ℕ) → g < a.gaps → ((c : ℕ) → c < a.configurations → f c ≡ true → h c ≡ true) → live a f g ≤ live a h g
+pub live-le : (a : Arena) → IsArena a → (f h : ℕ → Bool) (g : ℕ) → g < a.gaps → ((c : ℕ) → c < a.configurations → f c ≡ true → h c ≡ true) → live_answers a f g ≤ live_answers a h g
 live-le a is f h g in_range implies =
     count_below-le a.places (λ v. a.is_answer g v && f (a.member g v)) (λ v. a.is_answer g v && h (a.member g v)) (λ v i e.
     let both = both_true _ _ e in
     and_true _ _ both.0 (implies (a.member g v) (is.member_in g v in_range i) both.1))
 
-pub live-same : (a : Arena) → IsArena a → (f h : ℕ → Bool) (g : ℕ) → g < a.gaps → ((c : ℕ) → c < a.configurations → f c ≡ h c) → live a f g ≡ live a h g
+pub live-same : (a : Arena) → IsArena a → (f h : ℕ → Bool) (g : ℕ) → g < a.gaps → ((c : ℕ) → c < a.configurations → f c ≡ h c) → live_answers a f g ≡ live_answers a h g
 live-same a is f h g in_range same =
     count_below-same a.places (λ v. a.is_answer g v && f (a.member g v)) (λ v. a.is_answer g v && h (a.member g v)) (λ v i.
     ap (λ b. a.is_answer g v && b) (same (a.member g v) (is.member_in g v in_range i)))
 
-pub next-le : (a : Arena) → IsArena a → (f h : ℕ → Bool) (c : ℕ) → c < a.configurations → ((x : ℕ) → x < a.configurations → f x ≡ true → h x ≡ true) → next a f c ≡ true → next a h c ≡ true
+pub next-le : (a : Arena) → IsArena a → (f h : ℕ → Bool) (c : ℕ) → c < a.configurations → ((x : ℕ) → x < a.configurations → f x ≡ true → h x ≡ true) → is_answered a f c ≡ true → is_answered a h c ≡ true
 next-le a is f h c in_range implies e = next-from a h c (λ p i.
     let some = next-gives a f c p e i in
     let more = live-le a is f h (a.gap c p) (is.gap_in c p in_range i) implies in
@@ -64,12 +65,12 @@ same_test true c there back = sym (there refl)
 same_test false true there back = back refl
 same_test false false there back = refl
 
-pub next-same : (a : Arena) → IsArena a → (f h : ℕ → Bool) (c : ℕ) → c < a.configurations → ((x : ℕ) → x < a.configurations → f x ≡ h x) → next a f c ≡ next a h c
-next-same a is f h c in_range same = same_test (next a f c) (next a h c)
+pub next-same : (a : Arena) → IsArena a → (f h : ℕ → Bool) (c : ℕ) → c < a.configurations → ((x : ℕ) → x < a.configurations → f x ≡ h x) → is_answered a f c ≡ is_answered a h c
+next-same a is f h c in_range same = same_test (is_answered a f c) (is_answered a h c)
     (next-le a is f h c in_range (λ x i e. sym (same x i) ∙ e))
     (next-le a is h f c in_range (λ x i e. same x i ∙ e))
 
--- who lasts k + 1 requests lasts k
+-- a labeller that lasts k + 1 requests lasts k
 pub lasts-less : (a : Arena) → IsArena a → (k c : ℕ) → c < a.configurations → lasts a (suc k) c ≡ true → lasts a k c ≡ true
 lasts-less a is zero c in_range e = refl
 lasts-less a is (suc k) c in_range e = next-le a is (lasts a (suc k)) (lasts a k) c in_range (λ x i. lasts-less a is k x i) e
@@ -82,7 +83,7 @@ lasts-fewer a is zero k c in_range e = lasts_at a (0 + k) k c (omega arith) e
 lasts-fewer a is (suc more) k c in_range e =
     lasts-fewer a is more k c in_range (lasts-less a is (more + k) c in_range (lasts_at a (suc more + k) (suc (more + k)) c (omega arith) e))
 
--- j requests at most are fewer than k
+-- a labeller that lasts k requests lasts fewer too
 pub lasts-at-most : (a : Arena) → IsArena a → (j k c : ℕ) → c < a.configurations → j ≤ k → lasts a k c ≡ true → lasts a j c ≡ true
 lasts-at-most a is j k c in_range h e = lasts-fewer a is (k - j) j c in_range (lasts_at a k (k - j + j) c (omega arith) e)
 

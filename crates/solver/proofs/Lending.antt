@@ -1,4 +1,4 @@
--- A solver may be lent to any thread where its lists may.
+-- A solver may be lent to another thread if its lists may.
 use denote.RattleType.{RattleType}
 use denote.Struct.Declared.{shape}
 use denote.Param.Send.{IsSync, struct_sync, view_sync, recorded_sync, sendable}

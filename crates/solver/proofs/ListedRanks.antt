@@ -1,4 +1,4 @@
--- Whether a rank stands in a list, and a list without what fails a test.
+-- Whether a rank is in a list, and lists filtered by a test.
 use Rattle.std.proofs.Common.{◌≡◌, ℕ, ◌<◌, ◌≤◌, ◌==◌, not, Bool, true, false, cond, List, [], ◌∷◌, sym, ap, ◌∙◌, inl, inr, subst, arith}
 use Rattle.std.specs.List.{filter}
 use Rattle.std.proofs.lemmas.Bool.{cases_lt}
@@ -6,7 +6,7 @@ use Rattle.index_lists.specs.Lists.{times}
 use Rattle.index_lists.proofs.Cited.{times-later}
 use Rattle.solver.proofs.LastingRanks.{true_or_false, true_not_false, same_or_not, zero_is, positive_is}
 
--- whether it stands in the list
+-- whether the rank is in the list
 abbrev pub stands : List ℕ → ℕ → Bool
 stands ranks x = not (times x ranks == 0)
 
@@ -22,7 +22,7 @@ stands-some ranks x e = elim (cases_lt 0 (times x ranks)) [
   | inr none ↦ absurd (true_not_false (stands ranks x) e (stands-false ranks x (omega arith)))
 ]
 
--- ---- a list without what fails a test
+-- ---- filtered lists
 
 pub times-filter-true : (test : ℕ → Bool) (x : ℕ) (ranks : List ℕ) → 0 < times x (filter test ranks) → test x ≡ true
 times-filter-true test x [] h = absurd (omega arith)

@@ -1,4 +1,4 @@
--- Words of configurations, and what becomes of them while a gap closes.
+-- The words of configurations before and after a gap closes.
 use Rattle.std.proofs.Common.{◌≡◌, ◌≢◌, ℕ, ◌+◌, ◌<◌, ◌==◌, inl, inr, Bool, true, false, cond, refl, arith, sym, ap, ◌∙◌, List, [], ◌∷◌, length, slice_index, slice_set, get_or-set_other, get_or-set_same}
 use Rattle.std.proofs.Math.ListN.{length-set}
 use Rattle.std.proofs.lemmas.Bool.{cases_lt}
@@ -88,7 +88,7 @@ shut-same a g label values rank here closed shut v h = elim (cases_lt v label) [
   | inr last ↦ (let is : v ≡ label = omega arith in ap (λ w. is_open values (a.member g w)) is ∙ ap (is_open values) here ∙ closed)
 ]
 
--- all members of a gap
+-- if no place of a gap has an open member, the gap has no open member
 pub all-shut : (a : Arena) → IsArena a → (g : ℕ) (values : List ℕ) → g < a.gaps → ((v : ℕ) → v < a.places → is_open values (a.member g v) ≡ false)
     → (x : ℕ) → x < a.configurations → a.gap x (a.pebble g) ≡ g → is_open values x ≡ false
 all-shut a is g values i shut x j member =

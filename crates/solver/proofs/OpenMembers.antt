@@ -8,7 +8,7 @@ use Rattle.solver.specs.declared.word.TheConstants.{OPEN}
 use Rattle.solver.proofs.LastingRanks.{same_is}
 use Rattle.solver.proofs.ListedWords.{valued_word}
 
--- the member with this place is passed over, or comes first
+-- if the member with this place isn't open, the walk goes on from the next place
 pub walk-skip : (values : List ℕ) (first step place places rank : ℕ) → place < places → rank ≡ first + place * step → slice_index values rank ≢ OPEN
     → open_from values first step place (places - place) ≡ open_from values first step (place + 1) (places - (place + 1))
 walk-skip values first step place places rank low here word =

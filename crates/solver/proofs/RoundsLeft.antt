@@ -1,4 +1,4 @@
--- How many rounds are left.
+-- The number of rounds left falls with each round.
 use Rattle.std.proofs.Common.{◌≡◌, ◌<◌, ◌-◌, ◌∙◌, ℕ, suc, true, false, cond, refl, ap, subst, arith}
 use Rattle.board_text.specs.PlainBoard.{PlainBoard}
 use Rattle.positions.specs.Ranks.{configurations}
@@ -6,11 +6,11 @@ use Rattle.solver.specs.declared.progress.Progress.{Progress}
 use Rattle.solver.specs.declared.progress.Progress.TheVariants.{Filed, Done}
 use Rattle.solver.specs.Solving.{Solving, IsSolving, HasFiled, HasFoundNone}
 
--- how many rounds are left at most, and one more as long as the last isn't known
+-- a bound on the number of rounds left, with one more until the solver is done
 abbrev pub rounds_left : Solving → ℕ
 rounds_left solver = cond solver.is_done 0 (suc (configurations solver.board - solver.rounds))
 
--- fewer rounds are left after one that filed something, or found that nothing has the next value
+-- a round that files configurations, or finds that none has the next value, leaves fewer rounds
 pub fewer_left : (before held after : Solving) (result : Progress) → (before.is_done ≡ false) × (held ≡ before) → after.board ≡ held.board → IsSolving after
     → ((n : ℕ) → result ≡ Filed n → HasFiled held after n) → (result ≡ Done → HasFoundNone held after) → rounds_left after < rounds_left before
 fewer_left before held after result unfinished same is filed none =

@@ -8,7 +8,7 @@ use Rattle.positions.specs.Value.{HasValue}
 use Rattle.positions.specs.Ranks.{configurations, configuration_at}
 use Rattle.positions.specs.Gaps.{gaps, pebble_of, member_of}
 use Rattle.positions.proofs.Cited.{same_value}
-use Rattle.solver.specs.Inside.Arena.{Arena, Dominant}
+use Rattle.solver.specs.Inside.Arena.{Arena, IsDominant}
 use Rattle.solver.specs.Inside.BoardArena.{arena_of}
 use Rattle.solver.specs.Solving.{AnswerForever}
 use Rattle.solver.specs.Inside.Stored.{AreDominators}
@@ -40,17 +40,17 @@ module _ (b : PlainBoard) (board_is : IsBoard b) (values dominators : List ℕ) 
   member_is : configuration_at b rank ≡ member_of b gap label
   member_is = ap (configuration_at b) rank_is ∙ at_member b gap label in_gaps is_place
 
-  -- where the gap's pebble dominates and a labeller lasts forever, the label is such an answer
+  -- if the gap's pebble dominates and the member is open, the label is an answer that lasts forever
   pub safe-here : slice_index dominators rank ≡ pebble_of b gap → is_open values rank ≡ true → AnswerForever b gap label
   safe-here byte_is still =
       let pebble_in : pebble_of b gap < b.pebbles = is.pebble_in gap in_gaps in
       let few : b.pebbles ≤ MAX_PEBBLES = board_is.pebbles.1 in
-      let d : Dominant a rank (slice_index dominators rank) = some-dominator b dominators rank are_dominators rank_in (λ e. omega arith) in
-      let there : Dominant a (a.member gap label) (a.pebble gap) = subst (λ x. Dominant a x (a.pebble gap)) rank_is (subst (λ p. Dominant a rank p) byte_is d) in
+      let d : IsDominant a rank (slice_index dominators rank) = some-dominator b dominators rank are_dominators rank_in (λ e. omega arith) in
+      let there : IsDominant a (a.member gap label) (a.pebble gap) = subst (λ x. IsDominant a x (a.pebble gap)) rank_is (subst (λ p. IsDominant a rank p) byte_is d) in
       let answer : a.is_answer gap label ≡ true = rw (is.gap_of_member gap label in_gaps is_place, is.place_of_member gap label in_gaps is_place) at there.1 in
       ((answers_is b gap label in_gaps).0 answer, subst (λ c. HasValue b c Forever) member_is (are.forever rank rank_in still))
 
-  -- and nowhere else
+  -- if the label is an answer that lasts forever, the gap's pebble dominates
   pub safe-dominator : AnswerForever b gap label → slice_index dominators rank ≡ pebble_of b gap
   safe-dominator answer =
       let leads = (answers_is b gap label in_gaps).1 answer.0 in

@@ -7,14 +7,14 @@ use Rattle.solver.specs.Inside.Tables.{members_from}
 use Rattle.solver.proofs.Arenas.{IsArena}
 use Rattle.solver.proofs.LastingRanks.{both_true, and_true, true_or_false, true_not_false, same_or_not, same_is, differ_is}
 
--- a member is left out or comes first
+-- a member that fails the test is left out, and one that passes comes first
 pub members-skip : (a : Arena) (test : ℕ → Bool) (g from n : ℕ) → test (a.member g from) ≡ false → members_from a test g from (suc n) ≡ members_from a test g (from + 1) n
 members-skip a test g from n e = rw e refl
 
 pub members-take : (a : Arena) (test : ℕ → Bool) (g from n : ℕ) → test (a.member g from) ≡ true → members_from a test g from (suc n) ≡ a.member g from ∷ members_from a test g (from + 1) n
 members-take a test g from n e = rw e refl
 
--- what stands among the members
+-- a number in the list is a member of the gap that passes the test
 pub record IsMember (a : Arena) (test : ℕ → Bool) (g from n x : ℕ) : Type 0 where
   pub label : ℕ
   pub at_least : from ≤ label
@@ -46,7 +46,7 @@ module _ (a : Arena) (is : IsArena a) (test : ℕ → Bool) (g : ℕ) (i : g < a
   one_label : (v w : ℕ) → v < a.places → w < a.places → a.member g v ≡ a.member g w → v ≡ w
   one_label v w low high e = sym (is.place_of_member g v i low) ∙ ap (λ x. a.place x (a.pebble g)) e ∙ is.place_of_member g w i high
 
-  -- each member stands once
+  -- each member is in the list once
   pub member-once : (from n v : ℕ) → from + n ≤ a.places → from ≤ v → v < from + n → test (a.member g v) ≡ true → times (a.member g v) (members_from a test g from n) ≡ 1
   member-once from zero v most low high passes = absurd (omega arith)
   member-once from (suc n) v most low high passes = elim (same_or_not from v) [
@@ -76,7 +76,7 @@ module _ (a : Arena) (is : IsArena a) (test : ℕ → Bool) (g : ℕ) (i : g < a
           let same = one_label found.label w (omega arith) (omega arith) found.is in
           omega arith)
 
-  -- how often a configuration stands among the members
+  -- a configuration is in the list once if it passes the test and is a member, and else never
   pub member-times : (x : ℕ) → x < a.configurations → times x (members_from a test g 0 a.places) ≡ cond (test x && (a.gap x (a.pebble g) == g)) 1 0
   member-times x j = elim (true_or_false (test x && (a.gap x (a.pebble g) == g))) [
     | inl both ↦ (

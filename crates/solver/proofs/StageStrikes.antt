@@ -1,4 +1,4 @@
--- A strike of the first that is left to be struck.
+-- The first configuration of the list to strike is struck.
 use Rattle.std.proofs.Common.{◌≡◌, ◌≢◌, ℕ, ◌+◌, ◌<◌, ◌≤◌, ◌==◌, not, inl, inr, Bool, true, false, cond, suc, refl, arith, sym, ap, ◌∙◌, subst, List, [], ◌∷◌, slice_index, slice_set}
 use Rattle.std.proofs.lemmas.Bool.Decides.{nat_tests}
 use Rattle.index_lists.specs.Lists.{times}
@@ -6,9 +6,9 @@ use Rattle.index_lists.proofs.Cited.{times-here, times-more, times-later}
 use Rattle.board_text.specs.PlainBoard.{PlainBoard, IsBoard}
 use Rattle.positions.specs.Ranks.{configurations}
 use Rattle.positions.specs.declared.space.TheConstants.{MAX_CONFIGURATIONS}
-use Rattle.solver.specs.Inside.Arena.{Arena, lasts, Dominant}
+use Rattle.solver.specs.Inside.Arena.{Arena, lasts, IsDominant}
 use Rattle.solver.specs.Inside.BoardArena.{arena_of}
-use Rattle.solver.specs.Inside.Stage.{PlainStage, counting, taken, IsFiled, IsKept, Closes, IsStruckAt, IsStriking}
+use Rattle.solver.specs.Inside.Stage.{PlainStage, with_counts, strikes_copied, IsFiled, IsKept, Closes, IsStruckAt, IsStriking}
 use Rattle.solver.specs.Inside.Tables.{is_unstruck, IsCounted, AreWords}
 use Rattle.solver.proofs.Arenas.{IsArena, without, IsBetween}
 use Rattle.solver.proofs.BoardArenas.{arena_is}
@@ -26,7 +26,7 @@ pub unstruck-fails : (a : Arena) (r : ℕ) (todo : List ℕ) (x : ℕ)
     → lasts a (suc r) x ≡ false → is_unstruck a r todo x ≡ not (times x todo == 0)
 unstruck-fails a r todo x e = rw e refl
 
--- with no strike left, the unstruck configurations are those that last longer than the round
+-- if the list to strike is empty, the unstruck configurations are those that last longer than the round
 pub unstruck-none : (a : Arena) (r x : ℕ) → lasts a (suc r) x ≡ is_unstruck a r [] x
 unstruck-none a r x = by (lasts a (suc r) x)
   where
@@ -59,7 +59,7 @@ pub unstruck-first : (a : Arena) (r c : ℕ) (rest : List ℕ)
 unstruck-first a r c rest stops =
     unstruck-fails a r (c ∷ rest) c stops ∙ some_times (times c (c ∷ rest)) (times-here c c rest refl)
 
--- without the first, those of the rest are unstruck
+-- after the first is struck, the unstruck configurations are those of the rest of the list
 pub unstruck-rest : (a : Arena) (r c : ℕ) (rest : List ℕ)
     → lasts a (suc r) c ≡ false → times c (c ∷ rest) ≤ 1
     → (x : ℕ) → without (is_unstruck a r (c ∷ rest)) c x ≡ is_unstruck a r rest x
@@ -80,7 +80,7 @@ unstruck-rest a r c rest stops once x = elim (same_or_not x c) [
 
 -- ---- the stage after a strike
 
--- a stage of a board, in parts
+-- a stage of a board, from its parts
 pub striking-of : (s : PlainStage) (todo : List ℕ) (b : PlainBoard) → s.board ≡ b → (round : ℕ) → s.value ≡ suc round → IsCounted (arena_of b) (is_unstruck (arena_of b) round todo) s.counts
     → AreWords (arena_of b) (is_unstruck (arena_of b) round todo) s.values → IsFiled s → ((x : ℕ) → 0 < times x todo → IsStruckAt (arena_of b) round x) → ((x : ℕ) → times x todo ≤ 1) → IsStriking s todo
 striking-of s todo b same = subst (λ (p : PlainBoard). (round : ℕ) → s.value ≡ suc round → IsCounted (arena_of p) (is_unstruck (arena_of p) round todo) s.counts
@@ -93,10 +93,10 @@ striking-of s todo b same = subst (λ (p : PlainBoard). (round : ℕ) → s.valu
       once = once;
     })
 
-pub filed-counting : (s : PlainStage) (counts : List ℕ) → IsFiled s → IsFiled (counting s counts)
+pub filed-counting : (s : PlainStage) (counts : List ℕ) → IsFiled s → IsFiled (with_counts s counts)
 filed-counting s counts are = record { values_length = are.values_length; lists_length = are.lists_length; below = are.below; once = are.once }
 
-module _ (s : PlainStage) (board_is : IsBoard s.board) (c : ℕ) (rest : List ℕ) (k : IsStriking s (c ∷ rest)) (p g n : ℕ) (d : Dominant (arena_of s.board) c p) (g_is : g ≡ (arena_of s.board).gap c p) where
+module _ (s : PlainStage) (board_is : IsBoard s.board) (c : ℕ) (rest : List ℕ) (k : IsStriking s (c ∷ rest)) (p g n : ℕ) (d : IsDominant (arena_of s.board) c p) (g_is : g ≡ (arena_of s.board).gap c p) where
   abbrev a : Arena
   a = arena_of s.board
 
@@ -121,7 +121,7 @@ module _ (s : PlainStage) (board_is : IsBoard s.board) (c : ℕ) (rest : List �
   due : (x : ℕ) → 0 < times x rest → IsStruckAt a k.round x
   due x h = k.due x (times-more c x rest h)
 
-  -- the count of a gap is not 0 before
+  -- the count of the gap isn't 0 before the strike
   pub count-left : 0 < slice_index s.counts g
   count-left =
       let home = strike-home a is above c p here.is_rank d is_above in
@@ -136,7 +136,7 @@ module _ (s : PlainStage) (board_is : IsBoard s.board) (c : ℕ) (rest : List �
     counts = IsCounted-same a is (without above c) (is_unstruck a k.round rest) (slice_set s.counts g n) next
         (rw g_is (counted-struck a is above c p n s.counts here.is_rank d is_above counted k.stage.counts_are))
 
-    pub struck-some : 0 < n → IsStriking (counting s (slice_set s.counts g n)) rest
+    pub struck-some : 0 < n → IsStriking (with_counts s (slice_set s.counts g n)) rest
     struck-some some = record {
       round = k.round;
       value_is = k.value_is;
@@ -150,7 +150,7 @@ module _ (s : PlainStage) (board_is : IsBoard s.board) (c : ℕ) (rest : List �
       once = fewer;
     }
 
-    pub struck-closed : (s' : PlainStage) → n ≡ 0 → configurations s.board ≤ MAX_CONFIGURATIONS → s.value ≤ configurations s.board → Closes (counting s (slice_set s.counts g n)) g s' → IsStriking s' rest
+    pub struck-closed : (s' : PlainStage) → n ≡ 0 → configurations s.board ≤ MAX_CONFIGURATIONS → s.value ≤ configurations s.board → Closes (with_counts s (slice_set s.counts g n)) g s' → IsStriking s' rest
     struck-closed s' none few low closes =
         let value_is : s.value ≡ suc k.round = k.value_is in
         striking-of s' rest s.board closes.kept.board_is k.round (closes.kept.value_is ∙ value_is)
@@ -160,7 +160,7 @@ module _ (s : PlainStage) (board_is : IsBoard s.board) (c : ℕ) (rest : List �
         (unstruck-between a is k.round (c ∷ rest) k.due) here.stopping (rw (← g_is, ← value_is) closes.words) k.stage.words_are))
         closes.filed_are due fewer
 
--- ---- from strike to strike
+-- ---- one strike after another
 
 pub kept-on : (s t u : PlainStage) → IsKept s t → IsKept t u → IsKept s u
 kept-on s t u one two = record {
@@ -172,8 +172,8 @@ kept-on s t u one two = record {
 pub kept-self : (s : PlainStage) → IsKept s s
 kept-self s = record { board_is = refl; value_is = refl; others = λ v d. refl }
 
--- what was taken out of the store is no part of what is left to be struck
-pub striking-taken : (s : PlainStage) (todo : List ℕ) → IsStriking s todo → IsStriking (taken s) todo
+-- a stage that has copied the configurations from the store has the same ones to strike
+pub striking-taken : (s : PlainStage) (todo : List ℕ) → IsStriking s todo → IsStriking (strikes_copied s) todo
 striking-taken s todo k = record {
   round = k.round;
   value_is = k.value_is;
@@ -191,5 +191,5 @@ striking-taken s todo k = record {
   once = k.once;
 }
 
-pub kept-taken : (s t : PlainStage) → IsKept (taken s) t → IsKept s t
+pub kept-taken : (s t : PlainStage) → IsKept (strikes_copied s) t → IsKept s t
 kept-taken s t k = record { board_is = k.board_is; value_is = k.value_is; others = k.others }

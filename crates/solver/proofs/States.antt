@@ -1,4 +1,4 @@
--- What a solver knows between its calls.
+-- The facts of a solver between its calls.
 use Rattle.std.proofs.Common.{◌≡◌, ◌≢◌, ℕ, ◌+◌, ◌&&◌, ◌<◌, ◌≤◌, ◌↔◌, ◌==◌, inl, inr, Bool, true, false, cond, suc, refl, arith, sym, ap, ◌∙◌, subst, List, [], ◌∷◌, length, map, get_or, slice_index, slice_index_or, Option, Some, None}
 use Rattle.std.specs.List.{filter, AllPairs}
 use Rattle.std.proofs.lemmas.Bool.{cases_lt}
@@ -15,11 +15,11 @@ use Rattle.positions.specs.Gaps.{gaps, member_of}
 use Rattle.positions.specs.Counts.{HasSize}
 use Rattle.positions.specs.declared.space.TheConstants.{MAX_CONFIGURATIONS}
 use Rattle.positions.proofs.Cited.{rank_below, configuration_at-rank_of}
-use Rattle.solver.specs.Inside.Arena.{Arena, count_below, live, lasts, IsLast, dominated}
+use Rattle.solver.specs.Inside.Arena.{Arena, count_below, live_answers, lasts, IsLast, is_dominated}
 use Rattle.solver.specs.Inside.BoardArena.{arena_of}
 use Rattle.solver.specs.Words.{value_of_word, AreFirstCounts, AreFirstValues}
 use Rattle.solver.specs.Solving.{Solving, AreToStrike, AreOpenMembers, IsSolving, NoneHas, AnswerLasts, AnswerForever}
-use Rattle.solver.specs.Inside.Stage.{first_lists, PlainStage, filed_at, due_now, turned, IsFiled, IsStage, IsKept, IsStriking, IsUnstruck, IsOpened, IsState}
+use Rattle.solver.specs.Inside.Stage.{first_lists, PlainStage, filed_at, due_strikes, at_next_value, IsFiled, IsStage, IsKept, IsStriking, IsUnstruck, IsOpened, IsState}
 use Rattle.solver.specs.Inside.Tables.{is_open, open_members, is_unstruck, struck_rounds, AreWords, AreValues}
 use Rattle.solver.proofs.AscendingMembers.{members-ascend}
 use Rattle.solver.proofs.Arenas.{IsArena}
@@ -37,7 +37,7 @@ use Rattle.solver.proofs.StageStrikes.{unstruck-lasts, unstruck-fails, unstruck-
 
 -- ---- words
 
--- a word and a value by how long it lasts are the same
+-- a configuration has one value at most
 pub word_is : (a : Arena) → IsArena a → (j k x : ℕ) → x < a.configurations → lasts a j x ≡ true → lasts a (suc j) x ≡ false → lasts a k x ≡ true → lasts a (suc k) x ≡ false → j ≡ k
 word_is a is j k x i one stop other end = elim (same_or_not j k) [
   | inl e ↦ e
@@ -47,7 +47,7 @@ word_is a is j k x i one stop other end = elim (same_or_not j k) [
   ]
 ]
 
--- what has no value is open, and what has one is filed at it
+-- the word of a configuration that isn't open is its value
 pub word-at : (a : Arena) → IsArena a → (above : ℕ → Bool) (values : List ℕ) (j x : ℕ) → x < a.configurations → AreWords a above values → is_open values x ≡ false → lasts a j x ≡ true → lasts a (suc j) x ≡ false → slice_index values x ≡ j
 word-at a is above values j x i w shut one stop = word_is a is (slice_index values x) j x i (w.lasting x i shut) (w.stopping x i shut) one stop
 
@@ -60,7 +60,7 @@ filed-word s v x f i j h = elim (same_or_not (slice_index s.values x) v) [
   | inr d ↦ absurd (let once = f.once v x i j in let none = cond_other {A = ℕ} (slice_index s.values x) v 1 0 d in omega arith)
 ]
 
--- what stands in a list stands in that of a value
+-- a value at which a configuration is filed is in range
 pub value-in-range : (s : PlainStage) (v x : ℕ) → IsFiled s → 0 < times x (filed_at s v) → v ≤ configurations s.board
 value-in-range s v x f h = elim (cases_lt (configurations s.board) v) [
   | inr low ↦ low
@@ -86,7 +86,7 @@ module _ (s : PlainStage) (board_is : IsBoard s.board) (few : configurations s.b
   is : IsArena a
   is = arena_is s.board board_is
 
-  -- what is filed at a value has it
+  -- a configuration that is filed at a value has it
   filed-lasts : (above : ℕ → Bool) (v x : ℕ) → AreWords a above s.values → IsFiled s → v ≤ configurations s.board → 0 < times x (filed_at s v) → (lasts a v x ≡ true) × (lasts a (suc v) x ≡ false)
   filed-lasts above v x w f low h =
       let i = f.below v x h in
@@ -94,12 +94,12 @@ module _ (s : PlainStage) (board_is : IsBoard s.board) (few : configurations s.b
       let shut = valued_word s.values x (λ e. omega arith) in
       (subst (λ n. lasts a n x ≡ true) word (w.lasting x i shut), subst (λ n. lasts a (suc n) x ≡ false) word (w.stopping x i shut))
 
-  pub round-starts : (r : ℕ) → r < configurations s.board → s.value ≡ suc r → (todo : List ℕ) → todo ≡ filter (dominated a) (filed_at s r) → IsStage (lasts a r) s → IsStriking s todo
+  pub round-starts : (r : ℕ) → r < configurations s.board → s.value ≡ suc r → (todo : List ℕ) → todo ≡ filter (is_dominated a) (filed_at s r) → IsStage (lasts a r) s → IsStriking s todo
   round-starts r i value_is todo todo_are stage =
-      let alike : (x : ℕ) → x < a.configurations → dominated a x ≡ true → lasts a r x ≡ is_unstruck a r todo x = λ x j holds. elim (true_or_false (lasts a (suc r) x)) [
+      let alike : (x : ℕ) → x < a.configurations → is_dominated a x ≡ true → lasts a r x ≡ is_unstruck a r todo x = λ x j holds. elim (true_or_false (lasts a (suc r) x)) [
         | inl more ↦ lasts-less a is r x j more ∙ sym (unstruck-lasts a r todo x more)
         | inr fails ↦
-            let times_are : times x todo ≡ times x (filed_at s r) = ap (times x) todo_are ∙ filtered-times (dominated a) x (filed_at s r) holds in
+            let times_are : times x todo ≡ times x (filed_at s r) = ap (times x) todo_are ∙ filtered-times (is_dominated a) x (filed_at s r) holds in
             elim (true_or_false (lasts a r x)) [
               | inl one ↦
                   let word = word-at a is (lasts a r) s.values r x j stage.words_are (stage.words_are.opened x j ∙ fails) one fails in
@@ -120,17 +120,17 @@ module _ (s : PlainStage) (board_is : IsBoard s.board) (few : configurations s.b
           filed_are = stage.filed_are;
         };
         due = λ x h.
-            let among : 0 < times x (filter (dominated a) (filed_at s r)) = subst (λ (xs : List ℕ). 0 < times x xs) todo_are h in
-            let fewer = times-filter-le (dominated a) x (filed_at s r) in
+            let among : 0 < times x (filter (is_dominated a) (filed_at s r)) = subst (λ (xs : List ℕ). 0 < times x xs) todo_are h in
+            let fewer = times-filter-le (is_dominated a) x (filed_at s r) in
             let some : 0 < times x (filed_at s r) = omega arith in
             let word = filed-lasts (lasts a r) r x stage.words_are stage.filed_are (omega arith) some in
-            record { is_rank = stage.filed_are.below r x some; lasting = word.0; stopping = word.1; has_dominator = times-filter-true (dominated a) x (filed_at s r) among };
-        once = λ x. let all = ap (times x) todo_are in let fewer = times-filter-le (dominated a) x (filed_at s r) in let one = filed-few s r x stage.filed_are in omega arith;
+            record { is_rank = stage.filed_are.below r x some; lasting = word.0; stopping = word.1; has_dominator = times-filter-true (is_dominated a) x (filed_at s r) among };
+        once = λ x. let all = ap (times x) todo_are in let fewer = times-filter-le (is_dominated a) x (filed_at s r) in let one = filed-few s r x stage.filed_are in omega arith;
       }
 
   pub round-ends : (k : IsStriking s []) → IsStage (lasts a (suc k.round)) s
   round-ends k =
-      let alike : (x : ℕ) → x < a.configurations → dominated a x ≡ true → is_unstruck a k.round [] x ≡ lasts a (suc k.round) x = λ x j holds. sym (unstruck-none a k.round x) in
+      let alike : (x : ℕ) → x < a.configurations → is_dominated a x ≡ true → is_unstruck a k.round [] x ≡ lasts a (suc k.round) x = λ x j holds. sym (unstruck-none a k.round x) in
       record {
         counts_are = counted-alike a is (is_unstruck a k.round []) (lasts a (suc k.round)) s.counts alike k.stage.counts_are;
         words_are = words-alike a is (is_unstruck a k.round []) (lasts a (suc k.round)) s.values alike k.stage.words_are;
@@ -154,7 +154,7 @@ module _ (s : PlainStage) (board_is : IsBoard s.board) (few : configurations s.b
   some_in [] d = absurd (d refl)
   some_in (x ∷ xs) d = (x, times-here x x xs refl)
 
-  -- a round that files something leaves fewer that last
+  -- after a round that files configurations fewer last
   pub round-further : (r : ℕ) → r < configurations s.board → count_below (configurations s.board) (lasts a r) + r ≤ configurations s.board → IsStage (lasts a (suc r)) s → length (filed_at s (suc r)) ≢ 0
       → (0 < count_below (configurations s.board) (lasts a (suc r))) × (count_below (configurations s.board) (lasts a (suc r)) + suc r ≤ configurations s.board)
   round-further r i bound stage filed =
@@ -178,10 +178,10 @@ module _ (s : PlainStage) (board_is : IsBoard s.board) (few : configurations s.b
 not_true : false ≡ true → ⊥
 not_true e = cc
 
-filed-turned : (s : PlainStage) → IsFiled s → IsFiled (turned s)
+filed-turned : (s : PlainStage) → IsFiled s → IsFiled (at_next_value s)
 filed-turned s f = record { values_length = f.values_length; lists_length = f.lists_length; below = f.below; once = f.once }
 
-pub start-state : (s : PlainStage) → IsBoard s.board → configurations s.board ≤ MAX_CONFIGURATIONS → 0 < configurations s.board → IsOpened s → IsState (turned s) 0 false
+pub start-state : (s : PlainStage) → IsBoard s.board → configurations s.board ≤ MAX_CONFIGURATIONS → 0 < configurations s.board → IsOpened s → IsState (at_next_value s) 0 false
 start-state s is_board few some opened = record {
   is_board = is_board;
   few = few;
@@ -209,7 +209,7 @@ module _ (s : PlainStage) (round : ℕ) (is_done : Bool) (st : IsState s round i
   pub round-below : round < configurations b
   round-below = let some = st.some in let bound = st.bound in omega arith
 
-  -- what is open lasts longer than the rounds
+  -- an open configuration lasts more requests than the rounds
   pub open-lasts : (x : ℕ) → x < configurations b → is_open s.values x ≡ true → lasts arena (suc round) x ≡ true
   open-lasts x i e = lasts-at-most arena is-arena (suc round) (suc (struck_rounds is_done round)) x i (later is_done) (sym (st.stage.words_are.opened x i) ∙ e)
     where
@@ -217,7 +217,7 @@ module _ (s : PlainStage) (round : ℕ) (is_done : Bool) (st : IsState s round i
       later true = omega arith
       later false = omega arith
 
-  -- what lasts longer than the rounds is open
+  -- a configuration that lasts more requests than the rounds is open
   pub lasts-open : (x : ℕ) → x < configurations b → lasts arena (suc round) x ≡ true → is_open s.values x ≡ true
   lasts-open x i e = st.stage.words_are.opened x i ∙ by is_done refl
     where
@@ -225,7 +225,7 @@ module _ (s : PlainStage) (round : ℕ) (is_done : Bool) (st : IsState s round i
       by true done = ap (λ d. lasts arena (suc (struck_rounds d round)) x) done ∙ (st.last done).lasting x i e
       by false going = ap (λ d. lasts arena (suc (struck_rounds d round)) x) going ∙ e
 
-  -- a word is a value of at most the number of rounds
+  -- the word of a configuration that isn't open is at most the number of rounds
   pub word-few : (x : ℕ) → x < configurations b → is_open s.values x ≡ false → slice_index s.values x ≤ round
   word-few x i shut = elim (cases_lt round (slice_index s.values x)) [
     | inr most ↦ most
@@ -235,7 +235,7 @@ module _ (s : PlainStage) (round : ℕ) (is_done : Bool) (st : IsState s round i
   pub word-value : (x : ℕ) → x < configurations b → is_open s.values x ≡ false → HasValue b (configuration_at b x) (Finite (slice_index s.values x))
   word-value x i shut = value_of_lasts b st.is_board (slice_index s.values x) x i (st.stage.words_are.lasting x i shut) (st.stage.words_are.stopping x i shut)
 
-  -- a value of at most the number of rounds is the word
+  -- a configuration with a value of at most the number of rounds has it as its word
   pub value-word : (j x : ℕ) → x < configurations b → j ≤ round → HasValue b (configuration_at b x) (Finite j) → (is_open s.values x ≡ false) × (slice_index s.values x ≡ j)
   value-word j x i most value =
       let last = lasts_of_value b st.is_board j x i value in
@@ -269,7 +269,7 @@ module _ (s : PlainStage) (round : ℕ) (is_done : Bool) (st : IsState s round i
         filed-there s v x st.stage.filed_are (omega arith) i word.1,
   )
 
-  -- the members that wait, as callers see them
+  -- the list of a gap has its open members
   pub source-shown : (g : ℕ) → g < gaps b → get_or (first_lists (gaps b) (open_members arena s.values)) g [] ≡ open_members arena s.values g
   source-shown g i = get_or-map-range_with_len (open_members arena s.values) 0 (gaps b) g g [] i (omega arith)
 
@@ -277,7 +277,7 @@ module _ (s : PlainStage) (round : ℕ) (is_done : Bool) (st : IsState s round i
   cond_some c d e f = rw (e, f) (omega arith)
 
   abbrev shown : Solving
-  shown = record { board = b; rounds = round; is_done = is_done; buckets = s.buckets; sources = first_lists (gaps b) (open_members arena s.values); due = due_now s }
+  shown = record { board = b; rounds = round; is_done = is_done; buckets = s.buckets; sources = first_lists (gaps b) (open_members arena s.values); due = due_strikes s }
 
   open-members : AreOpenMembers shown
   open-members = record {
@@ -302,12 +302,12 @@ module _ (s : PlainStage) (round : ℕ) (is_done : Bool) (st : IsState s round i
     ascending = λ g i. rw (source-shown g i) (members-ascend b st.is_board (is_open s.values) g 0 arena.places);
   }
 
-  due-is : due_now s ≡ filter (dominated arena) (filed_at s round)
-  due-is = ap (λ v. filter (dominated arena) (filed_at s v)) (let at = st.value_is in omega arith)
+  due-is : due_strikes s ≡ filter (is_dominated arena) (filed_at s round)
+  due-is = ap (λ v. filter (is_dominated arena) (filed_at s v)) (let at = st.value_is in omega arith)
 
-  -- what a round strikes, by any test of what has a dominator
-  pub to-strike : (ranks : List ℕ) → ranks ≡ due_now s → AreToStrike shown ranks
-  to-strike ranks is = λ test tells. is ∙ due-is ∙ same-filter (dominated arena) test (filed_at s round) (λ x h. tells-dominated b test tells x (st.stage.filed_are.below round x h))
+  -- the list to strike is the bucket, filtered by any test that says whether a configuration has a dominator
+  pub to-strike : (ranks : List ℕ) → ranks ≡ due_strikes s → AreToStrike shown ranks
+  to-strike ranks is = λ test tells. is ∙ due-is ∙ same-filter (is_dominated arena) test (filed_at s round) (λ x h. tells-dominated b test tells x (st.stage.filed_are.below round x h))
 
   pub solving_of : IsSolving shown
   solving_of = record {
@@ -321,7 +321,7 @@ module _ (s : PlainStage) (round : ℕ) (is_done : Bool) (st : IsState s round i
       ascending = st.ascending;
     };
     sources = open-members;
-    due = to-strike (due_now s) refl;
+    due = to-strike (due_strikes s) refl;
     forever = λ done x i tree. forever-of done x i (lasts_of_tree b st.is_board (suc round) x i tree);
   }
 
@@ -338,7 +338,7 @@ module _ (s : PlainStage) (round : ℕ) (is_done : Bool) (st : IsState s round i
     λ has. some ∙ ap Some (word_is ∙ (value-word v x i has.0 has.1).1),
   )
 
-  -- the word of a configuration stands for its value
+  -- the word of a configuration says its value
   pub value-read : (x : ℕ) → x < configurations b → (o : Option ℕ) → o ≡ value_of_word (slice_index s.values x)
       → (v : ℕ) → (o ≡ Some v) ↔ ((v ≤ round) × HasValue b (configuration_at b x) (Finite v))
   value-read x i o is v =
@@ -354,7 +354,7 @@ module _ (s : PlainStage) (round : ℕ) (is_done : Bool) (st : IsState s round i
 
   pub counts-before : (g : ℕ) → g < gaps b → is_done ≡ false → HasSize (AnswerLasts b g round) (slice_index s.counts g)
   counts-before g i going =
-      subst (HasSize (AnswerLasts b g round)) (sym (st.stage.counts_are.counted g i ∙ ap (λ d. live arena (lasts arena (struck_rounds d round)) g) going))
+      subst (HasSize (AnswerLasts b g round)) (sym (st.stage.counts_are.counted g i ∙ ap (λ d. live_answers arena (lasts arena (struck_rounds d round)) g) going))
       (above-size b st.is_board round g i)
 
   pub first-counts : is_done ≡ false → AreFirstCounts shown s.counts
@@ -362,7 +362,7 @@ module _ (s : PlainStage) (round : ℕ) (is_done : Bool) (st : IsState s round i
 
   pub counts-after : (g : ℕ) → g < gaps b → is_done ≡ true → HasSize (AnswerForever b g) (slice_index s.counts g)
   counts-after g i done =
-      subst (HasSize (AnswerForever b g)) (sym (st.stage.counts_are.counted g i ∙ ap (λ d. live arena (lasts arena (struck_rounds d round)) g) done))
+      subst (HasSize (AnswerForever b g)) (sym (st.stage.counts_are.counted g i ∙ ap (λ d. live_answers arena (lasts arena (struck_rounds d round)) g) done))
       (live-size b g (lasts arena (suc round)) (λ v. HasValue b (member_of b g v) Forever) i (λ v j.
       let low = is-arena.member_in g v i j in (
         λ e. subst (λ c. HasValue b c Forever) (at_member b g v i j) (forever-of done (rank_of b (member_of b g v)) low e),
@@ -378,11 +378,11 @@ module _ (s : PlainStage) (round : ℕ) (is_done : Bool) (st : IsState s round i
 
   -- ---- a round, from the state before it
 
-  pub to-begin : is_done ≡ false → IsStriking s (due_now s)
-  to-begin going = round-starts s st.is_board st.few round round-below st.value_is (due_now s) due-is
+  pub to-begin : is_done ≡ false → IsStriking s (due_strikes s)
+  to-begin going = round-starts s st.is_board st.few round round-below st.value_is (due_strikes s) due-is
       (subst (λ d. IsStage (lasts arena (struck_rounds d round)) s) going st.stage)
 
-  -- the same, where nothing is to be struck again
+  -- before a round nothing of its value is struck
   pub unstruck-of : is_done ≡ false → IsUnstruck s
   unstruck-of going = record {
     round = round;
@@ -433,14 +433,15 @@ module _ (s : PlainStage) (round : ℕ) (is_done : Bool) (st : IsState s round i
     further some = round-further s' board' few' round below' (subst (λ p. count_below (configurations p) (lasts (arena_of p) round) + round ≤ configurations p) (sym kept.board_is) st.bound) after
         (λ none. some (ap (λ v. length (filed_at s' v)) value_is ∙ none))
 
-    -- there is room for one more value
+    -- the next value is below the number of configurations
     pub next-below : length (filed_at s' s'.value) ≢ 0 → s'.value < configurations s'.board
     next-below some = let more = further some in let one = more.0 in let all = more.1 in let at = value_is in omega arith
 
     pub size-below : length (filed_at s' s'.value) ≢ 0 → suc round < configurations s.board
     size-below some = subst (λ p. suc round < configurations p) kept.board_is (let low = next-below some in let at = value_is in omega arith)
 
-    pub further-state : is_done ≡ false → length (filed_at s' s'.value) ≢ 0 → IsState (turned s') (suc round) false
+    pub further-state : is_done ≡ false → length (filed_at s' s'.value) ≢ 0
+        → IsState (at_next_value s') (suc round) false
     further-state going some =
         let more = further some in record {
           is_board = board';

@@ -1,4 +1,4 @@
--- How many configurations have a value, by the lists of the values.
+-- The number of configurations of each value, by the lists of the values.
 use Rattle.std.proofs.Common.{◌≡◌, ◌≢◌, ℕ, ◌+◌, ◌<◌, ◌≤◌, ◌==◌, ◌++◌, not, nat_lt, inl, inr, Bool, true, false, cond, zero, suc, refl, take, arith, sym, ap, ◌∙◌, subst, List, [], ◌∷◌, length, get_or, slice_index, Some, None}
 use Rattle.std.proofs.Math.ListN.{get_or-append}
 use Rattle.std.proofs.Math.Seq.{get_or-append_seam}
@@ -20,7 +20,7 @@ use Rattle.positions.proofs.Cited.{same_value}
 use Rattle.solver.specs.Inside.Arena.{count_below}
 use Rattle.solver.specs.Sizes.{HasCount, IsGreatest}
 use Rattle.solver.specs.Inside.Sizes.{AreSizes, AreValueSizes}
-use Rattle.solver.specs.Inside.Stage.{PlainStage, filed_at, turned, IsFiled, IsKept, IsState}
+use Rattle.solver.specs.Inside.Stage.{PlainStage, filed_at, at_next_value, IsFiled, IsKept, IsState}
 use Rattle.solver.specs.Inside.Tables.{is_open, AreValues}
 use Rattle.solver.proofs.Counts.{some_below, count_below-none, count_below-same, count_below-some, count_below-without}
 use Rattle.solver.proofs.EnteredAnswers.{count-same}
@@ -53,7 +53,7 @@ filed-size s v are low =
 
 -- ---- the lengths, round by round
 
-pub sizes-start : (s : PlainStage) (capacity size : ℕ) (sizes : List ℕ) → sizes ≡ [] ++ size ∷ [] → s.value ≡ 0 → size ≡ length (filed_at s s.value) → configurations s.board ≤ capacity → AreSizes (turned s) 0 capacity sizes
+pub sizes-start : (s : PlainStage) (capacity size : ℕ) (sizes : List ℕ) → sizes ≡ [] ++ size ∷ [] → s.value ≡ 0 → size ≡ length (filed_at s s.value) → configurations s.board ≤ capacity → AreSizes (at_next_value s) 0 capacity sizes
 sizes-start s capacity size sizes sizes_is value_is size_is room = rw sizes_is (record {
   sized = refl;
   lengths = λ v h. (let none : v ≡ 0 = omega arith in rw none (size_is ∙ ap (λ u. length (filed_at s u)) value_is));
@@ -70,7 +70,7 @@ sizes-kept s s' round capacity sizes value_is kept are = record {
 }
 
 pub sizes-more : (s s' : PlainStage) (round capacity capacity' size : ℕ) (sizes sizes' : List ℕ) → s.value ≡ suc round → IsKept s s' → sizes' ≡ sizes ++ size ∷ [] → size ≡ length (filed_at s' s'.value) → size ≢ 0 → capacity' ≡ capacity
-    → AreSizes s round capacity sizes → AreSizes (turned s') (suc round) capacity' sizes'
+    → AreSizes s round capacity sizes → AreSizes (at_next_value s') (suc round) capacity' sizes'
 sizes-more s s' round capacity capacity' size sizes sizes' value_is kept sizes_is size_is filed capacity_is are = record {
   sized = ap length sizes_is ∙ length-append sizes (size ∷ []) ∙ (let sized = are.sized in omega arith);
   lengths = λ v h. elim (cases_lt v (suc round)) [
@@ -113,7 +113,7 @@ counts-are s round capacity is_done sizes st are =
 
 -- ---- all configurations, by their words
 
--- numbers that pass one of two tests, no one both
+-- if h passes a number exactly if f or g does, and never both do, the counts of f and g add up to that of h
 both_tests : (n : ℕ) (f g h : ℕ → Bool) → ((x : ℕ) → x < n → cond {A = ℕ} (f x) 1 0 + cond (g x) 1 0 ≡ cond (h x) 1 0) → count_below n f + count_below n g ≡ count_below n h
 both_tests zero f g h parts = refl
 both_tests (suc n) f g h parts =
@@ -128,7 +128,7 @@ all_pass (suc n) = let rest = all_pass n in omega (arith, rest)
 less_or_same : (w v : ℕ) → cond {A = ℕ} (nat_lt w v) 1 0 + cond (w == v) 1 0 ≡ cond (nat_lt w (v + 1)) 1 0
 less_or_same w v = grind (arith, nat_tests)
 
--- the first sizes add up to how many words are less than their number
+-- the first sizes add up to the number of words below their number
 first-sizes : (n forever : ℕ) (values sizes : List ℕ) → AreValueSizes n values sizes forever → (v : ℕ) → v ≤ length sizes → sum (take v sizes) ≡ count_below n (λ x. nat_lt (slice_index values x) v)
 first-sizes n forever values sizes counts zero low = sym (count_below-none n (λ x. nat_lt (slice_index values x) 0) (λ x i. never (slice_index values x)))
   where
@@ -143,7 +143,7 @@ first-sizes n forever values sizes counts (suc v) low =
     ∙ both_tests n (λ x. nat_lt (slice_index values x) v) (λ x. slice_index values x == v) (λ x. nat_lt (slice_index values x) (v + 1)) (λ x i. less_or_same (slice_index values x) v)
     ∙ ap (λ m. count_below n (λ x. nat_lt (slice_index values x) m)) (sym next)
 
--- all sizes and what is worth forever
+-- all sizes and the number of open configurations add up to the number of configurations
 pub all-sizes : (n forever : ℕ) (values sizes : List ℕ) → n ≤ MAX_CONFIGURATIONS → AreValueSizes n values sizes forever → sum sizes + forever ≡ n
 all-sizes n forever values sizes few counts =
     let k : ℕ = length sizes in
@@ -163,7 +163,7 @@ all-sizes n forever values sizes few counts =
     less : (w k : ℕ) (still : Bool) → w < k → still ≡ false → cond {A = ℕ} (nat_lt w k) 1 0 + cond still 1 0 ≡ 1
     less w k still h e = grind (arith, nat_tests)
 
--- ---- what they say of values
+-- ---- sizes of values in the game
 
 finite_same : (j k : ℕ) → Finite j ≡ Finite k → j ≡ k
 finite_same j k e = cc
@@ -175,7 +175,7 @@ is_same : (m n : ℕ) → m == n ≡ true → m ≡ n
 is_same m n e = grind (arith, nat_tests)
 
 module _ (b : PlainBoard) (values sizes : List ℕ) (forever : ℕ) (few : configurations b ≤ MAX_CONFIGURATIONS) (are : AreValues b values) (counts : AreValueSizes (configurations b) values sizes forever) where
-  -- a finite value is the word
+  -- a configuration with a finite value has it as its word
   finite-word : (v x : ℕ) → x < configurations b → HasValue b (configuration_at b x) (Finite v) → (is_open values x ≡ false) × (slice_index values x ≡ v)
   finite-word v x i value = elim (true_or_false (is_open values x)) [
     | inl still ↦ absurd (finite_not_forever v (same_value b (configuration_at b x) (Finite v) Forever value (are.forever x i still)))
@@ -216,7 +216,7 @@ module _ (b : PlainBoard) (values sizes : List ℕ) (forever : ℕ) (few : confi
         λ passes. (passes.0, are.forever x passes.0 passes.1),
       )))
 
-  -- where a value occurs, its count isn't 0
+  -- the count of a value that occurs isn't 0
   occurs-size : (v : ℕ) → Occurs b v → (v < length sizes) × (0 < slice_index sizes v)
   occurs-size v (configuration, is, value) =
       let x = rank_of b configuration in

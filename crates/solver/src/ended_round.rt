@@ -7,7 +7,7 @@ ghost use Rattle.positions.specs.Gaps.{gaps};
 ghost use Rattle.solver.specs.Ending.{IsRoundEnd};
 ghost use Rattle.solver.specs.Inside.Tables.{is_open};
 ghost use Rattle.solver.specs.Inside.Stored.{IsSmall};
-ghost use Rattle.solver.specs.Inside.Stage.{counting, as_solving, IsFiled, IsKept, IsStriking, IsUnstruck, FilesAll, TakesCounts};
+ghost use Rattle.solver.specs.Inside.Stage.{with_counts, as_solving, IsFiled, IsKept, IsStriking, IsUnstruck, FilesAll, TakesCounts};
 
 use crate::end::RoundEnd;
 use crate::stage::Stage;
@@ -54,7 +54,7 @@ impl<S: ListStore> Stage<S> {
     /// Sets the count of `gap` to `count`.
     fn set_count(&mut self, gap: u32, count: u32)
         requires { gap < gaps self.old.board }
-        ensures { self.new ≡ counting self.old (slice_set self.old.counts gap count) }
+        ensures { self.new ≡ with_counts self.old (slice_set self.old.counts gap count) }
     {
         self.counts[gap as usize] = count;
     }

@@ -3,7 +3,8 @@
 ghost use Rattle.std.specs.Prelude.{false, [], ◌<◌};
 ghost use Rattle.solver.specs.Ending.{IsRoundEnd};
 ghost use Rattle.solver.specs.Solving.{Solving};
-ghost use Rattle.solver.specs.Inside.Stage.{as_solving, due_now, IsKept, IsStriking, IsUnstruck};
+ghost use Rattle.solver.specs.Inside.Stage.{as_solving, due_strikes, IsKept, IsStriking};
+ghost use Rattle.solver.specs.Inside.Stage.{IsUnstruck};
 
 use crate::end::RoundEnd;
 use crate::stage::Stage;
@@ -17,7 +18,7 @@ pub(crate) trait NextValue {
     /// Files the configurations of the next value: all is struck then.
     fn file<S: ListStore>(&self, stage: &mut Stage<S>)
         requires round { 0 < stage.old.value }
-        requires striking { IsStriking stage.old (due_now stage.old) }
+        requires striking { IsStriking stage.old (due_strikes stage.old) }
         requires unstruck { IsUnstruck stage.old }
         requires serves { serves self.now (as_solving stage.old false) }
         ensures struck { IsStriking stage.new [] }

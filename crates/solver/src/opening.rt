@@ -6,7 +6,7 @@ ghost use Rattle.positions.specs.Ranks.{configurations};
 ghost use Rattle.positions.specs.Gaps.{gaps};
 ghost use Rattle.solver.specs.Inside.Arena.{lasts};
 ghost use Rattle.solver.specs.Inside.BoardArena.{arena_of};
-ghost use Rattle.solver.specs.Inside.Opening.{IsRun, AreStopping, IsWritten};
+ghost use Rattle.solver.specs.Inside.Opening.{AreAdjacent, AreZeroed, IsWritten};
 ghost use Rattle.solver.specs.Inside.Tables.{IsCounted, AreFirstWords};
 ghost use Rattle.solver.specs.Inside.Stage.{IsUnlisted, IsOpened};
 
@@ -72,52 +72,52 @@ fn first_words(alloc: Global, space: &Space, counts: &[u32]) -> Result<Vec<u32>,
     let gaps = space.gaps();
     let mut gap = 0;
     while gap < gaps {
-        let run = space.run(gap);
-        stop_run(
+        let adjacent = space.adjacent_gaps(gap);
+        zero_unanswered(
             &mut words,
             space,
             gap,
-            &counts[gap as usize..(gap + run) as usize],
+            &counts[gap as usize..(gap + adjacent) as usize],
         );
-        gap += run;
+        gap += adjacent;
     }
     Ok(words)
 }
 
 /// Writes 0 as the word of each member of the gaps, from `gap` on, that have the count 0 in
 /// `counts`.
-fn stop_run(words: &mut [u32], space: &Space, gap: u32, counts: &[u32])
+fn zero_unanswered(words: &mut [u32], space: &Space, gap: u32, counts: &[u32])
     requires gap { gap < gaps space.now }
-    requires run { IsRun (arena_of space.now) gap (length counts.now) }
+    requires adjacent { AreAdjacent (arena_of space.now) gap (length counts.now) }
     requires words { length words.old ≡ configurations space.now }
-    ensures { AreStopping (arena_of space.now) gap counts.now (places space.now) words.old words.new }
+    ensures { AreZeroed (arena_of space.now) gap counts.now (places space.now) words.old words.new }
 {
     if !counts.contains(&0) {
         return;
     }
     let members = space.members(gap);
     for place in 0..space.places() {
-        stop(words, members.rank(place) as usize, counts);
+        zero_words(words, members.rank(place) as usize, counts);
     }
 }
 
-/// Writes 0 in `words`, from `first` on, at each place whose count is 0.
-fn stop(words: &mut [u32], first: usize, counts: &[u32])
+/// Writes 0 in `words`, from `first` on, at each index whose count is 0.
+fn zero_words(words: &mut [u32], first: usize, counts: &[u32])
     requires { first + length counts.now ≤ length words.old }
     ensures { IsWritten first counts.now (length counts.now) words.old words.new }
 {
     // The gaps of the last pebble are runs of one gap each: for those there is no loop.
     if counts.len() == 1 {
-        words[first] = stopped(counts[0], words[first]);
+        words[first] = zeroed_word(counts[0], words[first]);
         return;
     }
-    for place in 0..counts.len() {
-        words[first + place] = stopped(counts[place], words[first + place]);
+    for index in 0..counts.len() {
+        words[first + index] = zeroed_word(counts[index], words[first + index]);
     }
 }
 
 /// 0 if the gap has no answers, else the word unchanged.
-fn stopped(count: u32, word: u32) -> u32
+fn zeroed_word(count: u32, word: u32) -> u32
     ensures { result ≡ (if count == 0 then 0 else word) }
 {
     if count == 0 { 0 } else { word }

@@ -1,4 +1,6 @@
-/// The outcome of a round.
+//! The outcome of a round.
+
+/// Whether a round filed configurations.
 #[derive(Clone, Copy, Debug, PartialEq, Eq)]
 pub enum Progress {
     /// It filed this number of configurations, all that have the next value.

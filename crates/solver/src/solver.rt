@@ -80,7 +80,7 @@ impl<S: ListStore + Drop> Solver<S> {
         let mut sizes = Vec::with_capacity(alloc, space.configurations() as usize)?;
         let mut stage = Stage::<S>::open(alloc, space, board)?;
         sizes.push_reserved(stage.filed());
-        stage.turn();
+        stage.begin_next_value();
         Ok(Solver {
             stage,
             sizes,
@@ -135,7 +135,7 @@ impl<S: ListStore> Solver<S> {
             self.done = true;
             return Progress::Done;
         }
-        self.stage.turn();
+        self.stage.begin_next_value();
         self.sizes.push_reserved(filed);
         Progress::Filed(filed)
     }
@@ -221,9 +221,9 @@ impl<S: ListStore> Solver<S> {
     /// filed has none.
     pub fn next_filed(&self, rank: u32) -> Option<u32>
         requires { rank < configurations self.now.board }
-        ensures behind { (value : ℕ) → (place : ℕ) → slice_get (bucket self.now value) place ≡ Some rank
-            → result ≡ slice_get (bucket self.now value) (place + 1) }
-        ensures not_filed { ((value : ℕ) → (place : ℕ) → slice_get (bucket self.now value) place ≡ Some rank → ⊥) → result ≡ None }
+        ensures behind { (value : ℕ) → (index : ℕ) → slice_get (bucket self.now value) index ≡ Some rank
+            → result ≡ slice_get (bucket self.now value) (index + 1) }
+        ensures not_filed { ((value : ℕ) → (index : ℕ) → slice_get (bucket self.now value) index ≡ Some rank → ⊥) → result ≡ None }
     {
         self.stage.next_filed(rank)
     }
@@ -260,9 +260,9 @@ impl<S: ListStore> Solver<S> {
     pub fn next_source(&self, gap: u32, rank: u32) -> Option<u32>
         requires gap { gap < gaps self.now.board }
         requires rank { rank < configurations self.now.board }
-        ensures behind { (place : ℕ) → slice_get (source self.now gap) place ≡ Some rank
-            → result ≡ slice_get (source self.now gap) (place + 1) }
-        ensures not_listed { ((place : ℕ) → slice_get (source self.now gap) place ≡ Some rank → ⊥) → result ≡ None }
+        ensures behind { (index : ℕ) → slice_get (source self.now gap) index ≡ Some rank
+            → result ≡ slice_get (source self.now gap) (index + 1) }
+        ensures not_listed { ((index : ℕ) → slice_get (source self.now gap) index ≡ Some rank → ⊥) → result ≡ None }
     {
         let mut members = self.stage.sources(gap);
         while let Some(member) = members.take_next() {

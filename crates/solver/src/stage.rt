@@ -5,10 +5,10 @@ ghost use Rattle.index_lists.specs.Lists.{times};
 ghost use Rattle.board_text.specs.PlainBoard.{places};
 ghost use Rattle.positions.specs.Ranks.{configurations};
 ghost use Rattle.positions.specs.Gaps.{gaps};
-ghost use Rattle.solver.specs.Inside.Arena.{dominated};
+ghost use Rattle.solver.specs.Inside.Arena.{is_dominated};
 ghost use Rattle.solver.specs.Inside.BoardArena.{arena_of};
 ghost use Rattle.solver.specs.Inside.Tables.{is_open};
-ghost use Rattle.solver.specs.Inside.Stage.{PlainStage, filed_at, due_now, listed, filed, turned, taken, IsFiled, IsKept, Closes, IsStriking};
+ghost use Rattle.solver.specs.Inside.Stage.{PlainStage, filed_at, due_strikes, rank_listed, rank_filed, at_next_value, strikes_copied, IsFiled, IsKept, Closes, IsStriking};
 
 use crate::word::OPEN;
 use index_lists::ListStore;
@@ -59,7 +59,7 @@ impl<S: ListStore> Stage<S> {
     pub(crate) fn list(&mut self, rank: u32)
         requires rank_in { rank < configurations self.old.board }
         requires free { (v : ℕ) → times rank (filed_at self.old v) ≡ 0 }
-        ensures { self.new ≡ listed self.old rank }
+        ensures { self.new ≡ rank_listed self.old rank }
     {
         self.buckets.push_back(self.value, rank);
     }
@@ -69,7 +69,7 @@ impl<S: ListStore> Stage<S> {
         requires rank_in { rank < configurations self.old.board }
         requires filed { IsFiled self.old }
         requires was_open { is_open self.old.values rank ≡ true }
-        ensures { self.new ≡ filed self.old rank }
+        ensures { self.new ≡ rank_filed self.old rank }
     {
         self.values[rank as usize] = self.value;
         self.list(rank);
@@ -110,7 +110,7 @@ impl<S: ListStore> Stage<S> {
     /// Strikes the configurations that are filed at the value before and have a dominator.
     pub(crate) fn strike_all(&mut self)
         requires round { 0 < self.old.value }
-        requires striking { IsStriking self.old (due_now self.old) }
+        requires striking { IsStriking self.old (due_strikes self.old) }
         ensures struck { IsStriking self.new [] }
         ensures kept { IsKept self.old self.new }
     {
@@ -121,7 +121,7 @@ impl<S: ListStore> Stage<S> {
     /// Copies the ranks that are filed at the value before into `strikes`.
     fn take_bucket(&mut self)
         requires { 0 < self.old.value }
-        ensures { self.new ≡ taken self.old }
+        ensures { self.new ≡ strikes_copied self.old }
     {
         self.strikes.clear();
         self.buckets.append_list(self.value - 1, &mut self.strikes);
@@ -130,12 +130,12 @@ impl<S: ListStore> Stage<S> {
     /// Strikes those of the ranks in `strikes` that have a dominator.
     fn strike_taken(&mut self)
         requires ranks { (rank : ℕ) → 0 < times rank self.old.strikes → rank < configurations self.old.board }
-        requires striking { IsStriking self.old (filter (dominated (arena_of self.old.board)) self.old.strikes) }
+        requires striking { IsStriking self.old (filter (is_dominated (arena_of self.old.board)) self.old.strikes) }
         ensures struck { IsStriking self.new [] }
         ensures kept { IsKept self.old self.new }
     {
-        for place in 0..self.strikes.len() {
-            let rank = self.strikes[place];
+        for index in 0..self.strikes.len() {
+            let rank = self.strikes[index];
             if self.dominators[rank as usize] != NO_PEBBLE {
                 self.strike(rank);
             }
@@ -150,9 +150,9 @@ impl<S: ListStore> Stage<S> {
     }
 
     /// Goes on to the next value.
-    pub(crate) fn turn(&mut self)
+    pub(crate) fn begin_next_value(&mut self)
         requires { self.old.value < configurations self.old.board }
-        ensures { self.new ≡ turned self.old }
+        ensures { self.new ≡ at_next_value self.old }
     {
         self.value += 1;
     }

@@ -5,10 +5,10 @@ ghost use Rattle.index_lists.specs.Lists.{times};
 ghost use Rattle.positions.specs.Ranks.{configurations, configuration_at};
 ghost use Rattle.positions.specs.Gaps.{gaps, IsDominator};
 ghost use Rattle.positions.specs.Counts.{IsSmallest};
-ghost use Rattle.solver.specs.Inside.Arena.{dominated};
+ghost use Rattle.solver.specs.Inside.Arena.{is_dominated};
 ghost use Rattle.solver.specs.Inside.BoardArena.{arena_of};
 ghost use Rattle.solver.specs.Inside.Tables.{open_members};
-ghost use Rattle.solver.specs.Inside.Stage.{filed_at, due_now};
+ghost use Rattle.solver.specs.Inside.Stage.{filed_at, due_strikes};
 
 use crate::source_walk::SourceWalk;
 use crate::stage::{NO_PEBBLE, Stage};
@@ -79,7 +79,7 @@ impl<S: ListStore> Stage<S> {
     /// dominator.
     pub(crate) fn due(&self, alloc: Global) -> Result<Vec<u32>, Memory>
         requires { 0 < self.now.value }
-        ensures { IfOk result (λ ranks. ranks.items ≡ due_now self.now) }
+        ensures { IfOk result (λ ranks. ranks.items ≡ due_strikes self.now) }
     {
         let bucket = self.value - 1;
         let mut filed = Vec::with_capacity(alloc, self.buckets.len(bucket) as usize)?;
@@ -90,7 +90,7 @@ impl<S: ListStore> Stage<S> {
     /// Those of `ranks` that have a dominator.
     fn with_dominator(&self, alloc: Global, ranks: &[u32]) -> Result<Vec<u32>, Memory>
         requires { (rank : ℕ) → 0 < times rank ranks.now → rank < configurations self.now.board }
-        ensures { IfOk result (λ found. found.items ≡ filter (dominated (arena_of self.now.board)) ranks.now) }
+        ensures { IfOk result (λ found. found.items ≡ filter (is_dominated (arena_of self.now.board)) ranks.now) }
     {
         let mut found = Vec::with_capacity(alloc, ranks.len())?;
         for rank in ranks {
@@ -115,9 +115,9 @@ impl<S: ListStore> Stage<S> {
     /// has none.
     pub(crate) fn next_filed(&self, rank: u32) -> Option<u32>
         requires { rank < configurations self.now.board }
-        ensures behind { (value : ℕ) → (place : ℕ) → slice_get (filed_at self.now value) place ≡ Some rank
-            → result ≡ slice_get (filed_at self.now value) (place + 1) }
-        ensures not_filed { ((value : ℕ) → (place : ℕ) → slice_get (filed_at self.now value) place ≡ Some rank → ⊥) → result ≡ None }
+        ensures behind { (value : ℕ) → (index : ℕ) → slice_get (filed_at self.now value) index ≡ Some rank
+            → result ≡ slice_get (filed_at self.now value) (index + 1) }
+        ensures not_filed { ((value : ℕ) → (index : ℕ) → slice_get (filed_at self.now value) index ≡ Some rank → ⊥) → result ≡ None }
     {
         self.buckets.next(rank)
     }

@@ -13,7 +13,7 @@ use Rattle.std.proofs.lemmas.Map.Steps.{length-le_from_distinct_below}
 use Rattle.std.proofs.lemmas.Map.Views.{Contains-from_any}
 use Rattle.strategies.specs.Inside.ReachedRanks.{IsWith, IsWithAll}
 
--- there are no more than numbers below a bound, where none is there twice
+-- a list without repetitions of numbers below a bound is no longer than the bound
 pub few_apart : (ranks : List ℕ) (bound : ℕ) → AllPairs (λ first second. first ≢ second) ranks
     → ((rank : ℕ) → Contains ranks rank → rank < bound) → length ranks ≤ bound
 few_apart ranks bound apart below =
@@ -25,7 +25,7 @@ contains_or_not xs x =
     let tells = is_member-Decides {eq = eqb} Decides-eqb xs x in
     elim (cases_Bool (is_member eqb xs x)) [ inl is ↦ inl (tells.0 is) | inr not ↦ inr (not_from_Decides (is_member eqb xs x) tells not) ]
 
--- what is to be added is there
+-- if all ranks of which the fact holds are in the list, none is added
 pub added_known : (ranks : List ℕ) (P : ℕ → Type 0) → ((rank : ℕ) → P rank → Contains ranks rank) → IsWithAll ranks P ranks
 added_known ranks P there = record {
   each = λ rank. (λ among. inl among, λ either. elim either [ inl among ↦ among | inr holds ↦ there rank holds ]);
@@ -57,7 +57,7 @@ added_same ranks more P Q same added = record {
   behind = added.behind;
 }
 
--- ---- what facts of numbers below a bound hold of
+-- ---- facts of some number below a bound
 
 abbrev pub Below : (ℕ → ℕ → Type 0) → ℕ → ℕ → Type 0
 Below P bound rank = (number : ℕ) × (number < bound) × P number rank
@@ -90,7 +90,7 @@ added_more ranks some more P bound first second = record {
   );
 }
 
--- no number from one bound to another has it
+-- if P holds at no number from one bound to another, both bounds give the same ranks
 pub below_same : (P : ℕ → ℕ → Type 0) (bound more rank : ℕ) → bound ≤ more → ((number : ℕ) → bound ≤ number → number < more → ¬ P number rank)
     → Below P bound rank ↔ Below P more rank
 below_same P bound more rank enough none = (
@@ -98,6 +98,6 @@ below_same P bound more rank enough none = (
   λ is. elim (cases_lt is.0 bound) [ inl early ↦ (is.0, early, is.2) | inr late ↦ absurd (none is.0 late is.1 is.2) ],
 )
 
--- each number that has it is below the bound
+-- if P holds only at numbers below the bound, the bound may be left out
 pub below_all : (P : ℕ → ℕ → Type 0) (bound rank : ℕ) → ((number : ℕ) → P number rank → number < bound) → Below P bound rank ↔ ((number : ℕ) × P number rank)
 below_all P bound rank all = (λ is. (is.0, is.2), λ is. (is.0, all is.0 is.1, is.1))

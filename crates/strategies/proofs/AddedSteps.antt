@@ -81,7 +81,7 @@ no_request_added board rank ranks none = added_known ranks (RequestLeads board r
 module _ (board : PlainBoard) (rank : ℕ) (is_rank : rank < configurations board) (pebble gap : ℕ)
     (best : IsBestRequest board (configuration_at board rank) pebble)
     (gap_is : gap ≡ gap_of board (configuration_at board rank) pebble) where
-  -- what it leads to is what the answers of its gap lead to
+  -- the best request leads exactly to the results of its gap's answers
   leads_is : (to : ℕ) → IsAnswerOf board gap to ↔ RequestLeads board rank to
   leads_is to = (there, back)
     where
@@ -118,7 +118,7 @@ module _ (board : PlainBoard) (rank : ℕ) (is_rank : rank < configurations boar
   pub results_added : (ranks more : List ℕ) → IsWithAll ranks (IsAnswerOf board gap) more → IsWithAll ranks (RequestLeads board rank) more
   results_added ranks more added = added_same ranks more (IsAnswerOf board gap) (RequestLeads board rank) leads_is added
 
--- a gap more is worked off
+-- the answers of one more gap have been added
 pub expanded_more : (board : PlainBoard) (expanded : List Bool) (gap : ℕ) (ranks more : List ℕ) → AreExpanded board expanded ranks → gap < gaps board
     → IsWithAll ranks (IsAnswerOf board gap) more → AreExpanded board (slice_set expanded gap true) more
 expanded_more board expanded gap ranks more are is_gap added = record {

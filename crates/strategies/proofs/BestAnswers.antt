@@ -11,20 +11,20 @@ use Rattle.strategies.specs.Best.{IsLess, HasSmallerValue, HasNoGreaterValue, Ha
 use Rattle.strategies.specs.Inside.GapBest.{IsBestFor, IsBetter}
 use Rattle.strategies.proofs.ValueOrder.{cases_value, IsLess-trans, not_above, lasts_too, one_smallest}
 
--- a label's result has a smaller value than the best one's, or the same, and then the best one isn't behind the label
+-- the best label's result has a greater value than the label's, or the same and then the best label isn't larger
 abbrev IsBehind : PlainBoard → List ℕ → ℕ → Best → ℕ → Type 0
 IsBehind board configuration pebble best label =
     (value : Value) × HasValue board (moved configuration pebble label) value
     × (IsLess value best.value ⊎ ((value ≡ best.value) × (best.label ≤ label)))
 
--- the first of the labels below a bound whose result has the greatest value
+-- the smallest of the labels below a bound whose result has the greatest value
 pub record IsBestBelow (board : PlainBoard) (configuration : List ℕ) (pebble bound : ℕ) (best : Best) : Type 0 where
   pub early : best.label < bound
   pub legal : Legal board configuration pebble best.label
   pub has : HasValue board (moved configuration pebble best.label) best.value
   pub behind : (other : ℕ) → other < bound → Legal board configuration pebble other → IsBehind board configuration pebble best other
 
--- that label, or none is legal
+-- that label, or none of the labels is legal
 abbrev pub IsFoundBelow : PlainBoard → List ℕ → ℕ → ℕ → Option Best → Type 0
 IsFoundBelow board configuration pebble bound (Some best) = IsBestBelow board configuration pebble bound best
 IsFoundBelow board configuration pebble bound None = (other : ℕ) → other < bound → ¬ Legal board configuration pebble other
@@ -37,7 +37,7 @@ better_exists (Some first) later = elim (cases_value first.value later.value) [
 ]
 
 module _ (board : PlainBoard) (configuration : List ℕ) (pebble : ℕ) where
-  -- no label is legal from one bound to another
+  -- if no label is legal from one bound to another, the best label is the same for both
   pub widen : (bound more : ℕ) (best : Option Best) → bound ≤ more
       → ((label : ℕ) → bound ≤ label → label < more → ¬ Legal board configuration pebble label)
       → IsFoundBelow board configuration pebble bound best → IsFoundBelow board configuration pebble more best
@@ -55,7 +55,7 @@ module _ (board : PlainBoard) (configuration : List ℕ) (pebble : ℕ) where
     ];
   }
 
-  -- what is below the next bound is below this one, or is this one
+  -- if no legal label below a bound or at it is better, none below the next bound is better
   below_or_last : (best : Best) (bound : ℕ) → ((other : ℕ) → other < bound → Legal board configuration pebble other
       → IsBehind board configuration pebble best other)
       → IsBehind board configuration pebble best bound → (other : ℕ) → other < bound + 1 → Legal board configuration pebble other
@@ -65,7 +65,7 @@ module _ (board : PlainBoard) (configuration : List ℕ) (pebble : ℕ) where
     | inr most ↦ let same : bound ≡ other = omega arith in subst (IsBehind board configuration pebble best) same last
   ]
 
-  -- a legal label that all legal ones before it are behind
+  -- a legal label is the best if it is better than all legal ones before it
   leads_all : (later : Best) → Legal board configuration pebble later.label
       → HasValue board (moved configuration pebble later.label) later.value
       → ((other : ℕ) → other < later.label → Legal board configuration pebble other → IsBehind board configuration pebble later other)
@@ -77,7 +77,7 @@ module _ (board : PlainBoard) (configuration : List ℕ) (pebble : ℕ) where
     behind = below_or_last later later.label before (later.value, has, inr (refl, omega arith));
   }
 
-  -- one legal label more
+  -- the best label after one more legal label
   pub next_label : (best : Option Best) (later result : Best) → IsFoundBelow board configuration pebble later.label best
       → Legal board configuration pebble later.label → HasValue board (moved configuration pebble later.label) later.value
       → IsBetter best later result → IsBestBelow board configuration pebble (later.label + 1) result
@@ -135,7 +135,7 @@ module _ (board : PlainBoard) (configuration : List ℕ) (pebble : ℕ) where
             )
       ]
 
-  -- the best of the labels below a bound is the best answer, where all legal ones from there on are behind it
+  -- the best label below a bound is the best answer if it is better than all legal ones from there on
   pub best_of_all : (bound : ℕ) (best : Best) → IsBestBelow board configuration pebble bound best
       → ((other : ℕ) → bound ≤ other → Legal board configuration pebble other → IsBehind board configuration pebble best other)
       → IsBestFor board configuration pebble (Some best)

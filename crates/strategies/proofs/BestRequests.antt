@@ -25,7 +25,7 @@ least P decided (suc fuel) n bound here =
           (found.0, omega arith, found.2, found.3)
     ]
 
--- where P holds of no smaller number, each number at which it holds is as large
+-- if P fails for all smaller numbers, the number is the smallest
 pub first_is_smallest : (P : ℕ → Type 0) (first : ℕ) → ((i : ℕ) → i < first → ¬ P i) → (other : ℕ) → P other → first ≤ other
 first_is_smallest P first before other here = elim (cases_lt other first) [
   | inl less ↦ absurd (before other less here)

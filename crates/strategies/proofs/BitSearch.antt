@@ -25,7 +25,7 @@ module _ (words : List ℕ) (number word : ℕ) (inside_words : number / 64 < le
   rest_is : rest ≡ get_or words (number / 64) 0 / 2 ^ (number % 64)
   rest_is = ap (λ (w : ℕ). w / 2 ^ (number % 64)) word_is
 
-  -- what is left of a word has the bits from the number on
+  -- the rest of a word has the bits from the number on
   bit_of_rest : (x : ℕ) → number ≤ x → x / 64 ≡ number / 64 → bit_at rest (x - number) ≡ bit_at (get_or words (x / 64) 0) (x % 64)
   bit_of_rest x above same =
       let shift : number % 64 + (x - number) ≡ x % 64 = omega arith in
@@ -34,7 +34,7 @@ module _ (words : List ℕ) (number word : ℕ) (inside_words : number / 64 < le
       ∙ ap (λ (s : ℕ). bit_at (get_or words (number / 64) 0) s) shift
       ∙ ap (λ (k : ℕ). bit_at (get_or words k 0) (x % 64)) (sym same)
 
-  -- a word of which nothing is left is passed
+  -- a word without further bits is passed over
   pub pass_word : (bound : ℕ) → rest ≡ 0 → NoneBetween words bound number → NoneBetween words bound (number + (64 - number % 64))
   pass_word bound empty none x above below set = elim (cases_lt x number) [
     | inl before ↦ none x above before set
@@ -44,7 +44,7 @@ module _ (words : List ℕ) (number word : ℕ) (inside_words : number / 64 < le
         omega (arith, bit, zero)
   ]
 
-  -- the lowest bit of what is left
+  -- the lowest bit of the rest is the next bit that is set
   lowest_bit : (bound lowest : ℕ) → get_or words (number / 64) 0 < 2 ^ 64 → bit_at rest lowest ≡ 1 → ((i : ℕ) → i < lowest → bit_at rest i ≡ 0) → NoneBetween words bound number
       → (has_bit words (number + lowest) ≡ true) × NoneBetween words bound (number + lowest)
   lowest_bit bound lowest fits one zeros none = (

@@ -25,13 +25,13 @@ use Rattle.strategies.proofs.DocumentRows.{answers_one}
 use Rattle.strategies.proofs.SpreadRanks.{get_there, AreMoves, answer_moves, request_moves}
 use Rattle.strategies.proofs.SpreadRanks.{IsSpreadBy, IsStart, spread_begins, spread_more, spread_ends}
 
--- ---- what each number below a bound leads to is added
+-- ---- the ranks that each number below a bound leads to are added
 
--- no rank is there twice
+-- no rank is in the list twice
 abbrev AreApart : List ℕ → Type 0
 AreApart ranks = AllPairs (λ first second. first ≢ second) ranks
 
--- the ranks with those of which the fact holds behind them
+-- the list with the ranks of which the fact holds added at its end
 abbrev CanAdd : List ℕ → (ℕ → Type 0) → Type 0
 CanAdd ranks P = (more : List ℕ) × IsWithAll ranks P more × AreApart more
 
@@ -68,7 +68,7 @@ add_below P (suc bound) one ranks apart =
     let next : bound + 1 ≡ suc bound = omega arith in
     (last.0, subst (λ (n : ℕ). IsWithAll ranks (Below P n) last.0) next (added_more ranks first.0 last.0 P bound first.1 last.1), last.2)
 
--- of all numbers together
+-- the ranks to which any number leads can be added
 add_all : (P : ℕ → ℕ → Type 0) (bound : ℕ) → ((number rank : ℕ) → P number rank → number < bound)
     → ((number : ℕ) → number < bound → OneOrNone (P number)) → (ranks : List ℕ) → AreApart ranks
     → CanAdd ranks (λ rank. (number : ℕ) × P number rank)

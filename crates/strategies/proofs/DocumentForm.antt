@@ -32,7 +32,7 @@ value_below board configuration number is has =
           absurd cc
     ]
 
--- what stands in a list of ascending numbers below a bound is not more than its place, and so the list isn't longer than the bound
+-- an element of an ascending list of numbers is at least its place, so the list is no longer than a bound on them
 place_below : {X : Type 0} (rank : X → ℕ) (rows : List X) (d : X) → AllPairs (λ first second. rank first < rank second) rows → (place : ℕ) → place < length rows
     → place ≤ rank (get_or rows place d)
 place_below rank rows d ascends zero inside = omega arith
@@ -71,7 +71,7 @@ turns_formed (Finite zero) value low some here = absurd (some refl)
 turns_formed (Finite (suc number)) (Finite value) low some here = (omega (arith, here), omega (arith, low))
 turns_formed (Finite (suc number)) Forever low some here = (omega arith, omega (arith, low))
 
--- best answers lead on from a start of value 1 or more alone
+-- if best answers lead to a configuration of value 1 or more, they lead from one
 pub start_answerable : (board : PlainBoard) (from : List ℕ) (moves : List (ℕ × ℕ)) (to : List ℕ) → LeadsBy (IsAnswerMove board) from moves to → IsAnswerable board to → IsAnswerable board from
 start_answerable board from [] to leads some = subst (IsAnswerable board) (sym leads) some
 start_answerable board from (move ∷ moves) to leads some = leads.0.answerable

@@ -27,7 +27,7 @@ each_number P (suc count) some =
     front first here ns others zero below = here
     front first here ns others (suc k) below = others k (omega arith)
 
--- a value of 1 or more is one answer or more
+-- at a value of 1 or more a labeller answers one request
 pub answers_one : (board : PlainBoard) (configuration : List ℕ) (value : Value) → HasValue board configuration value → IsLess (Finite 0) value
     → LabellerTree board 1 configuration
 answers_one board configuration (Finite number) has some = lasts_at_most board configuration 1 number (omega (arith, some)) has.0

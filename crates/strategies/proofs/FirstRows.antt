@@ -4,7 +4,7 @@ use Rattle.std.specs.List.{Contains, find}
 use Rattle.std.proofs.lemmas.Map.Made.{Contains-tail}
 use lib.Pointwise.{pointwise, bytes_decides}
 
--- a row of the configuration is the first that a table has for it
+-- the first row that a table has for the configuration
 pub record IsFound {X : Type 0} (at : X → List ℕ) (rows : List X) (configuration : List ℕ) : Type 0 where
   pub row : X
   pub found : find (λ r. pointwise nat_eq (at r) configuration) rows ≡ Some row
@@ -28,7 +28,7 @@ module _ {X : Type 0} (at : X → List ℕ) (configuration : List ℕ) where
     at_it = behind.at_it;
   }
 
-  -- where one of the rows is the configuration's, the table finds one
+  -- if some row is for the configuration, the table has a first one
   pub find_row : (rows : List X) (row : X) → Contains rows row → at row ≡ configuration → IsFound at rows configuration
   find_row [] row among is = absurd (let inside : among.0 < 0 = among.1 in omega arith)
   find_row (first ∷ rows) row among is = by (pointwise nat_eq (at first) configuration) refl (λ inside. find_row rows row inside is)
@@ -39,7 +39,7 @@ module _ {X : Type 0} (at : X → List ℕ) (configuration : List ℕ) where
           let passes : pointwise nat_eq (at first) configuration ≡ true = (bytes_decides (at first) configuration).1
           (ap at equal ∙ is) in absurd cc) among))
 
-  -- what the table lists, it finds
+  -- a listed configuration has a first row
   pub find_listed : (rows : List X) → IsSome (find (λ r. pointwise nat_eq (at r) configuration) rows) → IsFound at rows configuration
   find_listed [] listed = absurd cc
   find_listed (first ∷ rows) listed = by (pointwise nat_eq (at first) configuration) refl listed (λ some. find_listed rows some)
@@ -49,6 +49,6 @@ module _ {X : Type 0} (at : X → List ℕ) (configuration : List ℕ) where
       by true passes some rest = found_here first rows passes
       by false fails some rest = found_behind first rows fails (rest some)
 
-  -- what the table finds, it lists
+  -- a configuration that has a first row is listed
   pub is_listed : (rows : List X) → IsFound at rows configuration → IsSome (find (λ r. pointwise nat_eq (at r) configuration) rows)
   is_listed rows found = ap is_some found.found

@@ -1,4 +1,4 @@
--- The answers of a gap: a walk over them, and the best one, which is that of each member.
+-- The answers of a gap are walked over, and the best one is the best answer at each member.
 use Rattle.std.proofs.Common.{◌≡◌, ℕ, ◌+◌, ◌<◌, ◌≤◌, ◌↔◌, ◌⊎◌, true, List, [], ◌∷◌, ◌++◌, length, Option, None, Some, slice_index_or, option_map, inl, inr, refl, sym, ◌∙◌, ap, subst, arith}
 use Rattle.std.proofs.lemmas.Bool.{cases_lt}
 use Rattle.std.proofs.lemmas.List.{get_or_append_left, get_or_at, length-append}
@@ -13,7 +13,7 @@ use Rattle.positions.specs.Game.{Legal, moved}
 use Rattle.positions.specs.Value.{HasValue}
 use Rattle.positions.specs.Ranks.{rank_of, configuration_at}
 use Rattle.positions.specs.Gaps.{gap_of, member_of, IsAnswer}
-use Rattle.positions.specs.LabelWalk.{Walk, IsStep}
+use Rattle.positions.specs.LabelWalk.{Walk, TakesSmallest}
 use Rattle.positions.proofs.Cited.{AreFrom, next_of, after_step, none_left}
 use Rattle.positions.proofs.Cited.{moved_is_configuration, member_of-gap_of, legal_is_answer, configuration_at-rank_of, some_value}
 use Rattle.strategies.specs.declared.gap_best.Best.{Best}
@@ -21,7 +21,7 @@ use Rattle.strategies.specs.Best.{IsLess}
 use Rattle.strategies.specs.Inside.GapBest.{IsBestFor, IsBetter, IsGapBest}
 use Rattle.strategies.proofs.BestAnswers.{IsBestBelow, IsFoundBelow, widen, next_label, best_of_all}
 
--- the configuration is a member of the gap, which is the pebble's
+-- the configuration is a member of the gap, and the gap is one of the pebble
 pub record IsMemberOf (board : PlainBoard) (configuration : List ℕ) (pebble gap : ℕ) : Type 0 where
   pub is_configuration : IsConfiguration board configuration
   pub is_pebble : pebble < board.pebbles
@@ -36,7 +36,7 @@ module _ (board : PlainBoard) (configuration : List ℕ) (pebble gap : ℕ) (is 
   member_there label = subst (λ (g : ℕ). member_of board g label ≡ moved configuration pebble label) is.its_gap
       (member_of-gap_of board configuration pebble label is.is_configuration is.is_pebble)
 
-  -- what has the value is the result
+  -- the value at the rank of a label's member is the value of the label's result
   value_there : (rank label : ℕ) (value : Value) → rank ≡ rank_of board (member_of board gap label) → Legal board configuration pebble label
       → HasValue board (configuration_at board rank) value → HasValue board (moved configuration pebble label) value
   value_there rank label value rank_is legal has =
@@ -67,7 +67,7 @@ module _ (board : PlainBoard) (configuration : List ℕ) (pebble gap : ℕ) (is 
   found_all from (Some best) found none =
       best_of_all board configuration pebble from best found (λ other late legal. absurd (none other (late, (legal_there other).0 legal)))
 
-  -- one that lasts forever is the best of all, where it is the best of those before it
+  -- an answer that lasts forever and is the best so far is the best of all
   pub found_forever : (from : ℕ) (best : Best) → IsBestBelow board configuration pebble from best → best.value ≡ Forever
       → IsBestFor board configuration pebble (Some best)
   found_forever from best found forever = best_of_all board configuration pebble from best found (λ other late legal.
@@ -94,7 +94,7 @@ module _ (board : PlainBoard) (gap : ℕ) (few : board.labels ≤ MAX_LABELS) wh
   answer_few : (label : ℕ) → IsAnswer board gap label → label < MAX_LABELS
   answer_few label is = omega (arith, is.is_label, few)
 
-  module _ (walk after : Walk) (label : ℕ) (left : AreFrom (IsAnswer board gap) walk) (step : IsStep walk after label) where
+  module _ (walk after : Walk) (label : ℕ) (left : AreFrom (IsAnswer board gap) walk) (step : TakesSmallest walk after label) where
     pub next_answer : IsSmallest (λ l. (walk.from ≤ l) × IsAnswer board gap l) (Some label)
     next_answer = next_of (IsAnswer board gap) answer_few walk left after label step
 
@@ -119,7 +119,7 @@ module _ (board : PlainBoard) (gap : ℕ) (few : board.labels ≤ MAX_LABELS) wh
       → IsSmallest (λ l. (walk.from ≤ l) × IsAnswer board gap l) None
   no_answer_left walk left none = none_left (IsAnswer board gap) answer_few walk left none
 
--- ---- what a best answer says of a request
+-- ---- the best answer to a request of a pebble
 
 module _ (board : PlainBoard) (configuration : List ℕ) (pebble : ℕ) where
   pub best_is_none : (best : Option Best) → IsBestFor board configuration pebble best

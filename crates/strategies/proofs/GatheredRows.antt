@@ -55,13 +55,13 @@ pub record AreSectionBelow {R : Type 0} (board : PlainBoard) (side : Side R) (bo
   pub filled : All side.IsFilled rows
 
 module _ {R : Type 0} (board : PlainBoard) (side : Side R) (of_reached : AreOfReached board side) where
-  -- a row whose configuration has a rank stands there
+  -- a row is at the configuration of its rank
   pub at_rank : (row : side.Row) (rank : ℕ) → side.IsRow row → rank_of board (side.at row) ≡ rank
       → side.at row ≡ configuration_at board rank
   at_rank row rank is_row same =
       sym (configuration_at-rank_of board (side.at row) (of_reached.is_configuration row is_row)) ∙ ap (configuration_at board) same
 
-  -- a rank at which a row stands
+  -- the next rank has this row
   pub row_there : (rank : ℕ) (rows : List side.Row) (row : side.Row) → rank < configurations board
       → AreExactlyBelow board side.IsRow side.at rank rows
       → side.IsRow row → side.at row ≡ configuration_at board rank → AreExactlyBelow board side.IsRow side.at (rank + 1) (rows ++ row ∷ [])
@@ -69,7 +69,7 @@ module _ {R : Type 0} (board : PlainBoard) (side : Side R) (of_reached : AreOfRe
       push_row board side.IsRow side.at rank rows row before is_row (ap (rank_of board) here ∙ rank_of-configuration_at board rank below)
       (λ other is_other same. of_reached.one row other is_row is_other (here ∙ sym (at_rank other rank is_other same)))
 
-  -- a rank at which none stands
+  -- the next rank has no row
   pub no_row_there : (rank : ℕ) (rows : List side.Row) → AreExactlyBelow board side.IsRow side.at rank rows
       → ((row : side.Row) → side.IsRow row → side.at row ≡ configuration_at board rank → ⊥)
       → AreExactlyBelow board side.IsRow side.at (rank + 1) rows
@@ -90,7 +90,7 @@ module _ {R : Type 0} (board : PlainBoard) (side : Side R) (ranks : List ℕ) (a
   up_to rank next = pass_ranks board side.IsRow side.at from rank (map side.shown rows) next.0.0 section.exactly (λ row is_row above below.
       let least = next.1 (rank_of board (side.at row)) (above, among row (rank_of board (side.at row)) is_row refl) in omega arith)
 
-  -- the next rank has this row
+  -- the next reached rank has this row
   pub one_more : (rank : ℕ) (row : R) → IsNext (Some rank) → IsRowAt board side rank (Some row) → AreSectionBelow board side (rank + 1) (rows ++ row ∷ [])
   one_more rank row next (is_row, here, filled) = record {
     exactly = subst (AreExactlyBelow board side.IsRow side.at (rank + 1)) (sym (map-append side.shown rows (row ∷ [])))
@@ -99,14 +99,14 @@ module _ {R : Type 0} (board : PlainBoard) (side : Side R) (ranks : List ℕ) (a
     filled = All-push side.IsFilled rows row section.filled filled;
   }
 
-  -- the next rank has no row
+  -- the next reached rank has no row
   pub none_there : (rank : ℕ) → IsNext (Some rank) → IsRowAt board side rank None → AreSectionBelow board side (rank + 1) rows
   none_there rank next none = record {
     exactly = no_row_there board side are.rows rank (map side.shown rows) (up_to rank next) none;
     filled = section.filled;
   }
 
-  -- no rank is left
+  -- no reached rank is left
   pub all_gathered : IsNext None → AreSection board side rows
   all_gathered none = record {
     exactly = all_rows board side.IsRow side.at from (map side.shown rows) section.exactly

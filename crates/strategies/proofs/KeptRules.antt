@@ -22,7 +22,7 @@ use Rattle.strategies.proofs.ReachedByMoves.{one_more, answers_lead_to, stays_fo
 use Rattle.strategies.proofs.RowTurns.{Keeps, enough_left, enough_at_start}
 use Rattle.strategies.proofs.DocumentRows.{answer_row_for, request_row_for}
 
--- a labeller who lasts one request less at the second configuration has one request less of value there, at most
+-- if a tree for the first configuration leaves one less for the second, the value is at most one less there
 keeps : (board : PlainBoard) (from to : List ℕ) → ((number : ℕ) → LabellerTree board (suc number) from → LabellerTree board number to)
     → (value after : Value) → HasValue board from value → HasValue board to after → Keeps value after
 keeps board from to lasts (Finite zero) (Finite after) one other = omega arith
@@ -43,7 +43,7 @@ claims_what_holds board proof is = subst (Holds board) (sym is.claim) (by is.val
 module _ (board : PlainBoard) (proof : PlainProof) (is_start : IsConfiguration board board.start) (is : IsDocumentOf board proof) where
   -- ---- the labeller's rows
 
-  -- a configuration that best answers lead to is listed, for the turns of its value
+  -- a configuration that best answers lead to is listed for the turns of its value
   listed : (moves : List (ℕ × ℕ)) (to : List ℕ) → LeadsBy (IsAnswerMove board) board.start moves to → (value : Value)
       → HasValue board to value
       → (wanted : Turns) → IsLess (Finite 0) value × IsEnough wanted (turns_of is.value value) → IsListedFor proof.labeller to wanted
@@ -87,7 +87,7 @@ module _ (board : PlainBoard) (proof : PlainProof) (is_start : IsConfiguration b
 
   -- ---- the adversary's rows
 
-  -- a configuration that best requests lead to is listed, with its value
+  -- a configuration that best requests lead to is listed with its value
   listed_below : AsksAdversary is.value → (moves : List (ℕ × ℕ)) (to : List ℕ) → LeadsBy (IsRequestMove board) board.start moves to
       → (number bound : ℕ)
       → HasValue board to (Finite number) → number < bound → IsListedBelow proof.adversary to bound

@@ -29,7 +29,7 @@ is_board = record {
 abbrev start : List ℕ
 start = 0 ∷ []
 
--- nothing bounds the pebble
+-- the pebble may stay on its label
 stays : Legal lone_board start 0 0
 stays = record { is_label = omega arith; dominates = λ other below differs. absurd (differs (omega arith)) }
 

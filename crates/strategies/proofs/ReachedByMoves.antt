@@ -29,7 +29,7 @@ pub requests_lead_to : (board : PlainBoard) (from : List ℕ) (moves : List (ℕ
     → LeadsBy (IsRequestMove board) from moves to → IsConfiguration board to
 requests_lead_to board = lead_to board (IsRequestMove board) (λ c pebble label move. move.legal.is_label)
 
--- best answers keep on forever
+-- best answers lead from a configuration of value forever to others of that value
 pub stays_forever : (board : PlainBoard) (from : List ℕ) (moves : List (ℕ × ℕ)) (to : List ℕ) → HasValue board from Forever
     → LeadsBy (IsAnswerMove board) from moves to → HasValue board to Forever
 stays_forever board from [] to has leads = subst (λ (c : List ℕ). HasValue board c Forever) leads has
@@ -37,8 +37,8 @@ stays_forever board from ((pebble, label) ∷ moves) to has leads =
     stays_forever board (moved from pebble label) moves to
     (λ depth. lasts_after board depth from pebble label leads.0.is_pebble leads.0.best (has (suc depth))) leads.1
 
--- where moves start at configurations that have a property, what holds of a start with it, and after each move to such a one,
--- holds of all such configurations that moves lead to
+-- if moves start only at configurations with `Holds`, and P goes from the start along each move to such a one,
+-- P holds of each configuration with `Holds` that moves lead to
 pub moves_stay : (IsMove : List ℕ → ℕ → ℕ → Type 0) (Holds P : List ℕ → Type 0) → ((c : List ℕ) (pebble label : ℕ) → IsMove c pebble label → Holds c)
     → ((c : List ℕ) (pebble label : ℕ) → P c → IsMove c pebble label → Holds (moved c pebble label) → P (moved c pebble label))
     → (from : List ℕ) (moves : List (ℕ × ℕ)) (to : List ℕ) → (Holds from → P from) → LeadsBy IsMove from moves to → Holds to → P to

@@ -9,7 +9,7 @@ use Rattle.positions.specs.Counts.{IsSmallest}
 use Rattle.strategies.specs.Inside.ReachedRanks.{AreMarked}
 use Rattle.strategies.proofs.AddedRanks.{few_apart}
 
--- one more is marked
+-- one more rank is marked
 pub mark_more : (marks : List Bool) (ranks : List ℕ) (rank : ℕ) → AreMarked marks ranks → rank < length marks
     → slice_index_or marks rank false ≡ false → AreMarked (slice_set marks rank true) (ranks ++ rank ∷ [])
 mark_more marks ranks rank are inside unmarked = record {
@@ -31,7 +31,7 @@ mark_more marks ranks rank are inside unmarked = record {
       ((are.marked rank).1 (subst (Contains ranks) same (Contains-get_or ranks k d within))));
 }
 
--- there are no more than marks
+-- there are at most as many reached ranks as marks
 pub few_ranks : (marks : List Bool) (ranks : List ℕ) → AreMarked marks ranks → length ranks ≤ length marks
 few_ranks marks ranks are = few_apart ranks (length marks) are.once (λ rank among. elim (cases_lt rank (length marks)) [
   | inl inside ↦ inside

@@ -15,7 +15,7 @@ abbrev pub AreExactlyBelow : {X : Type 0} → PlainBoard → (X → Type 0) → 
 AreExactlyBelow board IsRow at bound = AreExactly board (λ row. IsRow row × (rank_of board (at row) < bound)) at
 
 module _ {X : Type 0} (board : PlainBoard) (at : X → List ℕ) where
-  -- the same rows by another fact
+  -- if two facts hold of the same rows, exactly these rows are listed for both
   pub same_fact : (P Q : X → Type 0) (rows : List X) → ((row : X) → P row ↔ Q row) → AreExactly board P at rows → AreExactly board Q at rows
   same_fact P Q rows same exactly = record {
     each = λ row. (λ among. (same row).0 ((exactly.each row).0 among), λ is. (exactly.each row).1 ((same row).1 is));
@@ -42,7 +42,7 @@ module _ {X : Type 0} (board : PlainBoard) (at : X → List ℕ) where
   }
 
 module _ {X : Type 0} (board : PlainBoard) (IsRow : X → Type 0) (at : X → List ℕ) where
-  -- ranks without a row
+  -- ranks without a row are passed over
   pub pass_ranks : (bound next : ℕ) (rows : List X) → bound ≤ next → AreExactlyBelow board IsRow at bound rows
       → ((row : X) → IsRow row → bound ≤ rank_of board (at row) → rank_of board (at row) < next → ⊥) → AreExactlyBelow board IsRow at next rows
   pass_ranks bound next rows more exactly none = same_fact board at _ _ rows (λ row. (
@@ -50,7 +50,7 @@ module _ {X : Type 0} (board : PlainBoard) (IsRow : X → Type 0) (at : X → Li
     λ is. (is.0, elim (cases_lt (rank_of board (at row)) bound) [ inl below ↦ below | inr above ↦ absurd (none row is.0 above is.1) ]),
   )) exactly
 
-  -- a rank with its only row
+  -- the only row of the next rank is appended
   pub push_row : (bound : ℕ) (rows : List X) (row : X) → AreExactlyBelow board IsRow at bound rows → IsRow row → rank_of board (at row) ≡ bound
       → ((other : X) → IsRow other → rank_of board (at other) ≡ bound → row ≡ other)
       → AreExactlyBelow board IsRow at (bound + 1) (rows ++ row ∷ [])

@@ -1,4 +1,4 @@
--- Turns that are left after a request, by values.
+-- The turns that a row leaves after a request, by values.
 use Rattle.std.proofs.Common.{◌≡◌, suc, ◌≤◌, refl, arith}
 use Rattle.positions.specs.declared.value.Value.{Value}
 use Rattle.positions.specs.declared.value.Value.TheVariants.{Finite, Forever}
@@ -14,7 +14,7 @@ Keeps (Finite value) Forever = Unit {0}
 Keeps Forever (Finite after) = ⊥
 Keeps Forever Forever = Unit {0}
 
--- where turns are left, the value that is left is 1 or more, and its turns are enough
+-- if turns are wanted after a request, the value there is 1 or more, and its row has enough turns
 pub enough_left : (start value after : Value) → (start ≡ Forever → after ≡ Forever) → Keeps value after → IsWanted (one_less (turns_of start value))
     → IsLess (Finite 0) after × IsEnough (one_less (turns_of start value)) (turns_of start after)
 enough_left Forever value Forever stays keeps wanted = (tt, tt)
@@ -24,7 +24,7 @@ enough_left (Finite number) (Finite value) Forever stays keeps wanted = (tt, ome
 enough_left (Finite number) Forever (Finite after) stays keeps wanted = absurd keeps
 enough_left (Finite number) Forever Forever stays keeps wanted = (tt, omega arith)
 
--- where the start is to be listed, its value is 1 or more, and its turns are enough
+-- if the claim wants the start to be listed, its value is 1 or more, and its row has enough turns
 pub enough_at_start : (start : Value) → IsWanted (wanted_of (claim_of start))
     → IsLess (Finite 0) start × IsEnough (wanted_of (claim_of start)) (turns_of start start)
 enough_at_start Forever wanted = (tt, tt)

@@ -32,14 +32,14 @@ module _ (board : PlainBoard) (proof : PlainProof) (is_start : IsConfiguration b
   abbrev FoundAt : List ℕ → Type 0
   FoundAt configuration = IsFound (λ (row : AnswerRow). row.at) proof.labeller configuration
 
-  -- where best answers lead, and one more request can be answered, the table has a row
+  -- a configuration that best answers lead to, and that lasts one more request, has a row
   finds : (moves : List (ℕ × ℕ)) (to : List ℕ) → LeadsBy (IsAnswerMove board) board.start moves to → LabellerTree board 1 to → FoundAt to
   finds moves to leads lasts =
       let value = some_value board to (answers_lead_to board board.start moves to is_start leads) in
       let found = answer_row_for board is.value value.0 moves to is_start leads value.1 (some_from_tree board to value.0 lasts value.1) in
       find_row (λ (row : AnswerRow). row.at) to proof.labeller found.0 ((is.labeller.each found.0).1 found.1) found.2
 
-  -- such a row answers with a best answer
+  -- the row found is one of the document
   row_is : (configuration : List ℕ) → (found : FoundAt configuration) → IsLabellerRow board is.value found.row
   row_is configuration found = (is.labeller.each found.row).0 found.among
 
@@ -56,7 +56,7 @@ module _ (board : PlainBoard) (proof : PlainProof) (is_start : IsConfiguration b
     legal = (best_there configuration found pebble below).0.legal;
   }
 
-  -- and leads on
+  -- the answers of the row found are best answers, and lead on from the start
   leads_on : (configuration : List ℕ) → (found : FoundAt configuration) → (moves : List (ℕ × ℕ)) → LeadsBy (IsAnswerMove board) board.start moves configuration
       → (pebble : ℕ) → pebble < board.pebbles
       → LeadsBy (IsAnswerMove board) board.start (moves ++ (pebble, slice_index found.row.answers pebble) ∷ []) (moved configuration pebble (slice_index found.row.answers pebble))

@@ -43,7 +43,7 @@ is_board = record {
   };
 }
 
--- the pebble that bounds a request
+-- the other pebble
 abbrev another : ℕ → ℕ
 another pebble = 1 - pebble
 
@@ -182,7 +182,7 @@ is_second = record {
   best = best_after;
 }
 
--- what best requests lead to after the first move
+-- after the first move best requests lead nowhere else
 then_after : (moves : List (ℕ × ℕ)) (to : List ℕ) → LeadsBy (IsRequestMove small_board) (after 0) moves to → after 0 ≡ to
 then_after [] to leads = leads
 then_after ((pebble, label) ∷ moves) to leads =

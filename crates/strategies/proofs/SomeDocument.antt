@@ -18,7 +18,7 @@ use Rattle.strategies.proofs.Closure.{answers_reach, requests_reach}
 use Rattle.strategies.proofs.GatheredRows.{labellers, adversarys, row_there, no_row_there, no_request}
 use Rattle.strategies.proofs.DocumentRows.{answer_row_for, request_row_for}
 
--- the row that stands at a rank, or none does
+-- the side has a row at a rank, or has none there
 abbrev StandsOrNot : {R : Type 0} → PlainBoard → Side R → ℕ → Type 0
 StandsOrNot board side rank = ((row : side.Row) × side.IsRow row × (side.at row ≡ configuration_at board rank))
     ⊎ ((row : side.Row) → side.IsRow row → side.at row ≡ configuration_at board rank → ⊥)

@@ -1,4 +1,4 @@
--- The ranks that steps from one rank to another lead to.
+-- The ranks that steps lead to, from one rank to another.
 use Rattle.std.proofs.Common.{◌≡◌, ℕ, ◌+◌, ◌<◌, ◌≤◌, inl, inr, List, [], ◌∷◌, ◌++◌, length, Some, None, slice_get, slice_index, refl, sym, ap, ◌∙◌, subst, arith}
 use Rattle.std.specs.List.{Contains}
 use Rattle.std.proofs.lemmas.Bool.{cases_lt}
@@ -19,7 +19,7 @@ use Rattle.strategies.proofs.ReachedByMoves.{one_more, moves_stay}
 
 -- ---- a list of ranks that is worked off
 
--- all ranks in the list have P, and what those before a place lead to is in it
+-- P holds of all ranks in the list, and the ranks to which those before the place lead are in it
 pub record IsSpread (P : ℕ → Type 0) (Leads : ℕ → ℕ → Type 0) (place : ℕ) (ranks : List ℕ) : Type 0 where
   pub sound : (rank : ℕ) → Contains ranks rank → P rank
   pub spread : (at to : ℕ) → at < place → Leads (slice_index ranks at) to → Contains ranks to
@@ -56,16 +56,16 @@ module _ (P : ℕ → Type 0) (Leads : ℕ → ℕ → Type 0) where
         ]);
   }
 
-  -- at the end what ranks of the list lead to is in it
+  -- at the end all ranks to which ranks of the list lead are in it
   pub spread_all : (place : ℕ) (ranks : List ℕ) → IsSpread P Leads place ranks → slice_get ranks place ≡ None
       → (from to : ℕ) → Contains ranks from → Leads from to → Contains ranks to
   spread_all place ranks spread end from to (at, inside, same) leads =
       let there : slice_index ranks at ≡ from = get_or_default ranks at 0 from inside ∙ same in
       spread.spread at to (omega (arith, inside, past_end ranks place end)) (subst (λ (f : ℕ). Leads f to) (sym there) leads)
 
--- ---- what moves of one kind lead to
+-- ---- the configurations that moves of one kind lead to
 
--- what `Leads` says of ranks is one move of the kind, to a configuration with the property; and moves start at such ones
+-- `Leads` says that a move of the kind, and to a configuration with the property, leads from one rank to another
 pub record AreMoves (board : PlainBoard) (IsMove : List ℕ → ℕ → ℕ → Type 0) (Holds : List ℕ → Type 0) (Leads : ℕ → ℕ → Type 0) : Type 0 where
   pub is_label : (c : List ℕ) (pebble label : ℕ) → IsMove c pebble label → label < board.labels
   pub before : (c : List ℕ) (pebble label : ℕ) → IsMove c pebble label → Holds c
@@ -109,7 +109,7 @@ IsSpreadByRequests board = IsSpreadBy board (IsRequestMove board) (λ c. Unit {0
 
 module _ (board : PlainBoard) (IsMove : List ℕ → ℕ → ℕ → Type 0) (Holds : List ℕ → Type 0) (Leads : ℕ → ℕ → Type 0)
     (is : IsConfiguration board board.start) where
-  -- the rank of the start, if that has the property
+  -- the rank of the start, if the start has the property
   abbrev pub IsStart : ℕ → Type 0
   IsStart rank = Holds board.start × (rank ≡ rank_of board board.start)
 

@@ -65,7 +65,7 @@ module _ (board : PlainBoard) (first second : ℕ) (first_in : first < gaps boar
     value_too board first second first_in second_in same c d p q here there best.label best.value is.1,
   )
 
-  -- so the best answer of the one is that of the other
+  -- so the best answer is the same for both gaps
   pub best_of_tuple : (best : Option Best) → IsGapBest board first best → IsGapBest board second best
   best_of_tuple best is d q is_configuration is_pebble its_gap =
       let place : ℕ = slice_index d q in

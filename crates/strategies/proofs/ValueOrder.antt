@@ -11,7 +11,7 @@ use Rattle.positions.proofs.Cited.{not_both_trees, lasts_at_most, at_most_from_t
 use Rattle.strategies.specs.Best.{IsLess, HasSmallerValue, HasNoGreaterValue}
 use Rattle.strategies.specs.Document.{IsAnswerable}
 
--- a labeller who lasts so many requests doesn't have a smaller value
+-- a labeller that lasts a number of requests has at least that value
 pub at_least : (board : PlainBoard) (number depth : ℕ) (configuration : List ℕ)
     → LabellerTree board number configuration → HasValue board configuration (Finite depth) → number ≤ depth
 at_least board number depth configuration lasts has =
@@ -20,7 +20,7 @@ at_least board number depth configuration lasts has =
       | inr enough ↦ enough
     ]
 
--- a value that an adversary's tree bounds is below a number
+-- a configuration with an adversary's tree of a depth has a value below it
 pub less_from_tree : (board : PlainBoard) (number : ℕ) (first second : List ℕ)
     → AdversaryTree board number first → HasValue board second (Finite number) → HasSmallerValue board first second
 less_from_tree board zero first second stops has = absurd stops
@@ -41,7 +41,7 @@ less_than_finite board number first second has less =
     by (Finite low) one below = (low, below, one)
     by Forever one below = absurd below
 
--- and so no labeller's tree of that number
+-- a configuration with a smaller value than a finite one has no labeller's tree of that depth
 pub not_less : (board : PlainBoard) (number : ℕ) (first second : List ℕ)
     → LabellerTree board number first → HasValue board second (Finite number) → HasSmallerValue board first second → ⊥
 not_less board number first second lasts has less =
@@ -50,7 +50,7 @@ not_less board number first second lasts has less =
     let enough : number ≤ found.0 = at_least board number found.0 first lasts found.2 in
     omega arith
 
--- a labeller lasts as long where the value is not smaller
+-- if the second value isn't smaller, a labeller lasts as long from the second configuration
 pub lasts_too : (board : PlainBoard) (number : ℕ) (first second : List ℕ) → HasNoGreaterValue board first second
     → LabellerTree board number first → LabellerTree board number second
 lasts_too board number first second most lasts = by most.value most.bound most.of_first most.of_second most.not_greater
@@ -83,16 +83,16 @@ IsLess-trans (Finite l) (Finite m) Forever p q = tt
 IsLess-trans (Finite l) Forever w p q = absurd q
 IsLess-trans Forever v w p q = absurd p
 
--- what is equal or greater isn't smaller
+-- a value that is equal or greater isn't smaller
 pub not_above : (v w : Value) → (v ≡ w) ⊎ IsLess w v → ¬ IsLess v w
 not_above v w (inl same) less = IsLess-irrefl w (subst (λ (u : Value). IsLess u w) same less)
 not_above v w (inr more) less = IsLess-irrefl v (IsLess-trans v w v less more)
 
--- of what there is a smallest, there is one
+-- there is at most one smallest number of which P holds
 pub one_smallest : (P : ℕ → Type 0) (first second : ℕ) → IsSmallest P (Some first) → IsSmallest P (Some second) → first ≡ second
 one_smallest P first second one other = omega (arith, one.1 second other.0, other.1 first one.0)
 
--- a configuration with a value that isn't 1 or more has none that is
+-- a configuration whose value is less than 1 isn't answerable
 pub worthless : (board : PlainBoard) (configuration : List ℕ) (value : Value) → HasValue board configuration value
     → ¬ IsLess (Finite 0) value
     → ¬ IsAnswerable board configuration

@@ -6,7 +6,7 @@ ghost use Rattle.positions.specs.Ranks.{configurations};
 ghost use Rattle.positions.specs.Claim.{Shows, Holds};
 ghost use Rattle.positions.specs.Table.{AnswerRow, RequestRow};
 ghost use Rattle.positions.specs.Value.{HasValue};
-ghost use Rattle.positions.specs.declared.value.Value.{Value as Worth};
+ghost use Rattle.positions.specs.declared.value.Value.{Value as ValueData};
 ghost use Rattle.proof_text.specs.Proof.{PlainProof, IsProof};
 ghost use Rattle.proof_text.specs.Rules.{BreaksNoRule};
 ghost use Rattle.strategies.specs.Document.{IsLabellerRow, IsAdversaryRow, IsDocumentOf};
@@ -33,7 +33,7 @@ pub fn documents_show_their_claim()
 
 /// The document of a board means the value of its start.
 pub fn documents_mean_their_value()
-    ensures { (board : PlainBoard) → (proof : PlainProof) → (value : Worth)
+    ensures { (board : PlainBoard) → (proof : PlainProof) → (value : ValueData)
         → IsConfiguration board board.start → IsDocumentOf board proof
         → HasValue board board.start value → Means board proof value }
 {}
@@ -55,7 +55,7 @@ pub fn documents_have_their_form()
 pub fn one_document_of_a_board()
     ensures document { (board : PlainBoard) → (first : PlainProof) → (second : PlainProof)
         → IsDocumentOf board first → IsDocumentOf board second → first ≡ second }
-    ensures labeller { (board : PlainBoard) → (start : Worth) → (first : AnswerRow) → (second : AnswerRow)
+    ensures labeller { (board : PlainBoard) → (start : ValueData) → (first : AnswerRow) → (second : AnswerRow)
         → IsLabellerRow board start first → IsLabellerRow board start second → first.at ≡ second.at → first ≡ second }
     ensures adversary { (board : PlainBoard) → (first : RequestRow) → (second : RequestRow)
         → IsAdversaryRow board first → IsAdversaryRow board second → first.at ≡ second.at → first ≡ second }

@@ -67,11 +67,11 @@ impl Reached {
         self.ranks.len()
     }
 
-    /// The rank that was reached after `place` others, if there is one.
-    pub(crate) fn at(&self, place: usize) -> Option<u32>
-        ensures rank { result ≡ slice_get self.now.ranks place }
+    /// The rank that was reached after `index` others, if there is one.
+    pub(crate) fn at(&self, index: usize) -> Option<u32>
+        ensures rank { result ≡ slice_get self.now.ranks index }
         ensures few { length self.now.ranks ≤ self.now.size }
     {
-        self.ranks.get(place).copied()
+        self.ranks.get(index).copied()
     }
 }

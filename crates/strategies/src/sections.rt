@@ -3,7 +3,7 @@
 ghost use Rattle.std.specs.Prelude.{◌≡◌, ◌<◌, ◌≤◌, IfOk};
 ghost use Rattle.board_text.specs.PlainBoard.{PlainBoard};
 ghost use Rattle.positions.specs.Ranks.{configurations};
-ghost use Rattle.positions.specs.declared.value.Value.{Value as Worth};
+ghost use Rattle.positions.specs.declared.value.Value.{Value as ValueData};
 ghost use Rattle.strategies.specs.Document.{turns_of};
 ghost use Rattle.strategies.specs.Inside.Side.{Side, AreReached, AreSection, IsRowAt, adversary_side, labeller_side};
 
@@ -17,11 +17,11 @@ use std::alloc::Global;
 
 /// A row of one side's section.
 pub(crate) trait SectionRow: Copy {
-    ghost side: { PlainBoard → Worth → Side Self };
+    ghost side: { PlainBoard → ValueData → Side Self };
 
     /// The configurations that a row may stand at.
     fn reached(moves: &BestMoves<'_>, alloc: Global) -> Result<Reached, Memory>
-        ensures reached { IfOk result (λ reached. (start : Worth) → AreReached moves.now (side moves.now start) reached.ranks) }
+        ensures reached { IfOk result (λ reached. (start : ValueData) → AreReached moves.now (side moves.now start) reached.ranks) }
         ensures few { configurations moves.now ≤ MAX_CONFIGURATIONS };
 
     /// The row of the reached configuration of `rank`, if it has one. The start has the value
@@ -43,10 +43,10 @@ impl SectionRow for LabellerRow {
         if Value::Finite(0) < moves.value(start) {
             reached.add(start)?;
         }
-        let mut place = 0;
-        while let Some(rank) = reached.at(place) {
+        let mut index = 0;
+        while let Some(rank) = reached.at(index) {
             moves.add_answers(&mut reached, rank)?;
-            place += 1;
+            index += 1;
         }
         Ok(reached)
     }
@@ -75,10 +75,10 @@ impl SectionRow for AdversaryRow {
         let mut reached = Reached::new(alloc, space.configurations())?;
         let mut expanded = Marks::new(alloc, space.gaps())?;
         reached.add(moves.start())?;
-        let mut place = 0;
-        while let Some(rank) = reached.at(place) {
+        let mut index = 0;
+        while let Some(rank) = reached.at(index) {
             moves.add_results(&mut reached, &mut expanded, rank)?;
-            place += 1;
+            index += 1;
         }
         Ok(reached)
     }

@@ -10,34 +10,34 @@ use Rattle.board_text.specs.declared.board.TheConstants.{MAX_LABELS}
 abbrev pub beats_in : List ℕ → ℕ → ℕ → Bool
 beats_in rows x y = bit_at (slice_index rows (4 * y + x / 64)) (x % 64) == 1
 
--- the pair at a place among all pairs of labels in ascending order
+-- the pair of a number among all pairs of labels in ascending order
 abbrev pub pair_at : ℕ → ℕ → ℕ × ℕ
-pair_at labels place = (place / labels, place % labels)
+pair_at labels number = (number / labels, number % labels)
 
--- whether the rows have the pair at a place
+-- whether the rows have the pair of a number
 abbrev pub mark_of : ℕ → List ℕ → ℕ → Bool
-mark_of labels rows place = beats_in rows (place / labels) (place % labels)
+mark_of labels rows number = beats_in rows (number / labels) (number % labels)
 
--- the pairs at the marked places below n
+-- the pairs of the marked numbers below n
 unfoldable pub pairs_below : ℕ → (ℕ → Bool) → ℕ → List (ℕ × ℕ)
 pairs_below labels marks zero = []
-pairs_below labels marks (suc place) = pairs_below labels marks place ++ (if marks place then pair_at labels place ∷ [] else [])
+pairs_below labels marks (suc number) = pairs_below labels marks number ++ (if marks number then pair_at labels number ∷ [] else [])
 
 -- the pairs that the rows have
 abbrev pub pairs_of : ℕ → List ℕ → List (ℕ × ℕ)
 pairs_of labels rows = pairs_below labels (mark_of labels rows) (labels * labels)
 
--- the place after that of the last pair
+-- the number after that of the last pair
 abbrev pub EndsAt : ℕ → List (ℕ × ℕ) → ℕ → Type 0
 EndsAt labels pairs next = ((pairs ≡ []) × (next ≡ 0))
     ⊎ ((before : List (ℕ × ℕ)) × (last : ℕ × ℕ) × (pairs ≡ before ++ last ∷ []) × AreLabels labels last
     × (next ≡ last.0 * labels + last.1 + 1))
 
--- no pair from a place on is in the rows, and no bit that stands for no label is set
+-- no pair from a number on is in the rows, and no bit that stands for no label is set
 abbrev pub ClearFrom : ℕ → List ℕ → ℕ → Type 0
 ClearFrom labels rows next = (x y : ℕ) → x < MAX_LABELS → y < labels → next ≤ x * labels + y → beats_in rows x y ≡ false
 
--- four words for each label, and the place where the next pair may stand
+-- four words for each label, and the least number that the next pair may have
 pub record AreBitRows (labels : ℕ) (rows : List ℕ) (next : ℕ) : Type 0 where
   pub in_range : InRange 1 MAX_LABELS labels
   pub sized : length rows ≡ 4 * labels

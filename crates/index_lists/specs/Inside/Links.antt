@@ -5,9 +5,9 @@ use Rattle.index_lists.specs.Lists.{Lists, times, lists_of}
 use Rattle.index_lists.specs.Links.{Chains}
 
 -- n nodes from a node on, along the links
-abbrev pub follow : (ℕ → ℕ) → ℕ → ℕ → List ℕ
-follow next at zero = []
-follow next at (suc n) = at ∷ follow next (next at) n
+abbrev pub nodes_from : (ℕ → ℕ) → ℕ → ℕ → List ℕ
+nodes_from next at zero = []
+nodes_from next at (suc n) = at ∷ nodes_from next (next at) n
 
 -- the list is linked both ways: `at` is its first node, `before` stands before it, `last` is its last node (`before` if it is empty)
 abbrev pub IsLinked : ℕ → (ℕ → ℕ) → (ℕ → ℕ) → ℕ → ℕ → ℕ → List ℕ → Type 0
@@ -30,11 +30,11 @@ chains_of nodes lists s = record { nodes = nodes; lists = lists; next = s.next; 
 
 -- the nodes of a list, along the links
 abbrev pub chain_list : Chains → ℕ → List ℕ
-chain_list c l = follow (slice_index c.next) (slice_index c.first l) (slice_index c.len l)
+chain_list c l = nodes_from (slice_index c.next) (slice_index c.first l) (slice_index c.len l)
 
 -- all lists that the links lead through
-abbrev pub chained : Chains → Lists
-chained c = lists_of c.nodes c.lists (chain_list c)
+abbrev pub chained_lists : Chains → Lists
+chained_lists c = lists_of c.nodes c.lists (chain_list c)
 
 -- the links are those of the lists
 pub record AreLinksOf (nodes lists : ℕ) (s : PlainLinks) (list : ℕ → List ℕ) : Type 0 where
@@ -67,22 +67,22 @@ prev_pointed s node list to =
     record s { prev = slice_set s.prev node to; last = cond (node == length s.prev) (slice_set s.last list to) s.last }
 
 -- a node has a list and a node before it
-abbrev pub placed : PlainLinks → ℕ → ℕ → ℕ → PlainLinks
-placed s node prev home = record s { prev = slice_set s.prev node prev; home = slice_set s.home node home }
+abbrev pub node_placed : PlainLinks → ℕ → ℕ → ℕ → PlainLinks
+node_placed s node prev home = record s { prev = slice_set s.prev node prev; home = slice_set s.home node home }
 
 -- a node is in no list
-abbrev pub loosened : PlainLinks → ℕ → ℕ → ℕ → PlainLinks
-loosened s node none nowhere =
+abbrev pub node_loosened : PlainLinks → ℕ → ℕ → ℕ → PlainLinks
+node_loosened s node none nowhere =
     record s { next = slice_set s.next node none; prev = slice_set s.prev node none; home = slice_set s.home node nowhere }
 
 -- a list has one node more, which is its last
-abbrev pub appended : PlainLinks → ℕ → ℕ → PlainLinks
-appended s list node =
+abbrev pub list_appended : PlainLinks → ℕ → ℕ → PlainLinks
+list_appended s list node =
     record s { last = slice_set s.last list node; len = slice_set s.len list (slice_index s.len list + 1) }
 
 -- a list has one node less
-abbrev pub shortened : PlainLinks → ℕ → PlainLinks
-shortened s list = record s { len = slice_set s.len list (slice_index s.len list - 1) }
+abbrev pub list_shortened : PlainLinks → ℕ → PlainLinks
+list_shortened s list = record s { len = slice_set s.len list (slice_index s.len list - 1) }
 
 -- a number that may stand for none
 abbrev pub unless_none : ℕ → ℕ → Option ℕ

@@ -14,8 +14,8 @@ abbrev pub part : List (List ℕ) → ℕ → List ℕ
 part parts l = slice_index_or parts l []
 
 -- the parts as lists
-abbrev pub laid : PlainParts → Lists
-laid p = lists_of p.nodes p.lists (part p.parts)
+abbrev pub lists_of_parts : PlainParts → Lists
+lists_of_parts p = lists_of p.nodes p.lists (part p.parts)
 
 -- each node once, each of them a node that there is, in no more lists than there are
 pub record ArePlain (p : PlainParts) : Type 0 where

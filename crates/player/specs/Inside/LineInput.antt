@@ -2,10 +2,10 @@
 use Rattle.std.specs.Prelude.{◌≡◌, ◌≢◌, ℕ, ◌<◌, ◌≤◌, ◌⊎◌, Bool, true, false, List, [], ◌++◌, length, Option, None, Some}
 use Rattle.std.specs.Io.KnownBytes.{Consumes, IsAtEnd}
 use Rattle.board_text.specs.Streams.{GaveAll}
-use Rattle.board_text.specs.LineForms.{closed}
+use Rattle.board_text.specs.LineForms.{with_line_feed}
 use Rattle.player.specs.Words.{IsLine, BeginsTooLong}
 use Rattle.player.specs.Inside.Words.{Spells}
-use Rattle.player.specs.declared.word.Word.{Word}
+use Rattle.player.specs.declared.line_meaning.LineMeaning.{LineMeaning}
 use Rattle.player.specs.declared.end.PlayFault.{PlayFault}
 use Rattle.player.specs.declared.end.PlayFault.TheVariants.{Read, Limit}
 
@@ -22,7 +22,7 @@ IsEmptyAtEnd unread left = unread.has_ended ≡ true → (unread.bytes ≡ []) �
 pub record IsClosedLine (old new : Unread) (left_old left_new : Option (List ℕ)) (line : List ℕ) : Type 0 where
   pub more : List ℕ
   pub read : Consumes left_old left_new more
-  pub taken : old.bytes ++ more ≡ closed line ++ new.bytes
+  pub taken : old.bytes ++ more ≡ with_line_feed line ++ new.bytes
   pub goes_on : new.has_ended ≡ false
 
 -- all that was left was taken
@@ -33,9 +33,10 @@ pub record IsLastLine (old new : Unread) (left_old left_new : Option (List ℕ))
   pub nothing_left : new.bytes ≡ []
   pub ends : new.has_ended ≡ true
 
--- the word of the next line, if there is one
-abbrev pub GivesLine : Unread → Unread → Option (List ℕ) → Option (List ℕ) → Option Word → Type 0
-GivesLine old new left_old left_new (Some word) = (line : List ℕ) × (old.has_ended ≡ false) × Spells line word × IsLine line
+-- the meaning of the next line, if there is one
+abbrev pub GivesLine : Unread → Unread → Option (List ℕ) → Option (List ℕ) → Option LineMeaning
+    → Type 0
+GivesLine old new left_old left_new (Some meaning) = (line : List ℕ) × (old.has_ended ≡ false) × Spells line meaning × IsLine line
     × (IsClosedLine old new left_old left_new line ⊎ (IsLastLine old new left_old left_new line × (line ≢ [])))
 GivesLine old new left_old left_new None = IsLastLine old new left_old left_new []
 

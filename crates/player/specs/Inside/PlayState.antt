@@ -38,10 +38,10 @@ HasAsked request requests (next.Ends end) said = (request.is_stuck ≡ true) × 
     × (said ≡ ask_line request.pebble ++ stuck_line request.pebble requests)
 
 -- the state of the play: at the configuration with the best request, or at its end
-abbrev pub NextStands : PlainBoard → List ℕ → ℕ → Next → Standing → Type 0
-NextStands board configuration requests (next.Asks pebble) to = IsBestRequest board configuration pebble
+abbrev pub IsStandingAfter : PlainBoard → List ℕ → ℕ → Next → Standing → Type 0
+IsStandingAfter board configuration requests (next.Asks pebble) to = IsBestRequest board configuration pebble
     × (to ≡ Going configuration requests)
-NextStands board configuration requests (next.Ends end) to = to ≡ Over end
+IsStandingAfter board configuration requests (next.Ends end) to = to ≡ Over end
 
 -- the pebble is the best request at the configuration of the rank
 pub record IsPlayState (board : PlainBoard) (rank asked : ℕ) : Type 0 where

@@ -5,6 +5,6 @@ use Rattle.player.specs.Transcript.{Standing}
 use Rattle.player.specs.Transcript.{Going, Over}
 
 -- it is over if there is an end
-abbrev pub standing : Option PlayEnd → List ℕ → ℕ → Standing
-standing None at requests = Going at requests
-standing (Some end) at requests = Over end
+abbrev pub standing_of : Option PlayEnd → List ℕ → ℕ → Standing
+standing_of None at requests = Going at requests
+standing_of (Some end) at requests = Over end

@@ -20,8 +20,8 @@ pub record Checked : Type 0 where
   pub proof : PlainProof
 
 -- the board, and the document with this claim and these rows
-abbrev pub checked : PlainBoard → Claim → List LabellerRow → List AdversaryRow → Checked
-checked board claim labeller adversary =
+abbrev pub checked_document : PlainBoard → Claim → List LabellerRow → List AdversaryRow → Checked
+checked_document board claim labeller adversary =
     let proof : PlainProof = record { claim = claim; labeller = answer_rows board labeller; adversary = request_rows board adversary } in
     record { board = board; proof = proof }
 
@@ -67,8 +67,8 @@ pub record IsRowFor {X : Type 0} (at : X → List ℕ) (rows : List X) (configur
   pub only : (other : X) → Contains rows other → at other ≡ configuration → other ≡ row
 
 -- P holds of the configuration of the rank
-abbrev pub AtRank : PlainBoard → ℕ → (List ℕ → Type 0) → Type 0
-AtRank board rank P = (configuration : List ℕ) → IsConfiguration board configuration → rank ≡ rank_of board configuration → P configuration
+abbrev pub HoldsAtRank : PlainBoard → ℕ → (List ℕ → Type 0) → Type 0
+HoldsAtRank board rank P = (configuration : List ℕ) → IsConfiguration board configuration → rank ≡ rank_of board configuration → P configuration
 
 -- some turns are wanted, and the labeller's rows don't serve them
 abbrev pub IsUnservedFor : List AnswerRow → List ℕ → Turns → CheckFault → CheckFault → CheckFault → Type 0

@@ -1,4 +1,4 @@
--- The place of the row of each rank.
+-- The number of the row of each rank.
 use Rattle.std.specs.Prelude.{◌≡◌, ◌≢◌, ℕ, ◌<◌, ◌≤◌, List, length, slice_index, slice_index_or}
 use Rattle.std.specs.List.{All, AllPairs, Contains}
 use Rattle.positions.specs.declared.space.TheConstants.{MAX_CONFIGURATIONS}
@@ -13,17 +13,17 @@ pub record AreRanked {X : Type 0} (rank : X → ℕ) (size : ℕ) (rows : List X
   pub each : All (λ row. rank row < size) rows
   pub ascending : AreAscending rank rows
 
--- at each row's rank stands its place, and elsewhere a number that is no place
-pub record IsIndex {X : Type 0} (rank : X → ℕ) (rows : List X) (places : List ℕ) : Type 0 where
-  pub each : (place : ℕ) (d : X) → place < length rows → (rank (slice_index_or rows place d) < length places)
-      × (slice_index places (rank (slice_index_or rows place d)) ≡ place)
-  pub only : (number : ℕ) (d : X) → number < length places → slice_index places number < length rows
-      → rank (slice_index_or rows (slice_index places number) d) ≡ number
+-- at each row's rank is its number in the list, and elsewhere a number that no row has
+pub record IsIndex {X : Type 0} (rank : X → ℕ) (rows : List X) (numbers : List ℕ) : Type 0 where
+  pub each : (number : ℕ) (d : X) → number < length rows → (rank (slice_index_or rows number d) < length numbers)
+      × (slice_index numbers (rank (slice_index_or rows number d)) ≡ number)
+  pub only : (at : ℕ) (d : X) → at < length numbers → slice_index numbers at < length rows
+      → rank (slice_index_or rows (slice_index numbers at) d) ≡ at
 
--- rows of different ranks are found by these places, or searched if there are none
-pub record AreFound {X : Type 0} (rank : X → ℕ) (rows : List X) (places : List ℕ) : Type 0 where
+-- rows of different ranks are found by these numbers, or searched if there are none
+pub record AreFound {X : Type 0} (rank : X → ℕ) (rows : List X) (numbers : List ℕ) : Type 0 where
   pub ascending : AreAscending rank rows
-  pub index : 0 < length places → IsIndex rank rows places
+  pub index : 0 < length numbers → IsIndex rank rows numbers
 
 -- no row has the rank
 abbrev pub HasNone : {X : Type 0} → (X → ℕ) → List X → ℕ → Type 0

@@ -15,15 +15,15 @@ use Rattle.proof_text.specs.declared.row_words.AnswerValues.{AnswerValues}
 use Rattle.proof_text.specs.declared.row_words.RequestValues.{RequestValues}
 use Rattle.proof_text.specs.declared.proof.TheConstants.{MOST_TURNS}
 
--- the words of a position, and the rest
+-- the words of a configuration, and the rest
 abbrev pub position_text : List (List ℕ) → List ℕ → List ℕ
 position_text texts rest = codes "at" ++ (spaced_texts texts ++ (codes " for " ++ rest))
 
--- A position was taken, with the places below the bound that it spells, if it does.
-abbrev pub TakesPosition : ℕ → ℕ → ℕ → Option (Bool × List ℕ) → List ℕ → List ℕ → Type 0
-TakesPosition pebbles labels bound None old new = (texts : List (List ℕ)) (more : List ℕ) → ArePlaceTexts pebbles labels bound texts
+-- A configuration was taken, with the places below the bound that it spells, if it does.
+abbrev pub TakesConfiguration : ℕ → ℕ → ℕ → Option (Bool × List ℕ) → List ℕ → List ℕ → Type 0
+TakesConfiguration pebbles labels bound None old new = (texts : List (List ℕ)) (more : List ℕ) → ArePlaceTexts pebbles labels bound texts
     → old ≢ position_text texts more
-TakesPosition pebbles labels bound (Some (are, numbers)) old new =
+TakesConfiguration pebbles labels bound (Some (are, numbers)) old new =
     (texts : List (List ℕ)) × ArePlaceTexts pebbles labels bound texts × (old ≡ position_text texts new)
     × SpellPlaces labels bound texts are numbers
 

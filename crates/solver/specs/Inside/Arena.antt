@@ -20,25 +20,25 @@ count_below zero test = 0
 count_below (suc n) test = count_below n test + cond (test n) 1 0
 
 -- the number of answers of a gap whose result passes the test
-abbrev pub live : Arena → (ℕ → Bool) → ℕ → ℕ
-live a test g = count_below a.places (λ v. a.is_answer g v && test (a.member g v))
+abbrev pub live_answers : Arena → (ℕ → Bool) → ℕ → ℕ
+live_answers a test g = count_below a.places (λ v. a.is_answer g v && test (a.member g v))
 
 -- each pebble has an answer whose result passes the test
-abbrev pub next : Arena → (ℕ → Bool) → ℕ → Bool
-next a test c = count_below a.pebbles (λ p. live a test (a.gap c p) == 0) == 0
+abbrev pub is_answered : Arena → (ℕ → Bool) → ℕ → Bool
+is_answered a test c = count_below a.pebbles (λ p. live_answers a test (a.gap c p) == 0) == 0
 
 -- a labeller answers k requests from c, whichever they are
 abbrev pub lasts : Arena → ℕ → ℕ → Bool
 lasts a zero c = true
-lasts a (suc k) c = next a (lasts a k) c
+lasts a (suc k) c = is_answered a (lasts a k) c
 
 -- pebble p of c dominates all the others
-abbrev pub Dominant : Arena → ℕ → ℕ → Type 0
-Dominant a c p = (p < a.pebbles) × (a.is_answer (a.gap c p) (a.place c p) ≡ true)
+abbrev pub IsDominant : Arena → ℕ → ℕ → Type 0
+IsDominant a c p = (p < a.pebbles) × (a.is_answer (a.gap c p) (a.place c p) ≡ true)
 
 -- whether some pebble of c dominates all the others
-abbrev pub dominated : Arena → ℕ → Bool
-dominated a c = not (count_below a.pebbles (λ p. a.is_answer (a.gap c p) (a.place c p)) == 0)
+abbrev pub is_dominated : Arena → ℕ → Bool
+is_dominated a c = not (count_below a.pebbles (λ p. a.is_answer (a.gap c p) (a.place c p)) == 0)
 
 -- nothing that lasts r requests fails to last one more
 pub record IsLast (a : Arena) (r : ℕ) : Type 0 where

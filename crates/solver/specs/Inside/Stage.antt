@@ -7,7 +7,7 @@ use Rattle.board_text.specs.PlainBoard.{PlainBoard, IsBoard}
 use Rattle.positions.specs.Ranks.{configurations}
 use Rattle.positions.specs.Gaps.{gaps}
 use Rattle.positions.specs.declared.space.TheConstants.{MAX_CONFIGURATIONS}
-use Rattle.solver.specs.Inside.Arena.{Arena, count_below, lasts, IsLast, dominated}
+use Rattle.solver.specs.Inside.Arena.{Arena, count_below, lasts, IsLast, is_dominated}
 use Rattle.solver.specs.Inside.BoardArena.{arena_of}
 use Rattle.solver.specs.Solving.{Solving}
 use Rattle.solver.specs.Inside.Stored.{IsSmall}
@@ -43,28 +43,29 @@ abbrev pub filed_at : PlainStage → ℕ → List ℕ
 filed_at s value = slice_index_or s.buckets value []
 
 -- the stage in which a configuration is appended to the list of the value
-abbrev pub listed : PlainStage → ℕ → PlainStage
-listed s rank = record s { buckets = slice_set s.buckets s.value (filed_at s s.value ++ rank ∷ []) }
+abbrev pub rank_listed : PlainStage → ℕ → PlainStage
+rank_listed s rank =
+    record s { buckets = slice_set s.buckets s.value (filed_at s s.value ++ rank ∷ []) }
 
 -- the stage in which a configuration has the value too
-abbrev pub filed : PlainStage → ℕ → PlainStage
-filed s rank = listed (record s { values = slice_set s.values rank s.value }) rank
+abbrev pub rank_filed : PlainStage → ℕ → PlainStage
+rank_filed s rank = rank_listed (record s { values = slice_set s.values rank s.value }) rank
 
 -- the stage with these counts
-abbrev pub counting : PlainStage → List ℕ → PlainStage
-counting s counts = record s { counts = counts }
+abbrev pub with_counts : PlainStage → List ℕ → PlainStage
+with_counts s counts = record s { counts = counts }
 
 -- the stage at the next value
-abbrev pub turned : PlainStage → PlainStage
-turned s = record s { value = s.value + 1 }
+abbrev pub at_next_value : PlainStage → PlainStage
+at_next_value s = record s { value = s.value + 1 }
 
 -- the configurations that a round strikes: those filed at the value before that have a dominator
-abbrev pub due_now : PlainStage → List ℕ
-due_now s = filter (dominated (arena_of s.board)) (filed_at s (s.value - 1))
+abbrev pub due_strikes : PlainStage → List ℕ
+due_strikes s = filter (is_dominated (arena_of s.board)) (filed_at s (s.value - 1))
 
 -- the stage that has copied the configurations filed at the value before from the store
-abbrev pub taken : PlainStage → PlainStage
-taken s = record s { strikes = filed_at s (s.value - 1) }
+abbrev pub strikes_copied : PlainStage → PlainStage
+strikes_copied s = record s { strikes = filed_at s (s.value - 1) }
 
 -- the list of each value has the configurations of that word, each once
 pub record IsFiled (s : PlainStage) : Type 0 where
@@ -99,7 +100,7 @@ pub record IsStruckAt (a : Arena) (r x : ℕ) : Type 0 where
   pub is_rank : x < a.configurations
   pub lasting : lasts a r x ≡ true
   pub stopping : lasts a (suc r) x ≡ false
-  pub has_dominator : dominated a x ≡ true
+  pub has_dominator : is_dominated a x ≡ true
 
 -- in a round before the value, these are left to be struck
 pub record IsStriking (s : PlainStage) (todo : List ℕ) : Type 0 where
@@ -126,7 +127,7 @@ pub record FilesAll (s : PlainStage) (ranks : List ℕ) (s' : PlainStage) : Type
 
 -- the gaps have these counts, and nothing else changes
 pub record TakesCounts (s : PlainStage) (counts : List ℕ) (s' : PlainStage) : Type 0 where
-  pub rest : s' ≡ counting s s'.counts
+  pub rest : s' ≡ with_counts s s'.counts
   pub counts_length : length s'.counts ≡ length s.counts
   pub each : (gap : ℕ) → gap < gaps s.board → slice_index s'.counts gap ≡ slice_index counts gap
 
@@ -164,5 +165,5 @@ as_solving s is_done = record {
   is_done = is_done;
   buckets = s.buckets;
   sources = first_lists (gaps s.board) (open_members (arena_of s.board) s.values);
-  due = due_now s;
+  due = due_strikes s;
 }

@@ -6,7 +6,7 @@ use Rattle.board_text.specs.PlainBoard.{PlainBoard}
 use Rattle.positions.specs.Ranks.{configurations, configuration_at}
 use Rattle.positions.specs.declared.value.Value.TheVariants.{Finite, Forever}
 use Rattle.positions.specs.Value.{HasValue}
-use Rattle.solver.specs.Inside.Arena.{Arena, live, next, lasts}
+use Rattle.solver.specs.Inside.Arena.{Arena, live_answers, is_answered, lasts}
 use Rattle.solver.specs.declared.word.TheConstants.{OPEN}
 
 -- the word of a configuration that has no value yet
@@ -24,20 +24,20 @@ open_members a values g = members_from a (is_open values) g 0 a.places
 -- each gap's count is the number of its answers whose result passes the test
 pub record IsCounted (a : Arena) (test : ℕ → Bool) (counts : List ℕ) : Type 0 where
   pub counts_length : length counts ≡ a.gaps
-  pub counted : (g : ℕ) → g < a.gaps → slice_index counts g ≡ live a test g
+  pub counted : (g : ℕ) → g < a.gaps → slice_index counts g ≡ live_answers a test g
 
 -- a configuration is open exactly if each pebble has an answer whose result passes the test, and
 -- any other word is a value
 pub record AreWords (a : Arena) (test : ℕ → Bool) (values : List ℕ) : Type 0 where
   pub values_length : length values ≡ a.configurations
-  pub opened : (x : ℕ) → x < a.configurations → is_open values x ≡ next a test x
+  pub opened : (x : ℕ) → x < a.configurations → is_open values x ≡ is_answered a test x
   pub lasting : (x : ℕ) → x < a.configurations → is_open values x ≡ false → lasts a (slice_index values x) x ≡ true
   pub stopping : (x : ℕ) → x < a.configurations → is_open values x ≡ false → lasts a (suc (slice_index values x)) x ≡ false
 
 -- a configuration is open if each request has an answer, and else has the value 0
 pub record AreFirstWords (a : Arena) (words : List ℕ) : Type 0 where
   pub words_length : length words ≡ a.configurations
-  pub each : (x : ℕ) → x < a.configurations → slice_index words x ≡ cond (next a (lasts a 0) x) OPEN 0
+  pub each : (x : ℕ) → x < a.configurations → slice_index words x ≡ cond (is_answered a (lasts a 0) x) OPEN 0
 
 -- it lasts more than r requests, or is in the list of configurations to strike
 abbrev pub is_unstruck : Arena → ℕ → List ℕ → ℕ → Bool

@@ -3,7 +3,7 @@ use Rattle.nested_cycles.specs.Words.{word_of}
 use Rattle.nested_cycles.specs.Domination.{WordDominates, NestedBeats}
 use Rattle.nested_cycles.proofs.domination.nested_beats.Given as goal
 
--- The digits that are left decide.
+-- The digits not yet compared decide.
 abbrev pub invariant-loop : goal.invariant-loop
 invariant-loop l = record {
   small_a : l.a < 3 ^ (l.levels - l.counter);

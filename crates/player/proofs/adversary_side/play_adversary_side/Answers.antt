@@ -1,7 +1,7 @@
 use Rattle.std.proofs.Common.{◌∙◌, subst}
 use Rattle.std.proofs.lemmas.Result.{IfOk-weaker, IfErr-weaker, err_from_is_err_and}
 use Rattle.std.specs.Io.KnownBytes.{Appends}
-use Rattle.board_text.specs.Streams.{AppendsFront}
+use Rattle.board_text.specs.Streams.{AppendsPrefix}
 use Rattle.player.specs.Transcript.{PersonAsks}
 use Rattle.player.proofs.MovedRanks.{opening_text}
 use Rattle.player.proofs.RequestLines.{begins}
@@ -23,7 +23,7 @@ returns-in_err-flush-clause-fault g c =
     let opens = begins c.args.board.now c.start-start.result c.value.result start.is_board.start start.rank value in
     let text = opening_text _ _ _ _ _ _ (c.space.ensures.value ∙ c.new-moves.ensures) c.new-text.ensures.bytes c.in-Ok.ensures in
     let p = err_from_is_err_and c.from_residual.result c.from_residual.ensures.1 in
-    rw (p.1, p.2, c.in_err-flush.ensures.fault.0) (unshown_opening (PersonAsks c.args.board.now) _ _ opens _ _ _ (subst (AppendsFront _ _) text c.in_err-flush.ensures.front))
+    rw (p.1, p.2, c.in_err-flush.ensures.fault.0) (unshown_opening (PersonAsks c.args.board.now) _ _ opens _ _ _ (subst (AppendsPrefix _ _) text c.in_err-flush.ensures.front))
 
 pub returns-clause-ok : goal.returns-clause-ok
 returns-clause-ok g c =

@@ -1,7 +1,7 @@
 use Rattle.std.proofs.Common.{refl, subst, replicate}
 use Rattle.std.proofs.lemmas.Result.{IfOk-weaker, IfErr-weaker, err_from_is_err_and}
 use Rattle.std.specs.Io.KnownBytes.{Appends}
-use Rattle.board_text.specs.Streams.{AppendsFront}
+use Rattle.board_text.specs.Streams.{AppendsPrefix}
 use Rattle.player.specs.Transcript.{nested_opening_lines, Going, PersonClimbs}
 use Rattle.player.proofs.PlayLengths.{keeps_to_value}
 use Rattle.player.proofs.OpeningLines.{has_ended, breaks_off, unopened, unshown_opening, Keeps-same}
@@ -21,7 +21,7 @@ returns-in_err-flush-clause-fault g c =
     let text = opening_text c.args.levels c.in-Ok.play.nested _ _ _ c.new-text.ensures.bytes c.in-Ok.ensures.0 c.words.ensures.words c.in-Ok-write_levels.ensures in
     let p = err_from_is_err_and c.from_residual.result c.from_residual.ensures.1 in
     rw (p.1, p.2, c.in_err-flush.ensures.fault.0) (unshown_opening (PersonClimbs c.args.levels) (nested_opening_lines c.args.levels) (Going (replicate c.args.levels 0) 0) (refl, refl) _ _ _
-    (subst (AppendsFront _ _) text c.in_err-flush.ensures.front))
+    (subst (AppendsPrefix _ _) text c.in_err-flush.ensures.front))
 
 pub returns-clause-ok : goal.returns-clause-ok
 returns-clause-ok g c =

@@ -1,7 +1,7 @@
 use Rattle.std.proofs.Common.{◌≡◌, ◌++◌, ap, ◌∙◌, subst}
 use Rattle.std.proofs.lemmas.Result.{IfOk-weaker, IfErr-weaker, err_from_is_err_and}
 use Rattle.std.specs.Io.KnownBytes.{Appends}
-use Rattle.board_text.specs.Streams.{AppendsFront}
+use Rattle.board_text.specs.Streams.{AppendsPrefix}
 use Rattle.positions.specs.Ranks.{configuration_at}
 use Rattle.positions.proofs.Cited.{some_value}
 use Rattle.player.specs.Transcript.{Going, PersonAnswers, BeginsPlay}
@@ -23,7 +23,7 @@ returns-in_err-flush-clause-fault g c =
     let begins = subst (λ b. BeginsPlay (PersonAnswers b) opening.0 opening.2.0) c.new-moves.ensures opening.2.1 in
     let text = opening.1 ∙ ap (λ l. l ++ opening.0) c.new-text.ensures.bytes in
     let p = err_from_is_err_and c.from_residual.result c.from_residual.ensures.1 in
-    rw (p.1, p.2, c.in_err-flush.ensures.fault.0) (unshown_opening (PersonAnswers c.args.board.now) opening.0 opening.2.0 begins _ _ _ (subst (AppendsFront _ _) text c.in_err-flush.ensures.front))
+    rw (p.1, p.2, c.in_err-flush.ensures.fault.0) (unshown_opening (PersonAnswers c.args.board.now) opening.0 opening.2.0 begins _ _ _ (subst (AppendsPrefix _ _) text c.in_err-flush.ensures.front))
 
 pub new-play-requires : goal.new-play-requires
 new-play-requires g c =

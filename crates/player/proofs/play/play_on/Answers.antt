@@ -22,32 +22,32 @@ loop-init g c = record {
   writer = c.requires.writer_ready;
 }
 
-pub returns-in_err-word-clause-fault : goal.returns-in_err-word-clause-fault
-returns-in_err-word-clause-fault g c =
+pub returns-in_err-meaning-clause-fault : goal.returns-in_err-meaning-clause-fault
+returns-in_err-meaning-clause-fault g c =
     let i = c.loop.invariant in
     let p = err_from_is_err_and c.from_residual.result c.from_residual.ensures.1 in
     rw (p.1, p.2)
-    (no_line _ _ _ _ _ _ _ i.said c.loop.lines i.text _ _ c.in_err-word.field-0.0 i.brought i.written i.come
-    (omega (arith, i.few, c.loop-test.true)) c.in_err-word.ensures.fault)
+    (no_line _ _ _ _ _ _ _ i.said c.loop.lines i.text _ _ c.in_err-meaning.field-0.0 i.brought i.written i.come
+    (omega (arith, i.few, c.loop-test.true)) c.in_err-meaning.ensures.fault)
 
 pub returns-in_default-clause-ok : goal.returns-in_default-clause-ok
 returns-in_default-clause-ok g c =
     let i = c.loop.invariant in
-    let gives = rw c.in_default.is at c.in_ok-word.ensures.line in
-    stopped _ _ _ _ _ _ _ i.said i.text _ _ i.brought i.written c.stop.result
-    (all_came _ _ _ i.said _ _ (omega (arith, i.few, c.loop-test.true)) i.come gives) c.stop.ensures.end c.stop.ensures.written
+    let gives = rw c.in_default.is at c.in_ok-meaning.ensures.line in
+    stopped _ _ _ _ _ _ _ i.said i.text _ _ i.brought i.written c.end_play.result
+    (all_came _ _ _ i.said _ _ (omega (arith, i.few, c.loop-test.true)) i.come gives) c.end_play.ensures.end c.end_play.ensures.written
 
 pub returns-in_default-clause-fault : goal.returns-in_default-clause-fault
 returns-in_default-clause-fault g c =
     let i = c.loop.invariant in
-    let gives = rw c.in_default.is at c.in_ok-word.ensures.line in
-    not_stopped _ _ _ _ _ _ _ i.said i.text _ _ i.brought i.written c.stop.result
-    (all_came _ _ _ i.said _ _ (omega (arith, i.few, c.loop-test.true)) i.come gives) c.stop.ensures.fault
+    let gives = rw c.in_default.is at c.in_ok-meaning.ensures.line in
+    not_stopped _ _ _ _ _ _ _ i.said i.text _ _ i.brought i.written c.end_play.result
+    (all_came _ _ _ i.said _ _ (omega (arith, i.few, c.loop-test.true)) i.come gives) c.end_play.ensures.fault
 
 pub returns-in_err-end-clause-fault : goal.returns-in_err-end-clause-fault
 returns-in_err-end-clause-fault g c =
     let i = c.loop.invariant in
-    let next = line_came _ _ _ i.said _ _ _ i.come (rw c.in-Some.is at c.in_ok-word.ensures.line) in
+    let next = line_came _ _ _ i.said _ _ _ i.come (rw c.in-Some.is at c.in_ok-meaning.ensures.line) in
     let fails = rw i.same at c.in_err-end.ensures.fault in
     let p = err_from_is_err_and c.from_residual-in_err-end.result c.from_residual-in_err-end.ensures.1 in
     rw (p.1, p.2)
@@ -57,7 +57,7 @@ returns-in_err-end-clause-fault g c =
 pub returns-in-Some-2-clause-ok : goal.returns-in-Some-2-clause-ok
 returns-in-Some-2-clause-ok g c =
     let i = c.loop.invariant in
-    let next = line_came _ _ _ i.said _ _ _ i.come (rw c.in-Some.is at c.in_ok-word.ensures.line) in
+    let next = line_came _ _ _ i.said _ _ _ i.come (rw c.in-Some.is at c.in_ok-meaning.ensures.line) in
     let wrote = rw (i.same, c.in-Some-2.is) at c.in_ok-end.ensures.written in
     ended _ _ _ _ _ _ _ i.said i.text _ _ i.brought i.written _ _ next (omega (arith, i.few, c.loop-test.true))
     c.in-Some-2.end wrote.0 wrote.2 wrote.1
@@ -65,7 +65,7 @@ returns-in-Some-2-clause-ok g c =
 pub loop-preserved : goal.loop-preserved
 loop-preserved g c =
     let i = c.loop.invariant in
-    let next = line_came _ _ _ i.said _ _ _ i.come (rw c.in-Some.is at c.in_ok-word.ensures.line) in
+    let next = line_came _ _ _ i.said _ _ _ i.come (rw c.in-Some.is at c.in_ok-meaning.ensures.line) in
     let wrote = rw (i.same, c.in_default-2.is) at c.in_ok-end.ensures.written in
     record {
       said = i.said ++ next.line ∷ [];
@@ -77,8 +77,8 @@ loop-preserved g c =
       same = c.in_ok-end.ensures.game ∙ i.same;
       requests = omega (arith, length_push i.said next.line, i.requests, c.in_ok-end.ensures.count);
       empty = c.in_ok-end.ensures.empty;
-      reader = c.in_ok-word.ensures.unfailed;
-      ended = c.in_ok-word.ensures.ended;
+      reader = c.in_ok-meaning.ensures.unfailed;
+      ended = c.in_ok-meaning.ensures.ended;
       writer = c.in_ok-end.ensures.unfailed;
     }
 

@@ -1,7 +1,7 @@
 use Rattle.std.proofs.Common.{◌≡◌, ◌≤◌, ℕ, List, [], length, false}
 use Rattle.std.specs.Prelude.{string_bytes}
 use Rattle.std.specs.Io.KnownBytes.{Appends}
-use Rattle.player.specs.Transcript.{BringInTurn, Going}
+use Rattle.player.specs.Transcript.{AreResponses, Going}
 use Rattle.player.proofs.ReadLines.{HasCome}
 use Rattle.player.proofs.play.play_on.Given as goal
 
@@ -11,7 +11,7 @@ invariant-loop g l = record {
   text : List ℕ;
   come : HasCome (g.R.Source.remaining l.initial.reader) (g.R.Source.remaining l.reader) said l.lines;
   few : length said ≡ l.counter;
-  brought : BringInTurn (g.P.Play.game l.initial.play) (Going (g.P.Play.at l.initial.play) 0) said text (Going (g.P.Play.at l.play) (g.P.Play.requests l.play));
+  brought : AreResponses (g.P.Play.game l.initial.play) (Going (g.P.Play.at l.initial.play) 0) said text (Going (g.P.Play.at l.play) (g.P.Play.requests l.play));
   written : Appends (g.W.Sink.contents l.initial.writer) (g.W.Sink.contents l.writer) text;
   same : g.P.Play.game l.play ≡ g.P.Play.game l.initial.play;
   requests : g.P.Play.requests l.play ≤ length said;

@@ -8,32 +8,29 @@ use Rattle.proof_text.proofs.sections.read_part.Goals as goal
 
 pub returns-clause-read : goal.returns-clause-read
 returns-clause-read g c =
-    let board = c.args.space.now in
     let i = c.loop-come.invariant in
-    part_read board (g.R.Row.form board c.args.claim) c.args.text.now c.in-Some.count c.loop-come.rows.items c.loop-come.text
-    (sym (c.is_asked.ensures board) ∙ c.if-not-is_asked.false) (omega (arith, i.number, i.come.come, c.loop-come-test.false)) i.come
+    part_read _ (g.R.Row.form c.args.space.now c.args.claim) _ c.in-Some.count c.loop-come.rows.items _
+    (sym (c.is_asked.ensures c.args.space.now) ∙ c.if-not-is_asked.false) (omega (arith, i.number, i.come.come, c.loop-come-test.false)) i.come
 
 pub returns-in-Err-clause-fault : goal.returns-in-Err-clause-fault
 returns-in-Err-clause-fault g c =
-    let board = c.args.space.now in
     let i = c.loop-come.invariant in
     rw c.at-in-Err.ensures (
-      sym (c.is_asked.ensures board) ∙ c.if-not-is_asked.false,
-      line_fault_in board (g.R.Row.form board c.args.claim) c.args.text.now c.args.line _ c.in-Some.count c.loop-come.least c.loop-come.rows.items c.loop-come.text c.in-Err.kind i.come
-          (omega (arith, i.number, c.loop-come-test.true)) (omega (arith, i.number)) i.from c.in-Err.ensures,
+      sym (c.is_asked.ensures c.args.space.now) ∙ c.if-not-is_asked.false,
+      line_fault_in _ (g.R.Row.form c.args.space.now c.args.claim) _ c.args.line _ c.in-Some.count c.loop-come.least _ _ c.in-Err.kind
+          i.come (omega (arith, i.number, c.loop-come-test.true)) (omega (arith, i.number)) i.from c.in-Err.ensures,
     )
 
 pub loop-come-preserved : goal.loop-come-preserved
 loop-come-preserved g c =
-    let board = c.args.space.now in
-    let form = g.R.Row.form board c.args.claim in
     let i = c.loop-come.invariant in
+    let form = g.R.Row.form c.args.space.now c.args.claim in
     let next = c.in-Ok.ensures in
     let rank : c.rank-least.result ≡ form.rank c.in-Ok.row =
-    c.rank-least.ensures ∙ sym (g.met.R.Row.same_rank board c.args.claim c.in-Ok.row) in
+    c.rank-least.ensures ∙ sym (g.met.R.Row.same_rank c.args.space.now c.args.claim c.in-Ok.row) in
     let items : c.push.new.self.items ≡ c.loop-come.rows.items ++ c.in-Ok.row ∷ [] = search rules in
-    let step = row_push board form c.args.text.now c.in-Some.count c.loop-come.least c.loop-come.rows.items c.push.new.self.items c.in-Ok.row c.loop-come.text c.read.new.text items
-    i.come (omega (arith, i.number, c.loop-come-test.true)) i.from next in
+    let step = row_push _ form _ c.in-Some.count c.loop-come.least _ _ c.in-Ok.row _ c.read.new.text items i.come
+    (omega (arith, i.number, c.loop-come-test.true)) i.from next in
     record {
       come = step.0;
       number = ap length items ∙ length_push c.loop-come.rows.items c.in-Ok.row ∙ ap (λ (n : ℕ). n + 1) i.number;
@@ -43,21 +40,20 @@ loop-come-preserved g c =
 
 pub returns-in_err-rows-clause-fault : goal.returns-in_err-rows-clause-fault
 returns-in_err-rows-clause-fault g c =
-    let board = c.args.space.now in
-    let form = g.R.Row.form board c.args.claim in
+    let form = g.R.Row.form c.args.space.now c.args.claim in
     let p = err_from_is_err_and c.from_residual.result c.from_residual.ensures.1 in
-    let word : c.as_bytes.result.now ≡ form.word = c.as_bytes.ensures.value ∙ c.word.ensures board c.args.claim in
+    let word : c.as_bytes.result.now ≡ form.word = c.as_bytes.ensures.value ∙ c.word.ensures c.args.space.now c.args.claim in
     let head : c.args.text.now ≡ number_line form.word c.in-Some.count ++ c.number_line.new.self =
     c.in-Some.ensures.1 ∙ ap (λ (w : List ℕ). number_line w c.in-Some.count ++ c.number_line.new.self) word in
     rw (p.1, p.2) (
-      sym (c.is_asked.ensures board) ∙ c.if-not-is_asked.false,
+      sym (c.is_asked.ensures c.args.space.now) ∙ c.if-not-is_asked.false,
       (
         refl,
         (
           c.in-Some.count,
           [],
           c.number_line.new.self,
-          come_none board form.IsRow (at_of board form) (number_line form.word) form.line c.args.text.now c.in-Some.count c.number_line.new.self c.in-Some.ensures.0.1 head,
+          come_none c.args.space.now form.IsRow (at_of c.args.space.now form) (number_line form.word) form.line c.args.text.now c.in-Some.count c.number_line.new.self c.in-Some.ensures.0.1 head,
         ),
       ),
     )

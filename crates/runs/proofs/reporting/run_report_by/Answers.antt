@@ -19,4 +19,4 @@ returns-clause-fault g c =
     let read = bytes_of g.R.Source.remaining c.args.reader.now c.read_text.new.reader in
     let written = bytes_of g.W.Sink.contents c.args.writer.now c.write_text.new.writer in
     cut_short_last Reports (CannotSolve c.args.workers) MAX_BOARD_BYTES read written c.in_ok-text.text.items c.in_ok-text.ensures.ok
-    c.write_text.result tt _ (rw c.as_slice.ensures.value at c.in_ok-report.ensures.report) (rw c.deref.ensures at c.write_text.ensures.front) c.write_text.ensures.fault
+    c.write_text.result tt _ (rw c.as_slice.ensures.value at c.in_ok-report.ensures.report) (rw c.deref.ensures at c.write_text.ensures.prefix) c.write_text.ensures.fault

@@ -1,5 +1,5 @@
 use Rattle.std.proofs.Common.{codes, string_bytes}
-use Rattle.board_text.specs.LineForms.{closed}
+use Rattle.board_text.specs.LineForms.{with_line_feed}
 use Rattle.positions.specs.Ranks.{configurations}
 use Rattle.runs.specs.Report.{size_line}
 use Rattle.runs.proofs.ReportCounts.{four_parts}
@@ -8,7 +8,8 @@ use Rattle.runs.proofs.reporting.write_head.Goals as goal
 pub returns : goal.returns
 returns c =
     let board = c.args.space.now in
-    four_parts (string_bytes c.args.text.now) (closed (codes "report 1")) (size_line (codes "labels") board.labels)
+    four_parts (string_bytes c.args.text.now) (with_line_feed (codes "report 1"))
+    (size_line (codes "labels") board.labels)
     (size_line (codes "pebbles") board.pebbles) (size_line (codes "configurations") (configurations board)) _ _ _ _
     c.in_ok-push_str.ensures.bytes (rw c.labels.ensures.value at c.in_ok-write_size.ensures)
     (rw c.pebbles.ensures.value at c.in_ok-write_size-2.ensures)

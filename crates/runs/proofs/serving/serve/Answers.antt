@@ -1,5 +1,5 @@
 use Rattle.std.specs.Prelude.{codes}
-use Rattle.board_text.specs.LineForms.{closed}
+use Rattle.board_text.specs.LineForms.{with_line_feed}
 use Rattle.runs.specs.declared.fault.RunFault.TheVariants.{Memory}
 use Rattle.runs.specs.declared.outcome.Outcome.TheVariants.{Broken}
 use Rattle.std.proofs.Common.{refl}
@@ -13,7 +13,7 @@ pub returns-in-NotText : goal.returns-in-NotText
 returns-in-NotText g c =
     rw c.in-NotText.is (
       refused g.E.Sink.contents g.E.Sink.has_failed c.args.errors.now c.requires.errors_ready c.refuse.new.errors
-          c.args.terminals.errors (closed (codes "error: a word on the command line is not text"))
+          c.args.terminals.errors (with_line_feed (codes "error: a word on the command line is not text"))
           c.refuse.ensures.said,
       refl,
       refl,

@@ -42,7 +42,7 @@ returns-in-Err-Help g c =
       rw c.in-Err-Help.field-0-is (
         written output (string_bytes c.in-Err-Help.text) c.write_text.result
             (rw (c.deref.ensures, c.in-Err-Help.field-0-is) at w.ok) (rw (c.deref.ensures, c.in-Err-Help.field-0-is)
-            at w.front) w.fault w.failed,
+            at w.prefix) w.fault w.failed,
         refl,
         helped output c.write_text.result w.fault w.failed (λ o. EndsWith (g.F.Folder.at c.args.folder.now)
             c.args.terminals input output errors c.tell-in-Err-Help.result [] o) (

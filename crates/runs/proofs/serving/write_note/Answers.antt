@@ -1,5 +1,5 @@
 use Rattle.std.proofs.Common.{refl, ◌++◌, ◌∷◌, [], subst}
-use Rattle.board_text.specs.LineForms.{closed}
+use Rattle.board_text.specs.LineForms.{with_line_feed}
 use Rattle.runs.specs.Inside.Writing.{IsMore}
 use Rattle.runs.proofs.MoreTexts.{line_of_parts, then_more}
 use Rattle.runs.proofs.serving.write_note.Goals as goal
@@ -18,12 +18,14 @@ returns g c =
     let about = c.args.note.about.now in
     let words = c.args.note.words.now in
     let colon = 58 ∷ 32 ∷ [] in
-    let four = then_more known failed e3 e4 e5 words (closed []) c.write_more-3.ensures c.write_more-4.ensures in
-    let three = then_more known failed e2 e3 e5 number.0 (words ++ closed []) number.1 four in
-    let two = then_more known failed e1 e2 e5 colon (number.0 ++ (words ++ closed [])) c.write_more-2.ensures three in
-    let all = then_more known failed e0 e1 e5 about (colon ++ (number.0 ++ (words ++ closed [])))
+    let four = then_more known failed e3 e4 e5 words
+    (with_line_feed []) c.write_more-3.ensures c.write_more-4.ensures in
+    let three = then_more known failed e2 e3 e5 number.0 (words ++ with_line_feed []) number.1 four in
+    let two = then_more known failed e1 e2 e5 colon
+    (number.0 ++ (words ++ with_line_feed [])) c.write_more-2.ensures three in
+    let all = then_more known failed e0 e1 e5 about (colon ++ (number.0 ++ (words ++ with_line_feed [])))
     c.write_more.ensures two in (
-      closed (about ++ (colon ++ (number.0 ++ words))),
+      with_line_feed (about ++ (colon ++ (number.0 ++ words))),
       (about ++ (colon ++ (number.0 ++ words)), refl),
       subst (IsMore known failed e0 e5) (line_of_parts about colon number.0 words) all,
     )

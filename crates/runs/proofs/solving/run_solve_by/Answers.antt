@@ -21,7 +21,7 @@ returns-in_err-write_text-clause-fault g c =
     let written = bytes_of g.W.Sink.contents c.args.writer.now c.write_text.new.writer in
     rw (p.1, p.2, c.in_err-write_text.ensures.fault) (cut_short Solution (CannotSolve c.args.workers) MAX_BOARD_BYTES read written
     c.in_ok-text.text.items c.in_ok-text.ensures.ok c.in_ok-solved.solved.value _
-    (rw c.as_slice.ensures.value at c.in_ok-solved.ensures.ok) (rw c.deref.ensures at c.in_err-write_text.ensures.front))
+    (rw c.as_slice.ensures.value at c.in_ok-solved.ensures.ok) (rw c.deref.ensures at c.in_err-write_text.ensures.prefix))
 
 pub returns-clause-ok : goal.returns-clause-ok
 returns-clause-ok g c =

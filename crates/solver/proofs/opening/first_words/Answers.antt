@@ -2,7 +2,7 @@ use Rattle.std.proofs.Common.{◌≡◌, ◌+◌, ◌-◌, ◌∙◌, ℕ, List,
 use Rattle.std.proofs.lemmas.List.{length-drop, length-take-le, get_or-take, get_or-drop}
 use Rattle.positions.specs.Gaps.{gaps}
 use Rattle.solver.specs.Inside.BoardArena.{arena_of}
-use Rattle.solver.specs.Inside.Opening.{IsRun, AreStopping}
+use Rattle.solver.specs.Inside.Opening.{AreAdjacent, AreZeroed}
 use Rattle.solver.proofs.BoardArenas.{arena_is}
 use Rattle.solver.proofs.FirstWords.{AreStopped, stopped-more, first-words}
 use Rattle.solver.proofs.DominatorTable.{written}
@@ -15,19 +15,19 @@ loop-gap-preserved c =
     let is = arena_is b c.configurations.ensures.is_board in
     let counts = c.args.counts.now in
     let gap : ℕ = c.loop-gap.gap in
-    let run : ℕ = c.run-run.result in
-    let e = c.run-run.ensures in
+    let run : ℕ = c.adjacent_gaps-adjacent.result in
+    let e = c.adjacent_gaps-adjacent.ensures in
     let part : List ℕ = take (gap + run - gap) (drop gap counts) in
     let long : length (drop gap counts) ≡ length counts - gap = length-drop gap counts in
     let count : gap + run - gap ≡ run = omega arith in
     let size : length part ≡ run = length-take-le (gap + run - gap) (drop gap counts) (omega (arith, e.inside, c.requires.counts_length)) ∙ count in
-    let ranks : IsRun a gap (length part) = subst (IsRun a gap) (sym size) (record { inside = e.inside; ranks = e.ranks }) in
-    let stopping : AreStopping a gap part a.places c.loop-gap.words.items c.stop_run.new.words = subst (λ (ws : List ℕ). AreStopping a gap part a.places ws c.stop_run.new.words) c.deref_mut.ensures.value c.stop_run.ensures in
-    let after = stopped-more a is counts part gap c.loop-gap.words.items c.stop_run.new.words ranks
+    let ranks : AreAdjacent a gap (length part) = subst (AreAdjacent a gap) (sym size) (record { inside = e.inside; ranks = e.ranks }) in
+    let stopping : AreZeroed a gap part a.places c.loop-gap.words.items c.zero_unanswered.new.words = subst (λ (ws : List ℕ). AreZeroed a gap part a.places ws c.zero_unanswered.new.words) c.deref_mut.ensures.value c.zero_unanswered.ensures in
+    let after = stopped-more a is counts part gap c.loop-gap.words.items c.zero_unanswered.new.words ranks
     (λ k low. get_or-take (gap + run - gap) (drop gap counts) k 0 (omega arith) ∙ get_or-drop gap counts k 0) stopping c.loop-gap.invariant.stopped in
     record {
-      stopped = subst (λ (ws : List ℕ). AreStopped a counts (gap + run) ws) (sym (written c.loop-gap.words.items c.stop_run.new.words _ (c.stop_run.auto.words ∙ c.deref_mut.ensures.len)))
-          (subst (λ n. AreStopped a counts (gap + n) c.stop_run.new.words) size after);
+      stopped = subst (λ (ws : List ℕ). AreStopped a counts (gap + run) ws) (sym (written c.loop-gap.words.items c.zero_unanswered.new.words _ (c.zero_unanswered.auto.words ∙ c.deref_mut.ensures.len)))
+          (subst (λ n. AreStopped a counts (gap + n) c.zero_unanswered.new.words) size after);
       inside = e.inside;
     }
 

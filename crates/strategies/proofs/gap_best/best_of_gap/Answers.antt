@@ -1,49 +1,58 @@
-use Rattle.std.proofs.Common.{◌+◌, arith}
-use Rattle.strategies.proofs.GapAnswers.{IsMemberOf, answer_place, from_after, left_after, found_after, no_answer_left, found_forever, found_all}
+use Rattle.std.proofs.Common.{◌≡◌, ◌+◌, ◌<◌, Some, arith}
+use Rattle.board_text.specs.PlainBoard.{places}
+use Rattle.positions.specs.Ranks.{rank_of}
+use Rattle.positions.specs.Gaps.{member_of}
+use Rattle.strategies.proofs.GapAnswers.{AreFound, IsMemberOf, answer_place, from_after, left_after, found_after}
+use Rattle.strategies.proofs.GapAnswers.{no_answer_left, found_forever, found_all}
 use Rattle.strategies.proofs.gap_best.best_of_gap.Goals as goal
+use Rattle.strategies.proofs.gap_best.best_of_gap.Goals.{In-Some, After-better-found}
+
+-- the label is a place, and so its member has a rank
+place : (c : In-Some) → c.in-Some.label < places c.args.values.now
+place c = answer_place _ c.args.gap c.space.ensures.is_board.labels.1 _ _ _ c.loop-label.invariant.left
+    c.in-Some.ensures
 
 pub rank-requires : goal.rank-requires
 rank-requires c =
-    let space = c.space.ensures in
-    let members = rw space.value at c.members-members.ensures in
-    let place = answer_place _ c.args.gap space.is_board.labels.1 _ _ _ c.loop-label.invariant.left c.in-Some.ensures in
-    omega (arith, members.below c.in-Some.label place, members.few)
+    let members = rw c.space.ensures.value at c.members-members.ensures in
+    omega (arith, members.below c.in-Some.label (place (goal.at.rank-requires c).In-Some), members.few)
 
 pub of-value-requires : goal.of-value-requires
 of-value-requires c =
-    let space = c.space.ensures in
-    let members = rw space.value at c.members-members.ensures in
-    let place = answer_place _ c.args.gap space.is_board.labels.1 _ _ _ c.loop-label.invariant.left c.in-Some.ensures in
-    rw c.rank.ensures (members.below c.in-Some.label place)
+    let members = rw c.space.ensures.value at c.members-members.ensures in
+    rw c.rank.ensures (members.below c.in-Some.label (place (goal.at.of-value-requires c).In-Some))
+
+-- the better of the two is the best so far
+found : (c : After-better-found) → c.in-Some.label < places c.args.values.now
+    → AreFound c.args.values.now c.args.gap (c.in-Some.label + 1) (Some c.better-found.result)
+found c low =
+    let b = c.args.values.now in
+    let members = rw c.space.ensures.value at c.members-members.ensures in
+    let rank = members.ranks c.in-Some.label low in
+    found_after b c.args.gap c.space.ensures.is_board.labels.1 _ _ _ c.loop-label.invariant.left c.in-Some.ensures _ _
+    c.loop-label.best c.better-found.result
+    c.loop-label.invariant.found (rw c.rank.ensures rank) c.of-value.ensures c.better-found.ensures
 
 pub loop-label-preserved : goal.loop-label-preserved
 loop-label-preserved c =
     let b = c.args.values.now in
     let few = c.space.ensures.is_board.labels.1 in
-    let members = rw c.space.ensures.value at c.members-members.ensures in
     let left = c.loop-label.invariant.left in
     let step = c.in-Some.ensures in
-    let rank = members.ranks c.in-Some.label (answer_place b c.args.gap few _ _ _ left step) in
+    let at = goal.at.loop-label-preserved c in
     record {
       most = from_after b c.args.gap few _ _ _ left step;
       left = left_after b c.args.gap few _ _ _ left step;
-      found = rw step.from (found_after b c.args.gap few _ _ _ left step _ _ c.loop-label.best c.better-found.result
-          c.loop-label.invariant.found (rw c.rank.ensures rank) c.of-value.ensures c.better-found.ensures);
+      found = rw step.from (found at.After-better-found (place at.In-Some));
     }
 
 pub returns-in-Forever : goal.returns-in-Forever
 returns-in-Forever c = λ configuration pebble is is_pebble its_gap.
-    let b = c.args.values.now in
-    let few = c.space.ensures.is_board.labels.1 in
-    let members = rw c.space.ensures.value at c.members-members.ensures in
-    let left = c.loop-label.invariant.left in
-    let step = c.in-Some.ensures in
-    let rank = members.ranks c.in-Some.label (answer_place b c.args.gap few _ _ _ left step) in
-    let here : IsMemberOf b configuration pebble c.args.gap = record { is_configuration = is; is_pebble = is_pebble; its_gap = its_gap } in
-    found_forever b configuration pebble c.args.gap here (c.in-Some.label + 1) c.better-found.result
-    (found_after b c.args.gap few _ _ _ left step _ _ c.loop-label.best c.better-found.result
-    c.loop-label.invariant.found (rw c.rank.ensures rank) c.of-value.ensures c.better-found.ensures configuration pebble here)
-    c.in-Forever.is
+    let at = goal.at.returns-in-Forever c in
+    let here : IsMemberOf c.args.values.now configuration pebble c.args.gap =
+    record { is_configuration = is; is_pebble = is_pebble; its_gap = its_gap } in
+    found_forever c.args.values.now configuration pebble c.args.gap here (c.in-Some.label + 1) c.better-found.result
+    (found at.After-better-found (place at.In-Some) configuration pebble here) c.in-Forever.is
 
 pub returns : goal.returns
 returns c = λ configuration pebble is is_pebble its_gap.

@@ -21,7 +21,7 @@ same c = written c.self.inside.rows.len c.self.inside.rows.items c.set_pair.new.
 
 pub invariant_of-self : goal.invariant_of-self
 invariant_of-self c =
-    rw (same c, c.place-place.ensures.place)
+    rw (same c, c.pair_number-number.ensures.number)
     (rows_pushed c.self.inside.labels c.self.inside.rows.items c.set_pair.new.rows c.self.inside.next c.args.x c.args.y c.self.invariant (are c) (le c) (sets c))
 
 pub returns-clause-pairs : goal.returns-clause-pairs

@@ -3,7 +3,7 @@ use Rattle.std.specs.Prelude.{slice_index}
 use Rattle.std.specs.Slots.{slots_items, slots_len, slots_counts}
 use Rattle.positions.specs.Gaps.{gaps}
 use Rattle.solver.specs.Solving.{Solving}
-use Rattle.claim_round.specs.Shared.{Key, View, RoundId, Place, Ended, Finishes}
+use Rattle.claim_round.specs.Shared.{Key, View, RoundId, SeatId, Ended, Finishes}
 use Rattle.claim_round.specs.History.{HasHistory, LostWereWon, TellsClosedGaps}
 use Rattle.claim_round.specs.Inside.ClosedTable.{end_of}
 use Rattle.solver.specs.Words.{value_of_word}
@@ -12,7 +12,7 @@ use Rattle.claim_round.proofs.round.SharedRound.close.Given.{Over}
 use Rattle.claim_round.proofs.round.SharedRound.close.Goals as goal
 use Rattle.claim_round.proofs.round.SharedRound.close.Goals.{After-close_with}
 
--- the facts that are known once the table is closed
+-- facts after the table is closed
 module _ (g : Over) (c : After-close_with g) where
   abbrev k : Key
   k = c.self.inside.table.shared.key
@@ -27,7 +27,7 @@ module _ (g : Over) (c : After-close_with g) where
   same = ap (λ (r : RoundId). r.key) c.self.view_is
 
   view : v ≡ c.args.seat.view
-  view = ap (λ (p : Place). p.view) c.seat.view_is
+  view = ap (λ (p : SeatId). p.view) c.seat.view_is
 
   gaps_are : gaps k.solving.board ≡ c.gaps.result
   gaps_are =

@@ -6,7 +6,7 @@ use Rattle.positions.specs.Ranks.{configurations}
 use Rattle.solver.specs.Solving.{Solving}
 use Rattle.claim_round.specs.Shared.{Key, View}
 use Rattle.claim_round.specs.Plays.{IsBounded}
-use Rattle.claim_round.specs.Rule.{Unit0, most, size}
+use Rattle.claim_round.specs.Rule.{Unit0, most_members, size}
 use Rattle.claim_round.proofs.FirstEntries.{of_round}
 use Rattle.claim_round.proofs.Loads.{some_gaps}
 use Rattle.claim_round.proofs.TableSteps.{join_allowed, look_allowed}
@@ -44,7 +44,7 @@ invariant_of-into-2 g c =
     let l = c.load.ensures in
     let m : ℕ = c.places-most.result in
     let given : c.into.inside.seat.me.0.key.solving ≡ c.self.inside.solver.now = ap (λ (q : Key). q.solving) (mine.1 ∙ r.key_is) in
-    let most_is : most c.into.inside.seat.me.0.key ≡ m = sym (c.places-most.ensures.value ∙ ap places c.space.ensures ∙ ap (λ (s : Solving). places s.board) (sym given)) in
+    let most_is : most_members c.into.inside.seat.me.0.key ≡ m = sym (c.places-most.ensures.value ∙ ap places c.space.ensures ∙ ap (λ (s : Solving). places s.board) (sym given)) in
     let size_is : size c.into.inside.seat.me.0.key ≡ configurations c.self.inside.solver.now.board = ap (λ (s : Solving). configurations s.board) given in
     let room_is : (configurations c.self.inside.solver.now.board ≤ c.places_for-places.result) ⊎ (c.len-8.result + (c.len.result + m * c.len-2.result) + (c.len-3.result + c.len-4.result + m * c.len-5.result) ≤ c.places_for-places.result) = c.places_for-places.ensures in
     joined_seat c.into.inside c.from.inside _ c.into.invariant c.from.invariant (mine.1 ∙ sym theirs.1)
@@ -58,9 +58,9 @@ invariant_of-into-2 g c =
     let b : c.len-3.result ≡ length c.from.inside.won.items = c.len-3.ensures ∙ c.from.inside.won.ok.0 in
     let d : c.len-4.result ≡ length c.from.inside.owed.items = c.len-4.ensures ∙ c.from.inside.owed.ok.0 in
     let w : c.len-8.result ≡ length c.into.inside.won.items = c.len-8.ensures ∙ c.into.inside.won.ok.0 in
-    let x : most c.into.inside.seat.me.0.key * length c.into.inside.todo.items ≡ m * c.len-2.result =
+    let x : most_members c.into.inside.seat.me.0.key * length c.into.inside.todo.items ≡ m * c.len-2.result =
     ap (λ (p : ℕ × ℕ). p.0 * p.1) (λ i. (most_is i, sym (c.len-2.ensures ∙ c.into.inside.todo.ok.0) i)) in
-    let y : most c.into.inside.seat.me.0.key * length c.from.inside.todo.items ≡ m * c.len-5.result =
+    let y : most_members c.into.inside.seat.me.0.key * length c.from.inside.todo.items ≡ m * c.len-5.result =
     ap (λ (p : ℕ × ℕ). p.0 * p.1) (λ i. (most_is i, sym (c.len-5.ensures ∙ c.from.inside.todo.ok.0) i)) in
     let z = c.append-3.ensures.capacity in
     ⊎_elim (λ (e : configurations c.self.inside.solver.now.board ≤ c.places_for-places.result). inl (omega arith)) (λ f. inr (omega arith)) room_is)

@@ -4,7 +4,7 @@ use Rattle.std.specs.VecDeque.{deque_capacity}
 use Rattle.board_text.specs.PlainBoard.{places}
 use Rattle.solver.specs.Solving.{AreToStrike}
 use Rattle.claim_round.specs.Shared.{Key, View}
-use Rattle.claim_round.specs.Rule.{most, size}
+use Rattle.claim_round.specs.Rule.{most_members, size}
 use Rattle.claim_round.specs.Inside.Openings.{AreOpeningWords, opening_view}
 use Rattle.claim_round.proofs.Loads.{narrow}
 use Rattle.claim_round.proofs.OpeningWords.{ranks_due, opened}
@@ -17,11 +17,12 @@ overflow_mul-most g c =
     let k : Key = record { solving = s; width = c.args.width } in
     let sol = c.to_strike.ensures.kept in
     let all = ranks_due s c.in_ok-ranks.ranks.items sol c.in_ok-ranks.ensures.ranks in
-    let most_is : c.places-most.result ≡ most k = c.places-most.ensures.value ∙ ap places c.space.ensures in
-    let m : most k * length c.in_ok-ranks.ranks.items ≤ most k * size k = mul-le-mul_left (most k) all.few in
+    let most_is : c.places-most.result ≡ most_members k = c.places-most.ensures.value ∙ ap places c.space.ensures in
+    let m : most_members k * length c.in_ok-ranks.ranks.items ≤ most_members k * size k =
+    mul-le-mul_left (most_members k) all.few in
     let n = narrow k sol in
     let long : c.len.result ≡ length c.in_ok-ranks.ranks.items = c.len.ensures ∙ c.in_ok-ranks.ranks.ok.0 in
-    let e : c.places-most.result * c.len.result ≡ most k * length c.in_ok-ranks.ranks.items =
+    let e : c.places-most.result * c.len.result ≡ most_members k * length c.in_ok-ranks.ranks.items =
     ap (λ (p : ℕ × ℕ). p.0 * p.1) (λ j. (most_is j, long j)) in
     omega arith
 
@@ -37,9 +38,9 @@ invariant_of-seat g c =
     let sol = c.to_strike.ensures.kept in
     let e = c.in_ok-table.ensures in
     let todo_is : c.from_vec-todo.result.items ≡ c.in_ok-ranks.ranks.items = c.from_vec-todo.ensures.items in
-    let most_is : c.places-most.result ≡ most k = c.places-most.ensures.value ∙ ap places c.space.ensures in
+    let most_is : c.places-most.result ≡ most_members k = c.places-most.ensures.value ∙ ap places c.space.ensures in
     let len : c.len.result ≡ length c.from_vec-todo.result.items = c.len.ensures ∙ c.in_ok-ranks.ranks.ok.0 ∙ sym (ap length todo_is) in
-    let product : c.places-most.result * c.len.result ≡ most k * length c.from_vec-todo.result.items = ap (λ (p : ℕ × ℕ). p.0 * p.1) (λ j. (most_is j, len j)) in
+    let product : c.places-most.result * c.len.result ≡ most_members k * length c.from_vec-todo.result.items = ap (λ (p : ℕ × ℕ). p.0 * p.1) (λ j. (most_is j, len j)) in
     let room : c.places-most.result ≤ deque_capacity c.in_ok-owed.owed = c.in_ok-owed.ensures.capacity in
     let full : c.places_for.result ≤ vec_capacity c.in_ok-won.won = search rules in
     first_seat _ k sol (ap (λ m. m.0) e.4) (ap (λ m. m.1) e.4) (subst (AreToStrike s) (sym todo_is) c.in_ok-ranks.ensures.ranks) c.in_ok-owed.ensures.items (omega arith)

@@ -4,8 +4,8 @@ use Rattle.std.specs.VecDeque.{deque_capacity}
 use Rattle.board_text.specs.PlainBoard.{places}
 use Rattle.positions.specs.Ranks.{configurations}
 use Rattle.solver.specs.Solving.{Solving}
-use Rattle.claim_round.specs.Shared.{Key, View, Place}
-use Rattle.claim_round.specs.Rule.{most, size}
+use Rattle.claim_round.specs.Shared.{Key, View, SeatId}
+use Rattle.claim_round.specs.Rule.{most_members, size}
 use Rattle.claim_round.proofs.FirstEntries.{of_round}
 use Rattle.claim_round.proofs.Loads.{some_gaps}
 use Rattle.claim_round.proofs.TableSteps.{split_allowed}
@@ -18,7 +18,7 @@ split_seat-other-requires g c =
     let k : Key = c.self.inside.table.shared.key in
     let r = c.self.invariant in
     let mine = of_round _ k _ c.seat.inside _ c.self.view_is c.seat.view_is c.requires.mine in
-    let wide : 2 ≤ v.has.width = subst (λ (p : Place). 2 ≤ p.view.has.width) (sym c.seat.view_is) c.requires.width in
+    let wide : 2 ≤ v.has.width = subst (λ (p : SeatId). 2 ≤ p.view.has.width) (sym c.seat.view_is) c.requires.width in
     let some = some_gaps k r.sound.below in
     let words = r.words in
     (mine.0, omega arith, split_allowed k _ v wide)
@@ -41,7 +41,7 @@ invariant_of-new g c =
     let mine = of_round _ k _ c.seat.inside _ c.self.view_is c.seat.view_is c.requires.mine in
     let given : v.key.solving ≡ c.self.inside.solver.now = ap (λ (q : Key). q.solving) (mine.1 ∙ r.key_is) in
     let board = c.space.ensures in
-    let most_is : c.places-most.result ≡ most v.key = c.places-most.ensures.value ∙ ap places board ∙ ap (λ (s : Solving). places s.board) (sym given) in
+    let most_is : c.places-most.result ≡ most_members v.key = c.places-most.ensures.value ∙ ap places board ∙ ap (λ (s : Solving). places s.board) (sym given) in
     let size_is : configurations c.self.inside.solver.now.board ≡ size v.key = ap (λ (s : Solving). configurations s.board) (sym given) in
     let e = c.split_seat-other.ensures in
     let l = c.len.ensures in
@@ -51,6 +51,6 @@ invariant_of-new g c =
     let kept : c.len.result - c.len-moved.result / 2 ≡ n - n / 2 = ap (λ (p : ℕ × ℕ). p.0 - p.1 / 2) (λ j. ((l ∙ ok) j, (h ∙ ok) j)) in
     let room : c.places-most.result ≤ deque_capacity c.in-Ok.owed = search rules in
     let full : c.places_for.result ≤ vec_capacity c.in-Ok-with_capacity.won = search rules in
-    let space : most v.key * (n / 2) ≡ c.places-most.result * (c.len-moved.result / 2) = ap (λ (p : ℕ × ℕ). p.0 * (p.1 / 2)) (λ j. (sym most_is j, sym (h ∙ ok) j)) in
+    let space : most_members v.key * (n / 2) ≡ c.places-most.result * (c.len-moved.result / 2) = ap (λ (p : ℕ × ℕ). p.0 * (p.1 / 2)) (λ j. (sym most_is j, sym (h ∙ ok) j)) in
     new_seat c.seat.inside _ c.seat.invariant (ap (λ m. m.0) e.4) (ap (λ m. m.1) e.4) (c.in-Ok-split_off.ensures.tail ∙ ap (λ (i : ℕ). drop i c.seat.inside.todo.items) kept)
     c.in-Ok.ensures.items (omega arith) c.in-Ok-with_capacity.ensures.items (⊎_elim (λ a. inl (omega arith)) (λ b. inr (omega arith)) c.places_for.ensures) refl

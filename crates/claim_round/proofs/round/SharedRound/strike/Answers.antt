@@ -6,7 +6,7 @@ use Rattle.positions.specs.Gaps.{gap_of, IsDominator}
 use Rattle.solver.specs.Solving.{Solving, source}
 use Rattle.retro_core.specs.Round.{first_of}
 use Rattle.claim_round.specs.Shared.{Key, View}
-use Rattle.claim_round.specs.Rule.{most}
+use Rattle.claim_round.specs.Rule.{most_members}
 use Rattle.claim_round.proofs.FirstEntries.{StrikesNext, strikes_next, in_gaps}
 use Rattle.claim_round.proofs.Loads.{few_members}
 use Rattle.claim_round.proofs.TableSteps.{strike_allowed}
@@ -60,9 +60,9 @@ owe_members-requires-clause-room g c =
     let low = in_gaps k _ _ c.gap-gap.result next.solving c.space.ensures c.gap-gap.ensures.below in
     let empty : length c.seat.inside.owed.items ≡ 0 = ap length (c.seat.invariant.owed ∙ next.none_owed) in
     let room = c.seat.invariant.room_owed in
-    let few : length (source c.self.inside.solver.now c.gap-gap.result) ≤ most k =
-    subst (λ (s : Solving). length (source s c.gap-gap.result) ≤ most k) next.solving (few_members k.solving c.self.invariant.sound c.gap-gap.result low) in
-    let same : most v.key ≡ most k = ap most next.of.1 in
+    let few : length (source c.self.inside.solver.now c.gap-gap.result) ≤ most_members k =
+    subst (λ (s : Solving). length (source s c.gap-gap.result) ≤ most_members k) next.solving (few_members k.solving c.self.invariant.sound c.gap-gap.result low) in
+    let same : most_members v.key ≡ most_members k = ap most_members next.of.1 in
     omega arith
 
 pub invariant_of-seat : goal.invariant_of-seat

@@ -4,7 +4,7 @@ use Rattle.index_lists.proofs.LinkCalls.{lists-kept, home-in, before-in, behind-
 use Rattle.index_lists.proofs.link_lists.LinkListsListStore.unlink.Goals as goal
 use Rattle.index_lists.proofs.link_lists.LinkListsListStore.unlink.Goals.{After-index}
 
--- what was read, and that it is in range
+-- the links that were read are those of the node, and in range
 module _ (c : After-index) where
   next-is : c.index.result.now.next ≡ slice_index c.self.inside.links.next c.args.node
   next-is = field-read (λ n. n.next) _ _ _ _ _ (ap (λ s. s.links.next) c.self-inside.view_is) (c.self.invariant.next_length ∙ ap (λ w. w.nodes) c.self.view_is) c.requires.node_in c.index.ensures

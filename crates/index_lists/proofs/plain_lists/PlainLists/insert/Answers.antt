@@ -2,7 +2,7 @@ use Rattle.std.proofs.Common.{◌≡◌, ◌+◌, ◌-◌, ◌++◌, ◌∷◌, 
 use Rattle.std.specs.Prelude.{sum}
 use Rattle.index_lists.specs.Lists.{IsFree}
 use Rattle.index_lists.specs.Parts.{PlainParts}
-use Rattle.index_lists.specs.Inside.Parts.{laid, part, parts_of}
+use Rattle.index_lists.specs.Inside.Parts.{lists_of_parts, part, parts_of}
 use Rattle.index_lists.proofs.Parts.{plain-are, plain-nodes, cut-sum, list-cut, list-room, list-small, pushed-cut, pushed-plain, pushed-list}
 use Rattle.index_lists.proofs.plain_lists.PlainLists.insert.Goals as goal
 use Rattle.index_lists.proofs.plain_lists.PlainLists.insert.Goals.{After-deref-2, After-put}
@@ -14,12 +14,12 @@ module _ (c : After-deref-2) where
   node-in : c.args.node < c.self.inside.node_count
   node-in = rw (ap (λ (p : PlainParts). p.nodes) c.self.view_is) c.requires.node_in
 
-  free : IsFree (laid (record {
+  free : IsFree (lists_of_parts (record {
     nodes = c.self.inside.node_count;
     lists = c.self.inside.list_count;
     parts = parts_of c.self.inside.lens.items c.self.inside.nodes.items;
   })) c.args.node
-  free = subst (λ (p : PlainParts). IsFree (laid p) c.args.node) (sym c.self.view_is) c.requires.free
+  free = subst (λ (p : PlainParts). IsFree (lists_of_parts p) c.args.node) (sym c.self.view_is) c.requires.free
 
   begun : c.begin.new.lens.items ≡ c.self.inside.lens.items ++ replicate (c.args.to + 1 - length c.self.inside.lens.items) 0
   begun = c.begin.ensures.lens

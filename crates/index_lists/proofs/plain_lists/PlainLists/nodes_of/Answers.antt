@@ -2,13 +2,13 @@ use Rattle.std.proofs.Common.{◌≡◌, ◌+◌, ◌<◌, length, drop, sym, su
 use Rattle.std.specs.Prelude.{sum}
 use Rattle.index_lists.specs.Lists.{AreLists}
 use Rattle.index_lists.specs.Parts.{PlainParts}
-use Rattle.index_lists.specs.Inside.Parts.{laid, part}
+use Rattle.index_lists.specs.Inside.Parts.{lists_of_parts, part}
 use Rattle.index_lists.proofs.Parts.{plain-are, plain-nodes, cut-sum, cut-part}
 use Rattle.index_lists.proofs.plain_lists.PlainLists.nodes_of.Goals as goal
 use Rattle.index_lists.proofs.plain_lists.PlainLists.nodes_of.Goals.{After-end_of-end}
 
 pub returns-then-len-of-clause-kept : goal.returns-then-len-of-clause-kept
-returns-then-len-of-clause-kept c = subst (λ (p : PlainParts). AreLists (laid p)) c.self.view_is (plain-are _ c.self.invariant.0)
+returns-then-len-of-clause-kept c = subst (λ (p : PlainParts). AreLists (lists_of_parts p)) c.self.view_is (plain-are _ c.self.invariant.0)
 
 pub end_of-end-requires-clause-whole : goal.end_of-end-requires-clause-whole
 end_of-end-requires-clause-whole c = ap sum c.deref-2.ensures.value ∙ cut-sum c.self.invariant.1 ∙ sym (ap length c.deref.ensures.value)
@@ -39,4 +39,5 @@ returns-clause-nodes c =
     rw c.deref-3.ensures.value (found.2 ∙ ap (λ (p : PlainParts). part p.parts c.args.of) c.self.view_is)
 
 pub returns-clause-kept : goal.returns-clause-kept
-returns-clause-kept c = subst (λ (p : PlainParts). AreLists (laid p)) c.self.view_is (plain-are _ c.self.invariant.0)
+returns-clause-kept c =
+    subst (λ (p : PlainParts). AreLists (lists_of_parts p)) c.self.view_is (plain-are _ c.self.invariant.0)

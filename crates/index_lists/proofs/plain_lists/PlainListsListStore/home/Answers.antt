@@ -2,7 +2,7 @@ use Rattle.std.proofs.Common.{◌≡◌, ◌<◌, inl, inr, subst, sym, ap, ◌�
 use Rattle.std.proofs.lemmas.Bool.{cases_lt}
 use Rattle.index_lists.specs.Lists.{times, AreLists}
 use Rattle.index_lists.specs.Parts.{PlainParts}
-use Rattle.index_lists.specs.Inside.Parts.{laid}
+use Rattle.index_lists.specs.Inside.Parts.{lists_of_parts}
 use Rattle.index_lists.proofs.KeptLists.{home-of_in}
 use Rattle.index_lists.proofs.Parts.{plain-are}
 use Rattle.index_lists.proofs.Places.{any-in, any-out}
@@ -23,4 +23,5 @@ loop-list-preserved c = λ list low. elim (cases_lt list c.loop-list.list) [
 ]
 
 pub returns-clause-kept : goal.returns-clause-kept
-returns-clause-kept c = subst (λ (p : PlainParts). AreLists (laid p)) c.self.view_is (plain-are _ c.self.invariant.0)
+returns-clause-kept c =
+    subst (λ (p : PlainParts). AreLists (lists_of_parts p)) c.self.view_is (plain-are _ c.self.invariant.0)

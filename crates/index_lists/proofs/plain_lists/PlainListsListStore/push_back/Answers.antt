@@ -5,7 +5,7 @@ use Rattle.std.proofs.lemmas.List.{append-nil, drop_all}
 use Rattle.std.proofs.lemmas.List.Edits.{insert_end}
 use Rattle.index_lists.specs.Lists.{IsFree}
 use Rattle.index_lists.specs.Parts.{PlainParts}
-use Rattle.index_lists.specs.Inside.Parts.{laid, part, parts_of}
+use Rattle.index_lists.specs.Inside.Parts.{lists_of_parts, part, parts_of}
 use Rattle.index_lists.proofs.Parts.{plain-are, list-room, list-small, pushed-cut, pushed-plain, pushed-list}
 use Rattle.index_lists.proofs.plain_lists.PlainListsListStore.push_back.Goals as goal
 use Rattle.index_lists.proofs.plain_lists.PlainListsListStore.push_back.Goals.{After-index_mut, After-push_reserved}
@@ -17,12 +17,12 @@ module _ (c : After-index_mut) where
   node-in : c.args.node < c.self.inside.node_count
   node-in = rw (ap (λ (p : PlainParts). p.nodes) c.self.view_is) c.requires.node_in
 
-  free : IsFree (laid (record {
+  free : IsFree (lists_of_parts (record {
     nodes = c.self.inside.node_count;
     lists = c.self.inside.list_count;
     parts = parts_of c.self.inside.lens.items c.self.inside.nodes.items;
   })) c.args.node
-  free = subst (λ (p : PlainParts). IsFree (laid p) c.args.node) (sym c.self.view_is) c.requires.free
+  free = subst (λ (p : PlainParts). IsFree (lists_of_parts p) c.args.node) (sym c.self.view_is) c.requires.free
 
   last : length c.self.inside.lens.items ≡ c.args.to + 1
   last = omega (arith, c.if-len-to.true, c.len.ensures, c.self.inside.lens.ok.0)
@@ -33,7 +33,7 @@ module _ (c : After-index_mut) where
       let none : c.args.to + 1 - length c.self.inside.lens.items ≡ 0 = let e = last in omega (arith, e) in
       rw none (sym (append-nil c.self.inside.lens.items))
 
-  -- it ends where all do
+  -- the part ends at the end of all nodes
   ends : length c.self.inside.nodes.items + sum (drop (c.args.to + 1) c.self.inside.lens.items) ≡ length c.self.inside.nodes.items
   ends = ap (λ ns. length c.self.inside.nodes.items + sum ns)
       (drop_all (c.args.to + 1) c.self.inside.lens.items (let e = last in omega (arith, e))) ∙ omega arith

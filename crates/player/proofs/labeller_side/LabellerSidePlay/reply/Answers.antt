@@ -2,8 +2,8 @@ use Rattle.std.proofs.Common.{None, Some, inl, inr, ap, ◌∙◌, ◌≤◌, su
 use Rattle.board_text.specs.declared.board.TheConstants.{MAX_LABELS}
 use Rattle.player.specs.Inside.PlayState.{at}
 use Rattle.player.specs.Transcript.{no_answer_line, stopped_line, PersonAnswers, Going}
-use Rattle.player.specs.Inside.Transcript.{standing}
-use Rattle.player.specs.Inside.Steps.{BringsAll}
+use Rattle.player.specs.Inside.Transcript.{standing_of}
+use Rattle.player.specs.Inside.Steps.{IsResponseToMeaning}
 use Rattle.player.specs.declared.end.PlayEnd.TheVariants.{Stopped}
 use Rattle.player.proofs.AnswerLines.{no_legal_number, no_label, stop_asked, says_all}
 use Rattle.player.proofs.MovedRanks.{says_line}
@@ -22,7 +22,7 @@ pub returns-else-number-labels-clause-said : goal.returns-else-number-labels-cla
 returns-else-number-labels-clause-said c =
     let seat = c.args.self.now in
     let of_seat = c.space.ensures.value ∙ ap (λ s. s.board) c.self.view_is in
-    says_line c.refuse.result _ _ no_answer_line None (λ end said. BringsAll (PersonAnswers seat.board) (Going (at seat) seat.requests) c.args.word said (standing end (at seat) seat.requests)) c.refuse.ensures
+    says_line c.say_no_answer.result _ _ no_answer_line None (λ end said. IsResponseToMeaning (PersonAnswers seat.board) (Going (at seat) seat.requests) c.args.meaning said (standing_of end (at seat) seat.requests)) c.say_no_answer.ensures
     (rw c.in-Number.is (no_legal_number seat c.in-Number.number (subst (λ b. b.labels ≤ MAX_LABELS) of_seat c.labels.ensures.is_board.labels.1)
     (elim c.else-number-labels.branch [
       | else-number-labels-via-else-number-labels w ↦ inr (omega (arith, w.if-number-labels.false, c.from-labels.ensures, c.labels.ensures.value, ap (λ b. b.labels) of_seat))
@@ -32,12 +32,12 @@ returns-else-number-labels-clause-said c =
 pub returns-in-Quit-clause-said : goal.returns-in-Quit-clause-said
 returns-in-Quit-clause-said c =
     let seat = c.args.self.now in
-    says_line c.stopped.result _ _ (stopped_line c.self.inside.requests) (Some (Stopped c.self.inside.requests)) (λ end said. BringsAll (PersonAnswers seat.board) (Going (at seat) seat.requests) c.args.word said (standing end (at seat) seat.requests))
-    c.stopped.ensures (rw (c.in-Quit.is, ap (λ s. s.requests) c.self.view_is) (stop_asked seat))
+    says_line c.end_stopped.result _ _ (stopped_line c.self.inside.requests) (Some (Stopped c.self.inside.requests)) (λ end said. IsResponseToMeaning (PersonAnswers seat.board) (Going (at seat) seat.requests) c.args.meaning said (standing_of end (at seat) seat.requests))
+    c.end_stopped.ensures (rw (c.in-Quit.is, ap (λ s. s.requests) c.self.view_is) (stop_asked seat))
 
 pub returns-in-Other-clause-said : goal.returns-in-Other-clause-said
 returns-in-Other-clause-said c =
     let seat = c.args.self.now in
     let of_seat = c.space.ensures.value ∙ ap (λ s. s.board) c.self.view_is in
-    says_line c.refuse-in-Other.result _ _ no_answer_line None (λ end said. BringsAll (PersonAnswers seat.board) (Going (at seat) seat.requests) c.args.word said (standing end (at seat) seat.requests)) c.refuse-in-Other.ensures
+    says_line c.say_no_answer-in-Other.result _ _ no_answer_line None (λ end said. IsResponseToMeaning (PersonAnswers seat.board) (Going (at seat) seat.requests) c.args.meaning said (standing_of end (at seat) seat.requests)) c.say_no_answer-in-Other.ensures
     (rw c.in-Other.is (no_label seat (subst (λ b. b.labels ≤ MAX_LABELS) of_seat c.labels.ensures.is_board.labels.1)))

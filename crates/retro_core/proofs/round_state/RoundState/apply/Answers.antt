@@ -1,7 +1,7 @@
 use Rattle.std.proofs.Common.{◌≡◌, Ok, Err, IfOk, IfErr, Result, sym, subst}
-use Rattle.retro_core.specs.declared.step.Step.{Step as Doing}
+use Rattle.retro_core.specs.declared.step.Step.{Step as StepData}
 use Rattle.retro_core.specs.declared.step.Step.TheVariants as steps
-use Rattle.retro_core.specs.declared.step.Seen.{Seen as Answer}
+use Rattle.retro_core.specs.declared.step.Seen.{Seen as SeenData}
 use Rattle.retro_core.specs.declared.step.StepFault.{StepFault}
 use Rattle.solver.specs.Solving.{IsSolving}
 use Rattle.retro_core.specs.Round.{Round, IsLawful}
@@ -10,7 +10,8 @@ use Rattle.retro_core.proofs.RoundSteps.{step-lawful}
 use Rattle.retro_core.proofs.round_state.RoundState.apply.Goals as goal
 
 -- a round is lawful after a step, and after a refused one as before
-applied : (old new : Round) (step : Doing) (result : Result Answer StepFault) → IsSolving old.solving → IsLawful old
+applied : (old new : Round) (step : StepData) (result : Result SeenData StepFault) → IsSolving old.solving
+    → IsLawful old
     → IfOk result (λ seen. Does old step seen new) → IfErr result (λ fault. Refuses old step fault × (new ≡ old)) → IsLawful new
 applied old new step (Ok seen) sol law done refused = step-lawful old step seen new sol law done
 applied old new step (Err fault) sol law done refused = subst IsLawful (sym refused.1) law

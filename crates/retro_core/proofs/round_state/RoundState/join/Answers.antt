@@ -1,6 +1,6 @@
 use Rattle.std.proofs.Common.{◌≡◌, ap, sym, ◌∙◌, subst, arith, get_or, List, map, set}
 use Rattle.solver.specs.Words.{value_of_word}
-use Rattle.retro_core.specs.Round.{PlainSeat, spent, IsLawful, round_of}
+use Rattle.retro_core.specs.Round.{PlainSeat, spent_seat, IsLawful, round_of}
 use Rattle.retro_core.specs.Stepping.{Joins}
 use Rattle.retro_core.proofs.Machine.{seat-read, from_wide, into-read, widths-fit, put-back, joining, allowed}
 use Rattle.retro_core.proofs.round_state.RoundState.join.Given.{Over}
@@ -12,15 +12,15 @@ module _ (g : Over) (c : After-index_mut-2 g) where
   abbrev seats : List PlainSeat
   seats = c.self.inside.seats.items
 
-  from-is : c.replace-other.result ≡ get_or seats c.args.from spent
+  from-is : c.replace-other.result ≡ get_or seats c.args.from spent_seat
   from-is =
       c.replace-other.ensures.value ∙ seat-read seats c.args.from c.index_mut.result.now
       (from_wide _ _ _ _ _ _ c.self.view_is c.self.invariant.0 c.self.invariant.1 c.args.into c.requires.1 c.args.from c.requires.2 c.requires.0) c.index_mut.ensures.value
 
-  emptied : c.replace-other.new.dest ≡ spent
+  emptied : c.replace-other.new.dest ≡ spent_seat
   emptied = c.replace-other.ensures.after ∙ c.spent.ensures
 
-  into-is : c.index_mut-2.result.now ≡ get_or seats c.args.into spent
+  into-is : c.index_mut-2.result.now ≡ get_or seats c.args.into spent_seat
   into-is =
       into-read _ _ _ _ _ _ c.self.view_is c.self.invariant.0 c.self.invariant.1 c.args.into c.requires.1 c.args.from c.requires.2 c.requires.0 c.index_mut-2.result.now
       (c.index_mut-2.ensures.value ∙ ap (λ x. get_or (set seats c.args.from x) c.args.into c.index_mut-2.result.now) emptied)
@@ -33,13 +33,14 @@ absorb-requires g c =
     let small = c.self.ranges in
     omega arith
 
--- what was taken over, or not
+-- the seats after the lists were taken over, or put back if out of memory
 module _ (g : Over) (c : After-absorb g) where
   abbrev had : List PlainSeat
   had = c.self.inside.seats.items
 
-  put-again : c.absorb.new.self ≡ get_or had c.args.into spent → c.replace-other.result ≡ get_or had c.args.from spent
-      → c.replace-other.new.dest ≡ spent
+  put-again : c.absorb.new.self ≡ get_or had c.args.into spent_seat
+      → c.replace-other.result ≡ get_or had c.args.from spent_seat
+      → c.replace-other.new.dest ≡ spent_seat
       → set (set (set had c.args.from c.replace-other.new.dest) c.args.into c.absorb.new.self) c.args.from c.replace-other.result ≡ had
   put-again into-same from-same none =
       ap (λ x. set (set (set had c.args.from x) c.args.into c.absorb.new.self) c.args.from c.replace-other.result) none

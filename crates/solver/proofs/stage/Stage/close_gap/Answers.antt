@@ -12,7 +12,7 @@ use Rattle.solver.proofs.ListedWords.{valued_word}
 use Rattle.solver.proofs.stage.Stage.close_gap.Goals as goal
 use Rattle.solver.proofs.stage.Stage.close_gap.Goals.{then-index, else-index}
 
--- what the stage knows, of what contracts see
+-- the contract's facts of the board, the value and the gap
 known : (s : PlainStage) (b : PlainBoard) (value gap : ℕ) → b ≡ s.board → value ≡ s.value → IsBoard b → configurations b ≤ MAX_CONFIGURATIONS → value ≤ configurations b → gap < gaps s.board → IsToClose s gap
 known s b value gap same value_is is_board few low is_gap = record {
   is_board = subst IsBoard same is_board;

@@ -3,7 +3,7 @@ use Rattle.std.specs.List.{filter}
 use Rattle.std.proofs.lemmas.Result.{IfOk-weaker}
 use Rattle.index_lists.specs.Lists.{times}
 use Rattle.positions.specs.Ranks.{configurations}
-use Rattle.solver.specs.Inside.Arena.{dominated}
+use Rattle.solver.specs.Inside.Arena.{is_dominated}
 use Rattle.solver.specs.Inside.BoardArena.{arena_of}
 use Rattle.solver.specs.Inside.Stage.{PlainStage, filed_at}
 use Rattle.solver.proofs.FiledRanks.{filed-shown}
@@ -16,7 +16,7 @@ append_list-requires-clause-room g c =
     let none = ap length c.in_ok-filed.ensures.items in
     omega (arith, none, c.in_ok-filed.ensures.capacity, c.len.ensures.len)
 
--- what was appended is the list of the store
+-- the appended configurations are the store's list
 copied : (g : Given.Over) (c : After-deref g) → c.deref.result.now ≡ (g.S.ListStore.state c.self.inside.buckets).list (c.self.inside.value - 1)
 copied g c = c.deref.ensures.value ∙ c.append_list.ensures.appended
     ∙ ap (λ (xs : List ℕ). xs ++ (g.S.ListStore.state c.self.inside.buckets).list (c.self.inside.value - 1)) c.in_ok-filed.ensures.items
@@ -31,7 +31,7 @@ with_dominator-requires g c = λ rank some.
 
 pub returns : goal.returns
 returns g c =
-    let test = dominated (arena_of c.args.self.now.board) in
+    let test = is_dominated (arena_of c.args.self.now.board) in
     let shown = filed-shown _ _ _ _ _ _ _ c.self.view_is c.self.invariant.3.are_lists (c.self.inside.value - 1) in
     let bucket : c.deref.result.now ≡ filed_at c.args.self.now (c.args.self.now.value - 1) =
     copied g (goal.at.returns g c).After-deref ∙ sym shown ∙ ap (λ (v : PlainStage). filed_at c.args.self.now (v.value - 1)) c.self.view_is in

@@ -2,9 +2,9 @@ use Rattle.std.proofs.Common.{◌<◌, ◌-◌, ℕ, sym, subst}
 use Rattle.std.specs.List.{filter}
 use Rattle.index_lists.specs.Lists.{times}
 use Rattle.positions.specs.Ranks.{configurations}
-use Rattle.solver.specs.Inside.Arena.{dominated}
+use Rattle.solver.specs.Inside.Arena.{is_dominated}
 use Rattle.solver.specs.Inside.BoardArena.{arena_of}
-use Rattle.solver.specs.Inside.Stage.{PlainStage, due_now, IsKept, IsStriking}
+use Rattle.solver.specs.Inside.Stage.{PlainStage, due_strikes, IsKept, IsStriking}
 use Rattle.solver.proofs.StageStrikes.{striking-taken, kept-taken}
 use Rattle.solver.proofs.stage.Stage.strike_all.Goals as goal
 
@@ -17,8 +17,8 @@ strike_taken-requires-clause-ranks g c =
 pub strike_taken-requires-clause-striking : goal.strike_taken-requires-clause-striking
 strike_taken-requires-clause-striking g c =
     let s : PlainStage = c.args.self.now in
-    subst (λ (v : PlainStage). IsStriking v (filter (dominated (arena_of v.board)) v.strikes)) (sym c.take_bucket.ensures)
-    (striking-taken s (due_now s) c.requires.striking)
+    subst (λ (v : PlainStage). IsStriking v (filter (is_dominated (arena_of v.board)) v.strikes)) (sym c.take_bucket.ensures)
+    (striking-taken s (due_strikes s) c.requires.striking)
 
 pub returns-clause-kept : goal.returns-clause-kept
 returns-clause-kept g c =

@@ -1,6 +1,6 @@
 use Rattle.std.proofs.Common.{◌≡◌, ◌-◌, ◌∙◌, ◌++◌, List, ℕ, length, sym, subst, ap, arith}
 use Rattle.index_lists.proofs.Cited.{fits}
-use Rattle.solver.specs.Inside.Stage.{PlainStage, stage_of, filed_at, taken}
+use Rattle.solver.specs.Inside.Stage.{PlainStage, stage_of, filed_at, strikes_copied}
 use Rattle.solver.proofs.FiledRanks.{list-shown}
 use Rattle.solver.proofs.stage.Stage.take_bucket.Goals as goal
 
@@ -19,5 +19,5 @@ returns g c =
     let strikes : c.append_list.new.to.items ≡ filed_at was (s.value - 1) =
     c.append_list.ensures.appended ∙ ap (λ (xs : List ℕ). xs ++ stored.list (s.value - 1)) c.clear.ensures.items
     ∙ sym (list-shown stored c.self.invariant.3.are_lists (s.value - 1)) in
-    subst (λ (v : PlainStage). stage_of s.space s.value s.values.items s.counts.items stored c.append_list.new.to.items ≡ taken v)
+    subst (λ (v : PlainStage). stage_of s.space s.value s.values.items s.counts.items stored c.append_list.new.to.items ≡ strikes_copied v)
     c.self.view_is (ap (stage_of s.space s.value s.values.items s.counts.items stored) strikes)

@@ -4,7 +4,7 @@ use Rattle.std.proofs.lemmas.List.{append-nil, get_or_read, length-take-le}
 use Rattle.std.proofs.lemmas.List.Elements.{filter_more}
 use Rattle.std.proofs.lemmas.List.Sums.{length-filter, count_by-le-length}
 use Rattle.positions.specs.Ranks.{configurations}
-use Rattle.solver.specs.Inside.Arena.{dominated}
+use Rattle.solver.specs.Inside.Arena.{is_dominated}
 use Rattle.solver.specs.Inside.BoardArena.{arena_of}
 use Rattle.solver.specs.Inside.Stage.{PlainStage}
 use Rattle.solver.proofs.DominatedRanks.{read-dominated, read-alone}
@@ -18,21 +18,21 @@ index-requires g c =
     let same = ap (λ (v : PlainStage). configurations v.board) c.self.view_is in
     omega (arith, low, same, c.self.invariant.2.dominators_length, c.self.inside.dominators.ok.0)
 
--- no more than there were
+-- a filtered list is no longer than the list
 few-filtered : (test : ℕ → Bool) (xs ys : List ℕ) → ys ≡ filter test xs → length ys ≤ length xs
 few-filtered test xs ys is = let size = ap length is ∙ length-filter test xs in let most = count_by-le-length test xs in omega (arith, size, most)
 
 pub push_reserved-requires : goal.push_reserved-requires
 push_reserved-requires g c =
     let xs : List ℕ = take c.loop-rank.rank-index c.args.ranks.now in
-    let few = few-filtered (dominated (arena_of c.args.self.now.board)) xs c.loop-rank.found.items c.loop-rank.invariant.found in
+    let few = few-filtered (is_dominated (arena_of c.args.self.now.board)) xs c.loop-rank.found.items c.loop-rank.invariant.found in
     let front = length-take-le c.loop-rank.rank-index c.args.ranks.now (omega (arith, c.loop-rank-test.true)) in
     omega (arith, few, front, c.loop-rank-test.true, c.loop-rank.invariant.room, c.loop-rank.found.ok.0)
 
 pub loop-rank-preserved : goal.loop-rank-preserved
 loop-rank-preserved g c =
     let rank : ℕ = get_or c.args.ranks.now c.loop-rank.rank-index 0 in
-    let test : ℕ → Bool = dominated (arena_of c.args.self.now.board) in
+    let test : ℕ → Bool = is_dominated (arena_of c.args.self.now.board) in
     let front : List ℕ = filter test (take c.loop-rank.rank-index c.args.ranks.now) in
     let low = c.requires rank (in_list c.args.ranks.now c.loop-rank.rank-index 0 c.loop-rank-test.true) in
     let board = ap (λ (v : PlainStage). v.board) c.self.view_is in

@@ -8,8 +8,8 @@ abbrev pub invariant-loop-rank : goal.invariant-loop-rank
 invariant-loop-rank l = record {
   size : l.reached.size ≡ configurations l.moves;
   expanded : AreExpanded l.moves l.expanded l.reached.ranks;
-  spread : IsSpreadByRequests l.moves l.place l.reached.ranks;
+  spread : IsSpreadByRequests l.moves l.index l.reached.ranks;
 }
 
 abbrev pub decreases-loop-rank : goal.decreases-loop-rank
-decreases-loop-rank l = configurations l.moves - l.place
+decreases-loop-rank l = configurations l.moves - l.index

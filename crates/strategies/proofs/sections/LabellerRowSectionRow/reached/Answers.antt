@@ -34,20 +34,20 @@ loop-rank-init c =
 pub add_answers-requires-clause-rank : goal.add_answers-requires-clause-rank
 add_answers-requires-clause-rank c = spread_below _ _ _ _ _ _ _ c.loop-rank.invariant.spread (sym c.in-Some.ensures.rank)
 
-pub overflow_add-place : goal.overflow_add-place
-overflow_add-place c =
-    let place = slice_get_within c.loop-rank.reached.ranks c.loop-rank.place c.in-Some.rank (sym c.in-Some.ensures.rank) in
+pub overflow_add-index : goal.overflow_add-index
+overflow_add-index c =
+    let place = slice_get_within c.loop-rank.reached.ranks c.loop-rank.index c.in-Some.rank (sym c.in-Some.ensures.rank) in
     omega (arith, place, c.in-Some.ensures.few, c.loop-rank.invariant.size, c.start-start.ensures.few)
 
 pub loop-rank-smaller : goal.loop-rank-smaller
 loop-rank-smaller c =
-    let place = slice_get_within c.loop-rank.reached.ranks c.loop-rank.place c.in-Some.rank (sym c.in-Some.ensures.rank) in
+    let place = slice_get_within c.loop-rank.reached.ranks c.loop-rank.index c.in-Some.rank (sym c.in-Some.ensures.rank) in
     omega (arith, place, c.in-Some.ensures.few, c.loop-rank.invariant.size)
 
 pub loop-rank-preserved : goal.loop-rank-preserved
 loop-rank-preserved c = record {
   size = c.in_ok-add_answers.ensures.size ∙ c.loop-rank.invariant.size;
-  spread = spread_more c.args.moves.now _ _ _ c.start-start.ensures.is_board.start (answer_moves c.args.moves.now) c.loop-rank.place c.in-Some.rank _ _
+  spread = spread_more c.args.moves.now _ _ _ c.start-start.ensures.is_board.start (answer_moves c.args.moves.now) c.loop-rank.index c.in-Some.rank _ _
       c.loop-rank.invariant.spread (sym c.in-Some.ensures.rank) c.in_ok-add_answers.ensures.added;
 }
 
@@ -55,7 +55,7 @@ pub returns-clause-reached : goal.returns-clause-reached
 returns-clause-reached c = λ start.
     let is = c.start-start.ensures.is_board.start in
     record {
-      each = spread_ends c.args.moves.now _ _ _ is (answer_moves c.args.moves.now) c.loop-rank.place _ c.loop-rank.invariant.spread
+      each = spread_ends c.args.moves.now _ _ _ is (answer_moves c.args.moves.now) c.loop-rank.index _ c.loop-rank.invariant.spread
           (sym c.in_default.ensures.rank);
       rows = labellers c.args.moves.now start is;
     }
