@@ -2,7 +2,8 @@
 
 A passage begins with a mark and ends with `<!-- end -->`. `<!-- table of A B, beyond C -->` is followed by a table of all definitions that
 A and B reach, themselves included, and C doesn't; `<!-- count of A B, beyond C -->` by their number and that of their lines, without
-comments, imports and empty lines; `<!-- code of A B -->` by the types and the constants of the code that they reach.
+comments, imports and empty lines; `<!-- code of A B -->` by the types and the constants of the code that they reach. Where two crates
+have a definition of one name, the mark names the crate too: `positions.Shows`.
 """
 import os
 import re
@@ -13,7 +14,7 @@ THEOREMS = os.path.join(TOP, 'docs', 'theorems.md')
 HEAD = re.compile(r'^(?:(?:abbrev|unfoldable) pub|pub record|pub data|(?:pub )?record|abbrev|unfoldable) ([\w-]+)')
 USE = re.compile(r'^use Rattle\.(\w+)\.specs\.([\w.-]+?)(?:\.\{([^}]*)\}| as ([\w-]+))$')
 WORD = re.compile(r"[\w'-]+(?:\.[\w'-]+)*")
-PASSAGE = re.compile(r'<!-- (table|count|code) of ([\w ]+?)(?:, beyond ([\w ]+?))? -->(.*?)<!-- end -->', re.S)
+PASSAGE = re.compile(r'<!-- (table|count|code) of ([\w. ]+?)(?:, beyond ([\w. ]+?))? -->(.*?)<!-- end -->', re.S)
 
 
 class Definition:
@@ -68,12 +69,17 @@ class Specs:
             return (found[0], found[1], rest.split('.')[0])
         return found
 
+    def one_of(self, name):
+        """The definition that a mark names."""
+        crate, _, last = name.rpartition('.')
+        keys = [key for key in self.defined if key[2] == last and crate in ('', key[0])]
+        if len(keys) != 1:
+            raise ValueError(f'{len(keys)} definitions are named {name}')
+        return keys[0]
+
     def reached(self, names):
         """All that these definitions reach, themselves included: definitions, and what is declared in the code."""
-        left = [key for key in self.defined if key[2] in names]
-        missing = set(names) - {key[2] for key in left}
-        if missing:
-            raise ValueError(f'no definition is named {", ".join(sorted(missing))}')
+        left = [self.one_of(name) for name in names]
         found, code = set(left), set()
         while left:
             crate, module, name = left.pop()

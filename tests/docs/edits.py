@@ -45,8 +45,9 @@ def goal_of(message):
     told = MESSAGE.match(message)
     if not told:
         return message.replace('|', '\\|')
-    goals = [name for name in re.findall(r'`([^`]+)`', told[2]) if '-' in name or name == 'returns']
-    words = f'`{goals[0]}`' if goals else told[2]
+    first = re.match(r'`([\w+-]+)`: ', told[2])
+    goals = [first[1]] if first else [name for name in re.findall(r'`([^`]+)`', told[2]) if '-' in name or name == 'returns']
+    words = f'`{goals[0]}`' if goals else told[2].split(' (')[0] + ','
     return f'{words} of `{function_of(told[1])}`'.replace('|', '\\|')
 
 
