@@ -280,6 +280,32 @@ fn a_closed_round_is_filed(rt: HostRuntime) {
     assert_same(&rt, "value 1", filed, Progress::Filed(3));
 }
 
+/// The values after the round at value 0 of the chain of three labels, by rank: 0 if a pebble is on
+/// label 2, and 1 if both are below it and not both on label 0.
+const ZEROS_AND_ONES: [Option<u32>; 9] = [
+    None,
+    Some(1),
+    Some(0),
+    Some(1),
+    Some(1),
+    Some(0),
+    Some(0),
+    Some(0),
+    Some(0),
+];
+
+#[test]
+fn values_of_a_closed_round(rt: HostRuntime) {
+    let board = board_of(&rt, rt.alloc(), CHAIN_OF_THREE);
+    let solver = opened(&rt, rt.alloc(), &board);
+    let closed = closed_round(&rt, rt.alloc(), &solver);
+    assert_same(&rt, "configurations", solver.space().configurations(), 9);
+    for rank in 0..solver.space().configurations() {
+        let wanted = ZEROS_AND_ONES.get(rank as usize).copied();
+        assert_same(&rt, rank, Some(closed.value_at(rank)), wanted);
+    }
+}
+
 /// The number of ranks that each of sixteen seats has to strike, of three pebbles on the cycle at
 /// value 0.
 pub(crate) const SIXTEEN: [u32; 16] = [1, 1, 1, 0, 1, 0, 1, 0, 1, 0, 1, 0, 1, 0, 1, 0];
