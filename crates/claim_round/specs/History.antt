@@ -41,7 +41,7 @@ abbrev pub calls_at : List (Step × Seen) → ℕ → ℕ
 calls_at steps index = calls_of (answer_at steps index)
 
 -- steps of the machine lead from an opening, whose counts are those of the solver, to these words
--- and seats. The answers told to a seat are those at its places, its next one can stand at the
+-- and seats. The answers told to a seat are those at its indexes, its next one can be at the
 -- end, and each strike and each try was told to one seat, once
 pub record IsHistory (k : Key) (words : List ℕ) (views : List View) : Type 0 where
   pub first : Round

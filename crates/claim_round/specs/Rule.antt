@@ -12,10 +12,11 @@ use Rattle.claim_round.specs.History.{IsHistory}
 abbrev pub Unit0 : Type 0
 Unit0 = Unit {0}
 
--- no gap has more members, and no more configurations are without a value
+-- no gap has more members
 abbrev pub most_members : Key → ℕ
 most_members k = places k.solving.board
 
+-- no round wins more configurations
 abbrev pub size : Key → ℕ
 size k = configurations k.solving.board
 
@@ -30,7 +31,7 @@ pub record KnowsRound (k : Key) (v : View) : Type 0 where
   pub nothing : v.has.width ≡ 0 → v.made ≡ []
 
 -- the words and the seats have a history from an opening on, and the entries that all seats may
--- still owe are at most the most members of a gap for each configuration
+-- still owe are at most `most_members` for each configuration
 pub record Kept (k : Key) (s : State Unit0 View) : Type 0 where
   pub solving : IsSolving k.solving
   pub history : IsHistory k s.words s.views

@@ -17,7 +17,7 @@ pub record Key : Type 0 where
   pub width : ℕ
 
 -- the view of a seat: its round, its width and lists, the answers of its strikes and claims, each
--- with its place in the round's history, and the first place at which its next one can stand
+-- with its index in the round's history, and the first index that its next one can have
 pub record View : Type 0 where
   pub key : Key
   pub has : PlainSeat

@@ -9,7 +9,7 @@ ghost use Rattle.claim_round.specs.Calls.{Opens, HasStruck, HasClaimed};
 ghost use Rattle.claim_round.specs.Reasons.{IsReason};
 
 use crate::closed::Closed;
-use crate::room::{make_places, make_room, owe_members, places_for};
+use crate::room::{make_capacity, make_room, owe_members, won_capacity};
 use crate::seat::RoundSeat;
 use crate::table::{Halves, Hand, Look, Plan, Rule, Strike, Try};
 use crate::words::{OPEN, first_words};
@@ -28,7 +28,7 @@ use std::marker::Model;
 /// join makes two: the join of the two seats, and a load that changes nothing. Contracts see which
 /// table of words it is, and the solver and the width that it was opened with. All calls together
 /// have one history, which is a run of the machine (`IsHistory`); each strike and each claim has
-/// its place in it. The calls of a seat stand in their order, and after those of the seats that it
+/// its index in it. The calls of a seat stand in their order, and after those of the seats that it
 /// was split or joined from. No order is promised of the calls of two seats that never met.
 #[derive(Drop)]
 pub struct SharedRound<'a, S: ListStore> {
@@ -108,7 +108,7 @@ impl<'a, S: ListStore> SharedRound<'a, S> {
         let ranks = solver.to_strike(alloc)?;
         let most = solver.space().places() as usize;
         let owed = VecDeque::with_capacity(alloc, most)?;
-        let won = Vec::with_capacity(alloc, places_for(solver, most * ranks.len()))?;
+        let won = Vec::with_capacity(alloc, won_capacity(solver, most * ranks.len()))?;
         let todo = VecDeque::from_vec(ranks);
         let plan = Plan { solver, width };
         let (table, seat) = Table::of_words(alloc, words.as_slice(), &plan)?;
@@ -204,7 +204,7 @@ impl<'a, S: ListStore> SharedRound<'a, S> {
             return Err((seat, Memory));
         };
         let entries = most * moved;
-        let Ok(won) = Vec::with_capacity(self.alloc, places_for(self.solver, entries)) else {
+        let Ok(won) = Vec::with_capacity(self.alloc, won_capacity(self.solver, entries)) else {
             return Err((seat, Memory));
         };
         let Ok(todo) = seat.todo.split_off(kept) else {
@@ -251,8 +251,8 @@ impl<'a, S: ListStore> SharedRound<'a, S> {
         if !make_room(&mut into.owed, from.owed.len()) {
             return Err((into, from, Memory));
         }
-        let places = places_for(self.solver, into.won.len() + own + other);
-        if !make_places(&mut into.won, places) {
+        let capacity = won_capacity(self.solver, into.won.len() + own + other);
+        if !make_capacity(&mut into.won, capacity) {
             return Err((into, from, Memory));
         }
         let RoundSeat {

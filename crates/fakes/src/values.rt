@@ -1,10 +1,11 @@
 //! Values of configurations by the slow program.
 
-ghost use Rattle.std.specs.Prelude.{◌<◌, ◌↔◌, IsTrue};
+ghost use Rattle.std.specs.Prelude.{◌<◌, ◌↔◌, IfSome, IsTrue};
 ghost use Rattle.board_text.specs.PlainBoard.{IsConfiguration};
+ghost use Rattle.positions.specs.Value.{HasValue};
 
 use board_text::Board;
-use positions::{Value, value_of};
+use positions::{MAX_CONFIGURATIONS, Value, value_of};
 
 /// Whether the list has a place for each pebble.
 pub fn is_configuration(board: &Board, configuration: &[u16]) -> bool
@@ -16,9 +17,11 @@ pub fn is_configuration(board: &Board, configuration: &[u16]) -> bool
 }
 
 /// The value of a configuration by the slow program, if it is one and the board isn't too large.
-pub fn value_at(board: &Board, configuration: &mut [u16]) -> Option<Value> {
+pub fn value_at(board: &Board, configuration: &mut [u16]) -> Option<Value>
+    ensures { IfSome result (HasValue board.now configuration.old) }
+{
     let count = u32::from(board.places()).checked_pow(u32::from(board.pebbles()))?;
-    if count > 1_048_576 || !is_configuration(board, configuration) {
+    if count > MAX_CONFIGURATIONS || !is_configuration(board, configuration) {
         return None;
     }
     Some(value_of(board, configuration))

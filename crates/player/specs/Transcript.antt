@@ -171,7 +171,8 @@ IsResponse (PersonClimbs levels) (Going at requests) line said to = RepliesToLin
 abbrev pub AreResponses : Game → Standing → List (List ℕ) → List ℕ → Standing → Type 0
 AreResponses game from [] text to = (text ≡ []) × (from ≡ to)
 AreResponses game from (line ∷ lines) text to =
-    (said more : List ℕ) × (next : Standing) × IsResponse game from line said next × AreResponses game next lines more to × (text ≡ said ++ more)
+    (said more : List ℕ) × (next : Standing) × IsResponse game from line said next
+    × AreResponses game next lines more to × (text ≡ said ++ more)
 
 -- the text written once these lines are read, and the state of the play then
 pub record IsPlayed (game : Game) (lines : List (List ℕ)) (text : List ℕ) (to : Standing) : Type 0 where

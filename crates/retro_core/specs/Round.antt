@@ -110,7 +110,8 @@ pub record IsLawful (round : Round) : Type 0 where
 
 -- the round with one seat, which has the whole width and all to strike
 abbrev pub opening_round : Solving → ℕ → List ℕ → List (Option ℕ) → List ℕ → Round
-opening_round s width counts values ranks = round_of s width counts values (record { width = width; todo = ranks; owed = []; won = [] } ∷ [])
+opening_round s width counts values ranks =
+    round_of s width counts values (record { width = width; todo = ranks; owed = []; won = [] } ∷ [])
 
 -- one seat has the whole width and all to strike, and nothing is owed or won
 pub record IsOpening (s : Solving) (width : ℕ) (round : Round) : Type 0 where

@@ -66,7 +66,8 @@ pub fn accepted_claims_hold()
 /// forever comes with a strategy that is closed over all requests and lists the start. A check
 /// accepts the bytes written.
 pub fn solved_boards_show_their_value()
-    ensures value { (text : List ℕ) → (value : ValueData) → (written : List ℕ) → IsSolution text value written → ShowsValue text value written }
+    ensures value { (text : List ℕ) → (value : ValueData) → (written : List ℕ)
+        → IsSolution text value written → ShowsValue text value written }
     ensures accepted { (text : List ℕ) → (value : ValueData) → (written : List ℕ) → IsSolution text value written
         → IsAccepted text value written }
 {}
@@ -83,10 +84,12 @@ pub fn written_documents_mean_the_value()
 /// check of the same board and of the bytes written answers this, or runs out of memory: neither of
 /// the two texts has a fault.
 pub fn printed_documents_are_accepted()
-    ensures verdict { (board : PlainBoard) → (value : ValueData) → (text : List ℕ) → IsBoard board → configurations board ≤ MAX_CONFIGURATIONS
+    ensures verdict { (board : PlainBoard) → (value : ValueData) → (text : List ℕ) → IsBoard board
+        → configurations board ≤ MAX_CONFIGURATIONS
         → IsSolved board value text → (proof : PlainProof) → (verdict : VerdictData) → IsProof board proof → text ≡ proof_text board proof
         → IsVerdict board proof verdict → verdict ≡ Accepted (record { claim = claim_of value }) }
-    ensures text { (text : List ℕ) → (written : List ℕ) → (value : ValueData) → (board : PlainBoard) → (verdict : VerdictData) → (line : List ℕ)
+    ensures text { (text : List ℕ) → (written : List ℕ) → (value : ValueData)
+        → (board : PlainBoard) → (verdict : VerdictData) → (line : List ℕ)
         → IsSolution text value written → IsSmallBoard text board → IsChecked board written verdict line
         → verdict ≡ Accepted (record { claim = claim_of value }) }
     ensures faultless_board { (text : List ℕ) → (written : List ℕ) → (value : ValueData) → IsSolution text value written

@@ -1,7 +1,8 @@
 //! Solvers of boards and their values.
 
-ghost use Rattle.std.specs.Prelude.{◌≡◌, ◌≤◌, IfOk, IfSome};
-ghost use Rattle.positions.specs.Ranks.{configurations};
+ghost use Rattle.std.specs.Prelude.{◌≡◌, ◌≤◌, IfOk, IfSome, MatchOption};
+ghost use Rattle.positions.specs.Ranks.{configurations, configuration_at};
+ghost use Rattle.positions.specs.Value.{HasValue};
 ghost use Rattle.solver.specs.Solving.{IsSolving};
 
 use board_text::Board;
@@ -38,8 +39,11 @@ pub fn values_over<S: ListStore + Drop>(alloc: Global, board: &Board) -> Option<
     Some(solver.solve())
 }
 
-/// The value of a rank, if it is one.
-pub fn value(values: &Values, rank: u32) -> Option<Value> {
+/// The value of the configuration of `rank`, if the board has one of this rank.
+pub fn value(values: &Values, rank: u32) -> Option<Value>
+    ensures { MatchOption result (configurations values.now ≤ rank)
+        (HasValue values.now (configuration_at values.now rank)) }
+{
     if rank < values.space().configurations() {
         Some(values.of(rank))
     } else {

@@ -68,7 +68,8 @@ pub record IsRowFor {X : Type 0} (at : X → List ℕ) (rows : List X) (configur
 
 -- P holds of the configuration of the rank
 abbrev pub HoldsAtRank : PlainBoard → ℕ → (List ℕ → Type 0) → Type 0
-HoldsAtRank board rank P = (configuration : List ℕ) → IsConfiguration board configuration → rank ≡ rank_of board configuration → P configuration
+HoldsAtRank board rank P = (configuration : List ℕ) → IsConfiguration board configuration
+    → rank ≡ rank_of board configuration → P configuration
 
 -- some turns are wanted, and the labeller's rows don't serve them
 abbrev pub IsUnservedFor : List AnswerRow → List ℕ → Turns → CheckFault → CheckFault → CheckFault → Type 0

@@ -46,14 +46,14 @@ invariant_of-into-2 g c =
     let given : c.into.inside.seat.me.0.key.solving ≡ c.self.inside.solver.now = ap (λ (q : Key). q.solving) (mine.1 ∙ r.key_is) in
     let most_is : most_members c.into.inside.seat.me.0.key ≡ m = sym (c.places-most.ensures.value ∙ ap places c.space.ensures ∙ ap (λ (s : Solving). places s.board) (sym given)) in
     let size_is : size c.into.inside.seat.me.0.key ≡ configurations c.self.inside.solver.now.board = ap (λ (s : Solving). configurations s.board) given in
-    let room_is : (configurations c.self.inside.solver.now.board ≤ c.places_for-places.result) ⊎ (c.len-8.result + (c.len.result + m * c.len-2.result) + (c.len-3.result + c.len-4.result + m * c.len-5.result) ≤ c.places_for-places.result) = c.places_for-places.ensures in
+    let room_is : (configurations c.self.inside.solver.now.board ≤ c.won_capacity-capacity.result) ⊎ (c.len-8.result + (c.len.result + m * c.len-2.result) + (c.len-3.result + c.len-4.result + m * c.len-5.result) ≤ c.won_capacity-capacity.result) = c.won_capacity-capacity.ensures in
     joined_seat c.into.inside c.from.inside _ c.into.invariant c.from.invariant (mine.1 ∙ sym theirs.1)
     (ap (λ (m : Me Unit0 View). m.0) (l.2.0 ∙ j.2)) (ap (λ m. m.1) (l.2.0 ∙ j.2))
     (c.in-Ok.ensures.items ∙ ap (λ (xs : List ℕ). xs ++ c.from.inside.todo.items) c.make_room.ensures.items)
     (c.in-Ok-append.ensures.items ∙ ap (λ (xs : List ℕ). xs ++ c.from.inside.owed.items) c.make_room-2.ensures.items)
     (let a = c.make_room-2.ensures.capacity in let b = c.append-2.ensures.capacity in omega arith)
-    (c.in-Ok-append-2.ensures.items ∙ ap (λ (xs : List ℕ). xs ++ c.from.inside.won.items) c.make_places.ensures.items)
-    (let room : c.places_for-places.result ≤ vec_capacity c.make_places.new.list = search rules in
+    (c.in-Ok-append-2.ensures.items ∙ ap (λ (xs : List ℕ). xs ++ c.from.inside.won.items) c.make_capacity.ensures.items)
+    (let room : c.won_capacity-capacity.result ≤ vec_capacity c.make_capacity.new.list = search rules in
     let a : c.len.result ≡ length c.into.inside.owed.items = c.len.ensures ∙ c.into.inside.owed.ok.0 in
     let b : c.len-3.result ≡ length c.from.inside.won.items = c.len-3.ensures ∙ c.from.inside.won.ok.0 in
     let d : c.len-4.result ≡ length c.from.inside.owed.items = c.len-4.ensures ∙ c.from.inside.owed.ok.0 in
@@ -63,6 +63,6 @@ invariant_of-into-2 g c =
     let y : most_members c.into.inside.seat.me.0.key * length c.from.inside.todo.items ≡ m * c.len-5.result =
     ap (λ (p : ℕ × ℕ). p.0 * p.1) (λ i. (most_is i, sym (c.len-5.ensures ∙ c.from.inside.todo.ok.0) i)) in
     let z = c.append-3.ensures.capacity in
-    ⊎_elim (λ (e : configurations c.self.inside.solver.now.board ≤ c.places_for-places.result). inl (omega arith)) (λ f. inr (omega arith)) room_is)
+    ⊎_elim (λ (e : configurations c.self.inside.solver.now.board ≤ c.won_capacity-capacity.result). inl (omega arith)) (λ f. inr (omega arith)) room_is)
     (subst (λ (n : Me Unit0 View). IsBounded n.0) (sym l.2.0) l.2.1)
     refl

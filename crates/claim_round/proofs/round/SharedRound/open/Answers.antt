@@ -42,9 +42,9 @@ invariant_of-seat g c =
     let len : c.len.result ≡ length c.from_vec-todo.result.items = c.len.ensures ∙ c.in_ok-ranks.ranks.ok.0 ∙ sym (ap length todo_is) in
     let product : c.places-most.result * c.len.result ≡ most_members k * length c.from_vec-todo.result.items = ap (λ (p : ℕ × ℕ). p.0 * p.1) (λ j. (most_is j, len j)) in
     let room : c.places-most.result ≤ deque_capacity c.in_ok-owed.owed = c.in_ok-owed.ensures.capacity in
-    let full : c.places_for.result ≤ vec_capacity c.in_ok-won.won = search rules in
+    let full : c.won_capacity.result ≤ vec_capacity c.in_ok-won.won = search rules in
     first_seat _ k sol (ap (λ m. m.0) e.4) (ap (λ m. m.1) e.4) (subst (AreToStrike s) (sym todo_is) c.in_ok-ranks.ensures.ranks) c.in_ok-owed.ensures.items (omega arith)
-    c.in_ok-won.ensures.items (⊎_elim (λ a. inl (omega arith)) (λ b. inr (omega arith)) c.places_for.ensures) refl
+    c.in_ok-won.ensures.items (⊎_elim (λ a. inl (omega arith)) (λ b. inr (omega arith)) c.won_capacity.ensures) refl
 
 pub returns : goal.returns
 returns g c =

@@ -50,7 +50,7 @@ invariant_of-new g c =
     let n : ℕ = length c.seat.inside.todo.items in
     let kept : c.len.result - c.len-moved.result / 2 ≡ n - n / 2 = ap (λ (p : ℕ × ℕ). p.0 - p.1 / 2) (λ j. ((l ∙ ok) j, (h ∙ ok) j)) in
     let room : c.places-most.result ≤ deque_capacity c.in-Ok.owed = search rules in
-    let full : c.places_for.result ≤ vec_capacity c.in-Ok-with_capacity.won = search rules in
+    let full : c.won_capacity.result ≤ vec_capacity c.in-Ok-with_capacity.won = search rules in
     let space : most_members v.key * (n / 2) ≡ c.places-most.result * (c.len-moved.result / 2) = ap (λ (p : ℕ × ℕ). p.0 * (p.1 / 2)) (λ j. (sym most_is j, sym (h ∙ ok) j)) in
     new_seat c.seat.inside _ c.seat.invariant (ap (λ m. m.0) e.4) (ap (λ m. m.1) e.4) (c.in-Ok-split_off.ensures.tail ∙ ap (λ (i : ℕ). drop i c.seat.inside.todo.items) kept)
-    c.in-Ok.ensures.items (omega arith) c.in-Ok-with_capacity.ensures.items (⊎_elim (λ a. inl (omega arith)) (λ b. inr (omega arith)) c.places_for.ensures) refl
+    c.in-Ok.ensures.items (omega arith) c.in-Ok-with_capacity.ensures.items (⊎_elim (λ a. inl (omega arith)) (λ b. inr (omega arith)) c.won_capacity.ensures) refl
