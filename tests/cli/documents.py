@@ -37,6 +37,8 @@ CLAIMS = {
     'product-of-four-cycle-and-cycle': 'forever',
     'product-of-cycle-and-residues-modulo-seven': 'forever',
 }
+# stored boards that are too large to be solved
+BEYOND = ('product-of-residues-modulo-seven-twice', 'product-of-residues-modulo-seven-and-nineteen')
 # stored boards that are products, each with its outer and its inner factor
 PRODUCTS = {
     'nested-of-level-three': ('three-cycle', 'three-cycle'),
@@ -45,6 +47,8 @@ PRODUCTS = {
     'product-of-pair-and-cycle': ('one-pair', 'three-cycle'),
     'product-of-four-cycle-and-cycle': ('four-cycle', 'three-cycle'),
     'product-of-cycle-and-residues-modulo-seven': ('three-cycle', 'residues-modulo-seven'),
+    'product-of-residues-modulo-seven-twice': ('residues-modulo-seven', 'residues-modulo-seven'),
+    'product-of-residues-modulo-seven-and-nineteen': ('residues-modulo-seven', 'residues-modulo-nineteen'),
 }
 # the digest of the nested board of level 6 with six pebbles, whose text was made by other means
 NESTED_SIX = '99e3d4fd93bc36598f8d3ffb62b223fb984699a8e9c5a4f0f51b5b23fbf76a55'
@@ -117,8 +121,9 @@ def are_made(work):
     folder = os.path.join(work, 'made')
     os.mkdir(folder)
     subprocess.run([os.path.join(BOARDS, 'make'), folder], check=True)
-    made = {name: text_of(os.path.join(folder, f'{name}.board')) for name in CLAIMS}
-    others = {name for name in CLAIMS if made[name] != text_of(board(name))} | set(os.listdir(folder)) ^ {f'{name}.board' for name in stored('.board')}
+    names = [*CLAIMS, *BEYOND]
+    made = {name: text_of(os.path.join(folder, f'{name}.board')) for name in names}
+    others = {name for name in names if made[name] != text_of(board(name))} | set(os.listdir(folder)) ^ {f'{name}.board' for name in stored('.board')}
     return None if not others else f'others are made: {sorted(others)}'
 
 
@@ -143,14 +148,17 @@ def is_product(whole, outer, inner):
 
 
 def stored_boards(work):
-    """The claims and counts of stored boards, and which of them are products."""
+    """The claims and counts of stored boards, which of them are products, and which are too large."""
     yield Check('the stored boards are made', partial(are_made, work))
     for name, (outer, inner) in PRODUCTS.items():
         yield Check(f'{name} is the product of {outer} and {inner}', partial(is_product, name, outer, inner))
     for name, claim in CLAIMS.items():
         yield from solved(work, name, board(name), claim)
     for name in stored('.board'):
-        yield counted(name, board(name))
+        if name not in BEYOND:
+            yield counted(name, board(name))
+    for name in BEYOND:
+        yield check(f'solve of {name}', TOO_LARGE, ['solve', board(name)])
 
 
 def made_boards(work):

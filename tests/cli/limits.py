@@ -10,7 +10,7 @@ import subprocess
 from dataclasses import dataclass
 from functools import partial
 
-from program import PROGRAM, Check, Ran, board, differs, fault, fed, run, shown, strategy, text_of, written, zeros
+from program import PROGRAM, Check, Ran, board, differs, fault, fed, letters, run, shown, strategy, text_of, written
 
 KIBIBYTE = 1024
 NO_MEMORY = fault(4, 'out of memory')
@@ -139,7 +139,7 @@ def checks(work):
     os.chmod(work, 0o711)
     program = readable(work, 'pebbles', text_of(PROGRAM))
     jobs = list(made_jobs(work, program))
-    yield fed('an input that memory has no room for', NO_MEMORY, zeros(134217728), [],
+    yield fed('an input that memory has no room for', NO_MEMORY, letters(134217728), [],
               preexec_fn=set_to(resource.RLIMIT_AS, 65536 * KIBIBYTE))
     yield from limited(MEMORY, jobs)
     if has_other_user():

@@ -1,7 +1,7 @@
 """Inputs that are as long as they may be, longer, or without an end; and paths that are too long."""
 from functools import partial
 
-from program import Check, Ran, board, check, differs, fault, fed, run, strategy, written, zeros
+from program import Check, Ran, board, check, differs, fault, fed, letters, run, strategy, written
 
 # the bytes of a board, and of a document or of both together; the bytes of a line of a play, and the number of its lines
 LONGEST_BOARD = 1048576
@@ -21,18 +21,18 @@ PLAYS = (
 
 def long_boards(work):
     """Boards, documents and both together, at the limit and beyond."""
-    yield fed('the longest input', NO_VERSION, zeros(LONGEST_INPUT), [])
-    yield fed('an input that is too long', TOO_LONG, zeros(LONGEST_INPUT + 1), [])
-    longest = written(work, 'longest', bytes(LONGEST_BOARD))
-    too_long = written(work, 'too-long', bytes(LONGEST_BOARD + 1))
+    yield fed('the longest input', NO_VERSION, letters(LONGEST_INPUT), [])
+    yield fed('an input that is too long', TOO_LONG, letters(LONGEST_INPUT + 1), [])
+    longest = written(work, 'longest', b'a' * LONGEST_BOARD)
+    too_long = written(work, 'too-long', b'a' * (LONGEST_BOARD + 1))
     yield check('the longest board', NO_VERSION, ['check', longest, PAIR_STRATEGY])
     yield check('a board that is too long', TOO_LONG, ['check', too_long, longest])
-    yield fed('the longest document', fault(1, 'proof fault line 1 Version'), zeros(LONGEST_INPUT), ['check', PAIR, '/dev/stdin'])
-    yield fed('a document that is too long', TOO_LONG, zeros(LONGEST_INPUT + 1), ['check', PAIR, '/dev/stdin'])
+    yield fed('the longest document', fault(1, 'proof fault line 1 Version'), letters(LONGEST_INPUT), ['check', PAIR, '/dev/stdin'])
+    yield fed('a document that is too long', TOO_LONG, letters(LONGEST_INPUT + 1), ['check', PAIR, '/dev/stdin'])
     for name, words in (('solve', ['solve']), ('report', ['report']), ('play', ['play', '--side', 'labeller'])):
         yield check(f'{name} of the longest board', NO_VERSION, words + [longest])
         yield check(f'{name} of a board that is too long', TOO_LONG, words + [too_long])
-    yield fed('a board of two thousand million bytes', TOO_LONG, zeros(2000000000), ['solve', '/dev/stdin'])
+    yield fed('a board of two thousand million bytes', TOO_LONG, letters(2000000000), ['solve', '/dev/stdin'])
 
 
 def endless_inputs():

@@ -73,9 +73,9 @@ def fed(name, wanted, source, words, **streams):
     return Check(name, partial(leaves_when_fed, wanted, source, words, **streams))
 
 
-def zeros(count):
-    """A command that writes so many bytes."""
-    return ['head', '-c', str(count), '/dev/zero']
+def letters(count):
+    """A command that writes the letter a so many times."""
+    return ['sh', '-c', f"head -c {count} /dev/zero | tr '\\0' a"]
 
 
 # ---- files

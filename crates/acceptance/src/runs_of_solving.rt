@@ -11,8 +11,8 @@ use fakes::{Drip, Failing, Outcome, Trickle, comes_right};
 use positions::Value;
 use round_workers::MAX_WORKERS;
 use runs::{
-    RunFault, Solved, report_text, report_text_by, run_report, run_report_by, run_solve,
-    run_solve_by, solve_text, solve_text_by,
+    RunFault, Solved, report_text, report_text_alone, run_report, run_report_alone, run_solve,
+    run_solve_alone, solve_text, solve_text_alone,
 };
 use std::alloc::Global;
 use std::sync::Wait;
@@ -82,11 +82,11 @@ fn outcome(
     let mut reader = Drip::new(ends.board.as_bytes(), ends.reads);
     let mut writer = Trickle::<ROOM>::new(ends.writes, ends.failing);
     let answer = match command {
-        Command::Solve => run_solve(alloc, &mut reader, &mut writer).map(Some),
-        Command::SolveByTwo => run_solve_by(rt, alloc, 2, &mut reader, &mut writer).map(Some),
-        Command::Report => run_report(alloc, &mut reader, &mut writer).map(|()| None),
+        Command::Solve => run_solve_alone(alloc, &mut reader, &mut writer).map(Some),
+        Command::SolveByTwo => run_solve(rt, alloc, 2, &mut reader, &mut writer).map(Some),
+        Command::Report => run_report_alone(alloc, &mut reader, &mut writer).map(|()| None),
         Command::ReportBySixteen => {
-            run_report_by(rt, alloc, 16, &mut reader, &mut writer).map(|()| None)
+            run_report(rt, alloc, 16, &mut reader, &mut writer).map(|()| None)
         }
     };
     outcome_of(answer, wanted, reader.failed(), &writer, written, NOTHING)
@@ -122,16 +122,16 @@ fn text_outcome(rt: &(impl Threads + Wait + Sync), alloc: Global, workers: u8) -
     requires { InRange 1 MAX_WORKERS workers }
 {
     pair_outcome(
-        solve_text_by(rt, alloc, workers, ONE_PAIR.as_bytes()),
-        report_text_by(rt, alloc, workers, ONE_PAIR.as_bytes()),
+        solve_text(rt, alloc, workers, ONE_PAIR.as_bytes()),
+        report_text(rt, alloc, workers, ONE_PAIR.as_bytes()),
     )
 }
 
 /// The outcome of solving and reporting the text of the pair on this thread.
 fn text_outcome_alone(alloc: Global) -> Outcome {
     pair_outcome(
-        solve_text(alloc, ONE_PAIR.as_bytes()),
-        report_text(alloc, ONE_PAIR.as_bytes()),
+        solve_text_alone(alloc, ONE_PAIR.as_bytes()),
+        report_text_alone(alloc, ONE_PAIR.as_bytes()),
     )
 }
 

@@ -275,5 +275,5 @@ fn workers<'a>(alloc: Global) -> Arg<'a>
         .value_name("N")
         .default_value("1")
         .value_parser(value_parser!(u8).range(1..=MAX_WORKERS as i64))
-        .help("How many workers solve the board, 1 to 16; one is fastest on every board measured")
+        .help("How many workers solve the board, 1 to 16")
 }

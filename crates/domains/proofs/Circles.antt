@@ -98,7 +98,7 @@ residues_dominated board circle (x ∷ y ∷ third ∷ labels) long all = absurd
 
 -- ---- each circle is a board
 
-contains_or_not : (steps : List ℕ) (step : ℕ) → Contains steps step ⊎ (Contains steps step → ⊥)
+pub contains_or_not : (steps : List ℕ) (step : ℕ) → Contains steps step ⊎ (Contains steps step → ⊥)
 contains_or_not [] step = inr (λ has. contains_none step has)
 contains_or_not (first ∷ steps) step =
     elim (cases_eq first step) [

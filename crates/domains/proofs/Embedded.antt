@@ -91,17 +91,17 @@ module _ (board renamed : PlainBoard) (to back : ℕ → ℕ) (renaming : IsRena
 -- ---- one process fewer
 
 -- the pebbles from this one on follow the next
-beyond : ℕ → ℕ → ℕ
+pub beyond : ℕ → ℕ → ℕ
 beyond pebble other = one_or (cases_lt other pebble) other (other + 1)
 
-beyond_is : (pebble other : ℕ) → ((other < pebble) × (beyond pebble other ≡ other))
+pub beyond_is : (pebble other : ℕ) → ((other < pebble) × (beyond pebble other ≡ other))
     ⊎ ((pebble ≤ other) × (beyond pebble other ≡ other + 1))
 unfolding beyond
 beyond_is pebble other =
     of_one_or (λ n. ((other < pebble) × (n ≡ other)) ⊎ ((pebble ≤ other) × (n ≡ other + 1))) (cases_lt other pebble)
     other (other + 1) (λ low. inl (low, refl)) (λ high. inr (high, refl))
 
-beyond_apart : (pebble first second : ℕ) → beyond pebble first ≡ beyond pebble second → first ≡ second
+pub beyond_apart : (pebble first second : ℕ) → beyond pebble first ≡ beyond pebble second → first ≡ second
 beyond_apart pebble first second one =
     elim (beyond_is pebble first) [
       | inl low ↦ elim (beyond_is pebble second) [

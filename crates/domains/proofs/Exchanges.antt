@@ -15,15 +15,15 @@ use Rattle.domains.proofs.Following.{same_domain, led_lasts}
 use Rattle.domains.proofs.ComparedValues.{LastsAsLong, one_value_from_trees}
 
 -- two numbers, each in the other's place
-trade : ℕ → ℕ → ℕ → ℕ
+pub trade : ℕ → ℕ → ℕ → ℕ
 trade i j k = one_or (cases_eq k i) j (one_or (cases_eq k j) i k)
 
-record Traded (i j k to : ℕ) : Type 0 where
-  first : k ≡ i → to ≡ j
-  second : k ≡ j → to ≡ i
-  other : k ≢ i → k ≢ j → to ≡ k
+pub record Traded (i j k to : ℕ) : Type 0 where
+  pub first : k ≡ i → to ≡ j
+  pub second : k ≡ j → to ≡ i
+  pub other : k ≢ i → k ≢ j → to ≡ k
 
-trade_is : (i j k : ℕ) → Traded i j k (trade i j k)
+pub trade_is : (i j k : ℕ) → Traded i j k (trade i j k)
 unfolding trade
 trade_is i j k =
     of_one_or (Traded i j k) (cases_eq k i) j (one_or (cases_eq k j) i k)
@@ -37,7 +37,7 @@ trade_is i j k =
       other = λ _ _. refl;
     }))
 
-trade_apart : (i j first second : ℕ) → trade i j first ≡ trade i j second → first ≡ second
+pub trade_apart : (i j first second : ℕ) → trade i j first ≡ trade i j second → first ≡ second
 trade_apart i j first second one =
     let one_is = trade_is i j first in
     let other_is = trade_is i j second in
@@ -67,7 +67,7 @@ trade_apart i j first second one =
       ]
     ]
 
-trade_below : (count i j k : ℕ) → i < count → j < count → k < count → trade i j k < count
+pub trade_below : (count i j k : ℕ) → i < count → j < count → k < count → trade i j k < count
 trade_below count i j k i_below j_below k_below =
     let is = trade_is i j k in
     elim (cases_eq k i) [

@@ -165,13 +165,13 @@ lone_is_nested board labels pebbles none = record {
   );
 }
 
-record Carries (count : ℕ) : Type 0 where
-  board : PlainBoard
-  nested : IsNestedPlay (suc count) board
-  pebbles : board.pebbles ≡ suc count
-  lasts : (depth : ℕ) → LabellerTree board depth (replicate board.pebbles 0)
+pub record Carries (count : ℕ) : Type 0 where
+  pub board : PlainBoard
+  pub nested : IsNestedPlay (suc count) board
+  pub pebbles : board.pebbles ≡ suc count
+  pub lasts : (depth : ℕ) → LabellerTree board depth (replicate board.pebbles 0)
 
-carries : (count : ℕ) → Carries count
+pub carries : (count : ℕ) → Carries count
 carries zero =
     let one = plain_board 1 1 [] [] in
     record {

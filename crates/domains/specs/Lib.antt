@@ -1,12 +1,15 @@
 pub mod Agreement
+pub mod Carried
 pub mod Circles
 pub mod Cycles
 pub mod Dominated
 pub mod Embedding
 pub mod Follows
+pub mod Kept
 pub mod Lowest
 pub mod Minimax
 pub mod Orders
 pub mod Products
+pub mod Used
 pub mod ValueOrder
 pub mod Withdrawal

@@ -14,9 +14,9 @@ pub record IsProduct (outer inner board : PlainBoard) : Type 0 where
       × Beats inner (x % inner.labels) (y % inner.labels)))
 
 -- the product of a list of domains, the first of them the outermost: with each factor its pebbles
--- are added, less one; the product of none has one label and one pebble
+-- are added, less one; the product of none has one pebble, and one label, which doesn't beat itself
 abbrev pub IsProductOf : List PlainBoard → PlainBoard → Type 0
-IsProductOf [] board = (board.labels ≡ 1) × (board.pebbles ≡ 1)
+IsProductOf [] board = (board.labels ≡ 1) × (board.pebbles ≡ 1) × (Beats board 0 0 → ⊥)
 IsProductOf (factor ∷ factors) board =
     (inner : PlainBoard) × IsProductOf factors inner × IsProduct factor inner board
     × (suc board.pebbles ≡ factor.pebbles + inner.pebbles)

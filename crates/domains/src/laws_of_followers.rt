@@ -1,13 +1,16 @@
 //! Laws of domains that follow one another, each the contract of a function without a body.
 
-ghost use Rattle.std.specs.Prelude.{◌≡◌, ◌↔◌, ◌<◌, ℕ, List, length};
+ghost use Rattle.std.specs.Prelude.{◌≡◌, ◌≢◌, ◌↔◌, ◌<◌, ℕ, List, length, slice_index, slice_set};
 ghost use Rattle.std.specs.List.{remove};
 ghost use Rattle.std.specs.List.Sorted.{IsPermutation};
 ghost use Rattle.board_text.specs.PlainBoard.{PlainBoard};
 ghost use Rattle.positions.specs.Game.{LabellerTree};
+ghost use Rattle.positions.specs.Value.{HasValue};
+ghost use Rattle.positions.specs.declared.value.Value.TheVariants.{Forever};
 ghost use Rattle.domains.specs.Embedding.{IsWithin, IsOnBoth, HasOnePebbleFewer};
 ghost use Rattle.domains.specs.Embedding.{IsRenaming, IsRenamed};
 ghost use Rattle.domains.specs.Follows.{Follows, IsLed};
+ghost use Rattle.domains.specs.Used.{KeepsUsed};
 ghost use Rattle.domains.specs.ValueOrder.{IsWorthAtMost, AreWorthTheSame};
 ghost use Rattle.domains.specs.Withdrawal.{IsFreed, WithdrawalTree};
 
@@ -72,4 +75,29 @@ pub fn withdrawals_change_nothing()
     ensures { (board : PlainBoard) → (depth : ℕ) → (configuration : List ℕ)
         → length configuration ≡ board.pebbles
         → LabellerTree board depth configuration ↔ WithdrawalTree board depth configuration }
+{}
+
+/// Of two processes on one label one counts as none: the value stays if one of them gives it up.
+pub fn shared_labels_count_once()
+    ensures { (board : PlainBoard) → (configuration : List ℕ) → (pebble : ℕ) → (other : ℕ)
+        → length configuration ≡ board.pebbles → other < board.pebbles → pebble ≢ other
+        → slice_index configuration pebble ≡ slice_index configuration other
+        → AreWorthTheSame board configuration
+        board (slice_set configuration pebble board.labels) }
+{}
+
+/// A domain lasts for ever exactly if its part does that is used: the labels from which, with all
+/// processes on one of them, it lasts for ever. All other labels can go, and what is left may have
+/// other names.
+pub fn unused_labels_can_go()
+    ensures last { (board : PlainBoard) → (part : PlainBoard) → (image : ℕ → ℕ)
+        → (configuration : List ℕ) → (other : List ℕ) → KeepsUsed board part image
+        → IsLed part board image (λ pebble. pebble) configuration other
+        → HasValue board configuration Forever → HasValue part other Forever }
+    ensures exactly { (board : PlainBoard) → (part : PlainBoard) → (image : ℕ → ℕ) → (back : ℕ → ℕ)
+        → KeepsUsed board part image → Follows board part back (λ pebble. pebble)
+        → ((configuration : List ℕ) × (length configuration ≡ board.pebbles)
+        × HasValue board configuration Forever)
+        ↔ ((configuration : List ℕ) × (length configuration ≡ part.pebbles)
+        × HasValue part configuration Forever) }
 {}

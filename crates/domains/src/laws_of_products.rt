@@ -1,13 +1,14 @@
 //! Laws of products of domains, each the contract of a function without a body.
 
 ghost use Rattle.std.specs.Prelude.{◌≡◌, ◌↔◌, ◌⊎◌, ◌+◌, ◌*◌, ◌<◌, ℕ, suc};
-ghost use Rattle.std.specs.Prelude.{All, List, [], ◌∷◌, replicate};
+ghost use Rattle.std.specs.Prelude.{All, List, [], ◌∷◌, length, replicate};
 ghost use Rattle.board_text.specs.PlainBoard.{PlainBoard, ArePairs, Beats, IsAntisymmetric};
 ghost use Rattle.positions.specs.Game.{LabellerTree};
 ghost use Rattle.positions.specs.Value.{HasValue};
 ghost use Rattle.positions.specs.declared.value.Value.{Value as ValueData};
-ghost use Rattle.positions.specs.declared.value.Value.TheVariants.{Forever};
+ghost use Rattle.positions.specs.declared.value.Value.TheVariants.{Finite, Forever};
 ghost use Rattle.player.specs.NestedPlay.{IsNestedPlay};
+ghost use Rattle.domains.specs.Carried.{Carries, CarriesExactly, SomeCarries};
 ghost use Rattle.domains.specs.Circles.{IsCircle};
 ghost use Rattle.domains.specs.Dominated.{AreDominated, IsHeld};
 ghost use Rattle.domains.specs.Orders.{IsChain};
@@ -28,9 +29,9 @@ pub fn products_last()
         → HasValue board configuration Forever }
 {}
 
-/// A product lasts as long as the factor that lasts shorter, with as many pebbles as both together,
-/// less one: from all pebbles on one label, or on none, if the outer factor lasts that long from
-/// all on its copy, and the inner one from all on its part of the copy.
+/// A product lasts at least as long as the factor that lasts shorter, with as many pebbles as both
+/// together, less one: from all pebbles on one label, or on none, if the outer factor lasts that
+/// long from all on its copy, and the inner one from all on its part of the copy.
 pub fn products_last_as_their_factors()
     ensures trees { (outer : PlainBoard) → (inner : PlainBoard) → (board : PlainBoard)
         → (depth : ℕ) → (copy : ℕ) → (piece : ℕ) → IsProduct outer inner board
@@ -51,8 +52,8 @@ pub fn products_last_as_their_factors()
         → HasValue board configuration value → IsAtMost of_outer value ⊎ IsAtMost of_inner value }
 {}
 
-/// A product of several domains lasts as long as the one that lasts shortest, from all pebbles on
-/// the label 0.
+/// A product of several domains lasts at least as long as the one that lasts shortest, from all
+/// pebbles on the label 0.
 pub fn several_products_last()
     ensures trees { (factors : List PlainBoard) → (board : PlainBoard) → (depth : ℕ)
         → IsProductOf factors board
@@ -65,7 +66,41 @@ pub fn several_products_last()
         → HasValue board (replicate board.pebbles 0) Forever }
 {}
 
-/// Two domains have a product as a board, with any number of pebbles and any start; and two
+/// A product lasts for ever with no more pebbles than its factors together, less one. If the outer
+/// factor ends from each start, and the inner one too, the product with as many pebbles as both
+/// together, less two, ends from each start. So it carries for ever exactly as many as its factors
+/// carry together, less one; and so does a product of several domains. No two labels of the outer
+/// factor may beat each other: two that do carry two, and their product with themselves four.
+pub fn products_carry_no_more()
+    ensures outer_lasts { (outer : PlainBoard) → (inner : PlainBoard) → (board : PlainBoard)
+        → (configuration : List ℕ) → IsAntisymmetric outer → IsProduct outer inner board
+        → suc (suc board.pebbles) ≡ outer.pebbles + inner.pebbles
+        → length configuration ≡ board.pebbles → HasValue board configuration Forever
+        → ((start : List ℕ) → length start ≡ inner.pebbles → HasValue inner start Forever → ⊥)
+        → (start : List ℕ) × (length start ≡ outer.pebbles) × HasValue outer start Forever }
+    ensures end { (outer : PlainBoard) → (inner : PlainBoard) → (board : PlainBoard)
+        → (configuration : List ℕ) → IsAntisymmetric outer → IsProduct outer inner board
+        → suc (suc board.pebbles) ≡ outer.pebbles + inner.pebbles
+        → length configuration ≡ board.pebbles
+        → ((start : List ℕ) → length start ≡ outer.pebbles → HasValue outer start Forever → ⊥)
+        → ((start : List ℕ) → length start ≡ inner.pebbles → HasValue inner start Forever → ⊥)
+        → (number : ℕ) × HasValue board configuration (Finite number) }
+    ensures exactly { (outer : PlainBoard) → (inner : PlainBoard) → (board : PlainBoard)
+        → (outer_count : ℕ) → (inner_count : ℕ) → (count : ℕ)
+        → IsAntisymmetric outer → IsProduct outer inner board → 0 < outer.labels
+        → suc count ≡ outer_count + inner_count
+        → CarriesExactly outer outer_count → CarriesExactly inner inner_count
+        → CarriesExactly board count }
+    ensures several { (factors : List PlainBoard) → (board : PlainBoard)
+        → IsProductOf factors board
+        → All (λ factor. IsAntisymmetric factor × (0 < factor.labels)
+        × CarriesExactly factor factor.pebbles) factors
+        → CarriesExactly board board.pebbles }
+    ensures both_ways { (domain : PlainBoard) × (board : PlainBoard)
+        × IsProduct domain domain board × CarriesExactly domain 2 × Carries board 4 }
+{}
+
+/// Two domains have a product as plain data, with any number of pebbles and any start; and two
 /// products of the same domains have the same labels, of which one beats another on both or on
 /// neither, and with the same pebbles and start they are one board.
 pub fn products_exist()
@@ -87,7 +122,7 @@ pub fn products_exist()
 {}
 
 /// The nested board of a level from two on is the product of the three-cycle and the nested board
-/// of one level less; so by the law of products each level carries as many pebbles for ever.
+/// of one level less; so by the laws of products level k carries exactly k pebbles for ever.
 pub fn nested_boards_are_products()
     ensures product { (count : ℕ)
         → (cycle : PlainBoard) → (inner : PlainBoard) → (board : PlainBoard)
@@ -95,26 +130,47 @@ pub fn nested_boards_are_products()
         → IsNestedPlay (suc (suc count)) board → IsProduct cycle inner board }
     ensures carries { (count : ℕ) → (board : PlainBoard) → IsNestedPlay (suc count) board
         → board.pebbles ≡ suc count → HasValue board (replicate board.pebbles 0) Forever }
+    ensures exactly { (count : ℕ) → (board : PlainBoard) → IsNestedPlay (suc count) board
+        → CarriesExactly board (suc count) }
 {}
 
-/// The product of the three-cycle twice and the residues modulo seven carries five processes for
-/// ever on 63 labels; and that of a chain of 200 labels and these residues lasts 199 requests or
-/// more with four processes. No run could look at their configurations.
+/// The product of the residues modulo seven and themselves carries five processes for ever on 49
+/// labels, and no six; and that of a chain of 200 labels and these residues lasts 199 requests or
+/// more with four processes. Both have more configurations than the limits of a run.
 pub fn products_beyond_any_run()
-    ensures for_ever { (cycle : PlainBoard) → (residues : PlainBoard) → (board : PlainBoard)
-        → IsCircle 3 (1 ∷ []) cycle → cycle.pebbles ≡ 2
+    ensures for_ever { (residues : PlainBoard) → (board : PlainBoard)
         → IsCircle 7 (1 ∷ 2 ∷ 4 ∷ []) residues → residues.pebbles ≡ 3
-        → IsProductOf (cycle ∷ cycle ∷ residues ∷ []) board
-        → (board.labels ≡ 63) × (board.pebbles ≡ 5)
+        → IsProductOf (residues ∷ residues ∷ []) board
+        → (board.labels ≡ 49) × (board.pebbles ≡ 5)
         × HasValue board (replicate board.pebbles 0) Forever }
-    ensures exist { (cycle : PlainBoard) × (residues : PlainBoard) × (board : PlainBoard)
-        × IsCircle 3 (1 ∷ []) cycle × (cycle.pebbles ≡ 2)
+    ensures exactly { (residues : PlainBoard) → (board : PlainBoard)
+        → IsCircle 7 (1 ∷ 2 ∷ 4 ∷ []) residues → residues.pebbles ≡ 3
+        → IsProductOf (residues ∷ residues ∷ []) board → CarriesExactly board 5 }
+    ensures exist { (residues : PlainBoard) × (board : PlainBoard)
         × IsCircle 7 (1 ∷ 2 ∷ 4 ∷ []) residues × (residues.pebbles ≡ 3)
-        × IsProductOf (cycle ∷ cycle ∷ residues ∷ []) board }
+        × IsProductOf (residues ∷ residues ∷ []) board × ArePairs board.labels board.pairs }
     ensures finite { (chain : PlainBoard) → (residues : PlainBoard) → (board : PlainBoard)
         → IsChain chain → chain.labels ≡ 200 → chain.pebbles ≡ 2
         → IsCircle 7 (1 ∷ 2 ∷ 4 ∷ []) residues → residues.pebbles ≡ 3
         → IsProductOf (chain ∷ residues ∷ []) board
         → (board.labels ≡ 1400) × (board.pebbles ≡ 4)
         × LabellerTree board 199 (replicate board.pebbles 0) }
+{}
+
+/// Few labels carry two to eight processes for ever: the three-cycle two, the residues modulo seven
+/// three, of which each two are dominated by one, the residues modulo nineteen four, of which each
+/// three are, and products of these two five to eight. No more processes last for ever on them.
+/// That no domain has fewer labels isn't said.
+pub fn few_labels_carry_many()
+    ensures residues_modulo_seven { (board : PlainBoard) → IsCircle 7 (1 ∷ 2 ∷ 4 ∷ []) board
+        → AreDominated board 2 }
+    ensures residues_modulo_nineteen { (board : PlainBoard)
+        → IsCircle 19 (1 ∷ 4 ∷ 5 ∷ 6 ∷ 7 ∷ 9 ∷ 11 ∷ 16 ∷ 17 ∷ []) board → AreDominated board 3 }
+    ensures two { SomeCarries 3 2 }
+    ensures three { SomeCarries 7 3 }
+    ensures four { SomeCarries 19 4 }
+    ensures five { SomeCarries 49 5 }
+    ensures six { SomeCarries 133 6 }
+    ensures seven { SomeCarries 343 7 }
+    ensures eight { SomeCarries 931 8 }
 {}

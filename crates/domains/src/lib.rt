@@ -9,6 +9,7 @@ mod laws_of_followers;
 mod laws_of_products;
 mod laws_of_starts;
 mod laws_of_values;
+mod residues_by_hand;
 mod solving;
 
 pub use laws_of_answers::{
@@ -17,16 +18,21 @@ pub use laws_of_answers::{
 pub use laws_of_claims::claims_hold_where_documents_show_them;
 pub use laws_of_followers::{
     exchanged_labels_keep_values, fewer_pebbles_last, followers_last, freed_labels_last,
-    renamed_labels_keep_values, wider_domains_last, withdrawals_change_nothing,
+    renamed_labels_keep_values, shared_labels_count_once, unused_labels_can_go, wider_domains_last,
+    withdrawals_change_nothing,
 };
 pub use laws_of_products::{
-    nested_boards_are_products, products_beyond_any_run, products_exist, products_last,
-    products_last_as_their_factors, several_products_last,
+    few_labels_carry_many, nested_boards_are_products, products_beyond_any_run,
+    products_carry_no_more, products_exist, products_last, products_last_as_their_factors,
+    several_products_last,
 };
 pub use laws_of_starts::{
-    chains_have_their_value, dominated_boards_last, orders_end, two_pebbles_last_on_cycles,
+    chains_have_their_value, dominated_boards_last, one_label_is_the_best_start, orders_end,
+    processes_need_labels, two_pebbles_last_on_cycles,
 };
 pub use laws_of_values::{
-    for_ever_is_a_closed_table, values_compare_as_trees, values_solve_one_equation,
+    Property, for_ever_is_a_closed_table, kept_properties_last, lasting_is_kept,
+    values_compare_as_trees, values_solve_one_equation,
 };
+pub use residues_by_hand::{OnLabels, three_last_on_residues};
 pub use solving::{Solved, solve_board};

@@ -8,46 +8,115 @@
 //! 3 refused, 4 no memory or a worker that wasn't started, 5 a failed read or write, or an input that is too long.
 #![tactic(auto)]
 
+ghost use Rattle.std.specs.Prelude.{◌≡◌, IfOk, map, string_bytes};
+ghost use Rattle.std.specs.Process.{exit_status};
+ghost use Rattle.board_text.specs.declared.through.Through.{Through as Wrapped};
+ghost use Rattle.runs.specs.Folders.{Unknown};
+ghost use Rattle.runs.specs.Run.{stream_of};
+ghost use Rattle.runs.specs.Serving.{Serves};
+ghost use Rattle.runs.specs.declared.serving.Words.{Words as AllWords};
+ghost use Rattle.pebbles.specs.Program.{Gives, borrowed_texts, fresh};
+
 use board_text::Through;
 use runs::{System, Terminals, Words, serve};
-use std::alloc::Global;
-use std::io::IsTerminal;
+use std::alloc::{AllocError, Global};
+use std::fs::Files;
+use std::io::{IsTerminal, Read, Write};
 use std::process::ExitCode;
+use std::sync::Wait;
+use std::thread::Threads;
 use std::{env, io};
 
 fn main(rt: HostRuntime) -> ExitCode {
     let alloc = rt.alloc();
-    let folder = System::new(&rt);
     let terminals = Terminals {
         input: rt.stdin().is_terminal(),
         errors: rt.stderr().is_terminal(),
     };
-    let mut input = Through::new(rt.stdin());
-    let mut output = Through::new(rt.stdout());
-    let mut errors = Through::new(rt.stderr());
-    let owned = owned_words(&rt, alloc);
-    let status = match borrowed_words(alloc, &owned) {
-        Ok(words) => serve(
-            &rt,
-            alloc,
-            &Words::Given(words.as_slice()),
-            terminals,
-            &folder,
-            &mut input,
-            &mut output,
-            &mut errors,
-        ),
-        Err(none) => serve(
-            &rt,
-            alloc,
-            &none,
-            terminals,
-            &folder,
-            &mut input,
-            &mut output,
-            &mut errors,
-        ),
-    };
+    let words = owned_words(&rt, alloc);
+    serve_owned(
+        &rt,
+        alloc,
+        &words,
+        terminals,
+        rt.stdin(),
+        rt.stdout(),
+        rt.stderr(),
+    )
+}
+
+/// Serves the words over standard input, output and error, in the folders of the system. The exit
+/// status is the one that `serve` gives.
+fn serve_owned<I: Read + Drop, O: Write + Drop, E: Write + Drop>(
+    rt: &(impl Files + Threads + Wait + Sync),
+    alloc: Global,
+    owned: &Result<Vec<String>, Words<'static, 'static>>,
+    terminals: Terminals,
+    input: I,
+    output: O,
+    errors: E,
+) -> ExitCode
+    ensures { (words : AllWords) × Gives (λ all. map string_bytes all.items) owned.now words
+        × (read : Wrapped I) × (written : Wrapped O) × (told : Wrapped E)
+        × Serves (λ _. Unknown) terminals
+        (stream_of (λ s. I.remaining s.inner) (λ s. s.has_failed) (fresh input) read)
+        (stream_of (λ s. O.contents s.inner) (λ s. s.has_failed) (fresh output) written)
+        (stream_of (λ s. E.contents s.inner) (λ s. s.has_failed) (fresh errors) told)
+        (exit_status result) words }
+{
+    match owned {
+        Ok(owned) => match borrowed(alloc, owned.as_slice()) {
+            Ok(words) => {
+                let words = Words::Given(words.as_slice());
+                serve_over(rt, alloc, &words, terminals, input, output, errors)
+            }
+            Err(AllocError) => {
+                serve_over(
+                    rt,
+                    alloc,
+                    &Words::OutOfMemory,
+                    terminals,
+                    input,
+                    output,
+                    errors,
+                )
+            }
+        },
+        Err(none) => serve_over(rt, alloc, none, terminals, input, output, errors),
+    }
+}
+
+/// Serves these words, over streams of which nothing was read and to which nothing was written.
+fn serve_over<I: Read + Drop, O: Write + Drop, E: Write + Drop>(
+    rt: &(impl Files + Threads + Wait + Sync),
+    alloc: Global,
+    words: &Words<'_, '_>,
+    terminals: Terminals,
+    input: I,
+    output: O,
+    errors: E,
+) -> ExitCode
+    ensures { (read : Wrapped I) × (written : Wrapped O) × (told : Wrapped E)
+        × Serves (λ _. Unknown) terminals
+        (stream_of (λ s. I.remaining s.inner) (λ s. s.has_failed) (fresh input) read)
+        (stream_of (λ s. O.contents s.inner) (λ s. s.has_failed) (fresh output) written)
+        (stream_of (λ s. E.contents s.inner) (λ s. s.has_failed) (fresh errors) told)
+        (exit_status result) words.now }
+{
+    let folder = System::new(rt);
+    let mut input = Through::new(input);
+    let mut output = Through::new(output);
+    let mut errors = Through::new(errors);
+    let status = serve(
+        rt,
+        alloc,
+        words,
+        terminals,
+        &folder,
+        &mut input,
+        &mut output,
+        &mut errors,
+    );
     ExitCode::from(status)
 }
 
@@ -63,21 +132,13 @@ fn owned_words(rt: &HostRuntime, alloc: Global) -> Result<Vec<String>, Words<'st
     }
 }
 
-/// The same words, as `serve` takes them.
-fn borrowed_words<'a>(
-    alloc: Global,
-    owned: &'a Result<Vec<String>, Words<'static, 'static>>,
-) -> Result<Vec<&'a str>, Words<'static, 'static>> {
-    let owned = match owned {
-        Ok(owned) => owned,
-        Err(none) => return Err(*none),
-    };
-    match owned
-        .iter()
-        .map(|word| word.as_str())
-        .collect::<Vec<&str>>(alloc)
-    {
-        Ok(words) => Ok(words),
-        Err(_) => Err(Words::OutOfMemory),
+/// The texts, borrowed.
+fn borrowed<'a>(alloc: Global, owned: &'a [String]) -> Result<Vec<&'a str>, AllocError>
+    ensures { IfOk result (λ words. borrowed_texts words.items ≡ map string_bytes owned.now) }
+{
+    let mut words = Vec::new(alloc);
+    for word in owned {
+        words.push(word.as_str())?;
     }
+    Ok(words)
 }

@@ -2,7 +2,8 @@
 pub use Rattle.positions.proofs.BoundedSearch.{beats_or_not, dominates_or_not, each_or_some}
 pub use Rattle.positions.proofs.Claims.{claim_holds}
 pub use Rattle.positions.proofs.Configurations.{moved_is_configuration}
-pub use Rattle.positions.proofs.CountsBelow.{count_below, count_below-add, count_below-zero, size_of}
+pub use Rattle.positions.proofs.CountsBelow.{count_below, count_below-add, count_below-suc, count_below-zero, size_of}
+pub use Rattle.positions.proofs.Digits.{digits_below, length-digits_of}
 pub use Rattle.positions.proofs.Finiteness.{forever_from_count, smaller_occurs, some_value}
 pub use Rattle.positions.proofs.GapLaws.{answer_beats_others, gap_below, gap_of-member_of, label_of_member, legal_is_answer, member_is}
 pub use Rattle.positions.proofs.GapLaws.{member_of-gap_of, one_gap, own_member, pebble_below, pebble_of-gap_of}

@@ -88,6 +88,10 @@ pub count_below-zero : (test : ℕ → Bool) → count_below test 0 ≡ 0
 unfolding count_below
 count_below-zero test = refl
 
+pub count_below-suc : (test : ℕ → Bool) (bound : ℕ) → count_below test (suc bound) ≡ count_below test bound + cond (test bound) 1 0
+unfolding count_below
+count_below-suc test bound = refl
+
 pub count_below-same : (first second : ℕ → Bool) (bound : ℕ) → ((number : ℕ) → number < bound → first number ≡ second number) → count_below first bound ≡ count_below second bound
 unfolding count_below
 count_below-same first second zero same = refl

@@ -36,7 +36,7 @@ impl LabelSet {
     }
 
     /// The labels below `labels`.
-    pub(crate) fn below(labels: u16) -> LabelSet
+    pub fn below(labels: u16) -> LabelSet
         requires { labels ≤ MAX_LABELS }
         ensures { (x : ℕ) → x < MAX_LABELS → (has_bit result x ≡ true) ↔ (x < labels) }
     {
@@ -48,7 +48,7 @@ impl LabelSet {
     }
 
     /// The labels that are both in this set and in the bits `row`.
-    pub(crate) fn intersection(self, row: &[u64]) -> LabelSet
+    pub fn intersection(self, row: &[u64]) -> LabelSet
         requires { length row.now ≡ ROW_WORDS }
         ensures { (x : ℕ) → x < MAX_LABELS
             → (has_bit result x ≡ true) ↔ ((has_bit self x ≡ true) × (has_bit row.now x ≡ true)) }

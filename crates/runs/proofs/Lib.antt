@@ -12,3 +12,4 @@ pub mod OneOutcome
 pub mod Endings
 pub mod Served
 pub mod MoreTexts
+pub mod ShownTexts

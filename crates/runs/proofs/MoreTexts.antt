@@ -25,7 +25,7 @@ use Rattle.std.proofs.Common.{
 }
 use Rattle.std.proofs.lemmas.List.{append_assoc, append-nil, length-append, take-append-le}
 use Rattle.std.proofs.Math.Seq.{take-append-add}
-use Rattle.std.specs.Prelude.{Option, None, Some}
+use Rattle.std.specs.Prelude.{All, Option, None, Some}
 use Rattle.std.specs.Io.KnownBytes.{Appends}
 use Rattle.board_text.specs.LineForms.{with_line_feed}
 use Rattle.board_text.specs.Streams.{AppendsPrefix}
@@ -33,6 +33,7 @@ use Rattle.runs.specs.Run.{stream_of}
 use Rattle.runs.specs.Serving.{IsEnding, IsExplained, IsForPerson, IsSaid, IsWritten}
 use Rattle.runs.specs.declared.outcome.Outcome.{Outcome}
 use Rattle.runs.specs.Inside.Writing.{IsMore}
+use Rattle.runs.proofs.ShownTexts.{IsPlain}
 
 both : (a b c : Option (List ℕ)) (s t : List ℕ) → Appends a b s → Appends b c t → Appends a c (s ++ t)
 both None b c s t first second = tt
@@ -160,12 +161,12 @@ untyped true false typed is = refl
 untyped true true false is = refl
 untyped true true true is = cc
 
-pub typed_line : (input errors typed : Bool) (words : List ℕ) → (input && errors) ≡ true → typed ≡ true
-    → IsForPerson (input && errors && typed) (with_line_feed words)
-typed_line true true true words both is = (words, refl)
-typed_line true true false words both is = cc
-typed_line true false typed words both is = cc
-typed_line false errors typed words both is = cc
+pub typed_line : (input errors typed : Bool) (words : List ℕ) → All IsPlain words → (input && errors) ≡ true
+    → typed ≡ true → IsForPerson (input && errors && typed) (with_line_feed words)
+typed_line true true true words plain both is = (words, plain, refl)
+typed_line true true false words plain both is = cc
+typed_line true false typed words plain both is = cc
+typed_line false errors typed words plain both is = cc
 
 -- a line that was written in parts
 pub line_of_parts : (about colon number words : List ℕ)

@@ -13,7 +13,7 @@ use Rattle.positions.proofs.Cited.{same_size, same_value}
 use Rattle.proof_text.specs.ProofText.{proof_text}
 use Rattle.solver.specs.Sizes.{HasCount}
 use Rattle.strategies.proofs.Cited.{one_document}
-use Rattle.runs.specs.Report.{Report, AreCounts, IsReport, IsReportOf, report_text, IsReportOfText}
+use Rattle.runs.specs.Report.{Report, AreCounts, IsReport, IsReportOf, report_text_alone, IsReportOfText}
 use Rattle.runs.specs.SolveRun.{IsSolution, IsSolved}
 use Rattle.runs.specs.Texts.{IsSmallBoard, IsWrongBoard}
 use Rattle.runs.specs.declared.fault.RunFault.{RunFault}
@@ -57,7 +57,7 @@ module _ (text : List ℕ) where
       let board : PlainBoard = one.0 in
       let is : IsReportOf board second = subst (λ (b : PlainBoard). IsReportOf b second) (same_board board other.0 one.1 other.1) other.2 in
       let same : one.2.report ≡ is.report = same_report board one.2.report is.report one.2.is_report is.is_report in
-      one.2.text_is ∙ ap (report_text board) same ∙ sym is.text_is
+      one.2.text_is ∙ ap (report_text_alone board) same ∙ sym is.text_is
 
   pub one_solution : (value worth : Value) (first second : List ℕ) → IsSolution text value first → IsSolution text worth second
       → (value ≡ worth) × (first ≡ second)

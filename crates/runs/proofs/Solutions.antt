@@ -17,7 +17,7 @@ use Rattle.solver.specs.Sizes.{HasCount}
 use Rattle.round_workers.proofs.Cited.{value_few}
 use Rattle.strategies.specs.Best.{IsLess}
 use Rattle.strategies.proofs.Cited.{cases_value, IsLess-irrefl, document_exists, least, each_number}
-use Rattle.runs.specs.Report.{Report, IsReport, IsReportOf, IsCountOfValues, report_text, IsReportOfText}
+use Rattle.runs.specs.Report.{Report, IsReport, IsReportOf, IsCountOfValues, report_text_alone, IsReportOfText}
 use Rattle.runs.specs.SolveRun.{IsSolution, IsSolved}
 use Rattle.runs.specs.Texts.{IsSmallBoard, IsWrongBoard}
 use Rattle.runs.specs.declared.fault.RunFault.{RunFault}
@@ -119,8 +119,8 @@ module _ (board : PlainBoard) where
         };
         forever = forever.1;
       } in
-      let is_report_of : IsReportOf board (report_text board report) = record { report = report; is_report = is_report; text_is = refl } in
-      (report_text board report, is_report_of)
+      let is_report_of : IsReportOf board (report_text_alone board report) = record { report = report; is_report = is_report; text_is = refl } in
+      (report_text_alone board report, is_report_of)
 
 -- ---- texts
 

@@ -13,8 +13,8 @@ Opens Unknown left = Unit {0}
 Opens Closed left = ⊥
 Opens (Holds bytes) left = left ≡ Some bytes
 
--- the file can't be opened
-abbrev pub StaysShut : File → Type 0
-StaysShut Unknown = Unit {0}
-StaysShut Closed = Unit {0}
-StaysShut (Holds bytes) = ⊥
+-- opening the file or reading it can fail: nothing is known of it, or it can't be opened
+abbrev pub CanFail : File → Type 0
+CanFail Unknown = Unit {0}
+CanFail Closed = Unit {0}
+CanFail (Holds bytes) = ⊥

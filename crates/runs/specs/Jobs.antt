@@ -6,7 +6,7 @@ use Rattle.command_line.specs.declared.asked.Job.TheVariants.{Play, Climb}
 use Rattle.player.specs.Transcript.{PersonClimbs}
 use Rattle.positions.specs.declared.side.Side.{Side}
 use Rattle.runs.specs.CheckRun.{RanCheck, CheckFails}
-use Rattle.runs.specs.Folders.{File, Opens, StaysShut}
+use Rattle.runs.specs.Folders.{File, Opens, CanFail}
 use Rattle.runs.specs.Headline.{Solution}
 use Rattle.runs.specs.NestedText.{IsNestedText}
 use Rattle.runs.specs.Outcomes.{EndsAs, outcome_of_check, outcome_of_run}
@@ -25,13 +25,17 @@ use Rattle.runs.specs.declared.outcome.Outcome.TheVariants.{Broken}
 -- the file was opened and this was done with it; or it can't be opened, and the rest is untouched
 abbrev pub Opening : File → Type 0 → (Bytes → Outcome → Type 0) → Outcome → Type 0
 Opening file IsUntouched Then outcome =
-    (StaysShut file × IsUntouched × (outcome ≡ Broken Read))
+    (CanFail file × IsUntouched × (outcome ≡ Broken Read))
     ⊎ ((read : Bytes) × Opens file read.old × Then read outcome)
 
 -- nothing was written before a fault, but for one of writing
 abbrev pub WritesWhole : Stream → Outcome → Type 0
 WritesWhole output outcome =
     (fault : RunFault) → outcome ≡ Broken fault → fault ≢ Write → output.IsKept
+
+-- the reader has failed exactly if that is the fault
+abbrev pub TellsReads : Stream → Outcome → Type 0
+TellsReads input outcome = input.HasFailed ↔ (outcome ≡ Broken Read)
 
 -- the writer has failed exactly if that is the fault
 abbrev pub TellsWrites : Stream → Outcome → Type 0
@@ -47,7 +51,7 @@ ChecksJoined input output outcome =
 -- both files were opened, and the document was checked for the board; or one can't be opened
 abbrev pub Checks : File → File → Stream → Outcome → Type 0
 Checks board proof output outcome =
-    (((StaysShut board ⊎ StaysShut proof) × (outcome ≡ Broken Read))
+    (((CanFail board ⊎ CanFail proof) × (outcome ≡ Broken Read))
     ⊎ ((b p : Bytes) × Opens board b.old × Opens proof p.old
     × EndsAs outcome_of_check (RanCheck b p output.bytes)
     (CheckFails MAX_BOARD_BYTES MAX_PROOF_BYTES (p.new ≡ p.old) b p output.bytes) outcome))
@@ -102,7 +106,20 @@ module _ (at : List ℕ → File) (input output : Stream) where
   Does (Play side board) outcome = Plays side (at board.now) input output outcome
   Does (Climb levels) outcome = Climbs levels input output outcome
 
-  -- the same, and the streams have failed if the outcome says so
-  abbrev pub IsDone : Job → Outcome → Type 0
-  IsDone job outcome =
-      Does job outcome × TellsWrites output outcome × (input.HasFailed → outcome ≡ Broken Read)
+  -- an input of the job has failed, or can fail: standard input, or a file whose bytes aren't known
+  abbrev pub CanBeUnread : Job → Type 0
+  CanBeUnread Joined = input.HasFailed
+  CanBeUnread (Check board proof) = CanFail (at board.now) ⊎ CanFail (at proof.now)
+  CanBeUnread (Nested levels pebbles) = ⊥
+  CanBeUnread (Solve workers board) = CanFail (at board.now)
+  CanBeUnread (Report workers board) = CanFail (at board.now)
+  CanBeUnread (Play side board) = CanFail (at board.now) ⊎ input.HasFailed
+  CanBeUnread (Climb levels) = input.HasFailed
+
+  -- the same; the streams have failed if the outcome says so, and only then; and no read fault is
+  -- told of files whose bytes are known and of standard input that hasn't failed
+  pub record IsDone (job : Job) (outcome : Outcome) : Type 0 where
+    pub does : Does job outcome
+    pub writes : TellsWrites output outcome
+    pub reads : input.HasFailed → outcome ≡ Broken Read
+    pub unread : outcome ≡ Broken Read → CanBeUnread job

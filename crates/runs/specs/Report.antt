@@ -66,14 +66,14 @@ end_lines forever = with_line_feed (codes "forever: " ++ decimal forever)
     ++ with_line_feed (codes "end")
 
 -- the text of a report
-abbrev pub report_text : PlainBoard → Report → List ℕ
-report_text board report = head_lines board ++ start_value_line report.start ++ count_lines 0 report.counts ++ end_lines report.forever
+abbrev pub report_text_alone : PlainBoard → Report → List ℕ
+report_text_alone board report = head_lines board ++ start_value_line report.start ++ count_lines 0 report.counts ++ end_lines report.forever
 
 -- the text is the board's report
 pub record IsReportOf (board : PlainBoard) (text : List ℕ) : Type 0 where
   pub report : Report
   pub is_report : IsReport board report
-  pub text_is : text ≡ report_text board report
+  pub text_is : text ≡ report_text_alone board report
 
 -- ---- the report of a text
 

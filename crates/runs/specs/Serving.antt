@@ -1,6 +1,6 @@
 -- The program, from its words, files and streams to its exit status.
 use Rattle.std.specs.Prelude.{◌≡◌, ℕ, ◌<◌, ◌≤◌, ◌⊎◌, Bool, true, false, ◌&&◌, List, [], ◌++◌}
-use Rattle.std.specs.Prelude.{length, codes, string_bytes}
+use Rattle.std.specs.Prelude.{◌||◌, All, length, codes, nat_eq, nat_lt, string_bytes}
 use Rattle.std.specs.Io.KnownBytes.{Appends}
 use Rattle.clap.specs.Walk.{Text, texts}
 use Rattle.clap.specs.Words.{fault_of, subcommand_of, takes}
@@ -37,9 +37,15 @@ IsWritten stream text =
     ((stream.HasFailed → ⊥) × Appends stream.bytes.old stream.bytes.new text)
     ⊎ (stream.HasFailed × AppendsPrefix stream.bytes.old stream.bytes.new text)
 
--- a line for a person, if the stream is a terminal; else nothing
+-- a control byte, as a line feed is
+abbrev pub is_control : ℕ → Bool
+is_control byte = nat_lt byte 32 || nat_eq byte 127
+
+-- one line for a person, without control bytes, if the stream is a terminal; else nothing
 abbrev pub IsForPerson : Bool → List ℕ → Type 0
-IsForPerson true text = (words : List ℕ) × (text ≡ with_line_feed words)
+IsForPerson true text =
+    (words : List ℕ) × All (λ byte. is_control byte ≡ false) words
+    × (text ≡ with_line_feed words)
 IsForPerson false text = text ≡ []
 
 -- the text, and at a terminal one line after it that explains it

@@ -1,7 +1,7 @@
 //! Folders, in which files are opened by their paths.
 
-ghost use Rattle.std.specs.Prelude.{◌≡◌, ℕ, List, IfOk, OnErr, false};
-ghost use Rattle.runs.specs.Folders.{File, Unknown, Opens, StaysShut};
+ghost use Rattle.std.specs.Prelude.{◌≡◌, ℕ, List, IfOk, OnOk, OnErr, true, false};
+ghost use Rattle.runs.specs.Folders.{File, Unknown, CanFail, Opens};
 
 use board_text::{Failed, Source, Through};
 use std::fs;
@@ -28,13 +28,15 @@ pub trait Folder {
     /// The file that is found at a path.
     ghost at: { Self → List ℕ → File };
 
-    /// A reader of the file at the path.
+    /// A reader of the file at the path. If the bytes of a file are known, no reader ever fails.
     fn open(&self, path: &str) -> Result<Self::Reader, Failed>
         ensures opened { IfOk result (λ reader.
             Opens (at self.now path.now) (Self.Reader.remaining reader)) }
         ensures ready { IfOk result (λ reader. Self.Reader.has_failed reader ≡ false) }
         ensures unended { IfOk result (λ reader. Self.Reader.has_ended reader ≡ false) }
-        ensures shut { OnErr result (StaysShut (at self.now path.now)) };
+        ensures sound { OnOk result ((reader : Self.Reader) → Self.Reader.has_failed reader ≡ true
+            → CanFail (at self.now path.now)) }
+        ensures shut { OnErr result (CanFail (at self.now path.now)) };
 
     /// Why a path that couldn't be opened or read can't be, as far as the folder knows. A person is
     /// told; nothing else depends on it.

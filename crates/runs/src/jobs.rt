@@ -1,12 +1,13 @@
 //! Doing a job, with the files and the standard streams that it is given.
 
-ghost use Rattle.std.specs.Prelude.{◌≡◌, true, false};
+ghost use Rattle.std.specs.Prelude.{◌≡◌, ◌≢◌, ◌⊎◌, true, false};
 ghost use Rattle.runs.specs.declared.fault.RunFault.TheVariants.{Read};
 ghost use Rattle.runs.specs.declared.outcome.Outcome.TheVariants.{Broken};
 ghost use Rattle.board_text.specs.Ranges.{InRange};
 ghost use Rattle.command_line.specs.Reading.{IsInRange};
 ghost use Rattle.runs.specs.Jobs.{IsDone, Checks, ChecksJoined, Climbs, Counts, Plays, Solves};
-ghost use Rattle.runs.specs.Jobs.{TellsWrites, WritesNested};
+ghost use Rattle.runs.specs.Folders.{CanFail};
+ghost use Rattle.runs.specs.Jobs.{TellsReads, TellsWrites, WritesNested};
 ghost use Rattle.runs.specs.Run.{stream_of};
 
 use crate::checking::{JoinedRun, MAX_PROOF_BYTES, run_check, run_keeping_text};
@@ -17,8 +18,8 @@ use crate::notes::{BOARD_LIMITS, LINE_LIMITS, Note, Origin, PROOF_LIMITS, unread
 use crate::outcome::Outcome;
 use crate::playing::{run_climb, run_play};
 use crate::reading::MAX_BOARD_BYTES;
-use crate::reporting::{run_report, run_report_by};
-use crate::solving::{run_solve, run_solve_by};
+use crate::reporting::{run_report, run_report_alone};
+use crate::solving::{run_solve, run_solve_alone};
 use crate::watched::Watched;
 use board_text::{MAX_PEBBLES, Sink, Source};
 use command_line::{Job, MAX_WORKERS};
@@ -127,7 +128,8 @@ fn check_joined<I: Source, O: Sink>(
         (stream_of O.contents O.has_failed output.old output.new) result.outcome }
     ensures writes { TellsWrites (stream_of O.contents O.has_failed output.old output.new)
         result.outcome }
-    ensures reads { I.has_failed input.new ≡ true → result.outcome ≡ Broken Read }
+    ensures reads { TellsReads (stream_of I.remaining I.has_failed input.old input.new)
+        result.outcome }
 {
     let JoinedRun { result, text } = run_keeping_text(rt, alloc, input, output);
     let outcome = Outcome::of_check(result);
@@ -152,6 +154,8 @@ fn check<'a, F: Folder, O: Sink>(
         (stream_of O.contents O.has_failed output.old output.new) result.outcome }
     ensures writes { TellsWrites (stream_of O.contents O.has_failed output.old output.new)
         result.outcome }
+    ensures unread { result.outcome ≡ Broken Read
+        → CanFail (F.at folder.now board.now) ⊎ CanFail (F.at folder.now proof.now) }
 {
     let Ok(file_of_board) = folder.open(board) else {
         return unopened(folder, board);
@@ -179,6 +183,7 @@ fn write_nested<O: Sink>(alloc: Global, levels: u8, pebbles: u8, output: &mut O)
         (stream_of O.contents O.has_failed output.old output.new) result.outcome }
     ensures writes { TellsWrites (stream_of O.contents O.has_failed output.old output.new)
         result.outcome }
+    ensures unread { result.outcome ≢ Broken Read }
 {
     let outcome = Outcome::of_run(run_nested(alloc, levels, pebbles, output));
     Ended {
@@ -202,16 +207,17 @@ fn solve<'a, F: Folder, O: Sink>(
         (stream_of O.contents O.has_failed output.old output.new) result.outcome }
     ensures writes { TellsWrites (stream_of O.contents O.has_failed output.old output.new)
         result.outcome }
+    ensures unread { result.outcome ≡ Broken Read → CanFail (F.at folder.now board.now) }
 {
     let Ok(file_of_board) = folder.open(board) else {
         return unopened(folder, board);
     };
     let mut reader = Watched::new(file_of_board);
     if workers == 1 {
-        let outcome = Outcome::of_run(run_solve(alloc, &mut reader, output));
+        let outcome = Outcome::of_run(run_solve_alone(alloc, &mut reader, output));
         return on_board(outcome, folder, board, &reader);
     }
-    let outcome = Outcome::of_run(run_solve_by(rt, alloc, workers, &mut reader, output));
+    let outcome = Outcome::of_run(run_solve(rt, alloc, workers, &mut reader, output));
     on_board(outcome, folder, board, &reader)
 }
 
@@ -230,16 +236,17 @@ fn report<'a, F: Folder, O: Sink>(
         (stream_of O.contents O.has_failed output.old output.new) result.outcome }
     ensures writes { TellsWrites (stream_of O.contents O.has_failed output.old output.new)
         result.outcome }
+    ensures unread { result.outcome ≡ Broken Read → CanFail (F.at folder.now board.now) }
 {
     let Ok(file_of_board) = folder.open(board) else {
         return unopened(folder, board);
     };
     let mut reader = Watched::new(file_of_board);
     if workers == 1 {
-        let outcome = Outcome::of_run(run_report(alloc, &mut reader, output));
+        let outcome = Outcome::of_run(run_report_alone(alloc, &mut reader, output));
         return on_board(outcome, folder, board, &reader);
     }
-    let outcome = Outcome::of_run(run_report_by(rt, alloc, workers, &mut reader, output));
+    let outcome = Outcome::of_run(run_report(rt, alloc, workers, &mut reader, output));
     on_board(outcome, folder, board, &reader)
 }
 
@@ -261,6 +268,8 @@ fn play<'a, F: Folder, I: Source, O: Sink>(
     ensures writes { TellsWrites (stream_of O.contents O.has_failed output.old output.new)
         result.outcome }
     ensures reads { I.has_failed input.new ≡ true → result.outcome ≡ Broken Read }
+    ensures unread { result.outcome ≡ Broken Read
+        → CanFail (F.at folder.now board.now) ⊎ (I.has_failed input.new ≡ true) }
 {
     let Ok(file_of_board) = folder.open(board) else {
         return unopened(folder, board);
@@ -289,7 +298,8 @@ fn climb<I: Source, O: Sink>(
         (stream_of O.contents O.has_failed output.old output.new) result.outcome }
     ensures writes { TellsWrites (stream_of O.contents O.has_failed output.old output.new)
         result.outcome }
-    ensures reads { I.has_failed input.new ≡ true → result.outcome ≡ Broken Read }
+    ensures reads { TellsReads (stream_of I.remaining I.has_failed input.old input.new)
+        result.outcome }
 {
     let outcome = Outcome::of_run(run_climb(alloc, levels, input, output));
     Ended {

@@ -33,7 +33,7 @@ use strategies::BestMoves;
 /// The reader and the writer must not have failed before, nor the reader have reported its end.
 /// Nothing is written before the whole text is built: after a fault nothing was written, but for
 /// `Write`, after which a prefix of the text was.
-pub fn run_report<R: Source, W: Sink>(
+pub fn run_report_alone<R: Source, W: Sink>(
     alloc: Global,
     reader: &mut R,
     writer: &mut W,
@@ -49,15 +49,15 @@ pub fn run_report<R: Source, W: Sink>(
         (stream_of W.contents W.has_failed writer.old writer.new) }
 {
     let text = read_text(alloc, reader, MAX_BOARD_BYTES)?;
-    let report = report_text(alloc, text.as_slice())?;
+    let report = report_text_alone(alloc, text.as_slice())?;
     write_text(writer, &report)
 }
 
-/// The same as `run_report`, with several workers.
+/// The same as `run_report_alone`, with several workers.
 ///
-/// The number of `workers` is 1 to `MAX_WORKERS`, and they find the values as in `run_solve_by`. It
+/// The number of `workers` is 1 to `MAX_WORKERS`, and they find the values as in `run_solve`. It
 /// may wait for them.
-pub fn run_report_by<R: Source, W: Sink>(
+pub fn run_report<R: Source, W: Sink>(
     rt: &(impl Threads + Wait + Sync),
     alloc: Global,
     workers: u8,
@@ -76,12 +76,12 @@ pub fn run_report_by<R: Source, W: Sink>(
         (stream_of W.contents W.has_failed writer.old writer.new) }
 {
     let text = read_text(alloc, reader, MAX_BOARD_BYTES)?;
-    let report = report_text_by(rt, alloc, workers, text.as_slice())?;
+    let report = report_text(rt, alloc, workers, text.as_slice())?;
     write_text(writer, &report)
 }
 
 /// The report of the board whose text is `text`. Its values are found on this thread.
-pub fn report_text(alloc: Global, text: &[u8]) -> Result<String, RunFault>
+pub fn report_text_alone(alloc: Global, text: &[u8]) -> Result<String, RunFault>
     ensures report { IfOk result (λ report. IsReportOfText text.now (string_bytes report)) }
     ensures fault { IfErr result (HasNoBoard text.now) }
 {
@@ -90,9 +90,9 @@ pub fn report_text(alloc: Global, text: &[u8]) -> Result<String, RunFault>
     Ok(report_of(alloc, &BestMoves::new(&board, &values))?)
 }
 
-/// The same as `report_text`, by this number of `workers`, 1 to `MAX_WORKERS`. It may wait for
+/// The same as `report_text_alone`, by this number of `workers`, 1 to `MAX_WORKERS`. It may wait for
 /// them.
-pub fn report_text_by(
+pub fn report_text(
     rt: &(impl Threads + Wait + Sync),
     alloc: Global,
     workers: u8,

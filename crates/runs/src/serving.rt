@@ -3,7 +3,7 @@
 ghost use Rattle.std.specs.Prelude.{◌≡◌, ◌&&◌, ℕ, List, true, false};
 ghost use Rattle.clap.specs.Walk.{texts};
 ghost use Rattle.runs.specs.Run.{stream_of};
-ghost use Rattle.runs.specs.Inside.Writing.{IsMore};
+ghost use Rattle.runs.specs.Inside.Writing.{IsMore, shown};
 ghost use Rattle.runs.specs.Serving.{IsEnding, IsExplained, IsForPerson, IsGreeting};
 ghost use Rattle.runs.specs.Serving.{Serves, ServesWords};
 ghost use Rattle.runs.specs.declared.fault.RunFault.TheVariants.{Memory};
@@ -16,6 +16,7 @@ use crate::folder::Folder;
 use crate::jobs::carry_out;
 use crate::notes::{Note, greeting};
 use crate::outcome::Outcome;
+use crate::showing::write_shown;
 use crate::writing::{write_more, write_text};
 use board_text::{Sink, Source};
 use command_line::{Job, JobFault, job};
@@ -150,7 +151,7 @@ fn greet<E: Sink>(job: &Job<'_>, terminals: Terminals, errors: &mut E)
         return;
     }
     if let Some(words) = greeting(job) {
-        write_more(errors, words);
+        write_shown(errors, words);
         write_more(errors, "\n");
     }
 }
@@ -192,26 +193,26 @@ fn say<E: Sink>(text: &str, note: Note<'_>, terminals: Terminals, errors: &mut E
     write_note(note, errors);
 }
 
-/// Writes an explanation, as a line.
+/// Writes an explanation, as one line.
 fn write_note<E: Sink>(note: Note<'_>, errors: &mut E)
     ensures { (line : List ℕ) × IsForPerson true line
         × IsMore E.contents E.has_failed errors.old errors.new line }
 {
-    write_more(errors, note.about);
+    write_shown(errors, note.about);
     write_more(errors, ": ");
     write_number(note.number, errors);
-    write_more(errors, note.words);
+    write_shown(errors, note.words);
     write_more(errors, "\n");
 }
 
 /// Writes the digits of a number, if there is one.
 fn write_number<E: Sink>(number: Option<u64>, errors: &mut E)
-    ensures { (text : List ℕ) × IsMore E.contents E.has_failed errors.old errors.new text }
+    ensures { (text : List ℕ) × IsMore E.contents E.has_failed errors.old errors.new (shown text) }
 {
     match number {
         Some(number) => {
             let mut digits = Buffer::new();
-            write_more(errors, digits.format(number));
+            write_shown(errors, digits.format(number));
         }
         None => {}
     }

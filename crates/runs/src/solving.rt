@@ -30,7 +30,7 @@ use strategies::BestMoves;
 /// The reader and the writer must not have failed before, nor the reader have reported its end.
 /// Nothing is written before the whole text is built: after a fault nothing was written, but for
 /// `Write`, after which a prefix of the text was.
-pub fn run_solve<R: Source, W: Sink>(
+pub fn run_solve_alone<R: Source, W: Sink>(
     alloc: Global,
     reader: &mut R,
     writer: &mut W,
@@ -46,17 +46,17 @@ pub fn run_solve<R: Source, W: Sink>(
         (stream_of W.contents W.has_failed writer.old writer.new) }
 {
     let text = read_text(alloc, reader, MAX_BOARD_BYTES)?;
-    let solved = solve_text(alloc, text.as_slice())?;
+    let solved = solve_text_alone(alloc, text.as_slice())?;
     write_text(writer, &solved.text)?;
     Ok(solved.value)
 }
 
-/// The same as `run_solve`, with several workers.
+/// The same as `run_solve_alone`, with several workers.
 ///
 /// The number of `workers` is 1 to `MAX_WORKERS`. They share each round, each on a thread of its
 /// own but the first. The answer and the bytes written are the same for every number of them. It
 /// may wait for workers.
-pub fn run_solve_by<R: Source, W: Sink>(
+pub fn run_solve<R: Source, W: Sink>(
     rt: &(impl Threads + Wait + Sync),
     alloc: Global,
     workers: u8,
@@ -75,7 +75,7 @@ pub fn run_solve_by<R: Source, W: Sink>(
         (stream_of W.contents W.has_failed writer.old writer.new) }
 {
     let text = read_text(alloc, reader, MAX_BOARD_BYTES)?;
-    let solved = solve_text_by(rt, alloc, workers, text.as_slice())?;
+    let solved = solve_text(rt, alloc, workers, text.as_slice())?;
     write_text(writer, &solved.text)?;
     Ok(solved.value)
 }
@@ -89,7 +89,7 @@ pub struct Solved {
 
 /// The value of the start of the board whose text is `text`, and the text of its document, which
 /// shows that value. It is found on this thread.
-pub fn solve_text(alloc: Global, text: &[u8]) -> Result<Solved, RunFault>
+pub fn solve_text_alone(alloc: Global, text: &[u8]) -> Result<Solved, RunFault>
     ensures ok { IfOk result (λ solved. Solution text.now solved.value (string_bytes solved.text)) }
     ensures fault { IfErr result (HasNoBoard text.now) }
 {
@@ -98,9 +98,9 @@ pub fn solve_text(alloc: Global, text: &[u8]) -> Result<Solved, RunFault>
     Ok(solution(alloc, &BestMoves::new(&board, &values))?)
 }
 
-/// The same as `solve_text`, found by this number of `workers`, 1 to `MAX_WORKERS`. It may wait for
+/// The same as `solve_text_alone`, found by this number of `workers`, 1 to `MAX_WORKERS`. It may wait for
 /// them.
-pub fn solve_text_by(
+pub fn solve_text(
     rt: &(impl Threads + Wait + Sync),
     alloc: Global,
     workers: u8,

@@ -28,7 +28,14 @@ pub(crate) fn write_text<W: Sink>(writer: &mut W, text: &str) -> Result<(), RunF
 pub(crate) fn write_more<W: Sink>(writer: &mut W, text: &str)
     ensures { IsMore W.contents W.has_failed writer.old writer.new text.now }
 {
-    if !writer.failed() && !text.is_empty() {
-        let _ = write_text(writer, text);
+    write_bytes(writer, text.as_bytes());
+}
+
+/// Writes the bytes, unless the writer has failed before.
+pub(crate) fn write_bytes<W: Sink>(writer: &mut W, bytes: &[u8])
+    ensures { IsMore W.contents W.has_failed writer.old writer.new bytes.now }
+{
+    if !writer.failed() && !bytes.is_empty() {
+        let _ = write_all(writer, bytes);
     }
 }

@@ -1,6 +1,8 @@
-use Rattle.std.proofs.Common.{refl}
+use Rattle.std.proofs.Common.{inl, inr, refl}
+use Rattle.runs.specs.Outcomes.{outcome_of_check}
 use Rattle.runs.specs.Run.{stream_of}
-use Rattle.runs.proofs.Endings.{opened_both}
+use Rattle.runs.specs.declared.fault.RunFault.TheVariants.{Read}
+use Rattle.runs.proofs.Endings.{broken_check, opened_both, told_as}
 use Rattle.runs.proofs.jobs.check.Goals as goal
 
 pub returns-clause-done : goal.returns-clause-done
@@ -10,3 +12,11 @@ returns-clause-done g c =
     (stream_of g.O.Sink.contents g.O.Sink.has_failed c.args.output.now c.run_check.new.writer)
     c.run_check.result c.of_check-outcome.result c.of_check-outcome.ensures
     c.run_check.ensures.ok _ (λ same. rw same refl) c.run_check.ensures.fault c.run_check.ensures.streams.unwritten
+
+pub returns-clause-unread : goal.returns-clause-unread
+returns-clause-unread g c broke =
+    elim ((told_as outcome_of_check broken_check c.run_check.result c.of_check-outcome.result
+    c.of_check-outcome.ensures Read refl _ c.run_check.ensures.streams.failures.read).1 broke) [
+      | inl first ↦ inl (c.in-Ok.ensures.sound _ first)
+      | inr second ↦ inr (c.in-Ok-open.ensures.sound _ second)
+    ]

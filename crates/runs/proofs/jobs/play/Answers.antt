@@ -1,5 +1,8 @@
+use Rattle.std.proofs.Common.{inl, inr, refl}
+use Rattle.runs.specs.Outcomes.{outcome_of_run}
 use Rattle.runs.specs.Run.{stream_of}
-use Rattle.runs.proofs.Endings.{opened_play}
+use Rattle.runs.specs.declared.fault.RunFault.TheVariants.{Read}
+use Rattle.runs.proofs.Endings.{broken_run, opened_play, told_as}
 use Rattle.runs.proofs.jobs.play.Goals as goal
 
 pub returns-clause-done : goal.returns-clause-done
@@ -8,3 +11,11 @@ returns-clause-done g c =
     (stream_of g.I.Source.remaining g.I.Source.has_failed c.args.input.now c.run_play.new.lines)
     (stream_of g.O.Sink.contents g.O.Sink.has_failed c.args.output.now c.run_play.new.writer)
     c.run_play.result c.of_run-outcome.result c.of_run-outcome.ensures c.run_play.ensures.ok c.run_play.ensures.fault
+
+pub returns-clause-unread : goal.returns-clause-unread
+returns-clause-unread g c broke =
+    elim ((told_as outcome_of_run broken_run c.run_play.result c.of_run-outcome.result c.of_run-outcome.ensures Read
+    refl _ c.run_play.ensures.streams.read).1 broke) [
+      | inl board ↦ inl (c.in-Ok.ensures.sound _ board)
+      | inr lines ↦ inr lines
+    ]

@@ -1,14 +1,26 @@
-use Rattle.std.proofs.Common.{◌∙◌}
+use Rattle.std.proofs.Common.{refl, ◌∙◌}
 use Rattle.runs.specs.Run.{stream_of}
+use Rattle.runs.specs.Outcomes.{outcome_of_run}
 use Rattle.runs.specs.Report.{Reports}
 use Rattle.runs.specs.Texts.{HasNoBoard}
-use Rattle.runs.proofs.Endings.{any_worker, opened_board}
+use Rattle.runs.specs.declared.fault.RunFault.TheVariants.{Read}
+use Rattle.runs.proofs.Endings.{any_worker, broken_run, opened_board, told_as}
 use Rattle.runs.proofs.jobs.report.Goals as goal
 
 pub returns-then-workers-eq1-clause-done : goal.returns-then-workers-eq1-clause-done
 returns-then-workers-eq1-clause-done g c =
     opened_board Reports HasNoBoard c.args.workers (any_worker c.args.workers)
     (g.F.Folder.at c.args.folder.now c.args.board.now) _ (rw c.new-reader.ensures c.in-Ok.ensures.opened)
-    (stream_of g.O.Sink.contents g.O.Sink.has_failed c.args.output.now c.run_report.new.writer)
-    c.run_report.result c.on_board.result.outcome (c.on_board.ensures ∙ c.of_run-outcome.ensures)
-    c.run_report.ensures.ok c.run_report.ensures.fault c.run_report.ensures.streams.unwritten
+    (stream_of g.O.Sink.contents g.O.Sink.has_failed c.args.output.now c.run_report_alone.new.writer)
+    c.run_report_alone.result c.on_board.result.outcome (c.on_board.ensures ∙ c.of_run-outcome.ensures)
+    c.run_report_alone.ensures.ok c.run_report_alone.ensures.fault c.run_report_alone.ensures.streams.unwritten
+
+pub returns-then-workers-eq1-clause-unread : goal.returns-then-workers-eq1-clause-unread
+returns-then-workers-eq1-clause-unread g c broke =
+    c.in-Ok.ensures.sound _ ((told_as outcome_of_run broken_run c.run_report_alone.result c.on_board.result.outcome
+    (c.on_board.ensures ∙ c.of_run-outcome.ensures) Read refl _ c.run_report_alone.ensures.streams.failures.read).1 broke)
+
+pub returns-clause-unread : goal.returns-clause-unread
+returns-clause-unread g c broke =
+    c.in-Ok.ensures.sound _ ((told_as outcome_of_run broken_run c.run_report.result c.on_board-2.result.outcome
+    (c.on_board-2.ensures ∙ c.of_run-outcome-2.ensures) Read refl _ c.run_report.ensures.streams.failures.read).1 broke)

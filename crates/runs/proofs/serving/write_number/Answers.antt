@@ -6,4 +6,4 @@ pub returns-in-None : goal.returns-in-None
 returns-in-None g c = ([], none_more g.E.Sink.contents g.E.Sink.has_failed c.args.errors.now)
 
 pub returns-in-Some : goal.returns-in-Some
-returns-in-Some g c = (c.format.result.now, c.write_more.ensures)
+returns-in-Some g c = (c.format.result.now, c.write_shown.ensures)

@@ -1,0 +1,17 @@
+-- Labels from which a domain lasts for ever, and boards that keep them.
+use Rattle.std.specs.Prelude.{◌≡◌, ℕ, ◌<◌, replicate}
+use Rattle.board_text.specs.PlainBoard.{PlainBoard, Beats}
+use Rattle.positions.specs.Value.{HasValue}
+use Rattle.positions.specs.declared.value.Value.TheVariants.{Forever}
+
+-- all pebbles on the label last for ever
+abbrev pub IsUsed : PlainBoard → ℕ → Type 0
+IsUsed board label = (label < board.labels) × HasValue board (replicate board.pebbles label) Forever
+
+-- the part has as many pebbles, and images of the used labels, of which those beat one another
+-- whose labels do
+pub record KeepsUsed (board part : PlainBoard) (image : ℕ → ℕ) : Type 0 where
+  pub pebbles : part.pebbles ≡ board.pebbles
+  pub labels : (label : ℕ) → IsUsed board label → image label < part.labels
+  pub beats : (x y : ℕ) → IsUsed board x → IsUsed board y → Beats board x y
+      → Beats part (image x) (image y)
