@@ -64,7 +64,7 @@ product_carries_exactly outer inner board outer_count inner_count count one_way 
         λ depth.
             factors_last (with_pebbles outer outer_count) (with_pebbles inner inner_count) (with_pebbles board count)
             depth first.0 second.0 (any_pebbles outer inner board outer_count inner_count count product) sum
-            outer_some inner_some first.1 second.1 (first.2 depth) (second.2 depth),
+            first.1 second.1 (first.2 depth) (second.2 depth),
       );
       no_more = product_no_more outer inner board outer_count inner_count count one_way product sum of_outer.no_more
           of_inner.no_more;

@@ -13,7 +13,9 @@ use Rattle.board_text.specs.PlainBoard.{PlainBoard, Beats}
 use Rattle.positions.specs.Game.{Legal, LabellerTree, moved}
 use Rattle.positions.proofs.Cited.{each_or_some, lasts_at_most}
 use Rattle.domains.specs.Dominated.{IsHeld}
+use Rattle.domains.specs.Follows.{Follows}
 use Rattle.domains.specs.Products.{IsProduct}
+use Rattle.domains.proofs.Following.{led_lasts}
 use Rattle.domains.proofs.ProductBoards.{between, label_in, within}
 
 -- ---- a function with another value at one number
@@ -410,14 +412,75 @@ stands_last outer inner board (suc depth) first outer_at inner_at head seat part
           ]
     ]
 
--- the product lasts from all pebbles on one label
-pub factors_last : (outer inner board : PlainBoard) (depth copy piece : ℕ) → IsProduct outer inner board
+-- without an outer pebble the product has one pebble fewer than the inner domain, and lasts in one copy
+lasts_in_copy : (outer inner board : PlainBoard) (depth copy piece : ℕ) → IsProduct outer inner board
+    → suc board.pebbles ≡ inner.pebbles → copy < outer.labels → piece < inner.labels
+    → LabellerTree inner depth (replicate inner.pebbles piece)
+    → LabellerTree board depth (replicate board.pebbles (copy * inner.labels + piece))
+lasts_in_copy outer inner board depth copy piece product fewer is_copy is_piece tree =
+    let follows : Follows board inner (λ part. copy * inner.labels + part) (λ pebble. pebble)
+    = record {
+      labels = λ part low. label_in outer inner board copy part product is_copy low;
+      beats = λ x y x_low y_low beats. (reply outer inner board copy x product is_copy x_low).within
+          (copy * inner.labels + y) (label_in outer inner board copy y product is_copy y_low)
+          (div-mul-add copy inner.labels y y_low)
+          (subst (Beats inner x) (sym (mod-mul-add copy inner.labels y y_low)) beats);
+      leaders = λ pebble below. omega (arith, fewer, below);
+      apart = λ pebble other below other_below one. one;
+    } in
+    led_lasts board inner (λ part. copy * inner.labels + part) (λ pebble. pebble) follows depth
+    (replicate inner.pebbles piece) (replicate board.pebbles (copy * inner.labels + piece))
+    (record {
+      long = length-replicate {A = ℕ} inner.pebbles piece;
+      led_long = length-replicate {A = ℕ} board.pebbles (copy * inner.labels + piece);
+      each = λ pebble below.
+          let there : get_or (replicate inner.pebbles piece) pebble 0 ≡ piece
+          = get_or-replicate inner.pebbles pebble piece 0 (omega (arith, fewer, below)) in
+          inl (
+            subst (λ n. n < inner.labels) (sym there) is_piece,
+            get_or-replicate board.pebbles pebble (copy * inner.labels + piece) 0 below
+                ∙ ap (λ n. copy * inner.labels + n) (sym there),
+          );
+    }) tree
+
+-- without an inner pebble the product has one pebble fewer than the outer domain, and lasts on one part of each copy
+lasts_on_part : (outer inner board : PlainBoard) (depth copy piece : ℕ) → IsProduct outer inner board
+    → suc board.pebbles ≡ outer.pebbles → copy < outer.labels → piece < inner.labels
+    → LabellerTree outer depth (replicate outer.pebbles copy)
+    → LabellerTree board depth (replicate board.pebbles (copy * inner.labels + piece))
+lasts_on_part outer inner board depth copy piece product fewer is_copy is_piece tree =
+    let follows : Follows board outer (λ n. n * inner.labels + piece) (λ pebble. pebble)
+    = record {
+      labels = λ n low. label_in outer inner board n piece product low is_piece;
+      beats = λ x y x_low y_low beats. (reply outer inner board x piece product x_low is_piece).between
+          (y * inner.labels + piece) (label_in outer inner board y piece product y_low is_piece)
+          (subst (Beats outer x) (sym (div-mul-add y inner.labels piece is_piece)) beats);
+      leaders = λ pebble below. omega (arith, fewer, below);
+      apart = λ pebble other below other_below one. one;
+    } in
+    led_lasts board outer (λ n. n * inner.labels + piece) (λ pebble. pebble) follows depth
+    (replicate outer.pebbles copy) (replicate board.pebbles (copy * inner.labels + piece))
+    (record {
+      long = length-replicate {A = ℕ} outer.pebbles copy;
+      led_long = length-replicate {A = ℕ} board.pebbles (copy * inner.labels + piece);
+      each = λ pebble below.
+          let there : get_or (replicate outer.pebbles copy) pebble 0 ≡ copy
+          = get_or-replicate outer.pebbles pebble copy 0 (omega (arith, fewer, below)) in
+          inl (
+            subst (λ n. n < outer.labels) (sym there) is_copy,
+            get_or-replicate board.pebbles pebble (copy * inner.labels + piece) 0 below
+                ∙ ap (λ n. n * inner.labels + piece) (sym there),
+          );
+    }) tree
+
+some_factors_last : (outer inner board : PlainBoard) (depth copy piece : ℕ) → IsProduct outer inner board
     → suc board.pebbles ≡ outer.pebbles + inner.pebbles
     → 0 < outer.pebbles → 0 < inner.pebbles → copy < outer.labels → piece < inner.labels
     → LabellerTree outer depth (replicate outer.pebbles copy)
     → LabellerTree inner depth (replicate inner.pebbles piece)
     → LabellerTree board depth (replicate board.pebbles (copy * inner.labels + piece))
-factors_last outer inner board depth copy piece product fewer outer_some some is_copy is_piece outer_tree inner_tree =
+some_factors_last outer inner board depth copy piece product fewer outer_some some is_copy is_piece outer_tree
+    inner_tree =
     let stands = reply outer inner board copy piece product is_copy is_piece in
     let label = copy * inner.labels + piece in
     stands_last outer inner board depth piece (replicate outer.pebbles copy) (replicate inner.pebbles piece) 0
@@ -447,3 +510,21 @@ factors_last outer inner board depth copy piece product fewer outer_some some is
       beaten = λ i below other. absurd (other refl);
     })
     outer_tree inner_tree
+
+-- the product lasts from all pebbles on one label
+pub factors_last : (outer inner board : PlainBoard) (depth copy piece : ℕ) → IsProduct outer inner board
+    → suc board.pebbles ≡ outer.pebbles + inner.pebbles → copy < outer.labels → piece < inner.labels
+    → LabellerTree outer depth (replicate outer.pebbles copy)
+    → LabellerTree inner depth (replicate inner.pebbles piece)
+    → LabellerTree board depth (replicate board.pebbles (copy * inner.labels + piece))
+factors_last outer inner board depth copy piece product fewer is_copy is_piece outer_tree inner_tree =
+    elim (cases_lt 0 outer.pebbles) [
+      | inr none ↦ lasts_in_copy outer inner board depth copy piece product (omega (arith, none, fewer)) is_copy is_piece
+          inner_tree
+      | inl outer_some ↦ elim (cases_lt 0 inner.pebbles) [
+        | inr none ↦ lasts_on_part outer inner board depth copy piece product (omega (arith, none, fewer)) is_copy
+            is_piece outer_tree
+        | inl some ↦ some_factors_last outer inner board depth copy piece product fewer outer_some some is_copy is_piece
+            outer_tree inner_tree
+      ]
+    ]

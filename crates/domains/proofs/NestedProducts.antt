@@ -197,7 +197,7 @@ carries (suc count) =
       lasts = λ depth.
           subst (λ (n : ℕ). LabellerTree board depth (replicate board.pebbles n)) zero_is
           (factors_last cycle.0 before.board board depth 0 0 found.1 (omega (arith, found.2, cycle.2, before.pebbles))
-          (omega (arith, cycle.2)) (omega (arith, before.pebbles)) (omega (arith, cycle.1.labels_are)) some
+          (omega (arith, cycle.1.labels_are)) some
           (dominated_last cycle.0 1 depth (replicate cycle.0.pebbles 0) cycle.2 (cycle_dominated cycle.0 cycle.1) (
             length-replicate {A = ℕ} cycle.0.pebbles 0,
             All-replicate (λ place. place < cycle.0.labels) cycle.0.pebbles 0 (omega (arith, cycle.1.labels_are)),
@@ -210,7 +210,7 @@ pub nested_carries : (count : ℕ) (board : PlainBoard) → IsNestedPlay (suc co
 nested_carries count board nested pebbles depth =
     let there = carries count in
     let labels : board.labels ≡ there.board.labels = nested.labels ∙ sym there.nested.labels in
-    let first = replicate there.board.pebbles 0 in
+    let first : List ℕ = replicate there.board.pebbles 0 in
     let some : 0 < there.board.labels = subst (λ (n : ℕ). 0 < n) (sym there.nested.labels)
     (one-le-pow (suc count - 1) 3 (omega arith)) in
     led_lasts board there.board (λ label. label) (λ pebble. pebble)

@@ -1,7 +1,6 @@
 -- Values of products.
 use Rattle.std.proofs.Common.{◌≡◌, ℕ, suc, ◌+◌, ◌*◌, ◌<◌, ◌⊎◌, List, replicate, arith, inl, inr}
 use Rattle.std.proofs.lemmas.Bool.{cases_lt}
-use Rattle.std.proofs.lemmas.List.{length-replicate}
 use Rattle.board_text.specs.PlainBoard.{PlainBoard}
 use Rattle.positions.specs.Game.{LabellerTree}
 use Rattle.positions.specs.Value.{HasValue}
@@ -27,8 +26,7 @@ higher board configuration (Finite value) number has =
 
 module _ (outer inner board : PlainBoard) (copy piece : ℕ) (configuration : List ℕ)
     (product : IsProduct outer inner board)
-    (fewer : suc board.pebbles ≡ outer.pebbles + inner.pebbles) (outer_some : 0 < outer.pebbles)
-    (some : 0 < inner.pebbles)
+    (fewer : suc board.pebbles ≡ outer.pebbles + inner.pebbles)
     (is_copy : copy < outer.labels) (is_piece : piece < inner.labels)
     (freed : IsFreed board (replicate board.pebbles (copy * inner.labels + piece)) configuration) where
   pub product_worth : (of_outer of_inner value : Value) → HasValue outer (replicate outer.pebbles copy) of_outer
@@ -42,8 +40,8 @@ module _ (outer inner board : PlainBoard) (copy piece : ℕ) (configuration : Li
           | inl most ↦ inr most
           | inr inner_tree ↦ absurd (not_both_trees board (suc number) configuration
               (freed_lasts board (suc number) (replicate board.pebbles (copy * inner.labels + piece)) configuration
-              (length-replicate {A = ℕ} board.pebbles (copy * inner.labels + piece)) freed
-              (factors_last outer inner board (suc number) copy piece product fewer outer_some some is_copy is_piece
+              freed
+              (factors_last outer inner board (suc number) copy piece product fewer is_copy is_piece
               outer_tree inner_tree)) has.1)
         ]
       ]

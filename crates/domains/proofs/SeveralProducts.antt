@@ -25,14 +25,6 @@ lone_lasts board (suc depth) configuration labels pebbles =
 abbrev pub LastsFromZero : ℕ → PlainBoard → Type 0
 LastsFromZero depth factor = (0 < factor.pebbles) × LabellerTree factor depth (replicate factor.pebbles 0)
 
-some_pebbles : (factors : List PlainBoard) (board : PlainBoard) (depth : ℕ) → IsProductOf factors board
-    → All (LastsFromZero depth) factors → 0 < board.pebbles
-some_pebbles [] board depth is all = omega (arith, is.1)
-some_pebbles (factor ∷ factors) board depth is all =
-    let here = All-head (LastsFromZero depth) factor factors all in
-    let inner = some_pebbles factors is.0 depth is.1 (All-tail (LastsFromZero depth) factor factors all) in
-    omega (arith, is.3, here.0, inner)
-
 pub several_last : (factors : List PlainBoard) (board : PlainBoard) (depth : ℕ) → IsProductOf factors board
     → All (LastsFromZero depth) factors → LabellerTree board depth (replicate board.pebbles 0)
 several_last factors board zero is all = tt
@@ -43,5 +35,5 @@ several_last (factor ∷ factors) board (suc depth) is all =
     let first = here.1 0 here.0 in
     let zero_is : 0 * is.0.labels + 0 ≡ 0 = omega arith in
     subst (λ (n : ℕ). LabellerTree board (suc depth) (replicate board.pebbles n)) zero_is
-    (factors_last factor is.0 board (suc depth) 0 0 is.2 is.3 here.0 (some_pebbles factors is.0 (suc depth) is.1 rest)
+    (factors_last factor is.0 board (suc depth) 0 0 is.2 is.3
     (omega (arith, first.1.is_label)) is.2.some here.1 (several_last factors is.0 (suc depth) is.1 rest))

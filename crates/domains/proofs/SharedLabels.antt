@@ -203,7 +203,7 @@ module _ (board : PlainBoard) (sharing other : ℕ) (sharing_below : sharing < b
       let shares : Shares board sharing other both (set both sharing board.labels)
       = shares_one both both_long differ (here ∙ sym there) (subst (λ n. n < board.labels) (sym there) is_label) in
       shared_lasts depth both (set both sharing board.labels) shares
-      (freed_lasts board depth c (set both sharing board.labels) long
+      (freed_lasts board depth c (set both sharing board.labels)
       (record {
         same_length = length-set both sharing board.labels ∙ length-set c sharing label;
         each = λ place. elim (cases_eq place sharing) [
@@ -220,7 +220,7 @@ module _ (board : PlainBoard) (sharing other : ℕ) (sharing_below : sharing < b
       → AreWorthTheSame board c board (set c sharing board.labels)
   shared_worth c long differ shared is_label =
       one_value_from_trees board board c (set c sharing board.labels)
-      (λ depth. freed_lasts board depth c (set c sharing board.labels) long
+      (λ depth. freed_lasts board depth c (set c sharing board.labels)
       (record {
         same_length = length-set c sharing board.labels;
         each = λ place. elim (cases_eq place sharing) [
@@ -233,17 +233,17 @@ module _ (board : PlainBoard) (sharing other : ℕ) (sharing_below : sharing < b
       (λ depth. shared_lasts depth c (set c sharing board.labels) (shares_one c long differ shared is_label))
 
 -- two configurations that differ at most in places without a label
-same_but_none : (board : PlainBoard) (c other : List ℕ) → length c ≡ board.pebbles → length other ≡ length c
+same_but_none : (board : PlainBoard) (c other : List ℕ) → length other ≡ length c
     → ((place : ℕ) → (get_or other place 0 ≡ get_or c place 0)
     ⊎ ((board.labels ≤ get_or other place 0) × (board.labels ≤ get_or c place 0)))
     → AreWorthTheSame board c board other
-same_but_none board c other long same_length each =
+same_but_none board c other same_length each =
     one_value_from_trees board board c other
-    (λ depth. freed_lasts board depth c other long (record {
+    (λ depth. freed_lasts board depth c other (record {
       same_length = same_length;
       each = λ place. elim (each place) [ inl same ↦ inl same | inr none ↦ inr none.0 ];
     }))
-    (λ depth. freed_lasts board depth other c (same_length ∙ long) (record {
+    (λ depth. freed_lasts board depth other c (record {
       same_length = sym same_length;
       each = λ place. elim (each place) [ inl same ↦ inl (sym same) | inr none ↦ inr none.1 ];
     }))
@@ -256,10 +256,10 @@ shared_labels board c sharing other long other_below differ shared =
       | inr beyond ↦
           let same : set c sharing board.labels ≡ c = set_past c sharing board.labels (omega (arith, long, beyond)) in
           subst (AreWorthTheSame board c board) (sym same)
-          (same_but_none board c c long refl (λ place. inl refl))
+          (same_but_none board c c refl (λ place. inl refl))
       | inl below ↦ elim (cases_lt (get_or c other 0) board.labels) [
         | inl is_label ↦ shared_worth board sharing other below other_below c long differ shared is_label
-        | inr none ↦ same_but_none board c (set c sharing board.labels) long (length-set c sharing board.labels)
+        | inr none ↦ same_but_none board c (set c sharing board.labels) (length-set c sharing board.labels)
             (λ place. elim (cases_eq place sharing) [
               | inl same ↦ inr (
                 subst (λ n. board.labels ≤ n)

@@ -1,7 +1,7 @@
 -- Domains with few labels for two to eight processes.
-use Rattle.std.proofs.Common.{◌≡◌, ℕ, suc, ◌+◌, ◌*◌, ◌^◌, ◌<◌, List, [], ◌∷◌, ◌∙◌, ap, subst, sym, arith}
-use Rattle.board_text.specs.PlainBoard.{PlainBoard, ArePairs}
-use Rattle.domains.specs.Carried.{CarriesExactly, SomeCarries}
+use Rattle.std.proofs.Common.{ℕ, suc, ◌+◌, ◌*◌, ◌^◌, ◌<◌, List, [], ◌∷◌, ◌∙◌, ap, subst, sym, arith}
+use Rattle.board_text.specs.PlainBoard.{PlainBoard}
+use Rattle.domains.specs.Carried.{SomeCarries}
 use Rattle.domains.specs.Circles.{IsCircle}
 use Rattle.domains.specs.Dominated.{AreDominated}
 use Rattle.domains.proofs.Circles.{cycle_dominated, residues_dominated}

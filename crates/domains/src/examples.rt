@@ -65,6 +65,10 @@ const SHARED_ON_THE_CYCLE: &str = "board 2\nlabels 3\npebbles 3\nstart - 0 0\n\
 const CYCLE_AND_A_TOP: &str = "board 1\nlabels 4\npebbles 2\nstart 0 0\n\
     beats 0 2\nbeats 1 0\nbeats 2 1\nbeats 3 0\nbeats 3 1\nbeats 3 2\nend\n";
 
+/// The same domain, both pebbles on the label above the cycle, which no start that lasts uses.
+const ALL_ON_THE_TOP: &str = "board 1\nlabels 4\npebbles 2\nstart 3 3\n\
+    beats 0 2\nbeats 1 0\nbeats 2 1\nbeats 3 0\nbeats 3 1\nbeats 3 2\nend\n";
+
 /// The residues modulo seven, and three pebbles on three of them.
 const THREE_ON_RESIDUES: &str = "board 1\nlabels 7\npebbles 3\nstart 0 1 3\n\
     beats 0 3\nbeats 0 5\nbeats 0 6\nbeats 1 0\nbeats 1 4\nbeats 1 6\nbeats 2 0\nbeats 2 1\n\
@@ -149,6 +153,7 @@ fn best_starts_and_unused_labels(rt: HostRuntime) {
         (ALL_ON_THE_WAY_IN, Value::Finite(1)),
         (ALL_ON_THE_CYCLE, Value::Forever),
         (CYCLE_AND_A_TOP, Value::Forever),
+        (ALL_ON_THE_TOP, Value::Finite(0)),
     ] {
         assert_value(&rt, rt.alloc(), text, value);
     }

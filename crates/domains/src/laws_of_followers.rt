@@ -62,10 +62,10 @@ pub fn fewer_pebbles_last()
 /// A configuration lasts as long when some of its pebbles give up their labels.
 pub fn freed_labels_last()
     ensures trees { (board : PlainBoard) → (depth : ℕ) → (held : List ℕ) → (freed : List ℕ)
-        → length held ≡ board.pebbles → IsFreed board held freed
+        → IsFreed board held freed
         → LabellerTree board depth held → LabellerTree board depth freed }
     ensures values { (board : PlainBoard) → (held : List ℕ) → (freed : List ℕ)
-        → length held ≡ board.pebbles → IsFreed board held freed
+        → IsFreed board held freed
         → IsWorthAtMost board held board freed }
 {}
 
@@ -73,7 +73,6 @@ pub fn freed_labels_last()
 /// taken away before each of them.
 pub fn withdrawals_change_nothing()
     ensures { (board : PlainBoard) → (depth : ℕ) → (configuration : List ℕ)
-        → length configuration ≡ board.pebbles
         → LabellerTree board depth configuration ↔ WithdrawalTree board depth configuration }
 {}
 

@@ -35,7 +35,7 @@ pub fn products_last()
 pub fn products_last_as_their_factors()
     ensures trees { (outer : PlainBoard) → (inner : PlainBoard) → (board : PlainBoard)
         → (depth : ℕ) → (copy : ℕ) → (piece : ℕ) → IsProduct outer inner board
-        → suc board.pebbles ≡ outer.pebbles + inner.pebbles → 0 < outer.pebbles → 0 < inner.pebbles
+        → suc board.pebbles ≡ outer.pebbles + inner.pebbles
         → copy < outer.labels → piece < inner.labels
         → LabellerTree outer depth (replicate outer.pebbles copy)
         → LabellerTree inner depth (replicate inner.pebbles piece)
@@ -44,7 +44,7 @@ pub fn products_last_as_their_factors()
         → (copy : ℕ) → (piece : ℕ) → (configuration : List ℕ)
         → (of_outer : ValueData) → (of_inner : ValueData) → (value : ValueData)
         → IsProduct outer inner board
-        → suc board.pebbles ≡ outer.pebbles + inner.pebbles → 0 < outer.pebbles → 0 < inner.pebbles
+        → suc board.pebbles ≡ outer.pebbles + inner.pebbles
         → copy < outer.labels → piece < inner.labels
         → IsFreed board (replicate board.pebbles (copy * inner.labels + piece)) configuration
         → HasValue outer (replicate outer.pebbles copy) of_outer
