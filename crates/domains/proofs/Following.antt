@@ -1,9 +1,9 @@
 -- Trees carry over from the leaders' board.
 use Rattle.std.proofs.Common.{◌≡◌, ℕ, zero, suc, ◌<◌, ◌≤◌, List, length, get_or, set, sym, ◌∙◌, ap, subst, arith, inl}
-use Rattle.std.proofs.Common.{inr}
+use Rattle.std.proofs.Common.{inr, replicate}
 use Rattle.std.specs.Prelude.{Contains}
 use Rattle.std.proofs.lemmas.Bool.{cases_eq}
-use Rattle.std.proofs.lemmas.List.{get_or-set_same, get_or-set_other, length-set}
+use Rattle.std.proofs.lemmas.List.{get_or-replicate, get_or-set_same, get_or-set_other, length-replicate, length-set}
 use Rattle.board_text.specs.PlainBoard.{PlainBoard, Beats}
 use Rattle.positions.specs.Game.{Legal, LabellerTree, moved}
 use Rattle.domains.specs.Follows.{Follows, IsLed}
@@ -65,6 +65,26 @@ module _ (board leading : PlainBoard) (image leader : ℕ → ℕ) (follows : Fo
         led_lasts depth (moved configuration (leader pebble) answer.0) (moved led pebble (image answer.0))
             (led_after configuration led pebble answer.0 is below answer.1.is_label) answer.2,
       )
+
+-- all on the image of a label last as long as all on the label
+pub one_label_led : (board leading : PlainBoard) (image : ℕ → ℕ) (depth label : ℕ)
+    → Follows board leading image (λ pebble. pebble) → label < leading.labels
+    → LabellerTree leading depth (replicate leading.pebbles label)
+    → LabellerTree board depth (replicate board.pebbles (image label))
+one_label_led board leading image depth label follows low =
+    led_lasts board leading image (λ pebble. pebble) follows depth (replicate leading.pebbles label)
+    (replicate board.pebbles (image label))
+    (record {
+      long = length-replicate {A = ℕ} leading.pebbles label;
+      led_long = length-replicate {A = ℕ} board.pebbles (image label);
+      each = λ pebble below.
+          let there : get_or (replicate leading.pebbles label) pebble 0 ≡ label
+          = get_or-replicate leading.pebbles pebble label 0 (follows.leaders pebble below) in
+          inl (
+            subst (λ n. n < leading.labels) (sym there) low,
+            get_or-replicate board.pebbles pebble (image label) 0 below ∙ ap image (sym there),
+          );
+    })
 
 -- ---- boards of one domain
 

@@ -13,9 +13,8 @@ use Rattle.board_text.specs.PlainBoard.{PlainBoard, Beats}
 use Rattle.positions.specs.Game.{Legal, LabellerTree, moved}
 use Rattle.positions.proofs.Cited.{each_or_some, lasts_at_most}
 use Rattle.domains.specs.Dominated.{IsHeld}
-use Rattle.domains.specs.Follows.{Follows}
 use Rattle.domains.specs.Products.{IsProduct}
-use Rattle.domains.proofs.Following.{led_lasts}
+use Rattle.domains.proofs.Following.{one_label_led}
 use Rattle.domains.proofs.ProductBoards.{between, label_in, within}
 
 -- ---- a function with another value at one number
@@ -418,8 +417,8 @@ lasts_in_copy : (outer inner board : PlainBoard) (depth copy piece : ℕ) → Is
     → LabellerTree inner depth (replicate inner.pebbles piece)
     → LabellerTree board depth (replicate board.pebbles (copy * inner.labels + piece))
 lasts_in_copy outer inner board depth copy piece product fewer is_copy is_piece tree =
-    let follows : Follows board inner (λ part. copy * inner.labels + part) (λ pebble. pebble)
-    = record {
+    one_label_led board inner (λ part. copy * inner.labels + part) depth piece
+    (record {
       labels = λ part low. label_in outer inner board copy part product is_copy low;
       beats = λ x y x_low y_low beats. (reply outer inner board copy x product is_copy x_low).within
           (copy * inner.labels + y) (label_in outer inner board copy y product is_copy y_low)
@@ -427,21 +426,8 @@ lasts_in_copy outer inner board depth copy piece product fewer is_copy is_piece 
           (subst (Beats inner x) (sym (mod-mul-add copy inner.labels y y_low)) beats);
       leaders = λ pebble below. omega (arith, fewer, below);
       apart = λ pebble other below other_below one. one;
-    } in
-    led_lasts board inner (λ part. copy * inner.labels + part) (λ pebble. pebble) follows depth
-    (replicate inner.pebbles piece) (replicate board.pebbles (copy * inner.labels + piece))
-    (record {
-      long = length-replicate {A = ℕ} inner.pebbles piece;
-      led_long = length-replicate {A = ℕ} board.pebbles (copy * inner.labels + piece);
-      each = λ pebble below.
-          let there : get_or (replicate inner.pebbles piece) pebble 0 ≡ piece
-          = get_or-replicate inner.pebbles pebble piece 0 (omega (arith, fewer, below)) in
-          inl (
-            subst (λ n. n < inner.labels) (sym there) is_piece,
-            get_or-replicate board.pebbles pebble (copy * inner.labels + piece) 0 below
-                ∙ ap (λ n. copy * inner.labels + n) (sym there),
-          );
-    }) tree
+    })
+    is_piece tree
 
 -- without an inner pebble the product has one pebble fewer than the outer domain, and lasts on one part of each copy
 lasts_on_part : (outer inner board : PlainBoard) (depth copy piece : ℕ) → IsProduct outer inner board
@@ -449,29 +435,16 @@ lasts_on_part : (outer inner board : PlainBoard) (depth copy piece : ℕ) → Is
     → LabellerTree outer depth (replicate outer.pebbles copy)
     → LabellerTree board depth (replicate board.pebbles (copy * inner.labels + piece))
 lasts_on_part outer inner board depth copy piece product fewer is_copy is_piece tree =
-    let follows : Follows board outer (λ n. n * inner.labels + piece) (λ pebble. pebble)
-    = record {
+    one_label_led board outer (λ n. n * inner.labels + piece) depth copy
+    (record {
       labels = λ n low. label_in outer inner board n piece product low is_piece;
       beats = λ x y x_low y_low beats. (reply outer inner board x piece product x_low is_piece).between
           (y * inner.labels + piece) (label_in outer inner board y piece product y_low is_piece)
           (subst (Beats outer x) (sym (div-mul-add y inner.labels piece is_piece)) beats);
       leaders = λ pebble below. omega (arith, fewer, below);
       apart = λ pebble other below other_below one. one;
-    } in
-    led_lasts board outer (λ n. n * inner.labels + piece) (λ pebble. pebble) follows depth
-    (replicate outer.pebbles copy) (replicate board.pebbles (copy * inner.labels + piece))
-    (record {
-      long = length-replicate {A = ℕ} outer.pebbles copy;
-      led_long = length-replicate {A = ℕ} board.pebbles (copy * inner.labels + piece);
-      each = λ pebble below.
-          let there : get_or (replicate outer.pebbles copy) pebble 0 ≡ copy
-          = get_or-replicate outer.pebbles pebble copy 0 (omega (arith, fewer, below)) in
-          inl (
-            subst (λ n. n < outer.labels) (sym there) is_copy,
-            get_or-replicate board.pebbles pebble (copy * inner.labels + piece) 0 below
-                ∙ ap (λ n. n * inner.labels + piece) (sym there),
-          );
-    }) tree
+    })
+    is_copy tree
 
 some_factors_last : (outer inner board : PlainBoard) (depth copy piece : ℕ) → IsProduct outer inner board
     → suc board.pebbles ≡ outer.pebbles + inner.pebbles
@@ -519,8 +492,8 @@ pub factors_last : (outer inner board : PlainBoard) (depth copy piece : ℕ) →
     → LabellerTree board depth (replicate board.pebbles (copy * inner.labels + piece))
 factors_last outer inner board depth copy piece product fewer is_copy is_piece outer_tree inner_tree =
     elim (cases_lt 0 outer.pebbles) [
-      | inr none ↦ lasts_in_copy outer inner board depth copy piece product (omega (arith, none, fewer)) is_copy is_piece
-          inner_tree
+      | inr none ↦ lasts_in_copy outer inner board depth copy piece product (omega (arith, none, fewer)) is_copy
+          is_piece inner_tree
       | inl outer_some ↦ elim (cases_lt 0 inner.pebbles) [
         | inr none ↦ lasts_on_part outer inner board depth copy piece product (omega (arith, none, fewer)) is_copy
             is_piece outer_tree
