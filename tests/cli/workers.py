@@ -2,7 +2,8 @@
 from functools import partial
 
 import board_texts
-from program import Check, board, differs, run, shown, stored, text_of, written
+from documents import CLAIMS
+from program import Check, board, differs, run, shown, text_of, written
 
 WORKERS = (1, 2, 3, 16)
 DRAWN = 100
@@ -27,8 +28,8 @@ def equal(path):
 
 
 def checks(work):
-    """One for each stored board, and for a hundred that are drawn."""
-    for name in stored('.board'):
+    """One for each stored board that isn't too large, and for a hundred that are drawn."""
+    for name in CLAIMS:
         yield Check(f'{name} by several workers', partial(equal, board(name)))
     for number, text in enumerate(board_texts.drawn(DRAWN), 1):
         path = written(work, f'drawn-{number}.board', text)
