@@ -5,11 +5,12 @@ ghost use Rattle.std.specs.Prelude.{length, codes, option_map};
 ghost use Rattle.clap.specs.Words.{fault_of, first_of, found_of, kind_of, rows_of, subcommand_of, subcommand_rows_of, takes};
 ghost use Rattle.clap.specs.Walk.{texts};
 ghost use Rattle.command_line.specs.Commands as commands;
-ghost use Rattle.command_line.specs.Reading.{HasNumber, IsInRange, IsReadAs, Shows, ShowsKind, side_word};
+ghost use Rattle.command_line.specs.Reading.{HasNumber, IsInRange, IsReadAs, Shows, ShowsKind};
+ghost use Rattle.command_line.specs.Reading.{asks_for_help, has_topic, is_topic, side_word};
 ghost use Rattle.command_line.specs.Inside.Reading.{Reads, has_number, has_side, is_read};
 
 use crate::asked::{Job, JobFault, MAX_WORKERS};
-use crate::commands::program;
+use crate::commands::{VERSION, program};
 use board_text::MAX_PEBBLES;
 use clap::error::ErrorKind;
 use clap::{ArgMatches, Error};
@@ -31,7 +32,7 @@ pub fn job<'a, 'w>(alloc: Global, words: &'a [&'w str]) -> Result<Job<'a>, JobFa
     ensures numbers { IfOk result IsInRange }
     ensures takes { takes commands.program (texts words.now) ≡ true
         → IfErr result (λ f. f ≡ JobFault.Memory) }
-    ensures shows { IfErr result (Shows (fault_of commands.program (texts words.now))) }
+    ensures shows { IfErr result (Shows (texts words.now)) }
 {
     if words.len() <= 1 {
         return Ok(Job::Joined);
@@ -46,35 +47,72 @@ fn named_job<'a, 'w>(alloc: Global, words: &'a [&'w str]) -> Result<Job<'a>, Job
     ensures numbers { IfOk result IsInRange }
     ensures takes { takes commands.program (texts words.now) ≡ true
         → IfErr result (λ f. f ≡ JobFault.Memory) }
-    ensures shows { IfErr result (Shows (fault_of commands.program (texts words.now))) }
+    ensures shows { IfErr result (Shows (texts words.now)) }
 {
     let mut command = program(alloc)?;
     let matches = match command.try_get_matches_from_mut(words) {
         Ok(matches) => matches,
-        Err(error) => return Err(fault(alloc, &error)),
+        Err(error) => return Err(fault(alloc, words, &error)),
     };
     match chosen(&matches) {
         Some(job) => Ok(job),
         None => {
             let error = command.error(ErrorKind::InvalidSubcommand, "no such command")?;
-            Err(fault(alloc, &error))
+            Err(fault(alloc, words, &error))
         }
     }
 }
 
-/// The fault with the text of `error`, for the reader of help or of the usage.
-fn fault(alloc: Global, error: &Error) -> JobFault
+/// The fault for `error`, which `clap` found in `words`: the version, help, or wrong use.
+///
+/// After the word `help` the words decide whether it is help or wrong use.
+fn fault(alloc: Global, words: &[&str], error: &Error) -> JobFault
     ensures memory { kind_of error.now ≡ ErrorKind.OutOfMemory → result ≡ JobFault.Memory }
-    ensures shows { ShowsKind (kind_of error.now) result }
+    ensures shows { ShowsKind (texts words.now) (kind_of error.now) result }
 {
-    if matches!(error.kind(), ErrorKind::OutOfMemory) {
-        return JobFault::Memory;
+    match error.kind() {
+        ErrorKind::OutOfMemory => return JobFault::Memory,
+        ErrorKind::DisplayVersion => return version(alloc),
+        _ => {}
     }
+    let is_help = topic(words).unwrap_or(!error.use_stderr());
     match format!(in alloc; "{error}") {
-        Ok(text) if error.use_stderr() => JobFault::Usage { text },
+        Ok(text) if is_help => JobFault::Help { text },
+        Ok(text) => JobFault::Usage { text },
+        Err(_) => JobFault::Memory,
+    }
+}
+
+/// The version.
+fn version(alloc: Global) -> JobFault
+    ensures { ShowsKind [] ErrorKind.DisplayVersion result }
+{
+    match String::from_str(alloc, VERSION) {
         Ok(text) => JobFault::Help { text },
         Err(_) => JobFault::Memory,
     }
+}
+
+/// Whether a command is named after the word `help`, or no word, if `words` begin with it.
+fn topic(words: &[&str]) -> Option<bool>
+    ensures { MatchOption result (asks_for_help (texts words.now) ≡ false)
+        (λ known. (asks_for_help (texts words.now) ≡ true)
+        × (known ≡ has_topic (texts words.now))) }
+{
+    if words.len() < 2 || words[1] != "help" {
+        return None;
+    }
+    Some(words.len() == 2 || (words.len() == 3 && is_topic(words[2])))
+}
+
+/// Whether `word` names a command, or is `help`.
+fn is_topic(word: &str) -> bool
+    ensures { result ≡ is_topic word.now }
+{
+    matches!(
+        word,
+        "help" | "solve" | "check" | "report" | "nested" | "play" | "climb"
+    )
 }
 
 /// The job of the command that was named, if `matches` have its values.
