@@ -1,7 +1,7 @@
 -- A command finds no fault in words exactly if it takes them.
-use Rattle.std.proofs.Common.{◌≡◌, ◌∙◌, ◌<◌, ◌≤◌, ◌+◌, ◌↔◌, ◌&&◌, ◌||◌, not, ℕ, Bool, true, false, true≢false, List, [], ◌∷◌, length, Option, Some, None}
+use Rattle.std.proofs.Common.{◌≡◌, ◌∙◌, ◌+◌, ◌↔◌, ◌&&◌, ◌||◌, not, ℕ, Bool, true, false, true≢false, List, [], ◌∷◌, length, Option, Some, None}
 use Rattle.std.proofs.Common.{codes, is_some, refl, sym, ap, cond, arith, subst}
-use Rattle.std.specs.Prelude.{◌==◌, zero, suc, slice_get, drop, encode_utf8, find, min, nat_le, nat_lt}
+use Rattle.std.specs.Prelude.{zero, suc, slice_get, drop, encode_utf8, find, min, nat_le}
 use Rattle.std.specs.List.{list_all, list_any}
 use Rattle.std.specs.Option.{option_map_or}
 use Rattle.std.specs.Str.{bytes_eq, chars}
@@ -27,7 +27,6 @@ use Rattle.clap.specs.Walk.{reacted, settled, subcommand, subcommand_met, takes_
 use Rattle.clap.specs.Walk.{walk, walk_from, walked, with_default, word_met}
 use Rattle.clap.specs.declared.builder.action.ArgAction.{ArgAction}
 use Rattle.clap.specs.declared.builder.action.ArgAction.TheVariants.{Set, Append, SetTrue, SetFalse, Count, Help, HelpShort, HelpLong, Version}
-use Rattle.clap.specs.declared.error.kind.ErrorKind.{ErrorKind}
 use Rattle.clap.specs.declared.error.kind.ErrorKind.TheVariants as kind
 use Rattle.clap.proofs.OnLiterals.{clap_on_literals}
 use Rattle.clap.proofs.WalkLemmas.{both}

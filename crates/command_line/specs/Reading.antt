@@ -1,7 +1,8 @@
 -- The job that a command line asks for.
 use Rattle.std.specs.Prelude.{◌≡◌, ◌≢◌, ◌≤◌, ◌⊎◌, ◌||◌, ◌++◌, ℕ, Bool, true, false}
-use Rattle.std.specs.Prelude.{List, [], ◌∷◌, Option, Some, None, codes, option_map, string_bytes}
-use Rattle.std.specs.List.{list_any}
+use Rattle.std.specs.Prelude.{List, [], ◌∷◌, Option, Some, None, codes, length, option_map}
+use Rattle.std.specs.Prelude.{string_bytes}
+use Rattle.std.specs.List.{AllByRecursion, list_any}
 use Rattle.std.specs.Str.{bytes_eq}
 use Rattle.std.specs.Str.Parse.{digits_value, without_leading_plus}
 use Rattle.clap.specs.Faults.{fault_of}
@@ -88,13 +89,30 @@ abbrev pub version_text : List ℕ
 version_text = with_line_feed (codes "pebbles 1.0.0")
     ++ with_line_feed (codes "reads `board 1`, `board 2` and `proof 1`, writes these and `report 1`")
 
+-- the name stands in the text
+abbrev pub Names : List ℕ → Text → Type 0
+Names text name = (before after : List ℕ) × (text ≡ before ++ (name ++ after))
+
+-- each command is named in the text
+abbrev pub NamesCommands : List ℕ → Type 0
+NamesCommands text = AllByRecursion (λ s. Names text s.name) commands
+
+-- the text isn't empty, and if one word asks for it, it names each command
+abbrev pub IsHelp : List Text → List ℕ → Type 0
+IsHelp words text = (text ≢ []) × (length words ≡ 2 → NamesCommands text)
+
+-- help is asked for by the word `help`, which has a topic, or by an option
+abbrev pub AsksForHelpBy : List Text → ErrorKind → Type 0
+AsksForHelpBy words kind =
+    ((asks_for_help words ≡ true) × (has_topic words ≡ true))
+    ⊎ ((asks_for_help words ≡ false) × (kind ≡ kinds.DisplayHelp))
+
 -- the fault for an error of this kind: the version, help, or wrong use. After the word `help` the
 -- words alone tell help from wrong use
 abbrev pub ShowsKind : List Text → ErrorKind → JobFault → Type 0
 ShowsKind words kind (Help text) =
     ((kind ≡ kinds.DisplayVersion) × (string_bytes text ≡ version_text))
-    ⊎ ((asks_for_help words ≡ true) × (has_topic words ≡ true))
-    ⊎ ((asks_for_help words ≡ false) × (kind ≡ kinds.DisplayHelp))
+    ⊎ (IsHelp words (string_bytes text) × AsksForHelpBy words kind)
 ShowsKind words kind (Usage text) =
     ((asks_for_help words ≡ true) × (has_topic words ≡ false))
     ⊎ ((asks_for_help words ≡ false) × (kind ≢ kinds.DisplayHelp) × (kind ≢ kinds.DisplayVersion))
@@ -119,6 +137,7 @@ IsWrongUse words =
 
 -- the words ask for the version, for help, or are used wrongly, and the text is of that
 abbrev pub Shows : List Text → JobFault → Type 0
-Shows words (Help text) = (AsksForVersion words × (string_bytes text ≡ version_text)) ⊎ AsksForHelp words
+Shows words (Help text) = (AsksForVersion words × (string_bytes text ≡ version_text))
+    ⊎ (AsksForHelp words × IsHelp words (string_bytes text))
 Shows words (Usage text) = IsWrongUse words
 Shows words Memory = Unit {0}

@@ -6,8 +6,8 @@ ghost use Rattle.clap.specs.Words.{fault_of, first_of, found_of, kind_of, rows_o
 ghost use Rattle.clap.specs.Walk.{texts};
 ghost use Rattle.command_line.specs.Commands as commands;
 ghost use Rattle.command_line.specs.Reading.{HasNumber, IsInRange, IsReadAs, Shows, ShowsKind};
-ghost use Rattle.command_line.specs.Reading.{asks_for_help, has_topic, is_topic, side_word};
-ghost use Rattle.command_line.specs.Inside.Reading.{Reads, has_number, has_side, is_read};
+ghost use Rattle.command_line.specs.Reading.{AsksForHelpBy, Names, NamesCommands, asks_for_help, has_topic, is_topic, side_word};
+ghost use Rattle.command_line.specs.Inside.Reading.{MisusesBy, Reads, ShowsHelp, has_number, has_side, is_read};
 
 use crate::asked::{Job, JobFault, MAX_WORKERS};
 use crate::commands::{VERSION, program};
@@ -17,6 +17,9 @@ use clap::{ArgMatches, Error};
 use nested_cycles::{MAX_BOARD_LEVELS, MAX_LEVELS};
 use positions::Side;
 use std::alloc::Global;
+
+/// The names of the commands.
+const COMMANDS: &str = "solve, check, report, nested, play, climb\n";
 
 /// The job that `words` ask for, the program's name first.
 ///
@@ -75,12 +78,57 @@ fn fault(alloc: Global, words: &[&str], error: &Error) -> JobFault
         ErrorKind::DisplayVersion => return version(alloc),
         _ => {}
     }
-    let is_help = topic(words).unwrap_or(!error.use_stderr());
+    let is_help = wants_help(words, error);
     match format!(in alloc; "{error}") {
-        Ok(text) if is_help => JobFault::Help { text },
+        Ok(text) if is_help => help(alloc, words, text),
         Ok(text) => JobFault::Usage { text },
         Err(_) => JobFault::Memory,
     }
+}
+
+/// Whether `error` is help that was asked for.
+fn wants_help(words: &[&str], error: &Error) -> bool
+    ensures yes { result ≡ true → AsksForHelpBy (texts words.now) (kind_of error.now) }
+    ensures no { result ≡ false → MisusesBy (texts words.now) (kind_of error.now) }
+{
+    match topic(words) {
+        Some(known) => known,
+        None => matches!(error.kind(), ErrorKind::DisplayHelp),
+    }
+}
+
+/// Help with this `text`. If one word asks for help, and `text` doesn't name each command, as
+/// `clap` doesn't promise, the names of the commands take its place.
+fn help(alloc: Global, words: &[&str], text: String) -> JobFault
+    ensures { ShowsHelp (texts words.now) result }
+{
+    let is_whole = words.len() != 2 || names_commands(text.as_str());
+    if is_whole && !text.is_empty() {
+        return JobFault::Help { text };
+    }
+    match String::from_str(alloc, COMMANDS) {
+        Ok(text) => JobFault::Help { text },
+        Err(_) => JobFault::Memory,
+    }
+}
+
+/// Whether `text` names each command.
+fn names_commands(text: &str) -> bool
+    ensures { result ≡ true → NamesCommands text.now }
+{
+    names(text, "solve")
+        && names(text, "check")
+        && names(text, "report")
+        && names(text, "nested")
+        && names(text, "play")
+        && names(text, "climb")
+}
+
+/// Whether `name` stands in `text`.
+fn names(text: &str, name: &str) -> bool
+    ensures { result ≡ true → Names text.now name.now }
+{
+    text.contains(name)
 }
 
 /// The version.
