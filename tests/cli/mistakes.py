@@ -5,7 +5,7 @@ import subprocess
 from dataclasses import dataclass, field
 from functools import partial
 
-from board_texts import empty
+from board_texts import empty, text as board_text
 from harness import BOARDS, PROGRAM, TOP, Check
 from program import LONGEST, Ran, fault, shown, written
 
@@ -137,6 +137,9 @@ def of_boards(work):
         yield Mistake(name, ['solve', path], fault(1, f'board fault {line}'), path, says)
     large = written(work, 'mistake-large.board', empty(33))
     yield Mistake('a board that is too large', ['solve', large], fault(1, 'board too large'), large, '1185921 configurations')
+    few = written(work, 'mistake-few-labels.board', board_text(1, 20, [0] * 5, []))
+    yield Mistake('a board that is too large and has few labels', ['solve', few], fault(1, 'board too large'), few,
+                  '3200000 configurations, and the most is 1048576; no start of this board lasts for ever')
     long = written(work, 'mistake-long.board', b'board 1\n' + b' ' * 1_048_576)
     yield Mistake('a board that is too long', ['solve', long], fault(5, 'input too long'), long, '1048576 bytes')
 

@@ -1,14 +1,20 @@
 -- The job that a command line asks for.
-use Rattle.std.specs.Prelude.{◌≡◌, ◌≢◌, ◌≤◌, ◌⊎◌, ℕ, List, [], Option, Some, None}
-use Rattle.std.specs.Prelude.{codes, option_map}
+use Rattle.std.specs.Prelude.{◌≡◌, ◌≢◌, ◌≤◌, ◌⊎◌, ◌||◌, ◌++◌, ℕ, Bool, true, false}
+use Rattle.std.specs.Prelude.{List, [], ◌∷◌, Option, Some, None, codes, length, option_map}
+use Rattle.std.specs.Prelude.{string_bytes}
+use Rattle.std.specs.List.{AllByRecursion, list_any}
+use Rattle.std.specs.Str.{bytes_eq}
 use Rattle.std.specs.Str.Parse.{digits_value, without_leading_plus}
-use Rattle.clap.specs.Kinds.{IsAmong, Kinds}
+use Rattle.clap.specs.Faults.{fault_of}
+use Rattle.clap.specs.Kinds.{IsAmong}
 use Rattle.clap.specs.Walk.{Row, Text, first_of, one_of}
 use Rattle.clap.specs.declared.error.kind.ErrorKind.{ErrorKind}
 use Rattle.clap.specs.declared.error.kind.ErrorKind.TheVariants as kinds
+use Rattle.board_text.specs.LineForms.{with_line_feed}
 use Rattle.board_text.specs.declared.board.TheConstants.{MAX_PEBBLES}
 use Rattle.nested_cycles.specs.declared.nested_boards.TheConstants.{MAX_BOARD_LEVELS}
 use Rattle.nested_cycles.specs.declared.game.TheConstants.{MAX_LEVELS}
+use Rattle.command_line.specs.Commands.{commands, program}
 use Rattle.command_line.specs.declared.asked.TheConstants.{MAX_WORKERS}
 use Rattle.command_line.specs.declared.asked.Job.{Job}
 use Rattle.command_line.specs.declared.asked.JobFault.{JobFault}
@@ -63,17 +69,75 @@ IsInRange (jobs.Report workers board) = (1 ≤ workers) × (workers ≤ MAX_WORK
 IsInRange (jobs.Play side board) = Unit {0}
 IsInRange (jobs.Climb levels) = (1 ≤ levels) × (levels ≤ MAX_LEVELS)
 
--- the texts that are shown for an error of this kind: help and the version as such, and all others
--- as wrong use
-abbrev pub ShowsKind : ErrorKind → JobFault → Type 0
-ShowsKind kind (Help text) = (kind ≡ kinds.DisplayHelp) ⊎ (kind ≡ kinds.DisplayVersion)
-ShowsKind kind (Usage text) = (kind ≢ kinds.DisplayHelp) × (kind ≢ kinds.DisplayVersion)
-ShowsKind kind Memory = Unit {0}
+-- the word after the program's name is `help`
+abbrev pub asks_for_help : List Text → Bool
+asks_for_help (name ∷ word ∷ rest) = bytes_eq word (codes "help")
+asks_for_help words = false
 
--- a text that was asked for is shown if `clap` finds that help or the version was asked for, and
--- the usage if it finds something else, or nothing
-abbrev pub Shows : Kinds → JobFault → Type 0
-Shows found (Help text) = IsAmong kinds.DisplayHelp found ⊎ IsAmong kinds.DisplayVersion found
-Shows found (Usage text) = (found ≡ [])
-    ⊎ ((kind : ErrorKind) × IsAmong kind found × (kind ≢ kinds.DisplayHelp) × (kind ≢ kinds.DisplayVersion))
-Shows found Memory = Unit {0}
+-- the word names a command, or is `help`, which is one too
+abbrev pub is_topic : Text → Bool
+is_topic word = bytes_eq word (codes "help") || list_any (λ s. bytes_eq word s.name) commands
+
+-- after `help` there is no word, or one that names a command
+abbrev pub has_topic : List Text → Bool
+has_topic (name ∷ word ∷ []) = true
+has_topic (name ∷ word ∷ topic ∷ []) = is_topic topic
+has_topic words = false
+
+-- the text that says the version
+abbrev pub version_text : List ℕ
+version_text = with_line_feed (codes "pebbles 1.0.0")
+    ++ with_line_feed (codes "reads `board 1`, `board 2` and `proof 1`, writes these and `report 1`")
+
+-- the name stands in the text
+abbrev pub Names : List ℕ → Text → Type 0
+Names text name = (before after : List ℕ) × (text ≡ before ++ (name ++ after))
+
+-- each command is named in the text
+abbrev pub NamesCommands : List ℕ → Type 0
+NamesCommands text = AllByRecursion (λ s. Names text s.name) commands
+
+-- the text isn't empty, and if one word asks for it, it names each command
+abbrev pub IsHelp : List Text → List ℕ → Type 0
+IsHelp words text = (text ≢ []) × (length words ≡ 2 → NamesCommands text)
+
+-- help is asked for by the word `help`, which has a topic, or by an option
+abbrev pub AsksForHelpBy : List Text → ErrorKind → Type 0
+AsksForHelpBy words kind =
+    ((asks_for_help words ≡ true) × (has_topic words ≡ true))
+    ⊎ ((asks_for_help words ≡ false) × (kind ≡ kinds.DisplayHelp))
+
+-- the fault for an error of this kind: the version, help, or wrong use. After the word `help` the
+-- words alone tell help from wrong use
+abbrev pub ShowsKind : List Text → ErrorKind → JobFault → Type 0
+ShowsKind words kind (Help text) =
+    ((kind ≡ kinds.DisplayVersion) × (string_bytes text ≡ version_text))
+    ⊎ (IsHelp words (string_bytes text) × AsksForHelpBy words kind)
+ShowsKind words kind (Usage text) =
+    ((asks_for_help words ≡ true) × (has_topic words ≡ false))
+    ⊎ ((asks_for_help words ≡ false) × (kind ≢ kinds.DisplayHelp) × (kind ≢ kinds.DisplayVersion))
+ShowsKind words kind Memory = Unit {0}
+
+-- `clap` finds in the words that help was asked for, and after the word `help` there is no word but
+-- one that names a command
+abbrev pub AsksForHelp : List Text → Type 0
+AsksForHelp words = IsAmong kinds.DisplayHelp (fault_of program words)
+    × (asks_for_help words ≡ true → has_topic words ≡ true)
+
+-- `clap` finds in the words that the version was asked for
+abbrev pub AsksForVersion : List Text → Type 0
+AsksForVersion words = IsAmong kinds.DisplayVersion (fault_of program words)
+
+-- `clap` finds another fault in the words, and none after `help` if that has a command
+abbrev pub IsWrongUse : List Text → Type 0
+IsWrongUse words =
+    ((kind : ErrorKind) × IsAmong kind (fault_of program words) × (kind ≢ kinds.DisplayHelp)
+    × (kind ≢ kinds.DisplayVersion))
+    × (asks_for_help words ≡ true → has_topic words ≡ false)
+
+-- the words ask for the version, for help, or are used wrongly, and the text is of that
+abbrev pub Shows : List Text → JobFault → Type 0
+Shows words (Help text) = (AsksForVersion words × (string_bytes text ≡ version_text))
+    ⊎ (AsksForHelp words × IsHelp words (string_bytes text))
+Shows words (Usage text) = IsWrongUse words
+Shows words Memory = Unit {0}

@@ -12,9 +12,10 @@ use nested_cycles::{MAX_BOARD_LEVELS, MAX_LEVELS};
 use positions::MAX_CONFIGURATIONS;
 use std::alloc::{AllocError, Global};
 
-/// The program's version, and the first lines of the texts that it reads and writes.
-const VERSION: &str =
-    "1.0.0\nreads `board 1`, `board 2` and `proof 1`, writes these and `report 1`";
+/// The program's version, and the first lines of the texts that it reads and writes. `clap` takes
+/// the option from it, and `words` shows it.
+pub(crate) const VERSION: &str =
+    "pebbles 1.0.0\nreads `board 1`, `board 2` and `proof 1`, writes these and `report 1`\n";
 
 /// The command may be left out.
 const USAGE: &str = "pebbles [COMMAND]";

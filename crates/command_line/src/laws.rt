@@ -1,6 +1,8 @@
-//! The numbers that the help names.
+//! A law of `clap`'s two tests of words, and the numbers that the help names.
 
-ghost use Rattle.std.specs.Prelude.{◌≡◌};
+ghost use Rattle.std.specs.Prelude.{◌≡◌, ◌↔◌, List, [], true};
+ghost use Rattle.clap.specs.Words.{Text, fault_of, takes};
+ghost use Rattle.command_line.specs.Commands as commands;
 
 use crate::asked::MAX_WORKERS;
 use board_text::MAX_PEBBLES;
@@ -13,4 +15,10 @@ pub fn limits()
     ensures levels { MAX_BOARD_LEVELS ≡ 6 }
     ensures pebbles { MAX_PEBBLES ≡ 6 }
     ensures played_levels { MAX_LEVELS ≡ 24 }
+{}
+
+/// `clap` finds no fault in words exactly if it takes them.
+pub fn faultless_words_are_taken()
+    ensures { (words : List Text) → (fault_of commands.program words ≡ [])
+        ↔ (takes commands.program words ≡ true) }
 {}

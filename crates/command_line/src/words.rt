@@ -5,17 +5,21 @@ ghost use Rattle.std.specs.Prelude.{length, codes, option_map};
 ghost use Rattle.clap.specs.Words.{fault_of, first_of, found_of, kind_of, rows_of, subcommand_of, subcommand_rows_of, takes};
 ghost use Rattle.clap.specs.Walk.{texts};
 ghost use Rattle.command_line.specs.Commands as commands;
-ghost use Rattle.command_line.specs.Reading.{HasNumber, IsInRange, IsReadAs, Shows, ShowsKind, side_word};
-ghost use Rattle.command_line.specs.Inside.Reading.{Reads, has_number, has_side, is_read};
+ghost use Rattle.command_line.specs.Reading.{HasNumber, IsInRange, IsReadAs, Shows, ShowsKind};
+ghost use Rattle.command_line.specs.Reading.{AsksForHelpBy, Names, NamesCommands, asks_for_help, has_topic, is_topic, side_word};
+ghost use Rattle.command_line.specs.Inside.Reading.{MisusesBy, Reads, ShowsHelp, has_number, has_side, is_read};
 
 use crate::asked::{Job, JobFault, MAX_WORKERS};
-use crate::commands::program;
+use crate::commands::{VERSION, program};
 use board_text::MAX_PEBBLES;
 use clap::error::ErrorKind;
 use clap::{ArgMatches, Error};
 use nested_cycles::{MAX_BOARD_LEVELS, MAX_LEVELS};
 use positions::Side;
 use std::alloc::Global;
+
+/// The names of the commands.
+const COMMANDS: &str = "solve, check, report, nested, play, climb\n";
 
 /// The job that `words` ask for, the program's name first.
 ///
@@ -31,7 +35,7 @@ pub fn job<'a, 'w>(alloc: Global, words: &'a [&'w str]) -> Result<Job<'a>, JobFa
     ensures numbers { IfOk result IsInRange }
     ensures takes { takes commands.program (texts words.now) ≡ true
         → IfErr result (λ f. f ≡ JobFault.Memory) }
-    ensures shows { IfErr result (Shows (fault_of commands.program (texts words.now))) }
+    ensures shows { IfErr result (Shows (texts words.now)) }
 {
     if words.len() <= 1 {
         return Ok(Job::Joined);
@@ -46,35 +50,117 @@ fn named_job<'a, 'w>(alloc: Global, words: &'a [&'w str]) -> Result<Job<'a>, Job
     ensures numbers { IfOk result IsInRange }
     ensures takes { takes commands.program (texts words.now) ≡ true
         → IfErr result (λ f. f ≡ JobFault.Memory) }
-    ensures shows { IfErr result (Shows (fault_of commands.program (texts words.now))) }
+    ensures shows { IfErr result (Shows (texts words.now)) }
 {
     let mut command = program(alloc)?;
     let matches = match command.try_get_matches_from_mut(words) {
         Ok(matches) => matches,
-        Err(error) => return Err(fault(alloc, &error)),
+        Err(error) => return Err(fault(alloc, words, &error)),
     };
     match chosen(&matches) {
         Some(job) => Ok(job),
         None => {
             let error = command.error(ErrorKind::InvalidSubcommand, "no such command")?;
-            Err(fault(alloc, &error))
+            Err(fault(alloc, words, &error))
         }
     }
 }
 
-/// The fault with the text of `error`, for the reader of help or of the usage.
-fn fault(alloc: Global, error: &Error) -> JobFault
+/// The fault for `error`, which `clap` found in `words`: the version, help, or wrong use.
+///
+/// After the word `help` the words decide whether it is help or wrong use.
+fn fault(alloc: Global, words: &[&str], error: &Error) -> JobFault
     ensures memory { kind_of error.now ≡ ErrorKind.OutOfMemory → result ≡ JobFault.Memory }
-    ensures shows { ShowsKind (kind_of error.now) result }
+    ensures shows { ShowsKind (texts words.now) (kind_of error.now) result }
 {
-    if matches!(error.kind(), ErrorKind::OutOfMemory) {
-        return JobFault::Memory;
+    match error.kind() {
+        ErrorKind::OutOfMemory => return JobFault::Memory,
+        ErrorKind::DisplayVersion => return version(alloc),
+        _ => {}
     }
+    let is_help = wants_help(words, error);
     match format!(in alloc; "{error}") {
-        Ok(text) if error.use_stderr() => JobFault::Usage { text },
+        Ok(text) if is_help => help(alloc, words, text),
+        Ok(text) => JobFault::Usage { text },
+        Err(_) => JobFault::Memory,
+    }
+}
+
+/// Whether `error` is help that was asked for.
+fn wants_help(words: &[&str], error: &Error) -> bool
+    ensures yes { result ≡ true → AsksForHelpBy (texts words.now) (kind_of error.now) }
+    ensures no { result ≡ false → MisusesBy (texts words.now) (kind_of error.now) }
+{
+    match topic(words) {
+        Some(known) => known,
+        None => matches!(error.kind(), ErrorKind::DisplayHelp),
+    }
+}
+
+/// Help with this `text`. If one word asks for help, and `text` doesn't name each command, as
+/// `clap` doesn't promise, the names of the commands take its place.
+fn help(alloc: Global, words: &[&str], text: String) -> JobFault
+    ensures { ShowsHelp (texts words.now) result }
+{
+    let is_whole = words.len() != 2 || names_commands(text.as_str());
+    if is_whole && !text.is_empty() {
+        return JobFault::Help { text };
+    }
+    match String::from_str(alloc, COMMANDS) {
         Ok(text) => JobFault::Help { text },
         Err(_) => JobFault::Memory,
     }
+}
+
+/// Whether `text` names each command.
+fn names_commands(text: &str) -> bool
+    ensures { result ≡ true → NamesCommands text.now }
+{
+    names(text, "solve")
+        && names(text, "check")
+        && names(text, "report")
+        && names(text, "nested")
+        && names(text, "play")
+        && names(text, "climb")
+}
+
+/// Whether `name` stands in `text`.
+fn names(text: &str, name: &str) -> bool
+    ensures { result ≡ true → Names text.now name.now }
+{
+    text.contains(name)
+}
+
+/// The version.
+fn version(alloc: Global) -> JobFault
+    ensures { ShowsKind [] ErrorKind.DisplayVersion result }
+{
+    match String::from_str(alloc, VERSION) {
+        Ok(text) => JobFault::Help { text },
+        Err(_) => JobFault::Memory,
+    }
+}
+
+/// Whether a command is named after the word `help`, or no word, if `words` begin with it.
+fn topic(words: &[&str]) -> Option<bool>
+    ensures { MatchOption result (asks_for_help (texts words.now) ≡ false)
+        (λ known. (asks_for_help (texts words.now) ≡ true)
+        × (known ≡ has_topic (texts words.now))) }
+{
+    if words.len() < 2 || words[1] != "help" {
+        return None;
+    }
+    Some(words.len() == 2 || (words.len() == 3 && is_topic(words[2])))
+}
+
+/// Whether `word` names a command, or is `help`.
+fn is_topic(word: &str) -> bool
+    ensures { result ≡ is_topic word.now }
+{
+    matches!(
+        word,
+        "help" | "solve" | "check" | "report" | "nested" | "play" | "climb"
+    )
 }
 
 /// The job of the command that was named, if `matches` have its values.

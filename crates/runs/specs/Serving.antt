@@ -110,7 +110,7 @@ module _ (at : List ℕ → File) (terminals : Terminals) (input output errors :
   ServesWords words =
       ((job : Job) × Asks words job × (greeting : List ℕ) × IsGreeting terminals job greeting
       × (outcome : Outcome) × IsDone at input output job outcome × EndsWith greeting outcome)
-      ⊎ ((fault : JobFault) × (1 < length words) × Shows (fault_of program words) fault
+      ⊎ ((fault : JobFault) × (1 < length words) × Shows words fault
       × (takes program words ≡ true → fault ≡ NoMemory) × Answers fault)
 
   -- the same, if the words are there and are text

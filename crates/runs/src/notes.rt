@@ -164,22 +164,55 @@ pub(crate) fn unread(name: &str, trouble: Trouble) -> Note<'_> {
 
 /// The explanation of a board that has too many configurations.
 fn too_large<'a>(board: &Origin<'a, '_>) -> Note<'a> {
+    let sizes = sizes_of(board.head);
     Note {
         about: board.name,
-        number: configurations(board.head),
-        words: " configurations, labels to the power of pebbles (in `board 2` with one label more); \
-            the most is 1048576",
+        number: sizes.map(Sizes::configurations),
+        words: match sizes {
+            Some(sizes) if sizes.has_few_labels() => {
+                " configurations, and the most is 1048576; no start of this board lasts for ever, \
+                since n pebbles need 2^n - 1 labels"
+            }
+            _ => {
+                " configurations, labels to the power of pebbles (in `board 2` with one label \
+                more); the most is 1048576"
+            }
+        },
     }
 }
 
-/// The number of configurations of a board with these first bytes.
-fn configurations(head: &[u8]) -> Option<u64> {
+/// The numbers in the first three lines of a board.
+#[derive(Clone, Copy)]
+struct Sizes {
+    /// The number of labels, and one more if a pebble may have none.
+    places: u64,
+    labels: u64,
+    pebbles: u32,
+}
+
+impl Sizes {
+    /// The number of configurations.
+    fn configurations(self) -> u64 {
+        self.places.saturating_pow(self.pebbles)
+    }
+
+    /// Whether the pebbles n need more labels to last for ever, which are 2^n - 1 at least.
+    fn has_few_labels(self) -> bool {
+        self.labels < 2_u64.saturating_pow(self.pebbles).saturating_sub(1)
+    }
+}
+
+/// The numbers of a board with these first bytes.
+fn sizes_of(head: &[u8]) -> Option<Sizes> {
     let mut text = LineReader::new(head);
     let version = text.number_line("board".as_bytes(), 1, 2)?;
     let labels = text.number_line("labels".as_bytes(), 1, MAX_LABELS as u32)?;
     let pebbles = text.number_line("pebbles".as_bytes(), 1, MAX_PEBBLES as u32)?;
-    let places = (labels + version - 1) as u64;
-    Some(places.saturating_pow(pebbles))
+    Some(Sizes {
+        places: (labels + version - 1) as u64,
+        labels: labels as u64,
+        pebbles,
+    })
 }
 
 /// The words that say which lines `job` reads from a person; none if it reads no typed lines.

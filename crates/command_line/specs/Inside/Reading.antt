@@ -1,5 +1,5 @@
 -- Definitions that this crate's own functions cite beside `Reading`.
-use Rattle.std.specs.Prelude.{◌≡◌, MatchOption, ℕ, ℤ, pos, negsuc, Bool, ◌&&◌, false, List, Option, Some, None, is_some}
+use Rattle.std.specs.Prelude.{◌≡◌, ◌≢◌, ◌⊎◌, MatchOption, ℕ, ℤ, pos, negsuc, Bool, ◌&&◌, true, false, List, Option, Some, None, is_some, string_bytes}
 use Rattle.std.specs.Str.{bytes_eq}
 use Rattle.std.specs.List.{list_all, list_any}
 use Rattle.std.specs.Option.{option_map_or}
@@ -8,9 +8,13 @@ use Rattle.clap.specs.ValueTests.{is_unsigned_in}
 use Rattle.clap.specs.Walk.{Row, Text, first_of, one_of}
 use Rattle.clap.specs.declared.builder.value_parser.ValueParser.{ValueParser}
 use Rattle.clap.specs.declared.builder.value_parser.ValueParser.TheVariants as vp
+use Rattle.clap.specs.declared.error.kind.ErrorKind.{ErrorKind}
+use Rattle.clap.specs.declared.error.kind.ErrorKind.TheVariants as kinds
 use Rattle.command_line.specs.declared.asked.Job.{Job}
 use Rattle.command_line.specs.Commands.{commands, side_words}
-use Rattle.command_line.specs.Reading.{AsksFor}
+use Rattle.command_line.specs.Reading.{AsksFor, IsHelp, asks_for_help, has_topic}
+use Rattle.command_line.specs.declared.asked.JobFault.{JobFault}
+use Rattle.command_line.specs.declared.asked.JobFault.TheVariants.{Help, Usage, Memory}
 
 -- the matches give a number for the id, from 1 to `most`
 abbrev pub has_number : List Row → Text → ℕ → Bool
@@ -45,3 +49,15 @@ is_among shapes (Some found) =
 
 abbrev pub is_read : Option (Text × List Row) → Bool
 is_read = is_among commands
+
+-- help is such a text, unless memory ran out
+abbrev pub ShowsHelp : List Text → JobFault → Type 0
+ShowsHelp words (Help text) = IsHelp words (string_bytes text)
+ShowsHelp words (Usage text) = ⊥
+ShowsHelp words Memory = Unit {0}
+
+-- no help is asked for: no command is named after the word `help`, or the error isn't help
+abbrev pub MisusesBy : List Text → ErrorKind → Type 0
+MisusesBy words kind =
+    ((asks_for_help words ≡ true) × (has_topic words ≡ false))
+    ⊎ ((asks_for_help words ≡ false) × (kind ≢ kinds.DisplayHelp))
