@@ -1,0 +1,9 @@
+pub mod Counts
+pub mod Graphs
+pub mod LastingRanks
+pub mod Shown
+pub mod OrderedGraphs
+pub mod ClassGraphs
+pub mod NumberedGraphs
+pub mod Filling
+pub mod ClassMembers
