@@ -7,3 +7,4 @@ pub mod ClassGraphs
 pub mod NumberedGraphs
 pub mod Filling
 pub mod ClassMembers
+pub mod Cited

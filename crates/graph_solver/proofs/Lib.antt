@@ -1,0 +1,13 @@
+pub mod ListedRanks
+pub mod Strikes
+pub mod StruckTables
+pub mod ListedWords
+pub mod FiledRanks
+pub mod StruckRanks
+pub mod Sources
+pub mod StageStrikes
+pub mod ClosingGaps
+pub mod States
+pub mod Tallies
+pub mod FirstLists
+pub mod FirstWords

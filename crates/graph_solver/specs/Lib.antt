@@ -1,0 +1,4 @@
+pub mod Solving
+pub mod Striking
+pub mod Words
+pub mod Inside

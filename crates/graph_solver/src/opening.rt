@@ -1,0 +1,108 @@
+//! A stage before the first round.
+
+ghost use Rattle.std.specs.Prelude.{◌≡◌, ◌<◌, ◌≤◌, length, IfOk};
+ghost use Rattle.board_text.specs.PlainBoard.{IsBoard};
+ghost use Rattle.graphs.specs.Graph.{live_answers, lasts};
+ghost use Rattle.graphs.specs.Numbered.{graph_of};
+ghost use Rattle.graph_solver.specs.Inside.Tables.{IsCounted, AreFirstWords};
+ghost use Rattle.graph_solver.specs.Inside.Opening.{AreZeroed, IsUnlisted, IsOpened};
+
+use crate::stage::Stage;
+use crate::word::OPEN;
+use board_text::Memory;
+use graphs::Graph;
+use index_lists::ListStore;
+use positions::MAX_CONFIGURATIONS;
+use std::alloc::Global;
+
+impl<S: ListStore + Drop> Stage<S> {
+    /// A stage of `graph`, in which the configurations of value 0 are filed, in ascending order.
+    pub(crate) fn open(alloc: Global, graph: Graph) -> Result<Stage<S>, Memory>
+        ensures game { IfOk result (λ stage. stage.game ≡ graph) }
+        ensures opened { IfOk result (λ stage. IsOpened stage) }
+        ensures board { IfOk result (λ _. IsBoard graph.board) }
+        ensures few { IfOk result (λ _. (graph_of graph).configurations ≤ MAX_CONFIGURATIONS) }
+    {
+        let size = graph.configurations();
+        let counts = first_counts(alloc, &graph)?;
+        let values = first_words(alloc, &graph, &counts)?;
+        let buckets = S::new(alloc, size, size + 1)?;
+        let strikes = Vec::with_capacity(alloc, size as usize)?;
+        let mut stage = Stage {
+            graph,
+            value: 0,
+            values,
+            counts,
+            buckets,
+            strikes,
+        };
+        stage.list_zeros();
+        Ok(stage)
+    }
+}
+
+impl<S: ListStore> Stage<S> {
+    /// Lists the configurations with the word 0, in ascending order.
+    fn list_zeros(&mut self)
+        requires { IsUnlisted self.old }
+        ensures game { self.new.game ≡ self.old.game }
+        ensures opened { IsOpened self.new }
+    {
+        for rank in 0..self.graph.configurations() {
+            if self.values[rank as usize] == 0 {
+                self.list(rank);
+            }
+        }
+    }
+}
+
+/// The number of answers of each gap.
+fn first_counts(alloc: Global, graph: &Graph) -> Result<Vec<u32>, Memory>
+    ensures { IfOk result (λ counts. IsCounted (graph_of graph.now) (lasts (graph_of graph.now) 0) counts.items) }
+{
+    let gaps = graph.gaps();
+    let mut counts = Vec::with_capacity(alloc, gaps as usize)?;
+    for gap in 0..gaps {
+        counts.push_reserved(count_answers(graph, gap));
+    }
+    Ok(counts)
+}
+
+/// The number of answers of `gap`.
+fn count_answers(graph: &Graph, gap: u32) -> u32
+    requires { gap < (graph_of graph.now).gaps }
+    ensures { result ≡ live_answers (graph_of graph.now) (lasts (graph_of graph.now) 0) gap }
+{
+    let mut count = 0;
+    for place in 0..graph.places() {
+        if graph.is_answer(gap, place) {
+            count += 1;
+        }
+    }
+    count
+}
+
+/// The word of each configuration before the first round: 0 if a request has no answer, else `OPEN`.
+fn first_words(alloc: Global, graph: &Graph, counts: &[u32]) -> Result<Vec<u32>, Memory>
+    requires { IsCounted (graph_of graph.now) (lasts (graph_of graph.now) 0) counts.now }
+    ensures { IfOk result (λ words. AreFirstWords (graph_of graph.now) words.items) }
+{
+    let mut words = vec![in alloc; OPEN; graph.configurations() as usize]?;
+    for gap in 0..graph.gaps() {
+        if counts[gap as usize] == 0 {
+            zero_members(&mut words, graph, gap);
+        }
+    }
+    Ok(words)
+}
+
+/// Writes 0 as the word of each member of `gap`.
+fn zero_members(words: &mut [u32], graph: &Graph, gap: u32)
+    requires gap { gap < (graph_of graph.now).gaps }
+    requires words { length words.old ≡ (graph_of graph.now).configurations }
+    ensures { AreZeroed (graph_of graph.now) gap (graph_of graph.now).places words.old words.new }
+{
+    for place in 0..graph.places() {
+        words[graph.member(gap, place) as usize] = 0;
+    }
+}
