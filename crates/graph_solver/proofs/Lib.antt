@@ -11,3 +11,9 @@ pub mod States
 pub mod Tallies
 pub mod FirstLists
 pub mod FirstWords
+pub mod AnswerSizes
+pub mod FiledRounds
+pub mod SourceSearches
+pub mod OpenMembers
+pub mod Lending
+pub mod RoundsLeft

@@ -1,7 +1,8 @@
 -- The facts of a machine between its calls.
-use Rattle.std.proofs.Common.{◌≡◌, ◌≢◌, ℕ, ◌+◌, ◌-◌, ◌&&◌, ◌==◌, ◌<◌, ◌≤◌, ◌↔◌, inl, inr, Bool, true, false, cond, suc, refl, arith, sym, ap, ◌∙◌, subst, List, [], ◌∷◌, length, map, get_or, slice_index, Option, Some, None}
+use Rattle.std.proofs.Common.{◌≡◌, ◌≢◌, ℕ, ◌+◌, ◌-◌, ◌&&◌, ◌==◌, ◌<◌, ◌≤◌, ◌↔◌, inl, inr, Bool, true, false, cond, suc, refl, arith, sym, ap, ◌∙◌, subst, List, [], ◌∷◌, length, map, get_or, slice_index, slice_index_or, Option, Some, None}
 use Rattle.std.specs.List.{filter, AllPairs, range_with_len}
 use Rattle.std.proofs.lemmas.Bool.{cases_lt}
+use Rattle.std.proofs.lemmas.List.{get_or-map}
 use Rattle.std.proofs.lemmas.List.FromFn.{length-map-range_with_len, get_or-map-range_with_len}
 use Rattle.std.proofs.lemmas.List.Kept.{AllPairs-filter}
 use Rattle.index_lists.specs.Lists.{times}
@@ -13,12 +14,17 @@ use Rattle.graphs.specs.Numbered.{Numbered, graph_of, configuration_of}
 use Rattle.graph_solver.specs.Words.{value_of_word}
 use Rattle.graphs.proofs.Cited.{numbered-is, numbered-shows, some-configurations}
 use Rattle.graph_solver.specs.Inside.Opening.{IsOpened}
-use Rattle.graphs.proofs.Cited.{worth-is}
+use Rattle.graphs.proofs.Cited.{worth-is, tree_of_lasts, lasts_of_tree, forever_of_lasts}
+use Rattle.graph_solver.proofs.AnswerSizes.{live-size, above-size}
 use Rattle.positions.specs.declared.space.TheConstants.{MAX_CONFIGURATIONS}
 use Rattle.graphs.specs.Graph.{PlainGraph, IsGraph, count_below, is_member, lasts, is_struck}
+use Rattle.positions.specs.declared.value.Value.TheVariants.{Forever}
+use Rattle.positions.specs.Counts.{HasSize}
+use Rattle.graphs.specs.Graph.{live_answers}
 use Rattle.graphs.specs.Lasting.{LastsExactly, LastsForever}
-use Rattle.graph_solver.specs.Solving.{Solving, AreOpenMembers, IsSolving}
-use Rattle.graph_solver.specs.Inside.Stage.{first_lists, PlainStage, filed_at, due_strikes, at_next_value, IsFiled, IsStage, IsKept, IsStriking, IsState}
+use Rattle.graph_solver.specs.Solving.{Solving, AreOpenMembers, IsSolving, IsWorth, AnswerLasts, AnswerForever}
+use Rattle.graph_solver.specs.Words.{AreFirstCounts, AreFirstValues}
+use Rattle.graph_solver.specs.Inside.Stage.{first_lists, PlainStage, filed_at, due_strikes, at_next_value, IsFiled, IsStage, IsKept, IsStriking, IsUnstruck, IsState}
 use Rattle.graph_solver.specs.Inside.Tables.{IsLast, is_open, open_members, is_unstruck, struck_rounds, AreWords}
 use Rattle.graphs.proofs.Cited.{member-is}
 use Rattle.graphs.proofs.Cited.{count_below-some, count_below-less, count_below-bound}
@@ -246,17 +252,25 @@ module _ (s : PlainStage) (round : ℕ) (is_done : Bool) (st : IsState s round i
   pub forever-of : is_done ≡ true → (x : ℕ) → x < arena.configurations → lasts arena (suc round) x ≡ true → LastsForever arena x
   forever-of done x i e = λ depth. lasts-forever arena is-arena (suc round) (st.last done).lasting depth x i e
 
-  pub none-has : is_done ≡ true → (x : ℕ) → LastsExactly arena x (suc round) → ⊥
-  none-has done x value = true_not_false (lasts arena (suc (suc round)) x) ((st.last done).lasting x value.is_rank value.lasting) value.stopping
+  -- a number lasts exactly the value of its configuration
+  worth : (x v : ℕ) → x < arena.configurations
+      → LastsExactly arena x v ↔ HasValue s.game.board (configuration_of s.game x) (Finite v)
+  worth x v i = worth-is s.game.board arena (configuration_of s.game) is-arena (numbered-shows s.game st.is_board) x v i
 
-  pub filed-exactly : (v x : ℕ) → x < arena.configurations → (0 < times x (filed_at s v)) ↔ ((v ≤ round) × LastsExactly arena x v)
+  pub none-has : is_done ≡ true → (x : ℕ) → IsWorth s.game x (suc round) → ⊥
+  none-has done x value =
+      let exact = (worth x (suc round) value.is_rank).1 value.has_value in
+      true_not_false (lasts arena (suc (suc round)) x) ((st.last done).lasting x value.is_rank exact.lasting) exact.stopping
+
+  pub filed-exactly : (v x : ℕ) → x < arena.configurations
+      → (0 < times x (filed_at s v)) ↔ ((v ≤ round) × HasValue s.game.board (configuration_of s.game x) (Finite v))
   filed-exactly v x i = (
     λ h. let low = value-in-range s v x st.stage.filed_are h in
         let few = st.few in
         let word : slice_index s.values x ≡ v = filed-word s v x st.stage.filed_are low i h in
         let shut = valued_word s.values x (λ e. omega arith) in
-        (subst (λ j. j ≤ round) word (word-few x i shut), subst (λ j. LastsExactly arena x j) word (word-value x i shut)),
-    λ has. let word = value-word v x has.0 has.1 in
+        (subst (λ j. j ≤ round) word (word-few x i shut), (worth x v i).0 (subst (λ j. LastsExactly arena x j) word (word-value x i shut))),
+    λ has. let word = value-word v x has.0 ((worth x v i).1 has.1) in
         let most : v ≤ round = has.0 in
         let below = round-below in
         filed-there s v x st.stage.filed_are (omega arith) i word.1,
@@ -279,8 +293,10 @@ module _ (s : PlainStage) (round : ℕ) (is_done : Bool) (st : IsState s round i
         let x_in = is-arena.member_in g v i j in
         let count = member-times arena is-arena (is_open s.values) g i x in
         rw (source-shown g i) (
-          λ h. open-lasts x x_in (both_true (is_open s.values x) (is_member arena g x) (times_true _ _ h count)).0,
-          λ e. let some = cond_some (is_open s.values x) (is_member arena g x) (lasts-open x x_in e) (member-is arena g v x j refl) in
+          λ h. tree_of_lasts s.game st.is_board (suc round) x x_in
+              (open-lasts x x_in (both_true (is_open s.values x) (is_member arena g x) (times_true _ _ h count)).0),
+          λ tree. let e = lasts_of_tree s.game st.is_board (suc round) x x_in tree in
+              let some = cond_some (is_open s.values x) (is_member arena g x) (lasts-open x x_in e) (member-is arena g v x j refl) in
               omega arith,
         );
     once = λ g x i j. rw (source-shown g i)
@@ -294,12 +310,12 @@ module _ (s : PlainStage) (round : ℕ) (is_done : Bool) (st : IsState s round i
         (map-ascends (arena.member g) 0 arena.places (λ v w less low. is-arena.ascending g v w i less (omega arith))));
   }
 
-  due-is : due_strikes s ≡ filter (is_struck arena) (filed_at s round)
+  pub due-is : due_strikes s ≡ filter (is_struck arena) (filed_at s round)
   due-is = ap (λ v. filter (is_struck arena) (filed_at s v)) (let at = st.value_is in omega arith)
 
   pub solving_of : IsSolving shown
   solving_of = record {
-    is_graph = st.is_graph;
+    is_board = st.is_board;
     few = st.few;
     below = round-below;
     buckets = record {
@@ -310,7 +326,8 @@ module _ (s : PlainStage) (round : ℕ) (is_done : Bool) (st : IsState s round i
     };
     sources = open-members;
     due = due-is;
-    forever = λ done x i e. forever-of done x i e;
+    forever = λ done x i tree. forever_of_lasts s.game st.is_board x i
+        (forever-of done x i (lasts_of_tree s.game st.is_board (suc round) x i tree));
   }
 
   -- a word says the value that the board gives to the configuration that its number stands for
@@ -318,26 +335,58 @@ module _ (s : PlainStage) (round : ℕ) (is_done : Bool) (st : IsState s round i
       → (v : ℕ) → (o ≡ Some v) ↔ ((v ≤ round) × HasValue s.game.board (configuration_of s.game x) (Finite v))
   value-read x i o is v =
       let word : ℕ = slice_index s.values x in
-      let worth = worth-is s.game.board arena (configuration_of s.game) is-arena (numbered-shows s.game st.is_board) x v i in
       elim (true_or_false (is_open s.values x)) [
         | inl still ↦
             let none : o ≡ None = is ∙ ap (λ (t : Bool). cond t None (Some word)) still in (
               λ e. absurd (none_some v (sym none ∙ e)),
-              λ has. absurd (true_not_false (is_open s.values x) still (value-word v x has.0 (worth.1 has.1)).0),
+              λ has. absurd (true_not_false (is_open s.values x) still (value-word v x has.0 ((worth x v i).1 has.1)).0),
             )
         | inr shut ↦
             let some : o ≡ Some word = is ∙ ap (λ (t : Bool). cond t None (Some word)) shut in (
               λ e. let same : word ≡ v = some_same word v (sym some ∙ e) in
-                  (subst (λ j. j ≤ round) same (word-few x i shut), worth.0 (subst (λ j. LastsExactly arena x j) same (word-value x i shut))),
-              λ has. some ∙ ap Some (value-word v x has.0 (worth.1 has.1)).1,
+                  (subst (λ j. j ≤ round) same (word-few x i shut), (worth x v i).0 (subst (λ j. LastsExactly arena x j) same (word-value x i shut))),
+              λ has. some ∙ ap Some (value-word v x has.0 ((worth x v i).1 has.1)).1,
             )
       ]
+
+  pub first-values : AreFirstValues shown (map value_of_word s.values)
+  first-values x value i = value-read x i (slice_index_or (map value_of_word s.values) x None)
+      (get_or-map value_of_word s.values x 0 None (let size = st.stage.filed_are.values_length in omega arith)) value
+
+  pub counts-before : (g : ℕ) → g < arena.gaps → is_done ≡ false → HasSize (AnswerLasts s.game g round) (slice_index s.counts g)
+  counts-before g i going =
+      subst (HasSize (AnswerLasts s.game g round))
+      (sym (st.stage.counts_are.counted g i ∙ ap (λ d. live_answers arena (lasts arena (struck_rounds d round)) g) going))
+      (above-size s.game st.is_board round g i)
+
+  pub first-counts : is_done ≡ false → AreFirstCounts shown s.counts
+  first-counts going gap i = counts-before gap i going
+
+  pub counts-after : (g : ℕ) → g < arena.gaps → is_done ≡ true → HasSize (AnswerForever s.game g) (slice_index s.counts g)
+  counts-after g i done =
+      subst (HasSize (AnswerForever s.game g))
+      (sym (st.stage.counts_are.counted g i ∙ ap (λ d. live_answers arena (lasts arena (struck_rounds d round)) g) done))
+      (live-size arena g (lasts arena (suc round)) (λ v. HasValue s.game.board (configuration_of s.game (arena.member g v)) Forever) (λ v j.
+      let low = is-arena.member_in g v i j in (
+        λ e. forever_of_lasts s.game st.is_board (arena.member g v) low (forever-of done (arena.member g v) low e),
+        λ forever. lasts_of_tree s.game st.is_board (suc round) (arena.member g v) low (forever (suc round)),
+      )))
 
   -- ---- a round, from the state before it
 
   pub to-begin : is_done ≡ false → IsStriking s (due_strikes s)
   to-begin going = round-starts s st.is_graph st.few round round-below st.value_is (due_strikes s) due-is
       (subst (λ d. IsStage (lasts arena (struck_rounds d round)) s) going st.stage)
+
+  -- before a round nothing of its value is struck
+  pub unstruck-of : is_done ≡ false → IsUnstruck s
+  unstruck-of going = record {
+    is_board = st.is_board;
+    round = round;
+    value_is = st.value_is;
+    small = record { is_graph = st.is_graph; few = st.few; low = (let at = st.value_is in let below = round-below in omega arith) };
+    stage = subst (λ d. IsStage (lasts arena (struck_rounds d round)) s) going st.stage;
+  }
 
   module _ (s' : PlainStage) (struck : IsStriking s' []) (kept : IsKept s s') where
     value_is : s'.value ≡ suc round

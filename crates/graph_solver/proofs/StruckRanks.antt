@@ -1,7 +1,7 @@
 -- Configurations that are answers; counts depend on these alone.
-use Rattle.std.proofs.Common.{◌≡◌, ℕ, ◌<◌, ◌==◌, ◌&&◌, Bool, true, cond, inl, inr, refl, sym, ap, ◌∙◌, subst, arith, List, [], ◌∷◌, ◌+◌, zero, suc, length, get_or}
+use Rattle.std.proofs.Common.{◌≡◌, ℕ, ◌<◌, ◌≤◌, ◌==◌, ◌&&◌, Bool, true, false, cond, inl, inr, refl, sym, ap, ◌∙◌, subst, arith, List, [], ◌∷◌, ◌+◌, zero, suc, length, get_or}
 use Rattle.std.specs.List.{filter}
-use Rattle.std.proofs.lemmas.Bool.{lt-ltb, ltb-true}
+use Rattle.std.proofs.lemmas.Bool.{lt-ltb, ltb-true, le-ltb}
 use Rattle.std.proofs.lemmas.Bool.Decides.{nat_tests}
 use Rattle.index_lists.specs.Lists.{times}
 use Rattle.index_lists.proofs.Cited.{times-here, times-more, times-later}
@@ -67,3 +67,10 @@ words-alike a is f h values same t = record {
   lasting = t.lasting;
   stopping = t.stopping;
 }
+
+-- a configuration that has a gap in which it is an answer passes the test, and one that has none fails it
+pub some-struck : (a : PlainGraph) (x gap : ℕ) → gap ≡ a.struck x → gap < a.gaps → is_struck a x ≡ true
+some-struck a x gap is low = struck-is a x (subst (λ g. g < a.gaps) is low)
+
+pub none-struck : (a : PlainGraph) (x : ℕ) → a.gaps ≤ a.struck x → is_struck a x ≡ false
+none-struck a x none = le-ltb (a.struck x) a.gaps none

@@ -2,3 +2,4 @@
 pub mod Stage
 pub mod Tables
 pub mod Opening
+pub mod SourceWalk

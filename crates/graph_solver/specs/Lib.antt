@@ -1,4 +1,5 @@
 pub mod Solving
+pub mod Ending
 pub mod Striking
 pub mod Words
 pub mod Inside

@@ -1,14 +1,27 @@
-//! Backward rounds over a graph: how long each of its configurations lasts, found without a board.
+//! Retrograde analysis: the value of each configuration of a board, found backwards in rounds.
+//!
+//! A round takes the configurations of one value, the smallest first, and strikes each from the
+//! answers of the gap that leads to it. The members of a gap that has no answer left get the next
+//! value. Configurations that no round reaches last for ever.
 #![tactic(auto)]
 
+mod end;
+mod ended_round;
+mod fault;
 mod laws;
-mod solver;
+mod next_value;
 mod opening;
 mod progress;
+mod solver;
+mod source_walk;
 mod stage;
+mod stage_parts;
 mod word;
 
+pub use end::RoundEnd;
+pub use fault::SolveFault;
 pub use laws::seats_strike_graphs;
-pub use solver::GraphSolver;
 pub use progress::Progress;
+pub use solver::Solver;
+pub use source_walk::SourceWalk;
 pub use word::{OPEN, value_of};

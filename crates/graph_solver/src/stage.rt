@@ -1,4 +1,4 @@
-//! A machine's words and lists, and the changes that a round makes to them.
+//! A solver's words and lists, and the changes that a round makes to them.
 
 ghost use Rattle.std.specs.Prelude.{◌≡◌, ℕ, ◌+◌, ◌-◌, ◌<◌, true, List, [], ◌∷◌, length, filter, slice_index};
 ghost use Rattle.index_lists.specs.Lists.{times};
@@ -132,14 +132,6 @@ impl<S: ListStore> Stage<S> {
         ensures { result ≡ length (filed_at self.now self.now.value) }
     {
         self.buckets.len(self.value)
-    }
-
-    /// The word of the configuration `rank`.
-    pub(crate) fn word(&self, rank: u32) -> u32
-        requires { rank < (graph_of self.now.game).configurations }
-        ensures { result ≡ slice_index self.now.values rank }
-    {
-        self.values[rank as usize]
     }
 
     /// Goes on to the next value.

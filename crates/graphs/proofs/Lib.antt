@@ -7,4 +7,6 @@ pub mod ClassGraphs
 pub mod NumberedGraphs
 pub mod Filling
 pub mod ClassMembers
+pub mod NumberedValues
+pub mod Dominators
 pub mod Cited

@@ -2,12 +2,16 @@
 
 ghost use Rattle.std.specs.Prelude.{◌≡◌, ◌+◌, ◌<◌, ◌≤◌, ◌↔◌, length, IsTrue, IfOk, vec_capacity};
 ghost use Rattle.board_text.specs.PlainBoard.{IsBoard};
-ghost use Rattle.graphs.specs.Numbered.{Numbered, graph_of};
+ghost use Rattle.positions.specs.Ranks.{configurations};
+ghost use Rattle.graphs.specs.Numbered.{Numbered, numbered, graph_of};
 ghost use Rattle.graphs.specs.Inside.Filling.{AreRows, IsRowPushed, AreNoted, AreStruck};
 
+use crate::class_numbers::ClassNumbers;
 use crate::graph::{Graph, Numbering};
+use crate::ordered_numbers::OrderedNumbers;
 use board_text::{Board, Memory};
-use positions::MAX_CONFIGURATIONS;
+use classes::Classes;
+use positions::{MAX_CONFIGURATIONS, Space, TooLarge};
 use std::alloc::Global;
 use std::snapshot::Snapshot;
 
@@ -48,8 +52,19 @@ pub trait Numbers {
 }
 
 impl Graph {
+    /// The graph of `board`, which has at most `MAX_CONFIGURATIONS` configurations, by `numbering`.
+    pub fn of(alloc: Global, board: &Board, numbering: Numbering) -> Result<Graph, Memory>
+        requires { configurations board.now ≤ MAX_CONFIGURATIONS }
+        ensures { IfOk result (λ graph. graph ≡ numbered board.now numbering) }
+    {
+        match numbering {
+            Numbering::Ordered => ordered_graph(alloc, board),
+            Numbering::Classes => class_graph(alloc, board),
+        }
+    }
+
     /// The graph of `board` by its `numbers`.
-    pub fn of<N: Numbers>(alloc: Global, board: &Board, numbers: &N) -> Result<Graph, Memory>
+    fn by<N: Numbers>(alloc: Global, board: &Board, numbers: &N) -> Result<Graph, Memory>
         requires { (N.game numbers.now).board ≡ board.now }
         ensures { IfOk result (λ graph. graph ≡ N.game numbers.now) }
     {
@@ -68,6 +83,26 @@ impl Graph {
             struck,
         })
     }
+}
+
+/// The graph of the ranks of `board`.
+fn ordered_graph(alloc: Global, board: &Board) -> Result<Graph, Memory>
+    requires { configurations board.now ≤ MAX_CONFIGURATIONS }
+    ensures { IfOk result (λ graph. graph ≡ numbered board.now Numbering.Ordered) }
+{
+    match Space::of(board) {
+        Ok(space) => Graph::by(alloc, board, &OrderedNumbers::new(board, space)),
+        Err(TooLarge) => Err(Memory),
+    }
+}
+
+/// The graph of the classes of `board`.
+fn class_graph(alloc: Global, board: &Board) -> Result<Graph, Memory>
+    requires { configurations board.now ≤ MAX_CONFIGURATIONS }
+    ensures { IfOk result (λ graph. graph ≡ numbered board.now Numbering.Classes) }
+{
+    let classes = Classes::of(alloc, board)?;
+    Graph::by(alloc, board, &ClassNumbers::of(alloc, board, &classes)?)
 }
 
 /// The members of all gaps, gap by gap.

@@ -10,6 +10,9 @@ use Rattle.graphs.specs.Graph.{PlainGraph, IsGraph, count_below, lasts, is_struc
 use Rattle.graph_solver.specs.Solving.{Solving}
 use Rattle.graph_solver.specs.Inside.Tables.{IsLast, is_unstruck, struck_rounds, open_members, IsCounted, AreWords, GapIsClosed}
 
+-- a board and what its numbers stand for, the value that configurations are filed at, a word for
+-- each configuration, a count for each gap, the configurations filed at each value, and those that
+-- a round copied from the store
 pub record PlainStage : Type 0 where
   pub game : Numbered
   pub value : ℕ
@@ -122,7 +125,29 @@ pub record IsStriking (s : PlainStage) (todo : List ℕ) : Type 0 where
   pub due : (x : ℕ) → 0 < times x todo → IsStruckAt (graph_of s.game) round x
   pub once : (x : ℕ) → times x todo ≤ 1
 
--- a machine between its calls
+-- nothing of the value before is struck yet
+pub record IsUnstruck (s : PlainStage) : Type 0 where
+  pub is_board : IsBoard s.game.board
+  pub round : ℕ
+  pub value_is : s.value ≡ suc round
+  pub small : IsSmall (graph_of s.game) s.value
+  pub stage : IsStage (lasts (graph_of s.game) round) s
+
+-- these configurations have the value too and are filed at it, and nothing else changes
+pub record FilesAll (s : PlainStage) (ranks : List ℕ) (s' : PlainStage) : Type 0 where
+  pub kept : IsKept s s'
+  pub counts_is : s'.counts ≡ s.counts
+  pub there : (x : ℕ) → 0 < times x ranks → slice_index s'.values x ≡ s.value
+  pub elsewhere : (x : ℕ) → times x ranks ≡ 0 → slice_index s'.values x ≡ slice_index s.values x
+  pub filed_are : IsFiled s'
+
+-- the gaps have these counts, and nothing else changes
+pub record TakesCounts (s : PlainStage) (counts : List ℕ) (s' : PlainStage) : Type 0 where
+  pub rest : s' ≡ with_counts s s'.counts
+  pub counts_length : length s'.counts ≡ length s.counts
+  pub each : (gap : ℕ) → gap < (graph_of s.game).gaps → slice_index s'.counts gap ≡ slice_index counts gap
+
+-- a solver between its calls
 pub record IsState (s : PlainStage) (round : ℕ) (is_done : Bool) : Type 0 where
   pub is_board : IsBoard s.game.board
   pub is_graph : IsGraph (graph_of s.game)
@@ -134,7 +159,7 @@ pub record IsState (s : PlainStage) (round : ℕ) (is_done : Bool) : Type 0 wher
   pub last : is_done ≡ true → IsLast (graph_of s.game) (suc round)
   pub ascending : AllPairs (λ first second. first < second) (filed_at s 0)
 
--- a machine, as its callers see it
+-- a solver, as its callers see it
 abbrev pub as_solving : PlainStage → Bool → Solving
 as_solving s is_done = record {
   game = s.game;

@@ -1,5 +1,5 @@
 -- The meaning of a machine's tables and lists in the graph.
-use Rattle.std.specs.Prelude.{◌≡◌, ℕ, ◌+◌, ◌*◌, ◌<◌, ◌≤◌, ◌==◌, not, Bool, true, false, cond, suc, List, length, slice_index, map, filter}
+use Rattle.std.specs.Prelude.{◌≡◌, ℕ, ◌<◌, ◌==◌, not, Bool, true, false, cond, suc, List, length, slice_index, map, filter}
 use Rattle.std.specs.List.{range_with_len}
 use Rattle.index_lists.specs.Lists.{times}
 use Rattle.graphs.specs.Graph.{PlainGraph, is_member, live_answers, is_answered, lasts}

@@ -1,4 +1,4 @@
-use Rattle.std.proofs.Common.{◌≡◌, ◌-◌, ◌≤◌, false, sym, subst, arith}
+use Rattle.std.proofs.Common.{◌≡◌, ◌-◌, ◌≤◌, ◌∙◌, false, ap, sym, subst, arith}
 use Rattle.board_text.specs.PlainBoard.{IsBoard}
 use Rattle.positions.specs.declared.space.TheConstants.{MAX_CONFIGURATIONS}
 use Rattle.graphs.specs.Numbered.{Numbered, graph_of}
@@ -6,7 +6,7 @@ use Rattle.graph_solver.specs.Inside.Stage.{PlainStage, at_next_value, IsState}
 use Rattle.graph_solver.specs.Inside.Opening.{IsOpened}
 use Rattle.graphs.proofs.Cited.{some-configurations}
 use Rattle.graph_solver.proofs.States.{start-state, solving_of}
-use Rattle.graph_solver.proofs.solver.GraphSolver.open.Goals as goal
+use Rattle.graph_solver.proofs.solver.Solver.start.Goals as goal
 
 opened-state : (s : PlainStage) (n : Numbered) → s.game ≡ n → IsBoard n.board → (graph_of n).configurations ≤ MAX_CONFIGURATIONS → IsOpened s
     → IsState (at_next_value s) ((at_next_value s).value - 1) false
@@ -23,9 +23,12 @@ begin_next_value-requires g c =
 pub invariant_of-result : goal.invariant_of-result
 invariant_of-result g c =
     let e = c.in_ok-stage.ensures in
-    rw c.begin_next_value.ensures (opened-state c.in_ok-stage.stage c.args.graph e.game e.board e.few e.opened)
+    rw c.begin_next_value.ensures (
+      opened-state c.in_ok-stage.stage c.in_ok-graph.graph e.game e.board e.few e.opened,
+      c.requires ∙ ap (λ (n : Numbered). n.board) (sym (e.game ∙ c.in_ok-graph.ensures)),
+    )
 
 pub returns-clause-kept : goal.returns-clause-kept
 returns-clause-kept g c =
     let e = c.in_ok-stage.ensures in
-    rw c.begin_next_value.ensures (solving_of (at_next_value c.in_ok-stage.stage) _ false (opened-state c.in_ok-stage.stage c.args.graph e.game e.board e.few e.opened))
+    rw c.begin_next_value.ensures (solving_of (at_next_value c.in_ok-stage.stage) _ false (opened-state c.in_ok-stage.stage c.in_ok-graph.graph e.game e.board e.few e.opened))
