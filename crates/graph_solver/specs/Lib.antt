@@ -1,5 +1,0 @@
-pub mod Solving
-pub mod Ending
-pub mod Striking
-pub mod Words
-pub mod Inside
