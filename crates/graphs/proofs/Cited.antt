@@ -7,5 +7,5 @@ pub use Rattle.graphs.proofs.LastingRanks.{next-gives, next-from, next-fails, ne
 pub use Rattle.graphs.proofs.LastingRanks.{same_test, lasts-less, lasts-at-most, same_or_not, some_same, none_some}
 pub use Rattle.graphs.proofs.NumberedGraphs.{numbered-is, numbered-shows, some-configurations}
 pub use Rattle.graphs.proofs.Shown.{tree-of-lasts, lasts-of-tree, worth-is, forever-is}
-pub use Rattle.graphs.proofs.NumberedValues.{tree_of_lasts, lasts_of_tree, value_of_lasts, lasts_of_value, forever_of_lasts, lasts_of_forever}
+pub use Rattle.graphs.proofs.NumberedValues.{tree_of_lasts, lasts_of_tree, value_of_lasts, lasts_of_value, forever_of_lasts, lasts_of_forever, places_are}
 pub use Rattle.graphs.proofs.Dominators.{ordered-gaps, dominator-some, dominator-none}

@@ -1,12 +1,14 @@
 -- How long a number lasts is how long the board's configuration lasts that it stands for.
-use Rattle.std.proofs.Common.{◌≡◌, ◌<◌, ℕ, suc, true, false}
-use Rattle.board_text.specs.PlainBoard.{IsBoard}
+use Rattle.std.proofs.Common.{◌≡◌, ◌<◌, ℕ, suc, true, false, refl}
+use Rattle.board_text.specs.PlainBoard.{PlainBoard, IsBoard, places}
 use Rattle.positions.specs.declared.value.Value.TheVariants.{Finite, Forever}
 use Rattle.positions.specs.Game.{LabellerTree}
 use Rattle.positions.specs.Value.{HasValue}
 use Rattle.graphs.specs.Graph.{PlainGraph, IsGraph, lasts}
 use Rattle.graphs.specs.Lasting.{LastsForever}
-use Rattle.graphs.specs.Numbered.{Numbered, graph_of, configuration_of}
+use Rattle.graphs.specs.Numbered.{Numbered, graph_by, graph_of, configuration_of}
+use Rattle.graphs.specs.declared.graph.Numbering.{Numbering}
+use Rattle.graphs.specs.declared.graph.Numbering.TheVariants.{Ordered, Classes}
 use Rattle.graphs.specs.Shows.{Shows}
 use Rattle.graphs.proofs.NumberedGraphs.{numbered-is, numbered-shows}
 use Rattle.graphs.proofs.Shown.{tree-of-lasts, lasts-of-tree, worth-is, forever-is}
@@ -43,3 +45,12 @@ module _ (n : Numbered) (board : IsBoard n.board) where
 
   pub lasts_of_forever : (x : ℕ) → x < a.configurations → HasValue n.board (configuration_of n x) Forever → LastsForever a x
   lasts_of_forever x i has = (forever-is n.board a (configuration_of n) is shows x i).1 has
+
+places-by : (k : Numbering) (b : PlainBoard) → (graph_by k b).places ≡ places b
+unfolding graph_by
+places-by Ordered b = refl
+places-by Classes b = refl
+
+-- a gap has a member for each place
+pub places_are : (n : Numbered) → (graph_of n).places ≡ places n.board
+places_are n = places-by n.numbering n.board
