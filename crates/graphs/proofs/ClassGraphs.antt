@@ -11,7 +11,7 @@ use Rattle.board_text.proofs.Cited.{label_is_place}
 use Rattle.positions.specs.Game.{LabellerTree, moved}
 use Rattle.classes.specs.Classes.{put, class_of, Falls, IsClass}
 use Rattle.classes.specs.Numbers.{ways, class_number}
-use Rattle.classes.specs.ClassGaps.{gap_at, Answers}
+use Rattle.classes.specs.ClassGaps.{gap_at, AnswersGap}
 use Rattle.classes.proofs.Numbers.{is-below, with-is, with-number}
 use Rattle.classes.proofs.Places.{put-none, put-past, put-here, put-is, length-put, length-class_of, falls-class_of, put-cancel, class_of-set, class_of-own, IsIn, in-put, HasPebble, pebble_of_place}
 use Rattle.classes.proofs.Values.{AreLike, labeller-like, legal-answers, class_of-class, one-gap}
@@ -83,7 +83,7 @@ one-label bound gap v w falls e = elim (cases_lt v w) [
 
 -- ---- tests
 
-pub answers_in_is : (b : PlainBoard) (gap : List ℕ) (v : ℕ) → (answers_in b gap v ≡ true) ↔ Answers b gap v
+pub answers_in_is : (b : PlainBoard) (gap : List ℕ) (v : ℕ) → (answers_in b gap v ≡ true) ↔ AnswersGap b gap v
 answers_in_is b gap v = (
   λ e.
       let parts = both_true (nat_lt v b.labels) (list_all (beats_place b v) gap) e in record {
@@ -207,7 +207,7 @@ module _ (b : PlainBoard) (is : IsBoard b) where
     gap-there = put-cancel v (gap_at (X g v) put-pebble.pebble) (gap_class b g)
         (ap (λ n. put n (gap_at (X g v) put-pebble.pebble)) (sym put-pebble.holds) ∙ put-back (X g v) put-pebble.pebble ok q-in)
 
-    pub struck-there : Answers b (gap_class b g) v → (classes b).struck ((classes b).member g v) ≡ g
+    pub struck-there : AnswersGap b (gap_class b g) v → (classes b).struck ((classes b).member g v) ≡ g
     struck-there answer =
         let c = X g v in
         let q = put-pebble.pebble in
@@ -218,7 +218,7 @@ module _ (b : PlainBoard) (is : IsBoard b) where
         let same : gap_at c f.pebble ≡ gap_class b g = one-gap b (gap_at c f.pebble) (gap_class b g) (get_or c f.pebble 0) v is.pairs.one_way other answer (put-back c f.pebble ok f.below) in
         ap (λ d. class_struck b d P) (at-member g v i j) ∙ f.is ∙ ap class_number same ∙ (with-is bound (P - 1) g i).number_is
 
-    pub there-struck : (classes b).struck ((classes b).member g v) ≡ g → Answers b (gap_class b g) v
+    pub there-struck : (classes b).struck ((classes b).member g v) ≡ g → AnswersGap b (gap_class b g) v
     there-struck e =
         let c = X g v in
         let here : class_struck b c P ≡ g = sym (ap (λ d. class_struck b d P) (at-member g v i j)) ∙ e in
@@ -264,8 +264,8 @@ module _ (b : PlainBoard) (is : IsBoard b) where
         let own = legal-answers b c p label ok.size low in (
           λ legal.
               let place = label_is_place b label legal.is_label in
-              (place, struck-there g label i place (subst (λ h. Answers b h label) (sym gap_is) (own.0 legal))),
-          λ has. own.1 (subst (λ h. Answers b h label) gap_is (there-struck g label i has.0 has.1)),
+              (place, struck-there g label i place (subst (λ h. AnswersGap b h label) (sym gap_is) (own.0 legal))),
+          λ has. own.1 (subst (λ h. AnswersGap b h label) gap_is (there-struck g label i has.0 has.1)),
         );
     after = λ depth label legal.
         let place = label_is_place b label legal.is_label in

@@ -4,9 +4,9 @@ use Rattle.board_text.specs.PlainBoard.{PlainBoard, IsBoard, places}
 use Rattle.board_text.specs.Domination.{has_bit}
 use Rattle.board_text.specs.declared.board.TheConstants.{MAX_LABELS}
 use Rattle.classes.specs.Classes.{put, IsClass}
-use Rattle.classes.specs.ClassGaps.{Answers}
+use Rattle.classes.specs.ClassGaps.{AnswersGap}
 use Rattle.classes.specs.Numbers.{ways, class_number}
-use Rattle.classes.specs.Rows.{AreRows}
+use Rattle.classes.specs.Rows.{AreGapRows}
 use Rattle.classes.proofs.Numbers.{with-is}
 use Rattle.graphs.specs.declared.graph.Numbering.TheVariants.{Classes}
 use Rattle.graphs.specs.Graph.{PlainGraph}
@@ -23,12 +23,12 @@ pub member-own : (b : PlainBoard) → IsBoard b → (g v : ℕ) → g < ways (b.
 member-own b is g v i j = subst (λ n. IsClass (places b) n (put v (gap_class b g))) (sym (member-long b is g v i j)) (member-class b is g v i j)
 
 -- the bit of a label tells whether the member is struck in the gap
-pub bit-told : (b : PlainBoard) → IsBoard b → (rows : List (List ℕ)) → AreRows b (b.pebbles - 1) rows → (g v : ℕ) (row : List ℕ) → g < ways (b.pebbles - 1) (places b) → v < places b → v < MAX_LABELS
+pub bit-told : (b : PlainBoard) → IsBoard b → (rows : List (List ℕ)) → AreGapRows b (b.pebbles - 1) rows → (g v : ℕ) (row : List ℕ) → g < ways (b.pebbles - 1) (places b) → v < places b → v < MAX_LABELS
     → row ≡ get_or rows g row → (has_bit row v ≡ true) ↔ ((classes b).struck ((classes b).member g v) ≡ g)
 bit-told b is rows are g v row i j small row_is =
     let number = (with-is (places b) (b.pebbles - 1) g i).number_is in
     let at : get_or rows (class_number (gap_class b g)) row ≡ row = ap (λ k. get_or rows k row) number ∙ sym row_is in
-    let bits = subst (λ (r : List ℕ). (has_bit r v ≡ true) ↔ Answers b (gap_class b g) v) at (are.each (gap_class b g) row (gap-is b is g i) v small) in (
+    let bits = subst (λ (r : List ℕ). (has_bit r v ≡ true) ↔ AnswersGap b (gap_class b g) v) at (are.each (gap_class b g) row (gap-is b is g i) v small) in (
       λ e. struck-there b is g v i j (bits.0 e),
       λ struck. bits.1 (there-struck b is g v i j struck),
     )

@@ -4,7 +4,7 @@ use Rattle.std.proofs.Math.ListN.{length-set}
 use Rattle.std.proofs.lemmas.Bool.{cases_lt}
 use Rattle.std.proofs.lemmas.List.{length_push, get_or_append_left, get_or_push}
 use Rattle.graphs.specs.Graph.{PlainGraph, IsGraph}
-use Rattle.graphs.specs.Inside.Filling.{AreRows, IsRowPushed, AreNoted, AreStruck}
+use Rattle.graphs.specs.Inside.Filling.{AreMemberRows, IsRowPushed, AreNoted, AreStruck}
 use Rattle.graphs.proofs.LastingRanks.{same_or_not}
 
 -- ---- members
@@ -26,7 +26,7 @@ pushed-more a gap place old now p =
       ];
     }
 
-pub rows-more : (a : PlainGraph) (gap : ℕ) (old now : List ℕ) → AreRows a gap old → IsRowPushed a gap a.places old now → AreRows a (gap + 1) now
+pub rows-more : (a : PlainGraph) (gap : ℕ) (old now : List ℕ) → AreMemberRows a gap old → IsRowPushed a gap a.places old now → AreMemberRows a (gap + 1) now
 rows-more a gap old now rows p = record {
   size = (let one = rows.size in let two = p.size in omega arith);
   each = λ g v low inside. elim (cases_lt g gap) [

@@ -3,7 +3,7 @@
 ghost use Rattle.std.specs.Prelude.{◌≡◌, ◌+◌, ◌<◌, ◌≤◌, ◌↔◌, length, IsTrue, IfOk, vec_capacity};
 ghost use Rattle.board_text.specs.PlainBoard.{IsBoard};
 ghost use Rattle.graphs.specs.Numbered.{Numbered, graph_of};
-ghost use Rattle.graphs.specs.Inside.Filling.{AreRows, IsRowPushed, AreNoted, AreStruck};
+ghost use Rattle.graphs.specs.Inside.Filling.{AreMemberRows, IsRowPushed, AreNoted, AreStruck};
 
 use crate::graph::{Graph, Numbering};
 use board_text::{Board, Memory};
@@ -72,7 +72,7 @@ impl Graph {
 
 /// The members of all gaps, gap by gap.
 fn all_members<N: Numbers>(alloc: Global, numbers: &N) -> Result<Vec<u32>, Memory>
-    ensures { IfOk result (λ members. AreRows (graph_of (N.game numbers.now)) (graph_of (N.game numbers.now)).gaps members.items) }
+    ensures { IfOk result (λ members. AreMemberRows (graph_of (N.game numbers.now)) (graph_of (N.game numbers.now)).gaps members.items) }
 {
     let gaps = numbers.gaps();
     let mut members = Vec::with_capacity(alloc, gaps as usize * numbers.places() as usize)?;

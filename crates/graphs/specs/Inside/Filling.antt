@@ -3,7 +3,7 @@ use Rattle.std.specs.Prelude.{◌≡◌, ℕ, ◌+◌, ◌*◌, ◌<◌, ◌⊎�
 use Rattle.graphs.specs.Graph.{PlainGraph}
 
 -- the members of the first gaps, gap by gap
-pub record AreRows (a : PlainGraph) (gap : ℕ) (members : List ℕ) : Type 0 where
+pub record AreMemberRows (a : PlainGraph) (gap : ℕ) (members : List ℕ) : Type 0 where
   pub size : length members ≡ gap * a.places
   pub each : (g v : ℕ) → g < gap → v < a.places → slice_index members (g * a.places + v) ≡ a.member g v
 

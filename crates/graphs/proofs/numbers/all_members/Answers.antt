@@ -1,6 +1,6 @@
 use Rattle.std.proofs.Common.{◌≡◌, ◌+◌, ◌*◌, ◌≤◌, ℕ, subst, arith, mul-le-mul_left}
 use Rattle.graphs.specs.Numbered.{graph_of}
-use Rattle.graphs.specs.Inside.Filling.{AreRows}
+use Rattle.graphs.specs.Inside.Filling.{AreMemberRows}
 use Rattle.graphs.proofs.Filling.{rows-more}
 use Rattle.graphs.proofs.numbers.all_members.Goals as goal
 
@@ -21,4 +21,4 @@ returns g c =
     let a = graph_of (g.N.Numbers.game c.args.numbers.now) in
     let most = c.loop-gap.auto.gap-end in
     let end : c.loop-gap.gap ≡ a.gaps = omega (arith, most, c.loop-gap-test.false, c.gaps-gaps.ensures) in
-    subst (λ n. AreRows a n c.loop-gap.members.items) end c.loop-gap.invariant.rows
+    subst (λ n. AreMemberRows a n c.loop-gap.members.items) end c.loop-gap.invariant.rows
