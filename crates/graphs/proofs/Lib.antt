@@ -2,8 +2,10 @@ pub mod Counts
 pub mod Graphs
 pub mod LastingRanks
 pub mod Shown
+pub mod DominatingPebbles
 pub mod OrderedGraphs
 pub mod ClassGraphs
 pub mod NumberedGraphs
 pub mod Filling
-pub mod ClassMembers
+pub mod RankTables
+pub mod ClassTables
