@@ -103,7 +103,7 @@ module _ (b : PlainBoard) (is : IsBoard b) where
   at-member : (g v : ℕ) → g < ways (P - 1) bound → v < bound → class_at b (class_number (X g v)) ≡ X g v
   at-member g v i j = with-number bound P (X g v) (member-class g v i j)
 
-  own-class : (c : List ℕ) → IsClass bound P c → class_of c ≡ c
+  pub own-class : (c : List ℕ) → IsClass bound P c → class_of c ≡ c
   own-class c ok = class_of-class bound c ok.falls
 
   -- a class is a configuration
@@ -135,10 +135,10 @@ module _ (b : PlainBoard) (is : IsBoard b) where
             (All-from_get_or (λ place. place < bound) (remove c p) 0 (λ k inside. elim (cases_lt k p) [
               | inl before ↦
                   subst (λ place. place < bound) (sym (get_or-remove_below c p 0 k before (omega arith)))
-                      (each k (omega arith))
+                  (each k (omega arith))
               | inr behind ↦
                   subst (λ place. place < bound) (sym (get_or-remove_above c p 0 k behind (omega arith)))
-                      (each (k + 1) (omega arith))
+                  (each (k + 1) (omega arith))
             ]));
       }
 
@@ -278,7 +278,7 @@ module _ (b : PlainBoard) (is : IsBoard b) where
         } in (
           λ tree.
               subst (LabellerTree b depth) (sym at_is)
-                  (labeller-like b depth (moved c p label) (X g label) like tree),
+              (labeller-like b depth (moved c p label) (X g label) like tree),
           λ tree.
               labeller-like b depth (X g label) (moved c p label) back (subst (LabellerTree b depth) at_is tree),
         );

@@ -6,6 +6,8 @@ pub mod DominatingPebbles
 pub mod OrderedGraphs
 pub mod ClassGraphs
 pub mod NumberedGraphs
+pub mod ConfigurationNumbers
+pub mod NumberWeights
 pub mod Filling
 pub mod RankTables
 pub mod ClassTables

@@ -11,6 +11,6 @@ mod ordered_numbers;
 
 pub use graph::{Graph, Numbering};
 pub use laws::{
-    class_graphs_show_their_board, graphs_have_the_values_of_boards,
-    ordered_graphs_show_their_board,
+    configurations_have_numbers, gaps_answer_requests, graphs_have_the_values_of_boards,
+    numbered_graphs_show_their_boards, weights_count_configurations,
 };
