@@ -1,5 +1,5 @@
 -- The graph of classes is a graph, and shows its board.
-use Rattle.std.proofs.Common.{◌≡◌, ℕ, ◌<◌, ◌≤◌, ◌+◌, ◌-◌, ◌↔◌, inl, inr, zero, suc, refl, sym, ap, ◌∙◌, subst, arith}
+use Rattle.std.proofs.Common.{◌≡◌, ℕ, ◌<◌, ◌≤◌, ◌+◌, ◌-◌, inl, inr, zero, suc, refl, sym, ap, ◌∙◌, subst, arith}
 use Rattle.std.proofs.Common.{List, [], ◌∷◌, length, get_or}
 use Rattle.std.specs.List.{remove}
 use Rattle.std.proofs.lemmas.Bool.{cases_lt}
@@ -12,13 +12,11 @@ use Rattle.positions.specs.Game.{LabellerTree, moved}
 use Rattle.classes.specs.Classes.{put, class_of, Falls, IsClass}
 use Rattle.classes.specs.Numbers.{ways, class_number}
 use Rattle.classes.specs.ClassGaps.{gap_at, AnswersGap}
-use Rattle.classes.proofs.Numbers.{is-below, with-is, with-number}
-use Rattle.classes.proofs.Places.{put-none, put-past, put-here, put-is, length-put, length-class_of, falls-class_of}
-use Rattle.classes.proofs.Places.{put-cancel, place-cancel, class_of-set, class_of-own, IsIn, in-put, HasPebble}
-use Rattle.classes.proofs.Places.{pebble_of_place}
-use Rattle.classes.proofs.TableNumbers.{place-below}
-use Rattle.classes.proofs.Values.{AreLike, labeller-like, legal-answers, dominator-answers, class_of-class, one-gap}
-use Rattle.classes.proofs.Ways.{ways-zero, ways-suc, ways-more}
+use Rattle.classes.proofs.Cited.{is-below, with-is, with-number, put-none, put-past, put-here, put-is, length-put}
+use Rattle.classes.proofs.Cited.{length-class_of, falls-class_of, put-cancel, place-cancel, class_of-set, class_of-own}
+use Rattle.classes.proofs.Cited.{IsIn, in-put, HasPebble, pebble_of_place, place-below, AreLike, labeller-like}
+use Rattle.classes.proofs.Cited.{legal-answers, dominator-answers, class_of-class, one-gap, ways-zero, ways-suc}
+use Rattle.classes.proofs.Cited.{ways-more}
 use Rattle.graphs.specs.Graph.{IsGraph}
 use Rattle.graphs.specs.ClassGraph.{class_at, gap_class, gap_number, classes}
 use Rattle.graphs.specs.Shows.{IsAsked, Shows}
@@ -43,10 +41,12 @@ front : (place : ℕ) (others : List ℕ) → Falls (suc place) others → put p
 front place [] falls = put-none place
 front place (next ∷ more) falls = put-here place next more (let low : next < suc place = falls.0 in omega arith)
 
-number-of : (place : ℕ) (others : List ℕ) (n : ℕ) → length others ≡ n → class_number (place ∷ others) ≡ ways (suc n) place + class_number others
+number-of : (place : ℕ) (others : List ℕ) (n : ℕ) → length others ≡ n
+    → class_number (place ∷ others) ≡ ways (suc n) place + class_number others
 number-of place others n size = ap (λ m. ways (suc m) place + class_number others) size
 
-pub grows : (bound : ℕ) (gap : List ℕ) (v w : ℕ) → Falls bound gap → v < w → class_number (put v gap) < class_number (put w gap)
+pub grows : (bound : ℕ) (gap : List ℕ) (v w : ℕ) → Falls bound gap → v < w
+    → class_number (put v gap) < class_number (put w gap)
 grows bound [] v w falls less =
     let low = ap class_number (put-none v) in
     let high = ap class_number (put-none w) in
@@ -54,21 +54,26 @@ grows bound [] v w falls less =
     omega arith
 grows bound (first ∷ others) v w falls less = elim (cases_lt w first) [
   | inl below ↦
-      let low = ap class_number (put-past v first others (omega arith)) ∙ number-of first (put v others) (suc (length others)) (length-put v others) in
-      let high = ap class_number (put-past w first others below) ∙ number-of first (put w others) (suc (length others)) (length-put w others) in
+      let low = ap class_number (put-past v first others (omega arith))
+      ∙ number-of first (put v others) (suc (length others)) (length-put v others) in
+      let high = ap class_number (put-past w first others below)
+      ∙ number-of first (put w others) (suc (length others)) (length-put w others) in
       let rest = grows (suc first) others v w falls.1 less in
       omega arith
   | inr above ↦
-      let high = ap class_number (put-here w first others above) ∙ number-of w (first ∷ others) (suc (length others)) refl in
+      let high = ap class_number (put-here w first others above)
+      ∙ number-of w (first ∷ others) (suc (length others)) refl in
       elim (cases_lt v first) [
         | inl below ↦
-            let low = ap class_number (put-past v first others below) ∙ number-of first (put v others) (suc (length others)) (length-put v others) in
+            let low = ap class_number (put-past v first others below)
+            ∙ number-of first (put v others) (suc (length others)) (length-put v others) in
             let rest = grows (suc first) others v first falls.1 below in
             let whole = ap class_number (front first others falls.1) in
             let most = ways-more (suc (suc (length others))) first w above in
             omega arith
         | inr most ↦
-            let low = ap class_number (put-here v first others most) ∙ number-of v (first ∷ others) (suc (length others)) refl in
+            let low = ap class_number (put-here v first others most)
+            ∙ number-of v (first ∷ others) (suc (length others)) refl in
             let more = more-ways (suc (length others)) v w less in
             omega arith
       ]
@@ -153,7 +158,8 @@ module _ (b : PlainBoard) (is : IsBoard b) where
   put-own c p ok low = let size : length c ≡ P = ok.each_pebble in sym (class_of-own c p (omega arith))
 
   -- the member of a pebble's gap with a place is the class after the pebble moved there
-  pub member-moved : (c : List ℕ) (p v : ℕ) → IsConfiguration b c → p < P → X (gap_number c p) v ≡ class_of (moved c p v)
+  pub member-moved : (c : List ℕ) (p v : ℕ) → IsConfiguration b c → p < P
+      → X (gap_number c p) v ≡ class_of (moved c p v)
   member-moved c p v ok low =
       let size : length c ≡ P = ok.each_pebble in
       ap (put v) (gap-at-number c p ok low) ∙ sym (class_of-set c p v (omega arith))
@@ -209,7 +215,8 @@ module _ (b : PlainBoard) (is : IsBoard b) where
         ((dominator-answers b c q held.each_pebble q-in).1 own) in
         let f = dominator-found b c (gap_number c) none P q q-in test in
         let same : gap_at c f.pebble ≡ gap_class b g =
-        one-gap b (gap_at c f.pebble) (gap_class b g) (get_or c f.pebble 0) v is.pairs.one_way (answering c held f) answer
+        one-gap b (gap_at c f.pebble) (gap_class b g) (get_or c f.pebble 0) v is.pairs.one_way (answering c held f)
+        answer
         (put-own c f.pebble held f.below ∙ own-class c ok) in
         ap (λ d. struck_among b d (gap_number d) none P) (at-member g v i j) ∙ f.is ∙ ap class_number same
         ∙ (with-is bound (P - 1) g i).number_is

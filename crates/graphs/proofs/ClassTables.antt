@@ -9,10 +9,9 @@ use Rattle.classes.specs.ClassGaps.{AnswersGap}
 use Rattle.classes.specs.Numbers.{ways, class_number}
 use Rattle.classes.specs.Rows.{AreGapRows}
 use Rattle.classes.specs.Walks.{GapMembers, TakesMember}
-use Rattle.classes.proofs.Numbers.{with-is}
+use Rattle.classes.proofs.Cited.{with-is}
 use Rattle.graphs.specs.declared.graph.Numbering.TheVariants.{Classes}
 use Rattle.graphs.specs.ClassGraph.{classes, gap_class}
-use Rattle.graphs.specs.Graph.{PlainGraph}
 use Rattle.graphs.specs.Inside.Filling.{IsAnswerIn, AreAnswerBits}
 use Rattle.graphs.specs.Numbered.{numbered, graph_of, graph_by}
 use Rattle.graphs.proofs.ClassGraphs.{gap-is, struck-there, there-struck}
@@ -50,7 +49,8 @@ module _ (s b : PlainBoard) (same : s ≡ b) where
   unfolding graph_by
   gap-inside g i = subst (λ (p : PlainBoard). g < ways (p.pebbles - 1) (places p)) (sym same) i
 
-  pub configurations-shown : (n : ℕ) → n ≡ ways s.pebbles (places s) → n ≡ (graph_of (numbered b Classes)).configurations
+  pub configurations-shown : (n : ℕ) → n ≡ ways s.pebbles (places s)
+      → n ≡ (graph_of (numbered b Classes)).configurations
   unfolding graph_by
   configurations-shown n e = subst (λ (p : PlainBoard). n ≡ ways p.pebbles (places p)) same e
 
@@ -62,16 +62,19 @@ module _ (s b : PlainBoard) (same : s ≡ b) where
   unfolding graph_by
   places-shown n e = subst (λ (p : PlainBoard). n ≡ places p) same e
 
-  pub member-shown : (g v n : ℕ) → n ≡ class_number (put v (gap_class s g)) → n ≡ (graph_of (numbered b Classes)).member g v
+  pub member-shown : (g v n : ℕ) → n ≡ class_number (put v (gap_class s g))
+      → n ≡ (graph_of (numbered b Classes)).member g v
   unfolding graph_by
   member-shown g v n e = subst (λ (p : PlainBoard). n ≡ class_number (put v (gap_class p g))) same e
 
   pub bits-shown : IsBoard s → (g : ℕ) (rows : List (List ℕ)) (row : List ℕ) → g < (graph_of (numbered b Classes)).gaps
-      → AreGapRows s (s.pebbles - 1) rows → row ≡ get_or rows g row → AreAnswerBits (graph_of (numbered b Classes)) g row
+      → AreGapRows s (s.pebbles - 1) rows → row ≡ get_or rows g row
+      → AreAnswerBits (graph_of (numbered b Classes)) g row
   unfolding graph_by
   bits-shown is g rows row i are row_is =
       subst (λ (p : PlainBoard). AreAnswerBits (classes p) g row) same
-      (bits-of-row s is g (subst (λ (p : PlainBoard). g < ways (p.pebbles - 1) (places p)) (sym same) i) rows row are row_is)
+      (bits-of-row s is g (subst (λ (p : PlainBoard). g < ways (p.pebbles - 1) (places p)) (sym same) i) rows row are
+      row_is)
 
 -- ---- a walk over the members of a gap
 
@@ -83,7 +86,8 @@ pub record IsWalked (b : PlainBoard) (g : ℕ) (before after : GapMembers) (n : 
   pub inside : before.place < places b
   pub member : n ≡ (graph_of (numbered b Classes)).member g before.place
 
-pub walked : (b : PlainBoard) (g : ℕ) (before after : GapMembers) (n : ℕ) → before.board ≡ b → before.gap ≡ gap_class b g
+pub walked : (b : PlainBoard) (g : ℕ) (before after : GapMembers) (n : ℕ) → before.board ≡ b
+    → before.gap ≡ gap_class b g
     → TakesMember before after n → IsWalked b g before after n
 unfolding graph_by
 walked b g before after n board gap takes = record {

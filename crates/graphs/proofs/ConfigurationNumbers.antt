@@ -10,9 +10,8 @@ use Rattle.positions.specs.declared.value.Value.{Value}
 use Rattle.positions.proofs.Cited.{rank_below, rank_of-configuration_at, configuration_at-rank_of, configuration_at_is}
 use Rattle.positions.proofs.Cited.{gap_below, member_of-gap_of, own_member}
 use Rattle.classes.specs.Classes.{class_of}
-use Rattle.classes.specs.Numbers.{ways, class_number}
-use Rattle.classes.proofs.Numbers.{is-below, with-is}
-use Rattle.classes.proofs.Values.{value-of-class}
+use Rattle.classes.specs.Numbers.{class_number}
+use Rattle.classes.proofs.Cited.{is-below, with-is, value-of-class}
 use Rattle.graphs.specs.declared.graph.Numbering.{Numbering}
 use Rattle.graphs.specs.declared.graph.Numbering.TheVariants.{Ordered, Classes}
 use Rattle.graphs.specs.ClassGraph.{class_at, gap_number}
@@ -100,13 +99,15 @@ unfolding graph_by gap_by number_by
 gap-own-by Ordered b is c p ok low = ap (rank_of b) (own_member b c p ok low)
 gap-own-by Classes b is c p ok low = ap class_number (kinds.member-own b is c p ok low)
 
-gap-moved-by : (k : Numbering) (b : PlainBoard) → IsBoard b → (c : List ℕ) (p v : ℕ) → IsConfiguration b c → p < b.pebbles
+gap-moved-by : (k : Numbering) (b : PlainBoard) → IsBoard b → (c : List ℕ) (p v : ℕ) → IsConfiguration b c
+    → p < b.pebbles
     → (graph_by k b).member (gap_by k b c p) v ≡ number_by k b (moved c p v)
 unfolding graph_by gap_by number_by
 gap-moved-by Ordered b is c p v ok low = ap (rank_of b) (member_of-gap_of b c p v ok low)
 gap-moved-by Classes b is c p v ok low = ap class_number (kinds.member-moved b is c p v ok low)
 
-gap-legal-by : (k : Numbering) (b : PlainBoard) → IsBoard b → (c : List ℕ) (p v : ℕ) → IsConfiguration b c → p < b.pebbles
+gap-legal-by : (k : Numbering) (b : PlainBoard) → IsBoard b → (c : List ℕ) (p v : ℕ) → IsConfiguration b c
+    → p < b.pebbles
     → Legal b c p v ↔ IsAnswerIn (graph_by k b) (gap_by k b c p) v
 unfolding graph_by gap_by
 gap-legal-by Ordered b is c p v ok low = (ranks.asked-in-gap b is c p ok low).legal v

@@ -1,5 +1,5 @@
 -- The gap of the pebble that dominates, found among the first pebbles.
-use Rattle.std.proofs.Common.{◌≡◌, ℕ, ◌<◌, ◌≤◌, ◌+◌, ◌↔◌, ◌==◌, ◌&&◌, ◌||◌, not, nat_lt, Bool, inl, inr}
+use Rattle.std.proofs.Common.{◌≡◌, ℕ, ◌<◌, ◌≤◌, ◌↔◌, ◌==◌, ◌&&◌, ◌||◌, not, nat_lt, Bool, inl, inr}
 use Rattle.std.proofs.Common.{true, false, cond, zero, suc, refl, sym, ap, ◌∙◌, subst, arith, List, length, get_or}
 use Rattle.std.proofs.lemmas.Bool.{cases_lt, lt-ltb, ltb-true, le-ltb}
 use Rattle.std.proofs.lemmas.Bool.Decides.{nat_tests}
@@ -11,8 +11,7 @@ use Rattle.board_text.specs.PlainBoard.{PlainBoard, Beats, BeatsPlace}
 use Rattle.positions.specs.Game.{Legal}
 use Rattle.positions.specs.Gaps.{IsDominator}
 use Rattle.positions.proofs.Cited.{beats_or_not}
-use Rattle.classes.proofs.Places.{all-class_of, of-all-class_of}
-use Rattle.classes.proofs.Values.{dominator-answers}
+use Rattle.classes.proofs.Cited.{all-class_of, of-all-class_of, dominator-answers}
 use Rattle.graphs.specs.Struck.{beats, beats_place, is_dominator, struck_among}
 use Rattle.graphs.proofs.LastingRanks.{both_true, and_true, true_or_false, true_not_false, same_is}
 
@@ -89,7 +88,8 @@ is_dominator_is b c p size low =
 pub dominator-legal : (b : PlainBoard) (c : List ℕ) (p : ℕ) → IsDominator b c p → Legal b c p (get_or c p 0)
 dominator-legal b c p is = record { is_label = is.has_label; dominates = is.dominates }
 
-pub legal-dominator : (b : PlainBoard) (c : List ℕ) (p : ℕ) → p < b.pebbles → Legal b c p (get_or c p 0) → IsDominator b c p
+pub legal-dominator : (b : PlainBoard) (c : List ℕ) (p : ℕ) → p < b.pebbles → Legal b c p (get_or c p 0)
+    → IsDominator b c p
 legal-dominator b c p low legal = record { is_pebble = low; has_label = legal.is_label; dominates = legal.dominates }
 
 -- ---- the gap that is struck

@@ -1,5 +1,7 @@
 -- The tables of a graph are filled.
-use Rattle.std.proofs.Common.{◌≡◌, ℕ, ◌+◌, ◌*◌, ◌<◌, ◌≤◌, inl, inr, refl, arith, sym, ap, ◌∙◌, subst, List, [], ◌∷◌, ◌++◌, length, slice_index, slice_set, get_or, get_or-set_other, get_or-set_same, mul-le-mul_left}
+use Rattle.std.proofs.Common.{◌≡◌, ℕ, ◌+◌, ◌*◌, ◌<◌, ◌≤◌, inl, inr, refl, arith, sym, ap, ◌∙◌, subst, List, [], ◌∷◌}
+use Rattle.std.proofs.Common.{◌++◌, length, slice_index, slice_set, get_or, get_or-set_other, get_or-set_same}
+use Rattle.std.proofs.Common.{mul-le-mul_left}
 use Rattle.std.proofs.Math.ListN.{length-set}
 use Rattle.std.proofs.lemmas.Bool.{cases_lt}
 use Rattle.std.proofs.lemmas.List.{length_push, get_or_append_left, get_or_push}
@@ -12,7 +14,8 @@ use Rattle.graphs.proofs.LastingRanks.{same_or_not}
 pub pushed-none : (a : PlainGraph) (gap : ℕ) (members : List ℕ) → IsRowPushed a gap 0 members members
 pushed-none a gap members = record { size = omega arith; kept = λ k low. refl; each = λ v low. absurd (omega arith) }
 
-pub pushed-more : (a : PlainGraph) (gap place : ℕ) (old now : List ℕ) → IsRowPushed a gap place old now → IsRowPushed a gap (place + 1) old (now ++ a.member gap place ∷ [])
+pub pushed-more : (a : PlainGraph) (gap place : ℕ) (old now : List ℕ) → IsRowPushed a gap place old now
+    → IsRowPushed a gap (place + 1) old (now ++ a.member gap place ∷ [])
 pushed-more a gap place old now p =
     let size = p.size in record {
       size = length_push now (a.member gap place) ∙ (omega arith);
@@ -26,12 +29,14 @@ pushed-more a gap place old now p =
       ];
     }
 
-pub rows-more : (a : PlainGraph) (gap : ℕ) (old now : List ℕ) → AreMemberRows a gap old → IsRowPushed a gap a.places old now → AreMemberRows a (gap + 1) now
+pub rows-more : (a : PlainGraph) (gap : ℕ) (old now : List ℕ) → AreMemberRows a gap old
+    → IsRowPushed a gap a.places old now → AreMemberRows a (gap + 1) now
 rows-more a gap old now rows p = record {
   size = (let one = rows.size in let two = p.size in omega arith);
   each = λ g v low inside. elim (cases_lt g gap) [
     | inl before ↦
-        let most : a.places * (g + 1) ≤ a.places * gap = mul-le-mul_left a.places (let h : g + 1 ≤ gap = omega arith in h) in
+        let most : a.places * (g + 1) ≤ a.places * gap =
+        mul-le-mul_left a.places (let h : g + 1 ≤ gap = omega arith in h) in
         p.kept (g * a.places + v) (let size = rows.size in omega arith) ∙ rows.each g v before inside
     | inr last ↦
         let here : gap ≡ g = omega arith in
@@ -58,7 +63,8 @@ noted-to a gap low high old now n none = record {
 }
 
 -- the gap is noted at an answer
-pub noted-more : (a : PlainGraph) (gap label rank : ℕ) (old now : List ℕ) → rank ≡ a.member gap label → IsAnswerIn a gap label
+pub noted-more : (a : PlainGraph) (gap label rank : ℕ) (old now : List ℕ) → rank ≡ a.member gap label
+    → IsAnswerIn a gap label
     → rank < length now → IsGapNoted a gap label old now → IsGapNoted a gap (label + 1) old (slice_set now rank gap)
 noted-more a gap label rank old now is answer low n = record {
   same_length = length-set now rank gap ∙ n.same_length;
@@ -88,7 +94,8 @@ struck-none a struck size all = record {
   sound = λ x i. inl (all x i);
 }
 
-pub struck-more : (a : PlainGraph) → (gap : ℕ) (old now : List ℕ) → IsGapNoted a gap a.places old now → AreStruck a gap old
+pub struck-more : (a : PlainGraph) → (gap : ℕ) (old now : List ℕ) → IsGapNoted a gap a.places old now
+    → AreStruck a gap old
     → AreStruck a (gap + 1) now
 struck-more a gap old now n s = record {
   size = n.same_length ∙ s.size;
@@ -99,7 +106,8 @@ struck-more a gap old now n s = record {
     ]
     | inr last ↦
         let here : g ≡ gap = omega arith in
-        ap (λ h. slice_index now (a.member h v)) here ∙ n.noted v is.0 (subst (λ h. IsAnswerIn a h v) here is) ∙ sym here
+        ap (λ h. slice_index now (a.member h v)) here ∙ n.noted v is.0 (subst (λ h. IsAnswerIn a h v) here is)
+        ∙ sym here
   ];
   sound = λ x i. elim (n.others x) [
     | inr there ↦ inr (there.0 ∙ sym there.1)

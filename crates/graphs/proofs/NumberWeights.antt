@@ -10,7 +10,7 @@ use Rattle.positions.specs.Value.{HasValue}
 use Rattle.positions.specs.declared.value.Value.{Value}
 use Rattle.classes.specs.Sums.{sum_below}
 use Rattle.classes.specs.Weights.{AreWeights}
-use Rattle.classes.proofs.OrderCounts.{weighed-sum}
+use Rattle.classes.proofs.Cited.{weighed-sum}
 use Rattle.graphs.specs.declared.graph.Numbering.TheVariants.{Ordered, Classes}
 use Rattle.graphs.specs.Numbered.{Numbered, numbered, graph_of, graph_by, configuration_of}
 use Rattle.graphs.specs.NumberedRanks.{number_at, number_by, AreNumberWeights}
@@ -53,7 +53,8 @@ unfolding graph_by
 rank-configurations n e = ap (λ k. (graph_by k n.board).configurations) e
 
 -- the same of a numbered board
-pub ranks-weighed : (n : Numbered) (weights : List ℕ) (bound : ℕ) → n.numbering ≡ Ordered → bound ≡ (graph_of n).configurations
+pub ranks-weighed : (n : Numbered) (weights : List ℕ) (bound : ℕ) → n.numbering ≡ Ordered
+    → bound ≡ (graph_of n).configurations
     → weights ≡ replicate bound 1 → AreNumberWeights n weights
 ranks-weighed n weights bound numbering bound_is all =
     let same : n ≡ numbered n.board Ordered = λ i. record { board = n.board; numbering = numbering i } in
@@ -66,7 +67,8 @@ pub class-weights : (b : PlainBoard) (weights : List ℕ) → AreWeights (places
 unfolding graph_by number_by
 class-weights b weights are = record { size = are.size; each = are.each }
 
-pub classes-weighed : (n : Numbered) (weights : List ℕ) (classes : PlainBoard) → n.numbering ≡ Classes → classes ≡ n.board
+pub classes-weighed : (n : Numbered) (weights : List ℕ) (classes : PlainBoard) → n.numbering ≡ Classes
+    → classes ≡ n.board
     → AreWeights (places classes) classes.pebbles weights → AreNumberWeights n weights
 classes-weighed n weights classes numbering own are =
     let same : n ≡ numbered n.board Classes = λ i. record { board = n.board; numbering = numbering i } in
@@ -75,7 +77,8 @@ classes-weighed n weights classes numbering own are =
 
 -- ---- sums of weights
 
-pub counted-numbers : (n : Numbered) → IsBoard n.board → (weights : List ℕ) (test : ℕ → Bool) → AreNumberWeights n weights
+pub counted-numbers : (n : Numbered) → IsBoard n.board → (weights : List ℕ) (test : ℕ → Bool)
+    → AreNumberWeights n weights
     → HasSize (λ rank. (rank < configurations n.board) × (test (number_at n rank) ≡ true))
     (sum_below (graph_of n).configurations (λ x. cond (test x) (get_or weights x 0) 0))
 counted-numbers n is weights test are =
@@ -93,7 +96,8 @@ counted-values n is weights test value are says =
     (sum_below (graph_of n).configurations (λ x. cond (test x) (get_or weights x 0) 0)) (λ rank. (
       λ passes.
           let told = says (number_at n rank) (number_at-below n is rank passes.0) in
-          let same = number-value n is (configuration_at n.board rank) (configuration_at_is n.board rank passes.0) value in
+          let same = number-value n is (configuration_at n.board rank) (configuration_at_is n.board rank passes.0)
+          value in
           (passes.0, same.1 (told.0 passes.1)),
       λ has.
           let told = says (number_at n rank) (number_at-below n is rank has.0) in

@@ -126,7 +126,8 @@ module _ (b : PlainBoard) (is : IsBoard b) (g v : ℕ) (i : g < gaps b) (j : v <
       let test = (is_dominator_is b c q ok.each_pebble low).1 (legal-dominator b c q low legal) in
       let f = dominator-found b c (gap_of b c) (gaps b) b.pebbles q low test in
       let other = dominating b x f.pebble x-below f.below (dominator-at b x x-below f) in
-      f.is ∙ one_gap b (gap_of b c f.pebble) g (get_or c f.pebble 0) v is.pairs.one_way (gap_below b c f.pebble ok f.below) i
+      f.is ∙ one_gap b (gap_of b c f.pebble) g (get_or c f.pebble 0) v is.pairs.one_way
+      (gap_below b c f.pebble ok f.below) i
       other answer (own_member b c f.pebble ok f.below ∙ c-is)
 
   -- a place with which a member is struck in the gap is an answer
@@ -134,7 +135,8 @@ module _ (b : PlainBoard) (is : IsBoard b) (g v : ℕ) (i : g < gaps b) (j : v <
   there-struck e =
       let f = struck-found b c (gap_of b c) (gaps b) b.pebbles (omega (arith, e, i)) in
       let gap_is : gap_of b c f.pebble ≡ g = sym f.is ∙ e in
-      let pebble_is : f.pebble ≡ pebble_of b g = sym (pebble_of-gap_of b c f.pebble ok f.below) ∙ ap (pebble_of b) gap_is in
+      let pebble_is : f.pebble ≡ pebble_of b g = sym (pebble_of-gap_of b c f.pebble ok f.below)
+      ∙ ap (pebble_of b) gap_is in
       let place_is : get_or c f.pebble 0 ≡ v = ap (λ p. get_or c p 0) pebble_is ∙ own-place in
       let answer = dominating b x f.pebble x-below f.below (dominator-at b x x-below f) in
       subst (IsAnswer b g) place_is (subst (λ h. IsAnswer b h (get_or c f.pebble 0)) gap_is answer)
@@ -180,7 +182,9 @@ ordered-shows b is = record {
       let low = pebble_below b g i in (
         pebble_of b g,
         low,
-        subst (λ (c : List ℕ). IsAsked b (ordered b) (configuration_at b) c (pebble_of b g) g) (sym (at_member b g v i j))
-            (asked b is (member_of b g v) (pebble_of b g) g (member_is b g v i j) low (sym (gap_of-member_of b g v i)) i),
+        subst (λ (c : List ℕ). IsAsked b (ordered b) (configuration_at b) c (pebble_of b g) g)
+            (sym (at_member b g v i j))
+            (asked b is (member_of b g v) (pebble_of b g) g (member_is b g v i j) low (sym (gap_of-member_of b g v i))
+            i),
       );
 }

@@ -1,5 +1,5 @@
 -- The graph of ordered configurations, as its numbers have it.
-use Rattle.std.proofs.Common.{◌≡◌, ◌<◌, ◌≤◌, ◌+◌, ◌*◌, ◌∙◌, ◌↔◌, ℕ, true, List, sym, subst, arith}
+use Rattle.std.proofs.Common.{◌≡◌, ◌<◌, ◌↔◌, ℕ, true, List, sym, subst, arith}
 use Rattle.board_text.specs.PlainBoard.{PlainBoard, IsBoard, places}
 use Rattle.board_text.specs.Domination.{has_bit}
 use Rattle.board_text.specs.declared.board.TheConstants.{MAX_LABELS}
@@ -8,7 +8,6 @@ use Rattle.positions.specs.Gaps.{gaps, member_of, IsAnswer}
 use Rattle.positions.specs.Ranks.{configurations, rank_of}
 use Rattle.positions.specs.Tuples.{tuple_of}
 use Rattle.graphs.specs.declared.graph.Numbering.TheVariants.{Ordered}
-use Rattle.graphs.specs.Graph.{PlainGraph}
 use Rattle.graphs.specs.Inside.Filling.{IsAnswerIn, AreAnswerBits}
 use Rattle.graphs.specs.Numbered.{numbered, graph_of, graph_by}
 use Rattle.graphs.specs.Ordered.{ordered}
@@ -67,7 +66,8 @@ module _ (s b : PlainBoard) (same : s ≡ b) where
 
 -- the answers of a tuple are those of its gap
 pub bits-of-tuple : (s b : PlainBoard) → s ≡ b → (g tuple : ℕ) (row : List ℕ) → g < gaps b → tuple ≡ tuple_of b g
-    → ((gap : ℕ) → gap < gaps s → tuple_of s gap ≡ tuple → (v : ℕ) → v < MAX_LABELS → (has_bit row v ≡ true) ↔ IsAnswer s gap v)
+    → ((gap : ℕ) → gap < gaps s → tuple_of s gap ≡ tuple → (v : ℕ) → v < MAX_LABELS → (has_bit row v ≡ true)
+    ↔ IsAnswer s gap v)
     → (v : ℕ) → v < MAX_LABELS → (has_bit row v ≡ true) ↔ IsAnswer b g v
 bits-of-tuple s b same g tuple row i tuple_is bits =
     subst

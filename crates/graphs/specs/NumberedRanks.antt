@@ -36,4 +36,5 @@ number_at n rank = number_in n (configuration_at n.board rank)
 pub record AreNumberWeights (n : Numbered) (weights : List ℕ) : Type 0 where
   pub size : length weights ≡ (graph_of n).configurations
   pub each : (x : ℕ) → x < (graph_of n).configurations
-      → HasSize (λ rank. (rank < configurations n.board) × (number_at n rank ≡ x)) (slice_index weights x)
+      → HasSize (λ rank. (rank < configurations n.board) × (number_at n rank ≡ x))
+      (slice_index weights x)

@@ -1,5 +1,7 @@
--- The gap in which a configuration is an answer: that of the pebble whose label dominates all others.
-use Rattle.std.specs.Prelude.{ℕ, zero, suc, ◌==◌, ◌&&◌, ◌||◌, not, nat_lt, Bool, cond, List, slice_index}
+-- The gap in which a configuration is an answer: that of the pebble whose label dominates all
+-- others.
+use Rattle.std.specs.Prelude.{ℕ, zero, suc, ◌==◌, ◌&&◌, ◌||◌, not, nat_lt, Bool, cond, List}
+use Rattle.std.specs.Prelude.{slice_index}
 use Rattle.std.specs.List.{list_any, list_all, remove}
 use Rattle.board_text.specs.PlainBoard.{PlainBoard}
 

@@ -1,11 +1,13 @@
 //! A game as two tables of numbers.
 
-ghost use Rattle.std.specs.Prelude.{◌≡◌, ℕ, ◌<◌, ◌≤◌, length, slice_index, MatchOption, IsTrue, ◌↔◌, IfOk};
+ghost use Rattle.std.specs.Prelude.{◌≡◌, ℕ, ◌<◌, ◌≤◌, length, slice_index, MatchOption, IsTrue};
+ghost use Rattle.std.specs.Prelude.{◌↔◌, IfOk};
 ghost use Rattle.board_text.specs.PlainBoard.{IsBoard};
 ghost use Rattle.positions.specs.Ranks.{configurations};
 ghost use Rattle.graphs.specs.Graph.{IsGraph};
 ghost use Rattle.graphs.specs.Numbered.{numbered, graph_of};
-ghost use Rattle.graphs.specs.declared.graph.Numbering.TheVariants.{Ordered, Classes as ClassesData};
+ghost use Rattle.graphs.specs.declared.graph.Numbering.TheVariants.{Ordered};
+ghost use Rattle.graphs.specs.declared.graph.Numbering.TheVariants.{Classes as ClassesData};
 
 use crate::class_numbers::ClassNumbers;
 use crate::numbers::Tables;
@@ -51,7 +53,8 @@ impl Model for Graph {
     ghost view = { λ s. numbered s.board.value (numbering_with s.classes) };
 
     ghost invariant = { λ s. IfSome s.classes (λ classes. classes ≡ s.board.value)
-        × AreTables (numbered s.board.value (numbering_with s.classes)) s.tables.configurations s.tables.gaps
+        × AreTables (numbered s.board.value (numbering_with s.classes)) s.tables.configurations
+        s.tables.gaps
         s.tables.places s.tables.members.items s.tables.struck.items };
 }
 
@@ -155,8 +158,10 @@ impl Graph {
     /// The gap in which `configuration` is an answer, if there is one.
     pub fn struck(&self, configuration: u32) -> Option<u32>
         requires { configuration < (graph_of self.now).configurations }
-        ensures { MatchOption result ((graph_of self.now).gaps ≤ (graph_of self.now).struck configuration)
-            (λ gap. (gap ≡ (graph_of self.now).struck configuration) × (gap < (graph_of self.now).gaps)) }
+        ensures { MatchOption result
+            ((graph_of self.now).gaps ≤ (graph_of self.now).struck configuration)
+            (λ gap. (gap ≡ (graph_of self.now).struck configuration)
+            × (gap < (graph_of self.now).gaps)) }
     {
         let gap = self.tables.struck[configuration as usize];
         if gap < self.tables.gaps {

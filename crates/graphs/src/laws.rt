@@ -29,19 +29,23 @@ pub fn graphs_have_the_values_of_boards()
 /// The graph of a board, by either numbering, is a graph and shows the board.
 pub fn numbered_graphs_show_their_boards()
     ensures graph { (n : Numbered) → IsBoard n.board → IsGraph (graph_of n) }
-    ensures shows { (n : Numbered) → IsBoard n.board → Shows n.board (graph_of n) (configuration_of n) }
+    ensures shows { (n : Numbered) → IsBoard n.board
+        → Shows n.board (graph_of n) (configuration_of n) }
 {}
 
 /// Each configuration has a number of the graph, and the configuration that this number stands for
 /// has its value. A number stands for a configuration that has the number.
 pub fn configurations_have_numbers()
     ensures below { (n : Numbered) → (configuration : List ℕ) → IsBoard n.board
-        → IsConfiguration n.board configuration → number_in n configuration < (graph_of n).configurations }
-    ensures value { (n : Numbered) → (configuration : List ℕ) → (value : ValueData) → IsBoard n.board
+        → IsConfiguration n.board configuration
+        → number_in n configuration < (graph_of n).configurations }
+    ensures value { (n : Numbered) → (configuration : List ℕ) → (value : ValueData)
+        → IsBoard n.board
         → IsConfiguration n.board configuration
         → HasValue n.board configuration value
         ↔ HasValue n.board (configuration_of n (number_in n configuration)) value }
-    ensures configuration { (n : Numbered) → (x : ℕ) → IsBoard n.board → x < (graph_of n).configurations
+    ensures configuration { (n : Numbered) → (x : ℕ) → IsBoard n.board
+        → x < (graph_of n).configurations
         → IsConfiguration n.board (configuration_of n x) }
     ensures number { (n : Numbered) → (x : ℕ) → IsBoard n.board → x < (graph_of n).configurations
         → number_in n (configuration_of n x) ≡ x }

@@ -47,7 +47,7 @@ impl Graph {
         }
     }
 
-    /// The numbers of the gaps of all pebbles at the configuration of `rank`, pebble by pebble, which
+    /// The numbers of the gaps of all pebbles at the configuration of `rank`, pebble by pebble. This
     /// is quicker than a call for each. The entries after those of the pebbles say nothing.
     ///
     /// The space is that of the graph's board.
@@ -55,7 +55,8 @@ impl Graph {
         requires space { space.now ≡ self.now.board }
         requires rank { rank < configurations self.now.board }
         ensures gaps { (pebble : ℕ) → pebble < self.now.board.pebbles
-            → slice_index result pebble ≡ gap_in self.now (configuration_at self.now.board rank) pebble }
+            → slice_index result pebble
+            ≡ gap_in self.now (configuration_at self.now.board rank) pebble }
         ensures below { (pebble : ℕ) → pebble < self.now.board.pebbles
             → slice_index result pebble < (graph_of self.now).gaps }
     {

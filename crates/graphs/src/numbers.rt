@@ -35,7 +35,8 @@ pub(crate) trait Numbers {
         requires gap { gap < (graph_of (game self.now)).gaps }
         requires room { length members.old.items + (graph_of (game self.now)).places
             ≤ vec_capacity members.old }
-        ensures pushed { IsRowPushed (graph_of (game self.now)) gap (graph_of (game self.now)).places
+        ensures pushed { IsRowPushed (graph_of (game self.now)) gap
+            (graph_of (game self.now)).places
             members.old.items members.new.items }
         ensures capacity { vec_capacity members.new ≡ vec_capacity members.old };
 
@@ -60,7 +61,8 @@ pub(crate) struct Tables {
 impl Tables {
     /// The tables of the graph of `numbers`.
     pub(crate) fn of<N: Numbers>(alloc: Global, numbers: &N) -> Result<Tables, Memory>
-        ensures { IfOk result (λ tables. AreTables (N.game numbers.now) tables.configurations tables.gaps
+        ensures { IfOk result
+            (λ tables. AreTables (N.game numbers.now) tables.configurations tables.gaps
             tables.places tables.members.items tables.struck.items) }
     {
         let configurations = numbers.configurations();
@@ -93,7 +95,8 @@ fn all_members<N: Numbers>(alloc: Global, numbers: &N) -> Result<Vec<u32>, Memor
 
 /// The gap in which each configuration is an answer, or the number of gaps.
 fn all_struck<N: Numbers>(alloc: Global, numbers: &N, members: &[u32]) -> Result<Vec<u32>, Memory>
-    requires { AreMemberRows (graph_of (N.game numbers.now)) (graph_of (N.game numbers.now)).gaps members.now }
+    requires { AreMemberRows (graph_of (N.game numbers.now)) (graph_of (N.game numbers.now)).gaps
+        members.now }
     ensures { IfOk result (λ struck. AreStruck (graph_of (N.game numbers.now))
         (graph_of (N.game numbers.now)).gaps struck.items) }
 {
@@ -109,7 +112,8 @@ fn all_struck<N: Numbers>(alloc: Global, numbers: &N, members: &[u32]) -> Result
 fn note_answers<N: Numbers>(struck: &mut [u32], numbers: &N, members: &[u32], gap: u32)
     requires gap { gap < (graph_of (N.game numbers.now)).gaps }
     requires size { length struck.old ≡ (graph_of (N.game numbers.now)).configurations }
-    requires rows { AreMemberRows (graph_of (N.game numbers.now)) (graph_of (N.game numbers.now)).gaps
+    requires rows { AreMemberRows (graph_of (N.game numbers.now))
+        (graph_of (N.game numbers.now)).gaps
         members.now }
     ensures { IsGapNoted (graph_of (N.game numbers.now)) gap (graph_of (N.game numbers.now)).places
         struck.old struck.new }

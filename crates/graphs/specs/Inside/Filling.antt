@@ -16,7 +16,8 @@ pub record AreAnswerBits (a : PlainGraph) (gap : ℕ) (row : List ℕ) : Type 0 
 -- the members of the first gaps, gap by gap
 pub record AreMemberRows (a : PlainGraph) (gap : ℕ) (members : List ℕ) : Type 0 where
   pub size : length members ≡ gap * a.places
-  pub each : (g v : ℕ) → g < gap → v < a.places → slice_index members (g * a.places + v) ≡ a.member g v
+  pub each : (g v : ℕ) → g < gap → v < a.places
+      → slice_index members (g * a.places + v) ≡ a.member g v
 
 -- the first members of the gap are appended
 pub record IsRowPushed (a : PlainGraph) (gap place : ℕ) (old new : List ℕ) : Type 0 where
@@ -31,7 +32,8 @@ pub record IsGapNoted (a : PlainGraph) (gap place : ℕ) (old new : List ℕ) : 
   pub others : (x : ℕ)
       → (slice_index new x ≡ slice_index old x) ⊎ ((slice_index new x ≡ gap) × (a.struck x ≡ gap))
 
--- each configuration has the gap in which it is struck, if that is one of the first, or the number of gaps
+-- each configuration has the gap in which it is struck, if that is one of the first, or the number
+-- of gaps
 pub record AreStruck (a : PlainGraph) (gap : ℕ) (struck : List ℕ) : Type 0 where
   pub size : length struck ≡ a.configurations
   pub settled : (g v : ℕ) → g < gap → IsAnswerIn a g v → slice_index struck (a.member g v) ≡ g

@@ -1,5 +1,6 @@
 -- The meaning of a graph's tables.
-use Rattle.std.specs.Prelude.{◌≡◌, ℕ, ◌+◌, ◌*◌, ◌<◌, ◌≤◌, Option, Some, None, List, length, slice_index}
+use Rattle.std.specs.Prelude.{◌≡◌, ℕ, ◌+◌, ◌*◌, ◌<◌, ◌≤◌, Option, Some, None, List, length}
+use Rattle.std.specs.Prelude.{slice_index}
 use Rattle.board_text.specs.PlainBoard.{PlainBoard, IsBoard}
 use Rattle.positions.specs.declared.space.TheConstants.{MAX_CONFIGURATIONS}
 use Rattle.graphs.specs.declared.graph.Numbering.{Numbering}
@@ -11,9 +12,11 @@ abbrev pub numbering_with : Option PlainBoard → Numbering
 numbering_with None = Ordered
 numbering_with (Some classes) = Classes
 
--- these are the sizes of the graph, its members gap by gap, and the gap in which each configuration is
+-- these are the sizes of the graph, its members gap by gap, and the gap in which each configuration
+-- is
 -- an answer
-pub record AreTables (n : Numbered) (configurations gaps places : ℕ) (members struck : List ℕ) : Type 0 where
+pub record AreTables (n : Numbered) (configurations gaps places : ℕ)
+    (members struck : List ℕ) : Type 0 where
   pub is_board : IsBoard n.board
   pub few : configurations ≤ MAX_CONFIGURATIONS
   pub configurations_is : configurations ≡ (graph_of n).configurations

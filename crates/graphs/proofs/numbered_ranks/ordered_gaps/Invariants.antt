@@ -6,5 +6,6 @@ use Rattle.graphs.proofs.numbered_ranks.ordered_gaps.Given as goal
 abbrev pub invariant-loop-pebble : goal.invariant-loop-pebble
 invariant-loop-pebble l = record {
   size : length l.gaps ≡ 6;
-  each : (pebble : ℕ) → pebble < l.pebble → slice_index l.gaps pebble ≡ gap_of l.space (configuration_at l.space l.rank) pebble;
+  each : (pebble : ℕ) → pebble < l.pebble
+      → slice_index l.gaps pebble ≡ gap_of l.space (configuration_at l.space l.rank) pebble;
 }

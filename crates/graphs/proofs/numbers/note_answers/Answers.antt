@@ -1,8 +1,6 @@
-use Rattle.std.proofs.Common.{◌≡◌, ◌+◌, ◌*◌, ◌<◌, ◌≤◌, ◌∙◌, ℕ, List, length, get_or, ap, sym, subst, arith, slice_set}
-use Rattle.board_text.specs.declared.board.TheConstants.{MAX_LABELS}
-use Rattle.positions.specs.LabelWalk.{Walk}
-use Rattle.positions.proofs.Cited.{next_of, after_step, none_left}
-use Rattle.graphs.specs.Graph.{PlainGraph, IsGraph}
+use Rattle.std.proofs.Common.{◌≡◌, ◌+◌, ◌*◌, ◌<◌, ◌≤◌, ◌∙◌, ℕ, length, get_or, ap, sym, subst, arith, slice_set}
+use Rattle.positions.proofs.Cited.{next_of, after_step}
+use Rattle.graphs.specs.Graph.{PlainGraph}
 use Rattle.graphs.specs.Inside.Filling.{IsAnswerIn, IsGapNoted}
 use Rattle.graphs.specs.Numbered.{Numbered, graph_of}
 use Rattle.graphs.proofs.Filling.{noted-to, noted-more}
@@ -16,10 +14,12 @@ record IsNext (a : PlainGraph) (gap : ℕ) (from label : ℕ) : Type 0 where
   from_most : from ≤ label
   none : (v : ℕ) → from ≤ v → v < label → IsAnswerIn a gap v → ⊥
 
-next : (g : _) (c : In-Some g) → IsNext (graph_of (g.N.Numbers.game c.args.numbers.now)) c.args.gap c.loop-label.labels.from c.in-Some.label
+next : (g : _) (c : In-Some g)
+    → IsNext (graph_of (g.N.Numbers.game c.args.numbers.now)) c.args.gap c.loop-label.labels.from c.in-Some.label
 next g c =
     let a : PlainGraph = graph_of (g.N.Numbers.game c.args.numbers.now) in
-    let smallest = next_of (IsAnswerIn a c.args.gap) c.answers.ensures.few c.loop-label.labels c.loop-label.invariant.left
+    let smallest = next_of (IsAnswerIn a c.args.gap) c.answers.ensures.few c.loop-label.labels
+    c.loop-label.invariant.left
     c.take_next.new.self c.in-Some.label c.in-Some.ensures in record {
       answer = smallest.0.1;
       from_most = smallest.0.0;
@@ -51,9 +51,12 @@ loop-label-preserved g c =
     let small = c.answers.ensures.few label is.answer in
     let before = noted-to a c.args.gap c.loop-label.labels.from label c.args.struck.now c.loop-label.struck
     c.loop-label.invariant.noted is.none in
-    let inside = (numbered-is n c.configurations.ensures.is_board).member_in c.args.gap label c.requires.gap is.answer.0 in
-    let low : rank < length c.loop-label.struck = omega (arith, inside, member g at, before.same_length, c.requires.size) in
-    let more = noted-more a c.args.gap label rank c.args.struck.now c.loop-label.struck (member g at) is.answer low before in
+    let inside = (numbered-is n c.configurations.ensures.is_board).member_in c.args.gap label c.requires.gap
+    is.answer.0 in
+    let low : rank < length c.loop-label.struck =
+    omega (arith, inside, member g at, before.same_length, c.requires.size) in
+    let more = noted-more a c.args.gap label rank c.args.struck.now c.loop-label.struck (member g at) is.answer low
+    before in
     record {
       most = omega (arith, small, c.in-Some.ensures.from);
       left = after_step (IsAnswerIn a c.args.gap) c.answers.ensures.few c.loop-label.labels c.loop-label.invariant.left

@@ -1,11 +1,10 @@
-use Rattle.std.proofs.Common.{◌≡◌, ◌<◌, ◌∙◌, ℕ, List, slice_index, sym, ap, subst, arith}
+use Rattle.std.proofs.Common.{◌<◌, ◌∙◌, ℕ, List, sym, ap, subst}
 use Rattle.board_text.specs.PlainBoard.{PlainBoard, IsBoard}
 use Rattle.positions.specs.Gaps.{gap_of}
 use Rattle.positions.specs.Ranks.{configuration_at}
 use Rattle.positions.proofs.Cited.{configuration_at_is}
 use Rattle.graphs.specs.ClassGraph.{gap_number}
 use Rattle.graphs.specs.Numbered.{Numbered, graph_of}
-use Rattle.graphs.specs.NumberedRanks.{gap_in}
 use Rattle.graphs.proofs.ConfigurationNumbers.{rank-gap, class-gap, by-ranks, by-classes, classes-board, gap-in-below}
 use Rattle.graphs.proofs.graph.Graph.gap_number.Goals as goal
 
@@ -23,7 +22,8 @@ returns-in-None-clause-below c =
     let is : IsBoard n.board = subst (λ (m : Numbered). IsBoard m.board) c.self.view_is c.self.invariant.1.is_board in
     let configuration : List ℕ = configuration_at n.board c.args.rank in
     subst (λ x. x < (graph_of n).gaps) (sym (returns-in-None-clause-gap c))
-    (gap-in-below n is configuration c.args.pebble (configuration_at_is n.board c.args.rank c.requires.rank) c.requires.pebble)
+    (gap-in-below n is configuration c.args.pebble (configuration_at_is n.board c.args.rank c.requires.rank)
+    c.requires.pebble)
 
 pub returns-in-Some-clause-gap : goal.returns-in-Some-clause-gap
 returns-in-Some-clause-gap c =
@@ -43,4 +43,5 @@ returns-in-Some-clause-below c =
     let is : IsBoard n.board = subst (λ (m : Numbered). IsBoard m.board) c.self.view_is c.self.invariant.1.is_board in
     let configuration : List ℕ = configuration_at n.board c.args.rank in
     subst (λ x. x < (graph_of n).gaps) (sym (returns-in-Some-clause-gap c))
-    (gap-in-below n is configuration c.args.pebble (configuration_at_is n.board c.args.rank c.requires.rank) c.requires.pebble)
+    (gap-in-below n is configuration c.args.pebble (configuration_at_is n.board c.args.rank c.requires.rank)
+    c.requires.pebble)

@@ -1,11 +1,10 @@
-use Rattle.std.proofs.Common.{◌≡◌, ◌<◌, ◌∙◌, ℕ, List, slice_index, sym, ap, subst, arith}
+use Rattle.std.proofs.Common.{◌<◌, ◌∙◌, ℕ, List, sym, ap, subst}
 use Rattle.board_text.specs.PlainBoard.{PlainBoard, IsBoard}
 use Rattle.positions.specs.Gaps.{gap_of}
-use Rattle.positions.specs.Ranks.{configurations, configuration_at}
+use Rattle.positions.specs.Ranks.{configuration_at}
 use Rattle.positions.proofs.Cited.{configuration_at_is}
 use Rattle.graphs.specs.ClassGraph.{gap_number}
 use Rattle.graphs.specs.Numbered.{Numbered, graph_of}
-use Rattle.graphs.specs.NumberedRanks.{gap_in}
 use Rattle.graphs.proofs.ConfigurationNumbers.{rank-gap, class-gap, by-ranks, by-classes, classes-board, gap-in-below}
 use Rattle.graphs.proofs.graph.Graph.gap_numbers.Goals as goal
 

@@ -1,10 +1,9 @@
-use Rattle.std.proofs.Common.{◌≡◌, ◌<◌, ◌∙◌, sym, ap, subst, arith}
+use Rattle.std.proofs.Common.{◌<◌, ◌∙◌, sym, ap, subst}
 use Rattle.board_text.specs.PlainBoard.{PlainBoard, IsBoard}
 use Rattle.positions.specs.Ranks.{configuration_at}
 use Rattle.positions.proofs.Cited.{rank_of-configuration_at}
 use Rattle.classes.specs.Weights.{class_number_at}
 use Rattle.graphs.specs.Numbered.{Numbered, graph_of}
-use Rattle.graphs.specs.NumberedRanks.{number_at}
 use Rattle.graphs.proofs.ConfigurationNumbers.{rank-number, class-number, by-ranks, by-classes, classes-board}
 use Rattle.graphs.proofs.ConfigurationNumbers.{number_at-below}
 use Rattle.graphs.proofs.graph.Graph.number.Goals as goal
@@ -28,7 +27,8 @@ returns-in-Some-clause-number c =
     let n : Numbered = c.args.self.now in
     let classes : PlainBoard = c.in-Some.classes in
     let numbering = by-classes n c.self.inside.board.value c.self.inside.classes c.self.view_is classes c.in-Some.is in
-    let own = classes-board n c.self.inside.board.value c.self.inside.classes c.self.view_is classes c.in-Some.is c.self.invariant.0 in
+    let own = classes-board n c.self.inside.board.value c.self.inside.classes c.self.view_is classes c.in-Some.is
+    c.self.invariant.0 in
     c.number_at.ensures.number ∙ ap (λ (b : PlainBoard). class_number_at b c.args.rank) own
     ∙ sym (class-number n (configuration_at n.board c.args.rank) numbering)
 
