@@ -1,22 +1,25 @@
 -- The tables of a graph are filled.
-use Rattle.std.proofs.Common.{◌≡◌, ℕ, ◌+◌, ◌*◌, ◌<◌, ◌≤◌, inl, inr, refl, arith, sym, ap, ◌∙◌, List, [], ◌∷◌, ◌++◌, length, slice_index, slice_set, get_or, get_or-set_other, get_or-set_same, mul-le-mul_left}
+use Rattle.std.proofs.Common.{◌≡◌, ℕ, ◌+◌, ◌*◌, ◌<◌, ◌≤◌, inl, inr, refl, arith, sym, ap, ◌∙◌, subst, List, [], ◌∷◌}
+use Rattle.std.proofs.Common.{◌++◌, length, slice_index, slice_set, get_or, get_or-set_other, get_or-set_same}
+use Rattle.std.proofs.Common.{mul-le-mul_left}
 use Rattle.std.proofs.Math.ListN.{length-set}
 use Rattle.std.proofs.lemmas.Bool.{cases_lt}
 use Rattle.std.proofs.lemmas.List.{length_push, get_or_append_left, get_or_push}
 use Rattle.graphs.specs.Graph.{PlainGraph, IsGraph}
-use Rattle.graphs.specs.Inside.Filling.{AreRows, IsRowPushed, AreNoted, AreStruck}
+use Rattle.graphs.specs.Inside.Filling.{IsAnswerIn, AreMemberRows, IsRowPushed, IsGapNoted, AreStruck}
 use Rattle.graphs.proofs.LastingRanks.{same_or_not}
 
 -- ---- members
 
 pub pushed-none : (a : PlainGraph) (gap : ℕ) (members : List ℕ) → IsRowPushed a gap 0 members members
-pushed-none a gap members = record { size = omega arith; before = λ k low. refl; each = λ v low. absurd (omega arith) }
+pushed-none a gap members = record { size = omega arith; kept = λ k low. refl; each = λ v low. absurd (omega arith) }
 
-pub pushed-more : (a : PlainGraph) (gap place : ℕ) (old now : List ℕ) → IsRowPushed a gap place old now → IsRowPushed a gap (place + 1) old (now ++ a.member gap place ∷ [])
+pub pushed-more : (a : PlainGraph) (gap place : ℕ) (old now : List ℕ) → IsRowPushed a gap place old now
+    → IsRowPushed a gap (place + 1) old (now ++ a.member gap place ∷ [])
 pushed-more a gap place old now p =
     let size = p.size in record {
       size = length_push now (a.member gap place) ∙ (omega arith);
-      before = λ k low. get_or_append_left now (a.member gap place ∷ []) 0 k (omega arith) ∙ p.before k low;
+      kept = λ k low. get_or_append_left now (a.member gap place ∷ []) 0 k (omega arith) ∙ p.kept k low;
       each = λ v low. elim (cases_lt v place) [
         | inl less ↦ get_or_append_left now (a.member gap place ∷ []) 0 (length old + v) (omega arith) ∙ p.each v less
         | inr last ↦
@@ -26,13 +29,15 @@ pushed-more a gap place old now p =
       ];
     }
 
-pub rows-more : (a : PlainGraph) (gap : ℕ) (old now : List ℕ) → AreRows a gap old → IsRowPushed a gap a.places old now → AreRows a (gap + 1) now
+pub rows-more : (a : PlainGraph) (gap : ℕ) (old now : List ℕ) → AreMemberRows a gap old
+    → IsRowPushed a gap a.places old now → AreMemberRows a (gap + 1) now
 rows-more a gap old now rows p = record {
   size = (let one = rows.size in let two = p.size in omega arith);
   each = λ g v low inside. elim (cases_lt g gap) [
     | inl before ↦
-        let most : a.places * (g + 1) ≤ a.places * gap = mul-le-mul_left a.places (let h : g + 1 ≤ gap = omega arith in h) in
-        p.before (g * a.places + v) (let size = rows.size in omega arith) ∙ rows.each g v before inside
+        let most : a.places * (g + 1) ≤ a.places * gap =
+        mul-le-mul_left a.places (let h : g + 1 ≤ gap = omega arith in h) in
+        p.kept (g * a.places + v) (let size = rows.size in omega arith) ∙ rows.each g v before inside
     | inr last ↦
         let here : gap ≡ g = omega arith in
         let size : length old ≡ g * a.places = rows.size ∙ ap (λ h. h * a.places) here in
@@ -42,52 +47,67 @@ rows-more a gap old now rows p = record {
 
 -- ---- answers
 
-pub noted-none : (a : PlainGraph) (gap : ℕ) (struck : List ℕ) → AreNoted a gap 0 struck struck
+pub noted-none : (a : PlainGraph) (gap : ℕ) (struck : List ℕ) → IsGapNoted a gap 0 struck struck
 noted-none a gap struck = record { same_length = refl; noted = λ v low. absurd (omega arith); others = λ x. inl refl }
 
-pub noted-skip : (a : PlainGraph) (gap place : ℕ) (old now : List ℕ) → (a.struck (a.member gap place) ≡ gap → ⊥) → AreNoted a gap place old now → AreNoted a gap (place + 1) old now
-noted-skip a gap place old now not_here n = record {
+-- the places up to the next answer, and those after the last one, have nothing to note
+pub noted-to : (a : PlainGraph) (gap low high : ℕ) (old now : List ℕ) → IsGapNoted a gap low old now
+    → ((v : ℕ) → low ≤ v → v < high → IsAnswerIn a gap v → ⊥) → IsGapNoted a gap high old now
+noted-to a gap low high old now n none = record {
   same_length = n.same_length;
-  noted = λ v low is. elim (cases_lt v place) [
+  noted = λ v below is. elim (cases_lt v low) [
     | inl less ↦ n.noted v less is
-    | inr last ↦ absurd (not_here (ap (λ w. a.struck (a.member gap w)) (let same : place ≡ v = omega arith in same) ∙ is))
+    | inr most ↦ absurd (none v most below is)
   ];
   others = n.others;
 }
 
-pub noted-more : (a : PlainGraph) (gap place rank : ℕ) (old now : List ℕ) → rank ≡ a.member gap place → a.struck (a.member gap place) ≡ gap → rank < length now
-    → AreNoted a gap place old now → AreNoted a gap (place + 1) old (slice_set now rank gap)
-noted-more a gap place rank old now is answer low n = record {
+-- the gap is noted at an answer
+pub noted-more : (a : PlainGraph) (gap label rank : ℕ) (old now : List ℕ) → rank ≡ a.member gap label
+    → IsAnswerIn a gap label
+    → rank < length now → IsGapNoted a gap label old now → IsGapNoted a gap (label + 1) old (slice_set now rank gap)
+noted-more a gap label rank old now is answer low n = record {
   same_length = length-set now rank gap ∙ n.same_length;
   noted = λ v less here. elim (same_or_not (a.member gap v) rank) [
     | inl same ↦ ap (slice_index (slice_set now rank gap)) same ∙ get_or-set_same now rank gap 0 low
-    | inr other ↦ get_or-set_other now rank (a.member gap v) gap 0 other ∙ elim (cases_lt v place) [
+    | inr other ↦ get_or-set_other now rank (a.member gap v) gap 0 other ∙ elim (cases_lt v label) [
       | inl before ↦ n.noted v before here
-      | inr last ↦ absurd (other (ap (a.member gap) (let same : v ≡ place = omega arith in same) ∙ sym is))
+      | inr last ↦ absurd (other (ap (a.member gap) (let same : v ≡ label = omega arith in same) ∙ sym is))
     ]
   ];
   others = λ x. elim (same_or_not x rank) [
-    | inl here ↦ inr (ap (slice_index (slice_set now rank gap)) here ∙ get_or-set_same now rank gap 0 low, ap a.struck (here ∙ is) ∙ answer)
+    | inl here ↦ inr (
+      ap (slice_index (slice_set now rank gap)) here ∙ get_or-set_same now rank gap 0 low,
+      ap a.struck (here ∙ is) ∙ answer.1,
+    )
     | inr other ↦
         let same = get_or-set_other now rank x gap 0 other in
         elim (n.others x) [ inl kept ↦ inl (same ∙ kept) | inr there ↦ inr (same ∙ there.0, there.1) ]
   ];
 }
 
-pub struck-none : (a : PlainGraph) (struck : List ℕ) → length struck ≡ a.configurations → ((x : ℕ) → x < a.configurations → slice_index struck x ≡ a.gaps) → AreStruck a 0 struck
-struck-none a struck size all = record { size = size; settled = λ g v low. absurd (omega arith); sound = λ x i. inl (all x i) }
+pub struck-none : (a : PlainGraph) (struck : List ℕ) → length struck ≡ a.configurations
+    → ((x : ℕ) → x < a.configurations → slice_index struck x ≡ a.gaps) → AreStruck a 0 struck
+struck-none a struck size all = record {
+  size = size;
+  settled = λ g v low. absurd (omega arith);
+  sound = λ x i. inl (all x i);
+}
 
-pub struck-more : (a : PlainGraph) → (gap : ℕ) (old now : List ℕ) → AreNoted a gap a.places old now → AreStruck a gap old → AreStruck a (gap + 1) now
+pub struck-more : (a : PlainGraph) → (gap : ℕ) (old now : List ℕ) → IsGapNoted a gap a.places old now
+    → AreStruck a gap old
+    → AreStruck a (gap + 1) now
 struck-more a gap old now n s = record {
   size = n.same_length ∙ s.size;
-  settled = λ g v low inside is. elim (cases_lt g gap) [
+  settled = λ g v low is. elim (cases_lt g gap) [
     | inl before ↦ elim (n.others (a.member g v)) [
-      | inl kept ↦ kept ∙ s.settled g v before inside is
-      | inr there ↦ there.0 ∙ sym there.1 ∙ is
+      | inl kept ↦ kept ∙ s.settled g v before is
+      | inr there ↦ there.0 ∙ sym there.1 ∙ is.1
     ]
     | inr last ↦
         let here : g ≡ gap = omega arith in
-        ap (λ h. slice_index now (a.member h v)) here ∙ n.noted v inside (sym (ap (λ h. a.struck (a.member h v)) here) ∙ is ∙ here) ∙ sym here
+        ap (λ h. slice_index now (a.member h v)) here ∙ n.noted v is.0 (subst (λ h. IsAnswerIn a h v) here is)
+        ∙ sym here
   ];
   sound = λ x i. elim (n.others x) [
     | inr there ↦ inr (there.0 ∙ sym there.1)
@@ -95,11 +115,12 @@ struck-more a gap old now n s = record {
   ];
 }
 
-pub struck-all : (a : PlainGraph) → IsGraph a → (struck : List ℕ) → AreStruck a a.gaps struck → (x : ℕ) → x < a.configurations → slice_index struck x ≡ a.struck x
+pub struck-all : (a : PlainGraph) → IsGraph a → (struck : List ℕ) → AreStruck a a.gaps struck
+    → (x : ℕ) → x < a.configurations → slice_index struck x ≡ a.struck x
 struck-all a is struck s x i = elim (cases_lt (a.struck x) a.gaps) [
   | inl low ↦
       let w = is.struck_in x i low in
-      ap (slice_index struck) (sym w.2) ∙ s.settled (a.struck x) w.0 low w.1 (ap a.struck w.2)
+      ap (slice_index struck) (sym w.2) ∙ s.settled (a.struck x) w.0 low (w.1, ap a.struck w.2)
   | inr high ↦
       let none : a.struck x ≡ a.gaps = (let most = is.struck_most x i in omega arith) in
       elim (s.sound x i) [ inl gone ↦ gone ∙ sym none | inr same ↦ same ]

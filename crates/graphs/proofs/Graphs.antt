@@ -34,10 +34,12 @@ pub member-is : (a : PlainGraph) (g v c : ℕ) → v < a.places → a.member g v
 member-is a g v c i e = some_is _ (count_below-some a.places (λ w. a.member g w == c) v i (same_is (a.member g v) c e))
 
 pub member-at : (a : PlainGraph) (g c : ℕ) → is_member a g c ≡ true → (v : ℕ) × (v < a.places) × (a.member g v ≡ c)
-member-at a g c e = let w = some_below a.places (λ v. a.member g v == c) (is_some _ e) in (w.0, w.1, test_same (a.member g w.0) c w.2)
+member-at a g c e = let w = some_below a.places (λ v. a.member g v == c) (is_some _ e) in
+    (w.0, w.1, test_same (a.member g w.0) c w.2)
 
 -- a gap has each member at one place
-pub one-place : (a : PlainGraph) → IsGraph a → (g v w : ℕ) → g < a.gaps → v < a.places → w < a.places → a.member g v ≡ a.member g w → v ≡ w
+pub one-place : (a : PlainGraph) → IsGraph a → (g v w : ℕ) → g < a.gaps → v < a.places → w < a.places
+    → a.member g v ≡ a.member g w → v ≡ w
 one-place a is g v w i j k e = elim (cases_lt v w) [
   | inl less ↦ absurd (let up = is.ascending g v w i less k in omega arith)
   | inr most ↦ elim (cases_lt w v) [

@@ -10,7 +10,8 @@ use Rattle.graphs.specs.Graph.{PlainGraph, IsGraph, lasts}
 use Rattle.graphs.specs.Lasting.{LastsExactly, LastsForever}
 use Rattle.graphs.specs.Shows.{IsAsked, Shows}
 use Rattle.graphs.proofs.Counts.{some_below, count_below-some}
-use Rattle.graphs.proofs.LastingRanks.{both_true, and_true, true_or_false, true_not_false, next-gives, next-from, same_is}
+use Rattle.graphs.proofs.LastingRanks.{both_true, and_true, true_or_false, true_not_false, next-gives, next-from}
+use Rattle.graphs.proofs.LastingRanks.{same_is}
 
 test_same : (m n : ℕ) → (m == n) ≡ true → m ≡ n
 test_same m n e = grind (arith, nat_tests)
@@ -52,7 +53,12 @@ module _ (b : PlainBoard) (a : PlainGraph) (at : ℕ → List ℕ) (is : IsGraph
   pub worth-is : (x value : ℕ) → x < a.configurations → LastsExactly a x value ↔ HasValue b (at x) (Finite value)
   worth-is x value i = (
     λ w. (tree-of-lasts value x i w.lasting, stops-of-fails (suc value) x i w.stopping),
-    λ has. record { is_rank = i; lasting = lasts-of-tree value x i has.0; stopping = fails-of-stops (suc value) x i has.1 },
+    λ has. record {
+      is_rank = i;
+      lasting = lasts-of-tree value x i has.0;
+      stopping =
+          fails-of-stops (suc value) x i has.1;
+    },
   )
 
   pub forever-is : (x : ℕ) → x < a.configurations → LastsForever a x ↔ HasValue b (at x) Forever

@@ -1,81 +1,76 @@
-//! The tables of a graph, from a numbering of a board.
+//! The tables of a graph, filled from a numbering of a board.
 
-ghost use Rattle.std.specs.Prelude.{◌≡◌, ◌+◌, ◌<◌, ◌≤◌, ◌↔◌, length, IsTrue, IfOk, vec_capacity};
+ghost use Rattle.std.specs.Prelude.{◌≡◌, ◌+◌, ◌<◌, ◌≤◌, length, IfOk, vec_capacity};
 ghost use Rattle.board_text.specs.PlainBoard.{IsBoard};
-ghost use Rattle.positions.specs.Ranks.{configurations};
-ghost use Rattle.graphs.specs.Numbered.{Numbered, numbered, graph_of};
-ghost use Rattle.graphs.specs.Inside.Filling.{AreRows, IsRowPushed, AreNoted, AreStruck};
+ghost use Rattle.graphs.specs.Inside.Filling.{AreAnswerBits, AreMemberRows, IsRowPushed};
+ghost use Rattle.graphs.specs.Inside.Filling.{IsGapNoted, AreStruck};
+ghost use Rattle.graphs.specs.Inside.Tables.{AreTables};
+ghost use Rattle.graphs.specs.Numbered.{Numbered, graph_of};
 
-use crate::class_numbers::ClassNumbers;
-use crate::graph::{Graph, Numbering};
-use crate::ordered_numbers::OrderedNumbers;
-use board_text::{Board, Memory};
-use classes::Classes;
-use positions::{MAX_CONFIGURATIONS, Space, TooLarge};
+use board_text::Memory;
+use positions::{LabelSet, MAX_CONFIGURATIONS};
 use std::alloc::Global;
-use std::snapshot::Snapshot;
 
 /// A way to number the configurations and gaps of a board.
-pub trait Numbers {
+pub(crate) trait Numbers {
     /// The board, and what its numbers stand for.
     ghost game: { Self → Numbered };
 
-    fn numbering(&self) -> Numbering
-        ensures { result ≡ (game self.now).numbering };
-
-    /// How many configurations there are.
+    /// The number of configurations.
     fn configurations(&self) -> u32
         ensures value { result ≡ (graph_of (game self.now)).configurations }
         ensures few { result ≤ MAX_CONFIGURATIONS }
         ensures is_board { IsBoard (game self.now).board };
 
-    /// How many gaps there are.
+    /// The number of gaps.
     fn gaps(&self) -> u32
         ensures { result ≡ (graph_of (game self.now)).gaps };
 
-    /// How many members each gap has.
+    /// The number of members of each gap.
     fn places(&self) -> u16
         ensures { result ≡ (graph_of (game self.now)).places };
 
-    /// The member of `gap` at `place`.
-    fn member(&self, gap: u32, place: u16) -> u32
+    /// Appends the members of `gap` to `members`, which has room for them.
+    fn push_members(&self, gap: u32, members: &mut Vec<u32>)
         requires gap { gap < (graph_of (game self.now)).gaps }
-        requires place { place < (graph_of (game self.now)).places }
-        ensures member { result ≡ (graph_of (game self.now)).member gap place }
-        ensures below { result < (graph_of (game self.now)).configurations };
+        requires room { length members.old.items + (graph_of (game self.now)).places
+            ≤ vec_capacity members.old }
+        ensures pushed { IsRowPushed (graph_of (game self.now)) gap
+            (graph_of (game self.now)).places
+            members.old.items members.new.items }
+        ensures capacity { vec_capacity members.new ≡ vec_capacity members.old };
 
-    /// Whether the member of `gap` at `place` is an answer.
-    fn is_answer(&self, gap: u32, place: u16) -> bool
-        requires gap { gap < (graph_of (game self.now)).gaps }
-        requires place { place < (graph_of (game self.now)).places }
-        ensures { IsTrue result ↔ ((graph_of (game self.now)).struck ((graph_of (game self.now)).member gap place) ≡ gap) };
+    /// The answers of `gap`.
+    fn answers(&self, gap: u32) -> LabelSet
+        requires { gap < (graph_of (game self.now)).gaps }
+        ensures { AreAnswerBits (graph_of (game self.now)) gap result };
 }
 
-impl Graph {
-    /// The graph of `board`, which has at most `MAX_CONFIGURATIONS` configurations, by `numbering`.
-    pub fn of(alloc: Global, board: &Board, numbering: Numbering) -> Result<Graph, Memory>
-        requires { configurations board.now ≤ MAX_CONFIGURATIONS }
-        ensures { IfOk result (λ graph. graph ≡ numbered board.now numbering) }
-    {
-        match numbering {
-            Numbering::Ordered => ordered_graph(alloc, board),
-            Numbering::Classes => class_graph(alloc, board),
-        }
-    }
+/// The tables of a graph.
+#[derive(Drop)]
+pub(crate) struct Tables {
+    pub(crate) configurations: u32,
+    pub(crate) gaps: u32,
+    pub(crate) places: u32,
+    /// The members of each gap, gap by gap, in ascending order.
+    pub(crate) members: Vec<u32>,
+    /// The gap in which each configuration is an answer, or the number of gaps.
+    pub(crate) struck: Vec<u32>,
+}
 
-    /// The graph of `board` by its `numbers`.
-    fn by<N: Numbers>(alloc: Global, board: &Board, numbers: &N) -> Result<Graph, Memory>
-        requires { (N.game numbers.now).board ≡ board.now }
-        ensures { IfOk result (λ graph. graph ≡ N.game numbers.now) }
+impl Tables {
+    /// The tables of the graph of `numbers`.
+    pub(crate) fn of<N: Numbers>(alloc: Global, numbers: &N) -> Result<Tables, Memory>
+        ensures { IfOk result
+            (λ tables. AreTables (N.game numbers.now) tables.configurations tables.gaps
+            tables.places tables.members.items tables.struck.items) }
     {
         let configurations = numbers.configurations();
         let gaps = numbers.gaps();
         let places = numbers.places() as u32;
         let members = all_members(alloc, numbers)?;
-        let struck = all_struck(alloc, numbers)?;
-        Ok(Graph {
-            board: Snapshot::of(board),
-            numbering: numbers.numbering(),
+        let struck = all_struck(alloc, numbers, &members)?;
+        Ok(Tables {
             configurations,
             gaps,
             places,
@@ -85,71 +80,48 @@ impl Graph {
     }
 }
 
-/// The graph of the ranks of `board`.
-fn ordered_graph(alloc: Global, board: &Board) -> Result<Graph, Memory>
-    requires { configurations board.now ≤ MAX_CONFIGURATIONS }
-    ensures { IfOk result (λ graph. graph ≡ numbered board.now Numbering.Ordered) }
-{
-    match Space::of(board) {
-        Ok(space) => Graph::by(alloc, board, &OrderedNumbers::new(board, space)),
-        Err(TooLarge) => Err(Memory),
-    }
-}
-
-/// The graph of the classes of `board`.
-fn class_graph(alloc: Global, board: &Board) -> Result<Graph, Memory>
-    requires { configurations board.now ≤ MAX_CONFIGURATIONS }
-    ensures { IfOk result (λ graph. graph ≡ numbered board.now Numbering.Classes) }
-{
-    let classes = Classes::of(alloc, board)?;
-    Graph::by(alloc, board, &ClassNumbers::of(alloc, board, &classes)?)
-}
-
 /// The members of all gaps, gap by gap.
 fn all_members<N: Numbers>(alloc: Global, numbers: &N) -> Result<Vec<u32>, Memory>
-    ensures { IfOk result (λ members. AreRows (graph_of (N.game numbers.now)) (graph_of (N.game numbers.now)).gaps members.items) }
+    ensures { IfOk result (λ members. AreMemberRows (graph_of (N.game numbers.now))
+        (graph_of (N.game numbers.now)).gaps members.items) }
 {
     let gaps = numbers.gaps();
     let mut members = Vec::with_capacity(alloc, gaps as usize * numbers.places() as usize)?;
     for gap in 0..gaps {
-        push_members(&mut members, numbers, gap);
+        numbers.push_members(gap, &mut members);
     }
     Ok(members)
 }
 
-/// Appends the members of `gap`.
-fn push_members<N: Numbers>(members: &mut Vec<u32>, numbers: &N, gap: u32)
-    requires gap { gap < (graph_of (N.game numbers.now)).gaps }
-    requires room { length members.old.items + (graph_of (N.game numbers.now)).places ≤ vec_capacity members.old }
-    ensures pushed { IsRowPushed (graph_of (N.game numbers.now)) gap (graph_of (N.game numbers.now)).places members.old.items members.new.items }
-    ensures capacity { vec_capacity members.new ≡ vec_capacity members.old }
-{
-    for place in 0..numbers.places() {
-        members.push_reserved(numbers.member(gap, place));
-    }
-}
-
 /// The gap in which each configuration is an answer, or the number of gaps.
-fn all_struck<N: Numbers>(alloc: Global, numbers: &N) -> Result<Vec<u32>, Memory>
-    ensures { IfOk result (λ struck. AreStruck (graph_of (N.game numbers.now)) (graph_of (N.game numbers.now)).gaps struck.items) }
+fn all_struck<N: Numbers>(alloc: Global, numbers: &N, members: &[u32]) -> Result<Vec<u32>, Memory>
+    requires { AreMemberRows (graph_of (N.game numbers.now)) (graph_of (N.game numbers.now)).gaps
+        members.now }
+    ensures { IfOk result (λ struck. AreStruck (graph_of (N.game numbers.now))
+        (graph_of (N.game numbers.now)).gaps struck.items) }
 {
     let gaps = numbers.gaps();
     let mut struck = vec![in alloc; gaps; numbers.configurations() as usize]?;
     for gap in 0..gaps {
-        note_answers(&mut struck, numbers, gap);
+        note_answers(&mut struck, numbers, members, gap);
     }
     Ok(struck)
 }
 
 /// Notes `gap` at each of its answers.
-fn note_answers<N: Numbers>(struck: &mut [u32], numbers: &N, gap: u32)
+fn note_answers<N: Numbers>(struck: &mut [u32], numbers: &N, members: &[u32], gap: u32)
     requires gap { gap < (graph_of (N.game numbers.now)).gaps }
     requires size { length struck.old ≡ (graph_of (N.game numbers.now)).configurations }
-    ensures { AreNoted (graph_of (N.game numbers.now)) gap (graph_of (N.game numbers.now)).places struck.old struck.new }
+    requires rows { AreMemberRows (graph_of (N.game numbers.now))
+        (graph_of (N.game numbers.now)).gaps
+        members.now }
+    ensures { IsGapNoted (graph_of (N.game numbers.now)) gap (graph_of (N.game numbers.now)).places
+        struck.old struck.new }
 {
-    for place in 0..numbers.places() {
-        if numbers.is_answer(gap, place) {
-            struck[numbers.member(gap, place) as usize] = gap;
-        }
+    let _ = numbers.configurations();
+    let first = gap as usize * numbers.places() as usize;
+    let mut labels = numbers.answers(gap).walk();
+    while let Some(label) = labels.take_next() {
+        struck[members[first + label as usize] as usize] = gap;
     }
 }
