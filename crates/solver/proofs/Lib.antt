@@ -18,3 +18,5 @@ pub mod OpenMembers
 pub mod Lending
 pub mod RoundsLeft
 pub mod Cited
+pub mod ValueSizes
+pub mod GapResults

@@ -14,15 +14,16 @@ use Rattle.graphs.specs.Numbered.{Numbered, graph_of, configuration_of}
 use Rattle.solver.specs.Words.{value_of_word}
 use Rattle.graphs.proofs.Cited.{numbered-is, numbered-shows, some-configurations}
 use Rattle.solver.specs.Inside.Opening.{IsOpened}
-use Rattle.graphs.proofs.Cited.{worth-is, tree_of_lasts, lasts_of_tree, forever_of_lasts}
+use Rattle.graphs.proofs.Cited.{number-below, number-value, worth-is, tree_of_lasts, lasts_of_tree, forever_of_lasts}
 use Rattle.solver.proofs.AnswerSizes.{live-size, above-size}
 use Rattle.positions.specs.declared.space.TheConstants.{MAX_CONFIGURATIONS}
 use Rattle.graphs.specs.Graph.{PlainGraph, IsGraph, count_below, is_member, lasts, is_struck}
 use Rattle.positions.specs.declared.value.Value.TheVariants.{Forever}
 use Rattle.positions.specs.Counts.{HasSize}
 use Rattle.graphs.specs.Graph.{live_answers}
+use Rattle.graphs.specs.NumberedRanks.{number_in}
 use Rattle.graphs.specs.Lasting.{LastsExactly, LastsForever}
-use Rattle.solver.specs.Solving.{Solving, AreOpenMembers, IsSolving, IsWorth, AnswerLasts, AnswerForever}
+use Rattle.solver.specs.Solving.{Solving, AreOpenMembers, IsSolving, NoneHas, AnswerLasts, AnswerForever}
 use Rattle.solver.specs.Words.{AreFirstCounts, AreFirstValues}
 use Rattle.solver.specs.Inside.Stage.{first_lists, PlainStage, filed_at, due_strikes, at_next_value, IsFiled, IsStage, IsKept, IsStriking, IsUnstruck, IsState}
 use Rattle.solver.specs.Inside.Tables.{IsLast, is_open, open_members, is_unstruck, struck_rounds, AreWords}
@@ -149,7 +150,7 @@ module _ (s : PlainStage) (is : IsGraph (graph_of s.game)) (few : (graph_of s.ga
     ];
   }
 
-  some_in : (xs : List ℕ) → length xs ≢ 0 → (x : ℕ) × (0 < times x xs)
+  pub some_in : (xs : List ℕ) → length xs ≢ 0 → (x : ℕ) × (0 < times x xs)
   some_in [] d = absurd (d refl)
   some_in (x ∷ xs) d = (x, times-here x x xs refl)
 
@@ -194,6 +195,7 @@ start-state s board few opened =
       bound = (let most = count_below-bound (graph_of s.game).configurations (lasts (graph_of s.game) 0) in omega arith);
       last = λ e. absurd (not_true e);
       ascending = opened.ascending;
+      last_filed = λ some. absurd (omega arith);
     })
 
 map-ascends : (f : ℕ → ℕ) (from n : ℕ) → ((v w : ℕ) → v < w → w < from + n → f v < f w) → AllPairs (λ first second. first < second) (map f (range_with_len from n))
@@ -257,10 +259,12 @@ module _ (s : PlainStage) (round : ℕ) (is_done : Bool) (st : IsState s round i
       → LastsExactly arena x v ↔ HasValue s.game.board (configuration_of s.game x) (Finite v)
   worth x v i = worth-is s.game.board arena (configuration_of s.game) is-arena (numbered-shows s.game st.is_board) x v i
 
-  pub none-has : is_done ≡ true → (x : ℕ) → IsWorth s.game x (suc round) → ⊥
-  none-has done x value =
-      let exact = (worth x (suc round) value.is_rank).1 value.has_value in
-      true_not_false (lasts arena (suc (suc round)) x) ((st.last done).lasting x value.is_rank exact.lasting) exact.stopping
+  pub none-has : is_done ≡ true → NoneHas s.game.board (suc round)
+  none-has done = λ c ok has.
+      let x : ℕ = number_in s.game c in
+      let i = number-below s.game st.is_board c ok in
+      let exact = (worth x (suc round) i).1 ((number-value s.game st.is_board c ok (Finite (suc round))).0 has) in
+      true_not_false (lasts arena (suc (suc round)) x) ((st.last done).lasting x i exact.lasting) exact.stopping
 
   pub filed-exactly : (v x : ℕ) → x < arena.configurations
       → (0 < times x (filed_at s v)) ↔ ((v ≤ round) × HasValue s.game.board (configuration_of s.game x) (Finite v))
@@ -424,11 +428,15 @@ module _ (s : PlainStage) (round : ℕ) (is_done : Bool) (st : IsState s round i
       bound = subst (λ (p : PlainGraph). count_below p.configurations (lasts p round) + round ≤ p.configurations) (sym (ap graph_of kept.game_is)) st.bound;
       last = λ e. round-last s' graph' few' round below' after (ap (filed_at s') (sym value_is) ∙ empty (filed_at s' s'.value) none);
       ascending = subst (λ (xs : List ℕ). AllPairs (λ first second. first < second) xs) (sym (other 0 (omega arith))) st.ascending;
+      last_filed = λ some. subst (λ (xs : List ℕ). 0 < length xs) (sym (other round (omega arith))) (st.last_filed some);
     }
       where
         empty : (xs : List ℕ) → length xs ≡ 0 → xs ≡ []
         empty [] e = refl
         empty (x ∷ xs) e = absurd (omega arith)
+
+    some_length : (n : ℕ) → n ≢ 0 → 0 < n
+    some_length n d = omega (arith, d)
 
     further : length (filed_at s' s'.value) ≢ 0 → (0 < count_below ((graph_of s'.game).configurations) (lasts ((graph_of s'.game)) (suc round))) × (count_below ((graph_of s'.game).configurations) (lasts ((graph_of s'.game)) (suc round)) + suc round ≤ (graph_of s'.game).configurations)
     further some = round-further s' graph' few' round below' (subst (λ (p : PlainGraph). count_below p.configurations (lasts p round) + round ≤ p.configurations) (sym (ap graph_of kept.game_is)) st.bound) after
@@ -454,4 +462,5 @@ module _ (s : PlainStage) (round : ℕ) (is_done : Bool) (st : IsState s round i
           bound = more.1;
           last = λ e. absurd (not_true e);
           ascending = subst (λ (xs : List ℕ). AllPairs (λ first second. first < second) xs) (sym (other 0 (omega arith))) st.ascending;
+          last_filed = λ _. subst (λ v. 0 < length (filed_at s' v)) value_is (some_length (length (filed_at s' s'.value)) some);
         }

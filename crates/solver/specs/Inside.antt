@@ -3,3 +3,4 @@ pub mod Stage
 pub mod Tables
 pub mod Opening
 pub mod SourceWalk
+pub mod Values

@@ -2,4 +2,6 @@ pub mod Solving
 pub mod Ending
 pub mod Striking
 pub mod Words
+pub mod Sizes
+pub mod SafeAnswers
 pub mod Inside

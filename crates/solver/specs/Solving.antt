@@ -1,6 +1,6 @@
 -- A solver as plain data, and its knowledge of the game.
 use Rattle.std.specs.Prelude.{◌≡◌, ℕ, suc, ◌+◌, ◌<◌, ◌≤◌, ◌↔◌, Bool, true, false, List, [], length, filter, AllPairs, slice_index_or}
-use Rattle.board_text.specs.PlainBoard.{IsBoard}
+use Rattle.board_text.specs.PlainBoard.{PlainBoard, IsBoard, IsConfiguration}
 use Rattle.index_lists.specs.Lists.{times}
 use Rattle.positions.specs.declared.space.TheConstants.{MAX_CONFIGURATIONS}
 use Rattle.positions.specs.declared.value.Value.TheVariants.{Finite, Forever}
@@ -69,8 +69,8 @@ pub record IsSolving (s : Solving) : Type 0 where
       → LabellerTree s.game.board (suc s.rounds) (configuration_of s.game x) → HasValue s.game.board (configuration_of s.game x) Forever
 
 -- no configuration has the value
-abbrev pub NoneHas : Numbered → ℕ → Type 0
-NoneHas n value = (x : ℕ) → IsWorth n x value → ⊥
+abbrev pub NoneHas : PlainBoard → ℕ → Type 0
+NoneHas board value = (configuration : List ℕ) → IsConfiguration board configuration → HasValue board configuration (Finite value) → ⊥
 
 -- the configurations of the next value were filed, `n` of them
 abbrev pub HasFiled : Solving → Solving → ℕ → Type 0
@@ -79,7 +79,7 @@ HasFiled before after n = (0 < n) × (n ≡ length (bucket after (suc before.rou
 
 -- no configuration has the next value, and nothing was filed
 abbrev pub HasFoundNone : Solving → Solving → Type 0
-HasFoundNone before after = NoneHas before.game (suc before.rounds) × (after.rounds ≡ before.rounds) × (after.is_done ≡ true)
+HasFoundNone before after = NoneHas before.game.board (suc before.rounds) × (after.rounds ≡ before.rounds) × (after.is_done ≡ true)
 
 -- the member of the gap at the place is an answer there
 pub record IsAnswerAt (a : PlainGraph) (gap place : ℕ) : Type 0 where

@@ -2,7 +2,7 @@
 //!
 //! `first_filed`, `next_filed`, `first_source` and `next_source` go through lists one by one, for callers; no command does.
 
-ghost use Rattle.std.specs.Prelude.{◌≡◌, ℕ, ◌+◌, ◌<◌, ◌≤◌, ◌↔◌, true, false, length, map, slice_get, IfOk, Err, Some, None};
+ghost use Rattle.std.specs.Prelude.{◌≡◌, ℕ, ◌+◌, ◌<◌, ◌≤◌, ◌↔◌, true, false, length, map, slice_get, IfOk, IfErr, Err, Some, None};
 ghost use Rattle.positions.specs.declared.value.Value.TheVariants.{Finite};
 ghost use Rattle.positions.specs.Value.{HasValue};
 ghost use Rattle.positions.specs.Ranks.{configurations};
@@ -17,13 +17,15 @@ use crate::end::RoundEnd;
 use crate::fault::SolveFault;
 use crate::next_value::{ByStrikes, FromEnd, NextValue};
 use crate::progress::Progress;
+use crate::sizes::add_weights;
 use crate::source_walk::SourceWalk;
 use crate::stage::Stage;
+use crate::values::Values;
 use crate::word::value_of;
 use board_text::{Board, Memory};
 use graphs::{Graph, Numbering};
 use index_lists::ListStore;
-use positions::{MAX_CONFIGURATIONS, Space, TooLarge};
+use positions::{MAX_CONFIGURATIONS, Space, TooLarge, TupleAnswers};
 use std::alloc::Global;
 use std::marker::Model;
 
@@ -36,19 +38,25 @@ use std::marker::Model;
 pub struct Solver<S: ListStore> {
     stage: Stage<S>,
     space: Space,
+    answers: TupleAnswers,
+    /// How many configurations have each number.
+    weights: Vec<u32>,
+    /// Zeros, and room for the number of configurations of each finite value.
+    sizes: Vec<u32>,
     done: bool,
 }
 
 impl<S: ListStore> Model for Solver<S> {
     ghost use Rattle.std.specs.Prelude.{◌≡◌, ◌-◌};
     ghost use Rattle.solver.specs.Solving.{Solving};
-    ghost use Rattle.solver.specs.Inside.Stage.{IsState, as_solving};
+    ghost use Rattle.solver.specs.Inside.Stage.{IsState, IsEquipped, as_solving};
 
     ghost Value = { Solving };
 
     ghost view = { λ s. as_solving s.stage s.done };
 
-    ghost invariant = { λ s. IsState s.stage (s.stage.value - 1) s.done × (s.space ≡ s.stage.game.board) };
+    ghost invariant = { λ s. IsState s.stage (s.stage.value - 1) s.done
+        × IsEquipped s.stage.game s.space s.answers s.weights.items s.sizes.items };
 }
 
 impl<S: ListStore + Drop> Solver<S> {
@@ -111,12 +119,18 @@ impl<S: ListStore + Drop> Solver<S> {
         ensures kept { IfOk result (λ solver. IsSolving solver) }
     {
         let _ = space.configurations();
+        let answers = TupleAnswers::of(alloc, board)?;
         let graph = Graph::of(alloc, board, numbering)?;
+        let weights = graph.weights(alloc)?;
+        let sizes = vec![in alloc; 0; graph.configurations() as usize]?;
         let mut stage = Stage::<S>::open(alloc, graph)?;
         stage.begin_next_value();
         Ok(Solver {
             stage,
             space,
+            answers,
+            weights,
+            sizes,
             done: false,
         })
     }
@@ -314,5 +328,55 @@ impl<S: ListStore> Solver<S> {
             }
         }
         None
+    }
+}
+
+/// A solver that isn't done.
+#[derive(Drop)]
+pub struct Unfinished<S: ListStore> {
+    /// The solver, as it was.
+    pub solver: Solver<S>,
+}
+
+impl<S: ListStore + Drop> Solver<S> {
+    /// The values of the board, once a round has found that no configuration has the next one.
+    pub fn finish(self) -> Result<Values, Unfinished<S>>
+        ensures values { IfOk result (λ values. (self.is_done ≡ true) × (values ≡ self.game.board)) }
+        ensures unfinished { IfErr result (λ unfinished. (self.is_done ≡ false) × (unfinished.solver ≡ self)) }
+    {
+        if !self.done {
+            return Err(Unfinished { solver: self });
+        }
+        let Solver {
+            stage,
+            space,
+            answers,
+            weights,
+            mut sizes,
+            done: _,
+        } = self;
+        let Stage {
+            graph,
+            value,
+            values,
+            ..
+        } = stage;
+        let forever = add_weights(&mut sizes, &values, &weights);
+        sizes.truncate(value as usize);
+        Ok(Values::new(graph, space, answers, values, sizes, forever))
+    }
+
+    /// The values of the board, after all rounds that it takes.
+    pub fn solve(self) -> Values
+        ensures { result ≡ self.game.board }
+    {
+        let mut solver = self;
+        loop {
+            match solver.finish() {
+                Ok(values) => return values,
+                Err(unfinished) => solver = unfinished.solver,
+            }
+            solver.round();
+        }
     }
 }

@@ -3,8 +3,11 @@ use Rattle.std.specs.Prelude.{◌≡◌, ◌≢◌, ℕ, suc, ◌+◌, ◌-◌, 
 use Rattle.std.specs.Prelude.{List, [], ◌∷◌, ◌++◌, length, map, filter, AllPairs, slice_index, slice_index_or, slice_set}
 use Rattle.std.specs.List.{range_with_len}
 use Rattle.index_lists.specs.Lists.{Lists, AreLists, times}
-use Rattle.board_text.specs.PlainBoard.{IsBoard}
+use Rattle.board_text.specs.PlainBoard.{PlainBoard, IsBoard}
+use Rattle.positions.specs.Ranks.{configurations}
 use Rattle.graphs.specs.Numbered.{Numbered, graph_of}
+use Rattle.graphs.specs.NumberedRanks.{AreNumberWeights}
+use Rattle.solver.specs.Inside.Values.{AreZeros}
 use Rattle.positions.specs.declared.space.TheConstants.{MAX_CONFIGURATIONS}
 use Rattle.graphs.specs.Graph.{PlainGraph, IsGraph, count_below, lasts, is_struck}
 use Rattle.solver.specs.Solving.{Solving}
@@ -158,6 +161,17 @@ pub record IsState (s : PlainStage) (round : ℕ) (is_done : Bool) : Type 0 wher
   pub bound : count_below (graph_of s.game).configurations (lasts (graph_of s.game) round) + round ≤ (graph_of s.game).configurations
   pub last : is_done ≡ true → IsLast (graph_of s.game) (suc round)
   pub ascending : AllPairs (λ first second. first < second) (filed_at s 0)
+  pub last_filed : 0 < round → 0 < length (filed_at s round)
+
+-- the space and the answers are those of the board, which is small, each number has its weight, and
+-- there is a zero for each number
+pub record IsEquipped (n : Numbered) (space answered : PlainBoard) (weights zeros : List ℕ) : Type 0 where
+  pub same_space : space ≡ n.board
+  pub same_answers : answered ≡ n.board
+  pub weighed : AreNumberWeights n weights
+  pub zeros_length : length zeros ≡ (graph_of n).configurations
+  pub zeros_are : AreZeros zeros
+  pub few : configurations n.board ≤ MAX_CONFIGURATIONS
 
 -- a solver, as its callers see it
 abbrev pub as_solving : PlainStage → Bool → Solving

@@ -1,7 +1,7 @@
 use Rattle.std.proofs.Common.{◌≡◌, ◌≢◌, ◌-◌, ◌∙◌, ℕ, suc, length, true, false, refl, sym, ap, subst, arith}
 use Rattle.graphs.specs.Numbered.{Numbered}
 use Rattle.solver.specs.Solving.{HasFoundNone, IsSolving, NoneHas, Solving}
-use Rattle.solver.specs.Inside.Stage.{PlainStage, at_next_value, filed_at, IsState}
+use Rattle.solver.specs.Inside.Stage.{PlainStage, at_next_value, filed_at, IsEquipped, IsState}
 use Rattle.solver.proofs.States.{solving_of, unstruck-of, none-has, to-begin, last-state, next-below, further-state}
 use Rattle.solver.proofs.solver.Solver.file_next.Given
 use Rattle.solver.proofs.solver.Solver.file_next.Goals as goal
@@ -36,18 +36,19 @@ module _ (g : Given.Over) (c : Then-filed-eq0 g) where
   state : IsState ended (ended.value - 1) true
   state = subst (λ n. IsState ended n true) same last
 
-  space : c.self.inside.space ≡ ended.game.board
-  space = c.self.invariant.1 ∙ ap (λ (n : Numbered). n.board) (sym c.file.ensures.kept.game_is)
+  equipped : IsEquipped ended.game c.self.inside.space c.self.inside.answers c.self.inside.weights.items c.self.inside.sizes.items
+  equipped = subst (λ (n : Numbered). IsEquipped n c.self.inside.space c.self.inside.answers c.self.inside.weights.items c.self.inside.sizes.items)
+      (sym c.file.ensures.kept.game_is) c.self.invariant.1
 
 pub invariant_of-self : goal.invariant_of-self
-invariant_of-self g c = let at = (goal.at.invariant_of-self g c).Then-filed-eq0 in (state g at, space g at)
+invariant_of-self g c = let at = (goal.at.invariant_of-self g c).Then-filed-eq0 in (state g at, equipped g at)
 
 pub returns-then-filed-eq0-clause-none : goal.returns-then-filed-eq0-clause-none
 returns-then-filed-eq0-clause-none g c = λ _.
     let now : PlainStage = c.file.new.stage in
     let at = (goal.at.returns-then-filed-eq0-clause-none g c).Then-filed-eq0 in
-    subst (λ (v : Solving). NoneHas v.game (suc v.rounds) × (now.value - 1 ≡ v.rounds) × (true ≡ true)) c.self.view_is
-    (subst (λ (t : Numbered). NoneHas t (suc (c.self.inside.stage.value - 1))) c.file.ensures.kept.game_is (none-has now _ true (last g at) refl), sym (same g at), refl)
+    subst (λ (v : Solving). NoneHas v.game.board (suc v.rounds) × (now.value - 1 ≡ v.rounds) × (true ≡ true)) c.self.view_is
+    (subst (λ (t : Numbered). NoneHas t.board (suc (c.self.inside.stage.value - 1))) c.file.ensures.kept.game_is (none-has now _ true (last g at) refl), sym (same g at), refl)
 
 pub returns-then-filed-eq0-clause-kept : goal.returns-then-filed-eq0-clause-kept
 returns-then-filed-eq0-clause-kept g c =
@@ -76,8 +77,9 @@ module _ (g : Given.Over) (c : Else-filed-eq0 g) where
   state-next = subst (λ n. IsState (at_next_value more) n false) next
       (further-state c.self.inside.stage _ c.self.inside.done c.self.invariant.0 more c.file.ensures.struck c.file.ensures.kept c.if-self.false filed)
 
-  space-next : c.self.inside.space ≡ more.game.board
-  space-next = c.self.invariant.1 ∙ ap (λ (n : Numbered). n.board) (sym c.file.ensures.kept.game_is)
+  equipped-next : IsEquipped more.game c.self.inside.space c.self.inside.answers c.self.inside.weights.items c.self.inside.sizes.items
+  equipped-next = subst (λ (n : Numbered). IsEquipped n c.self.inside.space c.self.inside.answers c.self.inside.weights.items c.self.inside.sizes.items)
+      (sym c.file.ensures.kept.game_is) c.self.invariant.1
 
 pub begin_next_value-requires : goal.begin_next_value-requires
 begin_next_value-requires g c =
@@ -87,7 +89,7 @@ begin_next_value-requires g c =
 pub invariant_of-self-2 : goal.invariant_of-self-2
 invariant_of-self-2 g c =
     let at = (goal.at.invariant_of-self-2 g c).Else-filed-eq0 in
-    rw (c.begin_next_value.ensures, c.if-self.false) (state-next g at, space-next g at)
+    rw (c.begin_next_value.ensures, c.if-self.false) (state-next g at, equipped-next g at)
 
 pub returns-clause-kept : goal.returns-clause-kept
 returns-clause-kept g c =
