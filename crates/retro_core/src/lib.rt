@@ -15,5 +15,5 @@ pub use laws_of_rounds::{
 };
 pub use positions::Value;
 pub use round_state::RoundState;
-pub use solver::{Progress, RoundEnd, SolveFault, Solver, SourceWalk};
+pub use solver::{Progress, RoundEnd, SolveFault, Solver, SourceWalk, Unfinished, Values};
 pub use step::{Seen, Step, StepFault};

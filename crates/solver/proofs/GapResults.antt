@@ -1,6 +1,6 @@
 -- The members of a graph's gap have the words of the results in a gap of the board.
-use Rattle.std.proofs.Common.{◌≡◌, ℕ, ◌<◌, Bool, cond, inl, inr, refl, sym, ap, ◌∙◌, subst, List, length, slice_index}
-use Rattle.board_text.specs.PlainBoard.{PlainBoard, IsBoard, IsConfiguration, places}
+use Rattle.std.proofs.Common.{◌≡◌, ℕ, ◌<◌, Bool, cond, inl, inr, sym, ap, ◌∙◌, subst, List, length, slice_index}
+use Rattle.board_text.specs.PlainBoard.{PlainBoard, IsBoard, IsConfiguration}
 use Rattle.positions.specs.declared.value.Value.{Value}
 use Rattle.positions.specs.declared.value.Value.TheVariants.{Finite, Forever}
 use Rattle.positions.specs.Game.{moved}
@@ -9,7 +9,7 @@ use Rattle.positions.specs.Ranks.{rank_of, configuration_at}
 use Rattle.positions.specs.Value.{HasValue}
 use Rattle.positions.proofs.Cited.{configuration_at-rank_of, gap_of-member_of, member_is, member_of-gap_of, pebble_below}
 use Rattle.board_text.proofs.Cited.{some_places}
-use Rattle.graphs.specs.Numbered.{Numbered, graph_of, configuration_of}
+use Rattle.graphs.specs.Numbered.{Numbered, graph_of}
 use Rattle.graphs.specs.NumberedRanks.{gap_in, number_in}
 use Rattle.graphs.proofs.Cited.{gap-in-moved, number-below, number-value, places_are, true_or_false}
 use Rattle.solver.specs.Words.{value_with_word}

@@ -1,12 +1,11 @@
 -- The number of configurations of each value, by the weights of the numbers whose word it is.
-use Rattle.std.proofs.Common.{◌≡◌, ℕ, ◌+◌, ◌-◌, ◌^◌, ◌<◌, ◌≤◌, ◌==◌, ◌↔◌, inl, inr, Bool, true, false, cond, zero, suc, refl, arith, sym, ap, ◌∙◌, subst, List, [], ◌∷◌, Contains, length, take, slice_index, slice_set, get_or-take, length-set, get_or-set_same, get_or-set_other}
+use Rattle.std.proofs.Common.{◌≡◌, ℕ, ◌+◌, ◌-◌, ◌^◌, ◌<◌, ◌≤◌, ◌==◌, inl, inr, Bool, true, false, cond, zero, suc, refl, arith, sym, ap, ◌∙◌, subst, List, [], ◌∷◌, Contains, length, take, slice_index, slice_set, get_or-take, length-set, get_or-set_same, get_or-set_other}
 use Rattle.std.proofs.lemmas.Bool.{cases_lt}
 use Rattle.std.proofs.lemmas.Bool.Decides.{nat_tests}
 use Rattle.std.proofs.lemmas.List.{length-take-le}
 use Rattle.board_text.specs.PlainBoard.{PlainBoard, IsBoard}
 use Rattle.positions.specs.Counts.{HasSize}
 use Rattle.positions.specs.declared.space.TheConstants.{MAX_CONFIGURATIONS}
-use Rattle.positions.specs.declared.value.Value.{Value}
 use Rattle.positions.specs.declared.value.Value.TheVariants.{Finite, Forever}
 use Rattle.positions.specs.Laws.{Occurs}
 use Rattle.positions.specs.Ranks.{configurations, rank_of, configuration_at}
@@ -17,7 +16,7 @@ use Rattle.classes.proofs.Sums.{sum-zero, sum-suc, sum-more}
 use Rattle.graphs.specs.Numbered.{Numbered, graph_of, configuration_of}
 use Rattle.graphs.specs.NumberedRanks.{AreNumberWeights, number_in}
 use Rattle.graphs.proofs.Cited.{configuration-is, counted-numbers, counted-values, forever_of_lasts, number-below, number-value, same_is, same_or_not, true_or_false, value_of_lasts}
-use Rattle.solver.specs.Sizes.{HasCount, IsGreatest}
+use Rattle.solver.specs.Sizes.{HasCount}
 use Rattle.solver.specs.Inside.Stage.{PlainStage, filed_at, IsEquipped, IsState}
 use Rattle.solver.specs.Inside.Tables.{is_open}
 use Rattle.solver.specs.Inside.Values.{IsWordOf, AreValues, weighed, AreSums, AreZeros, AreSizes, AreValuesOf}

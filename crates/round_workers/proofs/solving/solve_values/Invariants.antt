@@ -5,7 +5,7 @@ use Rattle.round_workers.proofs.solving.solve_values.Given as goal
 
 abbrev pub invariant-loop-values : goal.invariant-loop-values
 invariant-loop-values g l = record {
-  board : l.solver.board ≡ l.board;
+  board : l.solver.game.board ≡ l.board;
   kept : IsSolving l.solver;
 }
 

@@ -1,4 +1,4 @@
-use Rattle.std.proofs.Common.{◌≡◌, ◌<◌, ◌+◌, ◌^◌, ◌==◌, ℕ, Bool, List, length, suc, arith, sym, ap, ◌∙◌, subst, refl, slice_index, slice_set, length-set}
+use Rattle.std.proofs.Common.{◌≡◌, ◌<◌, ◌+◌, ◌==◌, ℕ, Bool, List, length, suc, arith, sym, ap, ◌∙◌, subst, refl, slice_index, slice_set, length-set}
 use Rattle.solver.specs.Inside.Tables.{is_open}
 use Rattle.solver.specs.Inside.Values.{weighed, AreSums}
 use Rattle.solver.proofs.ListedWords.{valued_word}

@@ -1,4 +1,4 @@
-use Rattle.std.proofs.Common.{◌≡◌, ◌<◌, ◌==◌, ◌↔◌, true, slice_index, subst, sym}
+use Rattle.std.proofs.Common.{◌≡◌, ◌<◌, ◌==◌, ◌↔◌, true, slice_index, subst}
 use Rattle.board_text.specs.PlainBoard.{places}
 use Rattle.positions.specs.declared.value.Value.TheVariants.{Forever}
 use Rattle.positions.specs.Gaps.{member_of}

@@ -1,4 +1,4 @@
-use Rattle.std.proofs.Common.{◌≡◌, ◌<◌, subst, sym, slice_index}
+use Rattle.std.proofs.Common.{◌<◌, subst}
 use Rattle.board_text.specs.PlainBoard.{places}
 use Rattle.positions.specs.Gaps.{member_of}
 use Rattle.positions.specs.Value.{HasValue}

@@ -1,4 +1,5 @@
-use Rattle.std.proofs.Common.{◌≡◌, ◌-◌, ◌^◌, ◌<◌, ◌∙◌, ℕ, suc, Bool, true, List, length, take, slice_index, rules, sym, ap, subst, arith}
+use Rattle.std.proofs.Common.{◌≡◌, ◌-◌, ◌^◌, ◌<◌, ◌∙◌, ℕ, suc, Bool, true, List, length, take, slice_index, sym, ap, subst, arith}
+use Rattle.std.proofs.lemmas.List.{take_at}
 use Rattle.classes.specs.Sums.{sum_below}
 use Rattle.graphs.specs.Numbered.{graph_of}
 use Rattle.solver.specs.Inside.Stage.{PlainStage, IsState}
@@ -52,7 +53,8 @@ new-requires g c =
     let forever : c.add_weights-forever.result ≡ weighed weights (is_open words) size =
     e.forever ∙ ap (λ (p : List ℕ × List ℕ × ℕ). weighed p.1 (is_open p.0) p.2) (λ j. (words-are g at j, c.deref-2.ensures.value j, long g at j)) in
     let value_is : now.value ≡ suc (now.value - 1) = (let v = c.self.invariant.0.value_is in omega arith) in
-    let taken : c.truncate.new.self.items ≡ take c.stage.inside.value sums = search rules in
+    let taken : c.truncate.new.self.items ≡ take c.stage.inside.value sums =
+    c.truncate.ensures.items ∙ ap (take c.stage.inside.value) (take_at sums _ c.self.inside.sizes.len (e.size ∙ c.deref_mut.ensures.len)) in
     let cut : c.truncate.new.self.items ≡ take (suc (now.value - 1)) sums =
     taken ∙ ap (λ v. take v sums) (ap (λ (v : PlainStage). v.value) c.stage.view_is ∙ value_is) in
     let all = values-of now _ (state g at) _ _ weights _ c.self.invariant.1 sums c.truncate.new.self.items c.add_weights-forever.result added wide cut forever in

@@ -1,4 +1,5 @@
-use Rattle.std.proofs.Common.{◌≡◌, ◌-◌, ◌≤◌, ◌∙◌, ℕ, List, length, replicate, slice_index, length-replicate, get_or-replicate, false, ap, sym, subst, arith}
+use Rattle.std.proofs.Common.{◌≡◌, ◌-◌, ◌≤◌, ◌∙◌, ℕ, List, length, replicate, slice_index, false, ap, sym, subst, arith}
+use Rattle.std.proofs.lemmas.List.{length-replicate, get_or-replicate}
 use Rattle.positions.specs.Ranks.{configurations}
 use Rattle.graphs.specs.NumberedRanks.{AreNumberWeights}
 use Rattle.board_text.specs.PlainBoard.{PlainBoard, IsBoard}
@@ -16,15 +17,15 @@ opened-state s n same board few opened =
     start-state s (subst (λ (m : Numbered). IsBoard m.board) (sym same) board) (subst (λ (m : Numbered). (graph_of m).configurations ≤ MAX_CONFIGURATIONS) (sym same) few) opened
 
 equipped : (n : Numbered) (board answered : PlainBoard) (weights : List ℕ) (count : ℕ) (zeros : List ℕ) (space : PlainBoard) → n.board ≡ board → space ≡ board → answered ≡ board
-    → AreNumberWeights n weights → count ≡ (graph_of n).configurations → zeros ≡ replicate count 0 → (size : ℕ) → size ≤ MAX_CONFIGURATIONS → size ≡ configurations space
+    → AreNumberWeights n weights → count ≡ (graph_of n).configurations → zeros ≡ replicate count 0 → configurations space ≤ MAX_CONFIGURATIONS
     → IsEquipped n space answered weights zeros
-equipped n board answered weights count zeros space own space_is answered_is weighed count_is zeros_are size few size_is = record {
+equipped n board answered weights count zeros space own space_is answered_is weighed count_is zeros_are few = record {
   same_space = space_is ∙ sym own;
   same_answers = answered_is ∙ sym own;
   weighed = weighed;
   zeros_length = ap length zeros_are ∙ length-replicate count 0 ∙ count_is;
-  zeros_are = λ k low. ap (λ (l : List ℕ). slice_index l k) zeros_are ∙ get_or-replicate count 0 k 0 (let long = ap length zeros_are ∙ length-replicate count 0 in omega arith);
-  few = subst (λ (b : PlainBoard). configurations b ≤ MAX_CONFIGURATIONS) (space_is ∙ sym own) (omega arith);
+  zeros_are = λ k low. ap (λ (l : List ℕ). slice_index l k) zeros_are ∙ get_or-replicate count k 0 0 (let long = ap length zeros_are ∙ length-replicate count 0 in omega arith);
+  few = subst (λ (b : PlainBoard). configurations b ≤ MAX_CONFIGURATIONS) (space_is ∙ sym own) few;
 }
 
 pub begin_next_value-requires : goal.begin_next_value-requires
@@ -41,8 +42,7 @@ invariant_of-result g c =
       opened-state c.in_ok-stage.stage c.in_ok-graph.graph e.game e.board e.few e.opened,
       subst (λ (n : Numbered). IsEquipped n c.args.space c.in_ok-answers.answers c.in_ok-weights.weights.items c.in_ok-sizes.sizes.items) (sym e.game)
           (equipped c.in_ok-graph.graph c.args.board.now _ _ _ c.in_ok-sizes.sizes.items c.args.space (ap (λ (n : Numbered). n.board) c.in_ok-graph.ensures) c.requires
-          c.in_ok-answers.ensures c.in_ok-weights.ensures c.configurations-2.ensures.value (c.in_ok-sizes.ensures.items_if_clones_equal (λ y e. e)) c.configurations.ensures.few
-          c.configurations.ensures.value),
+          c.in_ok-answers.ensures c.in_ok-weights.ensures c.configurations-2.ensures.value (c.in_ok-sizes.ensures.items_if_clones_equal (λ y e. e)) c.configurations.ensures.few),
     )
 
 pub returns-clause-kept : goal.returns-clause-kept

@@ -1,4 +1,4 @@
-use Rattle.std.proofs.Common.{◌-◌, ◌<◌, Some, None, arith, subst, sym, ◌∙◌}
+use Rattle.std.proofs.Common.{◌-◌, Some, None, arith, subst, sym, ◌∙◌}
 use Rattle.std.proofs.lemmas.List.{get_or_read}
 use Rattle.board_text.specs.PlainBoard.{PlainBoard}
 use Rattle.positions.specs.Laws.{Occurs}

@@ -4,7 +4,6 @@ use Rattle.positions.specs.Gaps.{gaps, pebble_of, member_of}
 use Rattle.positions.specs.Ranks.{rank_of, configuration_at}
 use Rattle.graphs.specs.Numbered.{Numbered, graph_of}
 use Rattle.graphs.specs.NumberedRanks.{gap_in}
-use Rattle.solver.specs.SafeAnswers.{PlainResults, results_of}
 use Rattle.solver.specs.Inside.Values.{AreResults}
 use Rattle.solver.proofs.GapResults.{results-are}
 use Rattle.solver.proofs.values.Values.results.Goals as goal
