@@ -111,7 +111,8 @@ impl Values {
     /// The results of the answers of `gap`, for a caller that goes through several of them.
     pub fn results(&self, gap: u32) -> Results<'_>
         requires { gap < gaps self.now }
-        ensures { result ≡ results_of self.now gap }
+        ensures results { result ≡ results_of self.now gap }
+        ensures is_board { IsBoard self.now }
     {
         let pebble = self.space.gap_pebble(gap);
         let rank = self.space.member(gap, 0);

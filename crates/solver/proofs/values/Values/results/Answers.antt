@@ -1,5 +1,5 @@
 use Rattle.std.proofs.Common.{◌≡◌, ◌<◌, ℕ, List, sym, ap, ◌∙◌, subst}
-use Rattle.board_text.specs.PlainBoard.{PlainBoard}
+use Rattle.board_text.specs.PlainBoard.{PlainBoard, IsBoard}
 use Rattle.positions.specs.Gaps.{gaps, pebble_of, member_of}
 use Rattle.positions.specs.Ranks.{rank_of, configuration_at}
 use Rattle.graphs.specs.Numbered.{Numbered, graph_of}
@@ -25,3 +25,6 @@ invariant_of-result c =
     (subst (λ (l : List ℕ). AreResults n.board gap l c.members.result.now) (sym c.deref.ensures.value)
     (results-are n c.self.invariant.is_board c.self.inside.words.items c.members.result.now gap rank c.self.invariant.valued in_gaps rank_is c.members.ensures.size
     (λ place low. c.members.ensures.each place low ∙ ap (λ g. (graph_of n).member g place) number)))
+
+pub returns-clause-is_board : goal.returns-clause-is_board
+returns-clause-is_board c = subst IsBoard c.self.view_is c.self.invariant.is_board

@@ -39,7 +39,7 @@ pub lasts_forever-requires : goal.lasts_forever-requires
 lasts_forever-requires c =
     let at = (goal.at.lasts_forever-requires c).After-labels-label-end in
     let place = label_is_place (b at) c.loop-label.label (omega (arith, end-is at, c.loop-label-test.true)) in
-    subst (λ (v : PlainResults). c.loop-label.label < places v.board) (sym c.results-results.ensures) place
+    subst (λ (v : PlainResults). c.loop-label.label < places v.board) (sym c.results-results.ensures.results) place
 
 pub returns-then-lasts_forever : goal.returns-then-lasts_forever
 returns-then-lasts_forever c =
@@ -47,7 +47,7 @@ returns-then-lasts_forever c =
     let label : ℕ = c.loop-label.label in
     let low : label < MAX_LABELS = omega (arith, few-labels at, end-is at, c.loop-label-test.true) in
     let answer = (answers-are at label low).0 (sym c.contains.ensures ∙ c.if-contains.true) in
-    let lasts = subst (λ (v : PlainResults). HasValue v.board (member_of v.board v.gap label) Forever) c.results-results.ensures (c.lasts_forever.ensures.0 c.if-lasts_forever.true) in
+    let lasts = subst (λ (v : PlainResults). HasValue v.board (member_of v.board v.gap label) Forever) c.results-results.ensures.results (c.lasts_forever.ensures.0 c.if-lasts_forever.true) in
     (
       (answer, lasts),
       λ other safe. elim (cases_lt other label) [
@@ -68,7 +68,7 @@ loop-label-preserved c = λ smaller less safe.
           let here : IsSafeAnswer (b at) c.args.gap label = subst (IsSafeAnswer (b at) c.args.gap) same safe in
           elim c.else-contains.branch [
             | else-contains-via-then-contains+else-lasts_forever w ↦
-                true_not_false _ (w.lasts_forever.ensures.1 (subst (λ (v : PlainResults). HasValue v.board (member_of v.board v.gap label) Forever) (sym c.results-results.ensures) here.1)) w.if-lasts_forever.false
+                true_not_false _ (w.lasts_forever.ensures.1 (subst (λ (v : PlainResults). HasValue v.board (member_of v.board v.gap label) Forever) (sym c.results-results.ensures.results) here.1)) w.if-lasts_forever.false
             | else-contains-via-else-contains w ↦
                 true_not_false _ (c.contains.ensures ∙ (answers-are at label low).1 here.0) w.if-contains.false
           ]

@@ -1,11 +1,11 @@
 use Rattle.std.proofs.Common.{◌≡◌}
 use Rattle.solver.specs.Solving.{IsSolving}
 use Rattle.solver.proofs.Cited.{rounds_left}
-use Rattle.round_workers.proofs.solving.solve_values.Given as goal
+use Rattle.round_workers.proofs.solving.solve_rounds.Given as goal
 
 abbrev pub invariant-loop-values : goal.invariant-loop-values
 invariant-loop-values g l = record {
-  board : l.solver.game.board ≡ l.board;
+  game : l.solver.game ≡ l.fn.solver.game;
   kept : IsSolving l.solver;
 }
 

@@ -1,5 +1,5 @@
 use Rattle.solver.proofs.Cited.{fewer_left}
-use Rattle.round_workers.proofs.solving.solve_values.Goals as goal
+use Rattle.round_workers.proofs.solving.solve_rounds.Goals as goal
 
 pub loop-values-smaller : goal.loop-values-smaller
 loop-values-smaller g c =
