@@ -1,5 +1,9 @@
 -- When one seat has the whole width and no work left, the round is finished.
 use Rattle.std.proofs.Common.{◌≡◌, ◌≢◌, ℕ, zero, suc, ◌+◌, ◌^◌, ◌<◌, ◌≤◌, ◌↔◌, List, [], ◌∷◌, map, length, take, drop, get_or, true, false, refl, sym, ap, ◌∙◌, subst, inl, inr, arith, Some, None}
+use Rattle.board_text.proofs.Cited.{few_places}
+use Rattle.graphs.specs.Graph.{PlainGraph}
+use Rattle.graphs.specs.Numbered.{Numbered, graph_of, configuration_of}
+use Rattle.graphs.proofs.Cited.{places_are}
 use Rattle.std.specs.Prelude.{slice_index}
 use Rattle.board_text.specs.declared.board.TheConstants.{MAX_LABELS}
 use Rattle.std.proofs.lemmas.Bool.{cases_lt}
@@ -15,19 +19,17 @@ use Rattle.index_lists.specs.Lists.{times}
 use Rattle.index_lists.proofs.Cited.{cond_other}
 use Rattle.positions.specs.declared.value.Value.TheVariants.{Finite}
 use Rattle.positions.specs.Value.{HasValue}
-use Rattle.positions.specs.Ranks.{configurations, rank_of, configuration_at}
-use Rattle.positions.specs.Gaps.{gaps, member_of, IsAnswer}
 use Rattle.positions.specs.Counts.{HasSize}
 use Rattle.positions.specs.declared.space.TheConstants.{MAX_CONFIGURATIONS}
 use Rattle.positions.proofs.Cited.{same_size, size_zero, size_at_most}
-use Rattle.solver.specs.Solving.{Solving, IsSolving, AnswerLasts}
+use Rattle.solver.specs.Solving.{Solving, IsSolving, AnswerLasts, IsAnswerAt}
 use Rattle.retro_core.specs.Round.{PlainSeat, Round, IsLawful, IsWorkedOff, spent_seat, seat_at, all_todo}
 use Rattle.retro_core.specs.Round.{all_won}
 use Rattle.retro_core.specs.declared.step.Seen.{Seen as SeenData}
 use Rattle.retro_core.specs.declared.step.Seen.TheVariants as seen
 use Rattle.retro_core.specs.History.{answer_at}
 use Rattle.solver.specs.Ending.{IsRoundEnd}
-use Rattle.solver.proofs.Cited.{same_or_not}
+use Rattle.graphs.proofs.Cited.{same_or_not}
 use Rattle.retro_core.proofs.Cited.{closed-always, closed-gone, closed-once, lost-opened, won-told, times-together, worked-off}
 use Rattle.claim_round.specs.Shared.{Key, View, Ended, Finishes}
 use Rattle.claim_round.specs.History.{IsHistory, HasHistory, AreTold, LostWereWon, TellsClosedGaps, indexes_of, calls_of, calls_at, seats_of}
@@ -75,15 +77,15 @@ only_of f (x ∷ xs) (suc id) v at idle =
 
 -- the counts and values of a table's words, and a won list
 abbrev pub end_of_words : Key → List ℕ → List ℕ → Ended
-end_of_words k words won = record { counts = take (gaps k.solving.board) words; values = map value_of_word (drop (gaps k.solving.board) words); won = won }
+end_of_words k words won = record { counts = take ((graph_of k.solving.game).gaps) words; values = map value_of_word (drop ((graph_of k.solving.game).gaps) words); won = won }
 
 pub record IsClosed (k : Key) (words : List ℕ) (v : View) : Type 0 where
   pub wide : v.has.width ≡ k.width
-  pub long : length words ≡ gaps k.solving.board + configurations k.solving.board
+  pub long : length words ≡ (graph_of k.solving.game).gaps + (graph_of k.solving.game).configurations
   pub finishes : Finishes k.solving (end_of_words k words v.has.won)
   pub history : HasHistory k v.made (end_of_words k words v.has.won)
   pub lost : LostWereWon v.made v.has.won
-  pub closed : TellsClosedGaps k.solving v.made (take (gaps k.solving.board) words)
+  pub closed : TellsClosedGaps k.solving v.made (take ((graph_of k.solving.game).gaps) words)
 
 module _ (k : Key) (words : List ℕ) (views : List View) (sol : IsSolving k.solving) (h : IsHistory k words views) (knows : All (KnowsRound k) views)
     (id : ℕ) (v : View) (at : get_elem? views id ≡ some v) (whole : k.width ≤ v.has.width) (no_todo : v.has.todo ≡ []) (no_owed : v.has.owed ≡ []) where
@@ -123,17 +125,18 @@ module _ (k : Key) (words : List ℕ) (views : List View) (sol : IsSolving k.sol
   nothing_waits : (x : ℕ) → times x (all_todo round) ≡ 0
   nothing_waits x = listed (λ u. u.todo) refl x ∙ ap (times x) no_todo
 
-  above_of : (gap : ℕ) → gap < gaps k.solving.board → HasSize (AnswerLasts k.solving.board gap (suc k.solving.rounds)) (slice_index (take (gaps k.solving.board) words) gap)
+  above_of : (gap : ℕ) → gap < (graph_of k.solving.game).gaps → HasSize (AnswerLasts k.solving.game gap (suc k.solving.rounds)) (slice_index (take ((graph_of k.solving.game).gaps) words) gap)
   above_of gap i =
-      let b = k.solving.board in
+      let n : Numbered = k.solving.game in
+      let a : PlainGraph = graph_of n in
       let count = law.counts gap i in
-      let P : ℕ → Type 0 = λ label. IsAnswer b gap label × (0 < times (rank_of b (member_of b gap label)) (all_todo round)) in
+      let P : ℕ → Type 0 = λ place. IsAnswerAt a gap place × (0 < times (a.member gap place) (all_todo round)) in
       let waiting : count.waiting ≡ 0 = same_size P count.waiting 0 count.are_waiting
-      ((size_zero P).1 (λ label h. let z = nothing_waits (rank_of b (member_of b gap label)) in let one = h.1 in omega arith)) in
+      ((size_zero P).1 (λ place h. let z = nothing_waits (a.member gap place) in let one = h.1 in omega arith)) in
       let sum = count.sum in
-      subst (HasSize (AnswerLasts b gap (suc k.solving.rounds))) (let e : count.above ≡ slice_index (take (gaps b) words) gap = omega arith in e) count.are_above
+      subst (HasSize (AnswerLasts n gap (suc k.solving.rounds))) (let e : count.above ≡ slice_index (take a.gaps words) gap = omega arith in e) count.are_above
 
-  ended : IsRoundEnd k.solving v.has.won (take (gaps k.solving.board) words)
+  ended : IsRoundEnd k.solving v.has.won (take ((graph_of k.solving.game).gaps) words)
   ended = record {
     once = λ x. let all = (worked-off round sol.is_board law off x).0 in let w = won_all x in omega arith;
     next = λ x. let all = (worked-off round sol.is_board law off x).1 in (
@@ -144,22 +147,22 @@ module _ (k : Key) (words : List ℕ) (views : List View) (sol : IsSolving k.sol
     above = above_of;
   }
 
-  valued : (rank value : ℕ) → rank < configurations k.solving.board → (get_or (map value_of_word (drop (gaps k.solving.board) words)) rank None ≡ Some value)
-      ↔ ((value ≤ suc k.solving.rounds) × HasValue k.solving.board (configuration_at k.solving.board rank) (Finite value))
+  valued : (rank value : ℕ) → rank < (graph_of k.solving.game).configurations → (get_or (map value_of_word (drop ((graph_of k.solving.game).gaps) words)) rank None ≡ Some value)
+      ↔ ((value ≤ suc k.solving.rounds) × HasValue k.solving.game.board (configuration_of k.solving.game rank) (Finite value))
   valued rank value i =
-      let b = k.solving.board in
+      let n : Numbered = k.solving.game in
       let r = k.solving.rounds in
       let means = law.values rank value i in (
         λ e. elim (means.0 e) [
           | inl low ↦ (let l = low.0 in (omega arith, low.1))
-          | inr next ↦ (let l = next.0 in (omega arith, subst (λ n. HasValue b (configuration_at b rank) (Finite n)) (sym next.0) (law.won rank next.1).has_value))
+          | inr next ↦ (let l = next.0 in (omega arith, subst (λ m. HasValue n.board (configuration_of n rank) (Finite m)) (sym next.0) (law.won rank next.1).has_value))
         ],
         λ has. elim (cases_lt r value) [
           | inr low ↦ means.1 (inl (omega arith, has.1))
           | inl high ↦ (
               let top = has.0 in
               let e : value ≡ suc r = omega arith in
-              means.1 (inr (e, ((worked-off round sol.is_board law off rank).1).1 (record { is_rank = i; has_value = subst (λ n. HasValue b (configuration_at b rank) (Finite n)) e has.1 }))))
+              means.1 (inr (e, ((worked-off round sol.is_board law off rank).1).1 (record { is_rank = i; has_value = subst (λ m. HasValue n.board (configuration_of n rank) (Finite m)) e has.1 }))))
         ],
       )
 
@@ -205,13 +208,13 @@ module _ (k : Key) (words : List ℕ) (views : List View) (sol : IsSolving k.sol
       let won = won-told h.first h.steps round h.leads found.0 config found.2 in
       (found.0, found.1, has_told found.0 (seen.Tried config true) found.2 refl, (let all = won_all config in omega arith))
 
-  closed : TellsClosedGaps k.solving v.made (take (gaps k.solving.board) words)
+  closed : TellsClosedGaps k.solving v.made (take ((graph_of k.solving.game).gaps) words)
   closed = record {
     once = λ gap place other config another here there. closed-once h.first h.steps round h.leads gap place other
         (config, stands place (seen.Struck config (Some gap)) here) (another, stands other (seen.Struck another (Some gap)) there);
     only = λ gap place config here. (closed-gone h.first h.steps round h.leads gap place (config, stands place (seen.Struck config (Some gap)) here)).1;
     always = λ gap label low answer none.
-        let P : ℕ → Type 0 = AnswerLasts k.solving.board gap k.solving.rounds in
+        let P : ℕ → Type 0 = AnswerLasts k.solving.game gap k.solving.rounds in
         let some : 0 < slice_index h.first.counts gap = elim (same_or_not (slice_index h.first.counts gap) 0) [
           | inl zero_left ↦ absurd ((size_zero P).0 (subst (HasSize P) zero_left (h.counted gap low)) label answer)
           | inr left ↦ (let more = left in omega arith)
@@ -251,13 +254,14 @@ closed_fields k given width table s words slots round seated whole todo owed las
 
 -- ---- the words fit
 
-pub small_counts : (s : Solving) (e : Ended) → IsSolving s → Finishes s e → (g : ℕ) → g < gaps s.board → slice_index e.counts g < 2 ^ 32
+pub small_counts : (s : Solving) (e : Ended) → IsSolving s → Finishes s e → (g : ℕ) → g < (graph_of s.game).gaps → slice_index e.counts g < 2 ^ 32
 small_counts s e sol done g i =
-    let few = size_at_most (AnswerLasts s.board g (suc s.rounds)) (slice_index e.counts g) (MAX_LABELS + 1) (done.end.above g i)
-    (λ label answer. let low : label < s.board.labels = answer.0.is_label in let top = sol.is_board.labels.1 in omega arith) in
+    let few = size_at_most (AnswerLasts s.game g (suc s.rounds)) (slice_index e.counts g) (MAX_LABELS + 1) (done.end.above g i)
+    (λ place answer. let low : place < (graph_of s.game).places = answer.0.is_place in
+    let same = places_are s.game in let top = few_places s.game.board sol.is_board in omega arith) in
     omega arith
 
-pub small_value : (s : Solving) (words : List ℕ) (counts won : List ℕ) → s.rounds < configurations s.board → configurations s.board ≤ MAX_CONFIGURATIONS
+pub small_value : (s : Solving) (words : List ℕ) (counts won : List ℕ) → s.rounds < (graph_of s.game).configurations → (graph_of s.game).configurations ≤ MAX_CONFIGURATIONS
     → Finishes s (record { counts = counts; values = map value_of_word words; won = won }) → (rank : ℕ) → rank < length words
     → slice_index words rank < 2 ^ 32
 small_value s words counts won below few done rank i =

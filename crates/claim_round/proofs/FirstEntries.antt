@@ -1,8 +1,7 @@
 -- Facts before a step: the seat is of the round, and its first entry is of the game.
 use Rattle.std.proofs.Common.{◌≡◌, ℕ, ◌+◌, ◌<◌, List, [], ◌∷◌, length, sym, ap, ◌∙◌, subst, arith}
+use Rattle.graphs.specs.Numbered.{Numbered, graph_of}
 use Rattle.atomic_table.specs.Seated.{TableId}
-use Rattle.board_text.specs.PlainBoard.{PlainBoard}
-use Rattle.positions.specs.Gaps.{gaps}
 use Rattle.solver.specs.Solving.{Solving}
 use Rattle.retro_core.specs.Round.{IsDue, first_of}
 use Rattle.claim_round.specs.Shared.{Key, IsOf, RoundId, SeatId}
@@ -16,9 +15,15 @@ use Rattle.claim_round.proofs.Seats.{first_due, times_first}
 pub of_round : (table : TableId) (k : Key) (r : RoundId) (s : Inside) (p : SeatId) → round_id table k ≡ r → seat_id_of s ≡ p → IsOf r p → IsOf (round_id table k) (seat_id_of s)
 of_round table k r s p round_is seat_is = subst (λ (q : RoundId × SeatId). IsOf q.0 q.1) (λ j. (sym round_is j, sym seat_is j))
 
--- a gap of the board is a gap of the key's board
-pub in_gaps : (k : Key) (given : Solving) (board : PlainBoard) (gap : ℕ) → k.solving ≡ given → board ≡ given.board → gap < gaps board → gap < gaps k.solving.board
-in_gaps k given board gap solving board_is = subst (λ b. gap < gaps b) (board_is ∙ ap (λ (s : Solving). s.board) (sym solving))
+-- a gap of the game is a gap of the key's game
+pub in_gaps : (k : Key) (given : Solving) (game : Numbered) (gap : ℕ) → k.solving ≡ given → game ≡ given.game → gap < (graph_of game).gaps → gap < (graph_of k.solving.game).gaps
+in_gaps k given game gap solving game_is = subst (λ (n : Numbered). gap < (graph_of n).gaps) (game_is ∙ ap (λ (s : Solving). s.game) (sym solving))
+
+-- the gap in which a configuration is an answer in the game is that of the key's game
+pub struck_in : (k : Key) (given : Solving) (game : Numbered) (gap config first : ℕ) → k.solving ≡ given → game ≡ given.game → first ≡ config
+    → gap ≡ (graph_of game).struck config → gap ≡ (graph_of k.solving.game).struck first
+struck_in k given game gap config first solving game_is first_is gap_is =
+    gap_is ∙ ap (λ (n : Numbered). (graph_of n).struck config) (game_is ∙ ap (λ (s : Solving). s.game) (sym solving)) ∙ ap (graph_of k.solving.game).struck (sym first_is)
 
 -- a seat of the round that owes nothing and strikes this configuration next
 pub record StrikesNext (table : TableId) (k : Key) (given : Solving) (s : Inside) (config : ℕ) : Type 0 where
@@ -27,7 +32,7 @@ pub record StrikesNext (table : TableId) (k : Key) (given : Solving) (s : Inside
   pub some_todo : 0 < length s.seat.me.0.has.todo
   pub none_owed : s.seat.me.0.has.owed ≡ []
   pub first : first_of s.seat.me.0.has.todo ≡ config
-  pub due : IsDue given.board config given.rounds
+  pub due : IsDue given.game config given.rounds
 
 pub strikes_next : (table : TableId) (k : Key) (r : RoundId) (given : Solving) (width : ℕ) (s : Inside) (p : SeatId) (config : ℕ) (rest : List ℕ) → round_id table k ≡ r → seat_id_of s ≡ p
     → IsRound (record { solving = given; width = width }) k table → IsSeated s → IsOf r p → 0 < length p.view.has.todo → p.view.has.owed ≡ [] → s.todo.items ≡ config ∷ rest
@@ -50,17 +55,17 @@ strikes_next table k r given width s p config rest round_is seat_is round seated
 pub record ClaimsNext (table : TableId) (k : Key) (s : Inside) (word : ℕ) : Type 0 where
   pub of : IsOf (round_id table k) (seat_id_of s)
   pub some_owed : 0 < length s.seat.me.0.has.owed
-  pub here : word ≡ gaps k.solving.board + first_of s.seat.me.0.has.owed
+  pub here : word ≡ (graph_of k.solving.game).gaps + first_of s.seat.me.0.has.owed
   pub inside : word < table.words
 
-pub claims_next : (table : TableId) (k : Key) (r : RoundId) (given : Solving) (width : ℕ) (s : Inside) (p : SeatId) (board : PlainBoard) (count config : ℕ) (rest : List ℕ)
+pub claims_next : (table : TableId) (k : Key) (r : RoundId) (given : Solving) (width : ℕ) (s : Inside) (p : SeatId) (game : Numbered) (count config : ℕ) (rest : List ℕ)
     → round_id table k ≡ r → seat_id_of s ≡ p → IsRound (record { solving = given; width = width }) k table → IsSeated s → IsOf r p → 0 < length p.view.has.owed
-    → s.owed.items ≡ config ∷ rest → board ≡ given.board → count ≡ gaps board → ClaimsNext table k s (count + config)
-claims_next table k r given width s p board count config rest round_is seat_is round seated mine some items board_is count_is =
+    → s.owed.items ≡ config ∷ rest → game ≡ given.game → count ≡ (graph_of game).gaps → ClaimsNext table k s (count + config)
+claims_next table k r given width s p game count config rest round_is seat_is round seated mine some items game_is count_is =
     let of = of_round table k r s p round_is seat_is mine in
     let some_owed : 0 < length s.seat.me.0.has.owed = subst (λ (q : SeatId). 0 < length q.view.has.owed) (sym seat_is) some in
     let first : first_of s.seat.me.0.has.owed ≡ config = ap first_of (sym seated.owed ∙ items) in
-    let gaps_are : count ≡ gaps k.solving.board = count_is ∙ ap gaps board_is ∙ ap (λ (q : Key). gaps q.solving.board) (sym round.key_is) in
+    let gaps_are : count ≡ (graph_of k.solving.game).gaps = count_is ∙ ap (λ (n : Numbered). (graph_of n).gaps) game_is ∙ ap (λ (q : Key). (graph_of q.solving.game).gaps) (sym round.key_is) in
     let low : first_of s.seat.me.0.has.owed < size k =
     subst (λ (q : Key). first_of s.seat.me.0.has.owed < size q) of.1 (seated.inside (first_of s.seat.me.0.has.owed) (times_first s.seat.me.0.has.owed some_owed)) in
     let words = round.words in

@@ -15,7 +15,7 @@ use Rattle.retro_core.specs.declared.step.Step.{Step}
 use Rattle.retro_core.specs.declared.step.Seen.{Seen}
 use Rattle.retro_core.specs.Stepping.{Does}
 use Rattle.retro_core.specs.History.{answer_at}
-use Rattle.solver.proofs.Cited.{same_or_not}
+use Rattle.graphs.proofs.Cited.{same_or_not}
 use Rattle.retro_core.proofs.Cited.{answer-before, answer-last, lead-more, steps-lawful, times_here}
 use Rattle.claim_round.specs.Shared.{Key, View}
 use Rattle.claim_round.specs.History.{IsHistory, AreTold, indexes_of, calls_of, calls_at, seats_of}

@@ -1,5 +1,6 @@
 -- The entries that a seat may still owe, after each step, and the number of members of a gap.
 use Rattle.std.proofs.Common.{◌≡◌, ℕ, zero, suc, ◌+◌, ◌-◌, ◌*◌, ◌/◌, ◌^◌, ◌<◌, ◌≤◌, List, [], ◌∷◌, ◌++◌, length, take, drop, refl, ap, ◌∙◌, arith, inl, inr, length-append, length-take, length-drop, mul-le-mul_left}
+use Rattle.graphs.specs.Numbered.{Numbered, graph_of}
 use mathlib.Core.Logic.{dite}
 use native.Mathlib.Decide.{ℕ_discrete}
 use Rattle.board_text.specs.PlainBoard.{places}
@@ -7,11 +8,9 @@ use Rattle.board_text.specs.declared.board.TheConstants.{MAX_LABELS}
 use Rattle.board_text.proofs.Cited.{some_places, few_places}
 use Rattle.index_lists.specs.Lists.{times, without_node}
 use Rattle.index_lists.proofs.Cited.{cond_same, cond_other, times-without_same, times-without_other, length-without, times-here}
-use Rattle.positions.specs.Ranks.{configurations, rank_of}
-use Rattle.positions.specs.Gaps.{gaps, member_of}
 use Rattle.positions.specs.declared.space.TheConstants.{MAX_CONFIGURATIONS}
 use Rattle.solver.specs.Solving.{Solving, IsSolving, source}
-use Rattle.solver.proofs.Cited.{same_or_not}
+use Rattle.graphs.proofs.Cited.{same_or_not, places_are}
 use Rattle.retro_core.proofs.Cited.{source-once}
 use Rattle.claim_round.specs.Shared.{Key, View, kept_part, new_part, view_joined}
 use Rattle.claim_round.specs.Rule.{most_members, size, entry_bound}
@@ -45,18 +44,20 @@ covered (suc n) f xs once from =
     ]) in
     omega arith
 
-pub few_members : (s : Solving) → IsSolving s → (gap : ℕ) → gap < gaps s.board → length (source s gap) ≤ places s.board
-few_members s sol gap i = covered (places s.board) (λ v. rank_of s.board (member_of s.board gap v)) (source s gap) (source-once s sol gap i) (λ rank. sol.sources.members gap rank i)
+pub few_members : (s : Solving) → IsSolving s → (gap : ℕ) → gap < (graph_of s.game).gaps → length (source s gap) ≤ (graph_of s.game).places
+few_members s sol gap i = covered ((graph_of s.game).places) ((graph_of s.game).member gap) (source s gap) (source-once s sol gap i) (λ rank. sol.sources.members gap rank i)
 
 -- ---- numbers that fit
 
 pub some_most : (k : Key) → IsSolving k.solving → 0 < most_members k
-some_most k sol = let some = some_places k.solving.board sol.is_board in omega arith
+some_most k sol = let some = some_places k.solving.game.board sol.is_board in let same = places_are k.solving.game in omega arith
 
 pub narrow : (k : Key) → IsSolving k.solving → most_members k * size k < 2 ^ 32
 narrow k sol =
     let a : most_members k * size k ≤ most_members k * MAX_CONFIGURATIONS = mul-le-mul_left (most_members k) sol.few in
-    let p : most_members k ≤ MAX_LABELS + 1 = few_places k.solving.board sol.is_board in
+    let top = few_places k.solving.game.board sol.is_board in
+    let same = places_are k.solving.game in
+    let p : most_members k ≤ MAX_LABELS + 1 = omega arith in
     omega arith
 
 -- ---- loads
@@ -99,5 +100,5 @@ load_glue most v u =
     omega arith
 
 -- if a value is below the number of configurations, there is a configuration
-pub some_gaps : (k : Key) → k.solving.rounds < configurations k.solving.board → 0 < size k
+pub some_gaps : (k : Key) → k.solving.rounds < (graph_of k.solving.game).configurations → 0 < size k
 some_gaps k below = omega arith

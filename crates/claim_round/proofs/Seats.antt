@@ -1,13 +1,13 @@
 -- A seat's fields agree with its view after a step.
 use Rattle.std.proofs.Common.{◌≡◌, ℕ, ◌+◌, ◌-◌, ◌*◌, ◌/◌, ◌<◌, ◌≤◌, ◌⊎◌, ◌==◌, cond, inl, inr, ⊎_elim, List, [], ◌∷◌, ◌++◌, length, take, drop, refl, sym, ap, ◌∙◌, subst, arith, length-append, length-drop, length-take, mul-le-mul_left}
+use Rattle.graphs.specs.Numbered.{Numbered, graph_of}
 use Rattle.std.specs.Prelude.{vec_capacity}
 use Rattle.std.specs.VecDeque.{deque_capacity}
 use mathlib.Core.Logic.{dite}
 use native.Mathlib.Decide.{ℕ_discrete}
 use Rattle.index_lists.specs.Lists.{times}
 use Rattle.index_lists.proofs.Cited.{cond_same, cond_other, times-append}
-use Rattle.positions.specs.Gaps.{gaps}
-use Rattle.solver.specs.Solving.{Solving, IsSolving, source, AreToStrike}
+use Rattle.solver.specs.Solving.{Solving, IsSolving, source, to_strike}
 use Rattle.retro_core.specs.Round.{IsDue, first_of}
 use Rattle.retro_core.proofs.Cited.{times-cut, times_here, split_first, source-rank}
 use Rattle.claim_round.specs.Shared.{Key, View, kept_part, new_part, view_joined}
@@ -74,7 +74,7 @@ claimed_seat s t n place seated some view slots todo owed room_owed won room_won
     }
 
 -- the seat after a strike, if it owed nothing before
-pub struck_seat : (s t : Inside) (n gap place : ℕ) (k : Key) → IsSeated s → IsSolving k.solving → gap < gaps k.solving.board → s.seat.me.0.key ≡ k → 0 < length s.seat.me.0.has.todo → s.seat.me.0.has.owed ≡ []
+pub struck_seat : (s t : Inside) (n gap place : ℕ) (k : Key) → IsSeated s → IsSolving k.solving → gap < (graph_of k.solving.game).gaps → s.seat.me.0.key ≡ k → 0 < length s.seat.me.0.has.todo → s.seat.me.0.has.owed ≡ []
     → t.seat.me.0 ≡ view_struck s.seat.me.0 gap n place → t.seat.me.1 ≡ s.seat.me.1
     → t.todo.items ≡ drop 1 s.todo.items → t.owed.items ≡ (cond (n == 1) (s.owed.items ++ source k.solving gap) s.owed.items) → deque_capacity t.owed ≡ deque_capacity s.owed
     → t.won.items ≡ s.won.items → vec_capacity t.won ≡ vec_capacity s.won → t.width ≡ s.width → IsSeated t
@@ -220,10 +220,10 @@ no_length [] e = refl
 no_length (x ∷ xs) e = absurd (omega arith)
 
 -- the first seat of a round
-pub first_seat : (t : Inside) (k : Key) → IsSolving k.solving → t.seat.me.0 ≡ opening_view k → t.seat.me.1 ≡ [] → AreToStrike k.solving t.todo.items → t.owed.items ≡ [] → most_members k ≤ deque_capacity t.owed
+pub first_seat : (t : Inside) (k : Key) → IsSolving k.solving → t.seat.me.0 ≡ opening_view k → t.seat.me.1 ≡ [] → t.todo.items ≡ to_strike k.solving → t.owed.items ≡ [] → most_members k ≤ deque_capacity t.owed
     → t.won.items ≡ [] → (size k ≤ vec_capacity t.won) ⊎ (most_members k * length t.todo.items ≤ vec_capacity t.won) → t.width ≡ k.width → IsSeated t
-first_seat t k sol view slots to_strike owed room_owed won room_won width =
-    let all = ranks_due k.solving t.todo.items sol to_strike in
+first_seat t k sol view slots picked owed room_owed won room_won width =
+    let all = ranks_due k.solving t.todo.items sol picked in
     record {
       free = slots;
       todo = all.is ∙ sym (ap (λ (u : View). u.has.todo) view);
@@ -246,7 +246,7 @@ first_seat t k sol view slots to_strike owed room_owed won room_won width =
           });
     }
 
--- the configuration that is struck first has the round's value and a dominator
-pub first_due : (s : Inside) (given : Solving) (config : ℕ) → IsSeated s → 0 < length s.seat.me.0.has.todo → s.seat.me.0.key.solving ≡ given → first_of s.seat.me.0.has.todo ≡ config → IsDue given.board config given.rounds
+-- the configuration that is struck first has the round's value and is an answer in some gap
+pub first_due : (s : Inside) (given : Solving) (config : ℕ) → IsSeated s → 0 < length s.seat.me.0.has.todo → s.seat.me.0.key.solving ≡ given → first_of s.seat.me.0.has.todo ≡ config → IsDue given.game config given.rounds
 first_due s given config seated some key_is first =
-    subst (λ (p : Solving × ℕ). IsDue p.0.board p.1 p.0.rounds) (λ j. (key_is j, first j)) (seated.due (first_of s.seat.me.0.has.todo) (times_first s.seat.me.0.has.todo some))
+    subst (λ (p : Solving × ℕ). IsDue p.0.game p.1 p.0.rounds) (λ j. (key_is j, first j)) (seated.due (first_of s.seat.me.0.has.todo) (times_first s.seat.me.0.has.todo some))

@@ -1,5 +1,6 @@
 -- Each step on the table keeps the rule: it is one step more of the history, or none.
 use Rattle.std.proofs.Common.{◌≡◌, ◌≢◌, ℕ, zero, suc, ◌+◌, ◌-◌, ◌*◌, ◌%◌, ◌^◌, ◌<◌, ◌≤◌, ◌==◌, Bool, true, false, cond, eqb, List, [], ◌∷◌, ◌++◌, length, drop, set, get_or, refl, sym, ap, ◌∙◌, subst, inl, inr, arith, Some, None}
+use Rattle.graphs.specs.Numbered.{Numbered, graph_of}
 use Rattle.std.specs.Prelude.{slice_index}
 use Rattle.std.proofs.lemmas.List.{map-set, map_push, length-map, length-take, length-drop}
 use Rattle.std.proofs.lemmas.List.Elements.{All-push, All-set}
@@ -11,15 +12,13 @@ use Rattle.atomic_table.specs.Table.{State, Me, step, keeps, Allows, Splits, Joi
 use Rattle.atomic_table.proofs.Lists.{exchanged, set_again}
 use Rattle.index_lists.specs.Lists.{times}
 use Rattle.index_lists.proofs.Cited.{distinct-length, same_is, differ_is}
-use Rattle.positions.specs.Ranks.{configuration_at, configurations}
-use Rattle.positions.specs.Gaps.{gaps, gap_of, IsDominator}
 use Rattle.solver.specs.Solving.{Solving, source}
 use Rattle.retro_core.specs.Round.{PlainSeat, IsLawful, spent_seat, first_of, seat_struck, seat_tried, seat_kept, seat_new}
 use Rattle.retro_core.specs.Round.{seat_joined}
 use Rattle.retro_core.specs.declared.step.Step.TheVariants as steps
 use Rattle.retro_core.specs.declared.step.Seen.TheVariants as seen
 use Rattle.retro_core.specs.Stepping.{Does}
-use Rattle.solver.proofs.Cited.{same_or_not}
+use Rattle.graphs.proofs.Cited.{same_or_not}
 use Rattle.claim_round.specs.Shared.{Key, View, kept_part, new_part, view_joined}
 use Rattle.claim_round.specs.History.{IsHistory, seats_of}
 use Rattle.claim_round.specs.Rule.{Unit0, Kept, KnowsRound, most_members, size, entry_bound, spent_view}
@@ -38,15 +37,15 @@ put_back (x ∷ xs) zero = refl
 put_back (x ∷ xs) (suc i) = ap (λ (ys : List ℕ). x ∷ ys) (put_back xs i)
 
 -- there are as many words as gaps and configurations together
-pub words_length : (s : Solving) (w : ℕ) (words : List ℕ) (seats : List PlainSeat) → IsLawful (round_of_words s w words seats) → length words ≡ gaps s.board + configurations s.board
+pub words_length : (s : Solving) (w : ℕ) (words : List ℕ) (seats : List PlainSeat) → IsLawful (round_of_words s w words seats) → length words ≡ (graph_of s.game).gaps + (graph_of s.game).configurations
 words_length s w words seats law =
-    let G : ℕ = gaps s.board in
+    let G : ℕ = (graph_of s.game).gaps in
     let a = length-take G words in
     let b = length-drop G words in
     let m = length-map (drop G words) value_of_word in
     let c = law.counts_length in
     let v = law.values_length in
-    by_sizes (length words) G (configurations s.board) (omega arith) (omega arith)
+    by_sizes (length words) G ((graph_of s.game).configurations) (omega arith) (omega arith)
   where
     by_sizes : (n g c : ℕ) → g ≤ n → n - g ≡ c → n ≡ g + c
     by_sizes n g c low e = omega arith
@@ -63,11 +62,10 @@ since_at k s kept id v at = (view_at (IsToldBy kept.history.steps) s.views id v 
 known : (k : Key) (v : View) → v.key ≡ k → 0 < v.has.width → KnowsRound k v
 known k v same wide = record { round = λ _. same; nothing = λ none. absurd (omega arith) }
 
-pub strike_allowed : (k : Key) (slots id : ℕ) (me : Me Unit0 View) (gap pebble : ℕ) → 0 < me.0.has.width → 0 < length me.0.has.todo
-    → IsDominator k.solving.board (configuration_at k.solving.board (first_of me.0.has.todo)) pebble → gap ≡ gap_of k.solving.board (configuration_at k.solving.board (first_of me.0.has.todo)) pebble
+pub strike_allowed : (k : Key) (slots id : ℕ) (me : Me Unit0 View) (gap : ℕ) → 0 < me.0.has.width → 0 < length me.0.has.todo
+    → gap ≡ (graph_of k.solving.game).struck (first_of me.0.has.todo)
     → Allows (Kept k) slots id me gap (λ n. (n + (2 ^ 64 - 1)) % 2 ^ 64) (TableStrikes (step slots gap 1 0 none) me)
-strike_allowed k slots id me gap pebble wide some_todo dominates gap_is s kept same at small =
-    let b = k.solving.board in
+strike_allowed k slots id me gap wide some_todo gap_is s kept same at small =
     let v : View = me.0 in
     let n : ℕ = slice_index s.words gap in
     let place : ℕ = length kept.history.steps in
@@ -76,8 +74,8 @@ strike_allowed k slots id me gap pebble wide some_todo dominates gap_is s kept s
     let knows : v.key ≡ k = knows_at k s.views id v kept.knows at wide in
     let after : set seats id (seat_struck k.solving gap n v.has) ≡ seats_of (set s.views id w) =
     ap (λ (q : Key). set seats id (seat_struck q.solving gap n v.has)) (sym knows) ∙ sym (map-set (λ (u : View). u.has) s.views id w) in
-    let done = word-strike k.solving k.width s.words seats kept.solving (kept-lawful k s kept) id v.has (seat_read s.views id v at) pebble gap (seats_of (set s.views id w)) some_todo dominates gap_is after in
-    let low : gap < gaps b = done.gap_in in
+    let done = word-strike k.solving k.width s.words seats kept.solving (kept-lawful k s kept) id v.has (seat_read s.views id v at) gap (seats_of (set s.views id w)) some_todo gap_is after in
+    let low : gap < (graph_of k.solving.game).gaps = done.gap_in in
     let history : IsHistory k (set s.words gap (n - 1)) (set s.views id w) =
     history-call k s.words (set s.words gap (n - 1)) s.views kept.history (steps.Strike id) (seen.Struck (first_of v.has.todo) (cond (n == 1) (Some gap) None)) id v w at done.strikes refl refl refl in
     let few : sum_by (entry_bound (most_members k)) (set s.views id w) ≤ most_members k * size k = (
@@ -110,8 +108,8 @@ won_few k words views id v law at =
       ]),
     )
 
-pub claim_allowed : (k : Key) (slots id : ℕ) (me : Me Unit0 View) (i next : ℕ) → k.solving.rounds < configurations k.solving.board → 0 < me.0.has.width → 0 < length me.0.has.owed
-    → i ≡ gaps k.solving.board + first_of me.0.has.owed → next ≡ suc k.solving.rounds
+pub claim_allowed : (k : Key) (slots id : ℕ) (me : Me Unit0 View) (i next : ℕ) → k.solving.rounds < (graph_of k.solving.game).configurations → 0 < me.0.has.width → 0 < length me.0.has.owed
+    → i ≡ (graph_of k.solving.game).gaps + first_of me.0.has.owed → next ≡ suc k.solving.rounds
     → Allows (Kept k) slots id me i (λ n. either (eqb n OPEN) next n) (TableTries (step slots i OPEN next none) me)
 claim_allowed k slots id me i next below wide some_owed here is_next s kept same at small =
     let v : View = me.0 in
@@ -120,7 +118,7 @@ claim_allowed k slots id me i next below wide some_owed here is_next s kept same
     let w : View = view_tried v n place in
     let seats : List PlainSeat = seats_of s.views in
     let c : ℕ = first_of v.has.owed in
-    let G : ℕ = gaps k.solving.board in
+    let G : ℕ = (graph_of k.solving.game).gaps in
     let r : ℕ = suc k.solving.rounds in
     let knows : v.key ≡ k = knows_at k s.views id v kept.knows at wide in
     let top = kept.solving.few in

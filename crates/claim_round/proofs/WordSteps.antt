@@ -1,16 +1,15 @@
 -- The steps of the machine on words in one list: the words that a strike and a try of a lawful
 -- round find, and their answers.
 use Rattle.std.proofs.Common.{◌≡◌, ◌≢◌, ◌⊎◌, ℕ, suc, ◌+◌, ◌-◌, ◌<◌, ◌==◌, Bool, true, false, cond, List, map, length, take, drop, set, sym, ap, ◌∙◌, inl, inr, subst, arith, Option, Some, None, get_or, slice_index}
+use Rattle.graphs.specs.Numbered.{Numbered, graph_of}
 use Rattle.std.specs.Option.{is_none}
 use Rattle.std.proofs.lemmas.List.{get_or-map, map-set, take-set-le, drop-set-lt, drop-set-add, get_or-take, get_or-drop, length-map}
 use Rattle.std.proofs.Math.Seq.{take-set-lt}
 use Rattle.index_lists.proofs.Cited.{cond_same, cond_other}
-use Rattle.positions.specs.Ranks.{configuration_at}
-use Rattle.positions.specs.Gaps.{gaps, gap_of, IsDominator}
 use Rattle.solver.specs.Solving.{Solving, IsSolving}
 use Rattle.retro_core.specs.Round.{PlainSeat, Round, spent_seat, IsLawful, first_of, seat_struck, seat_tried, round_struck, round_tried, first_is_open, round_of}
 use Rattle.retro_core.specs.Stepping.{Strikes, Tries}
-use Rattle.solver.proofs.Cited.{same_or_not}
+use Rattle.graphs.proofs.Cited.{same_or_not}
 use Rattle.retro_core.proofs.Cited.{strike-lawful, try-lawful}
 use Rattle.claim_round.specs.declared.words.TheConstants.{OPEN}
 use Rattle.solver.specs.Words.{value_of_word}
@@ -23,20 +22,18 @@ module _ (s : Solving) (w : ℕ) (words : List ℕ) (seats : List PlainSeat) (so
 
   -- a strike that found the count n
   pub record IsWordStruck (gap : ℕ) (after : List PlainSeat) : Type 0 where
-    pub gap_in : gap < gaps s.board
+    pub gap_in : gap < (graph_of s.game).gaps
     pub some_left : 0 < slice_index words gap
     pub strikes : Strikes here id (first_of v.todo) (cond (slice_index words gap == 1) (Some gap) None) (round_of_words s w (set words gap (slice_index words gap - 1)) after)
 
-  pub word-strike : (pebble gap : ℕ) (after : List PlainSeat) → 0 < length v.todo → IsDominator s.board (configuration_at s.board (first_of v.todo)) pebble
-      → gap ≡ gap_of s.board (configuration_at s.board (first_of v.todo)) pebble → set seats id (seat_struck s gap (slice_index words gap) v) ≡ after → IsWordStruck gap after
-  word-strike pebble gap after some dominates gap_is after_is =
-      let b = s.board in
+  pub word-strike : (gap : ℕ) (after : List PlainSeat) → 0 < length v.todo
+      → gap ≡ (graph_of s.game).struck (first_of v.todo) → set seats id (seat_struck s gap (slice_index words gap) v) ≡ after → IsWordStruck gap after
+  word-strike gap after some gap_is after_is =
       let seat : PlainSeat = get_or seats id spent_seat in
-      let G : ℕ = gaps b in
+      let G : ℕ = (graph_of s.game).gaps in
       let some' : 0 < length seat.todo = subst (λ (u : PlainSeat). 0 < length u.todo) (sym read) some in
-      let dominates' : IsDominator b (configuration_at b (first_of seat.todo)) pebble = subst (λ (u : PlainSeat). IsDominator b (configuration_at b (first_of u.todo)) pebble) (sym read) dominates in
-      let done = strike-lawful here sol law id pebble some' dominates' in
-      let at : gap_of b (configuration_at b (first_of seat.todo)) pebble ≡ gap = ap (λ (u : PlainSeat). gap_of b (configuration_at b (first_of u.todo)) pebble) read ∙ sym gap_is in
+      let done = strike-lawful here sol law id some' in
+      let at : (graph_of s.game).struck (first_of seat.todo) ≡ gap = ap (λ (u : PlainSeat). (graph_of s.game).struck (first_of u.todo)) read ∙ sym gap_is in
       let low : gap < G = subst (λ g. g < G) at done.gap_in in
       let n : ℕ = slice_index words gap in
       let word : slice_index (take G words) gap ≡ n = get_or-take G words gap 0 low in
@@ -54,9 +51,8 @@ module _ (s : Solving) (w : ℕ) (words : List ℕ) (seats : List PlainSeat) (so
         strikes = record {
           some_todo = some';
           first = ap (λ (u : PlainSeat). first_of u.todo) (sym read);
-          pebble = pebble;
-          dominates = dominates;
           gap = gap;
+          is_gap = low;
           gap_is = gap_is;
           closed_is = ap (λ m. cond (m == 1) (Some gap) None) (sym word);
           after_is = sym same;
@@ -65,11 +61,11 @@ module _ (s : Solving) (w : ℕ) (words : List ℕ) (seats : List PlainSeat) (so
 
   -- a try that found the word open, or the next value
   pub record IsWordWon (c : ℕ) (after : List PlainSeat) : Type 0 where
-    pub is_open : slice_index words (gaps s.board + c) ≡ OPEN
-    pub tries : Tries here id c true (round_of_words s w (set words (gaps s.board + c) (suc s.rounds)) after)
+    pub is_open : slice_index words ((graph_of s.game).gaps + c) ≡ OPEN
+    pub tries : Tries here id c true (round_of_words s w (set words ((graph_of s.game).gaps + c) (suc s.rounds)) after)
 
   pub record IsWordLost (c : ℕ) (after : List PlainSeat) : Type 0 where
-    pub has_next : slice_index words (gaps s.board + c) ≡ suc s.rounds
+    pub has_next : slice_index words ((graph_of s.game).gaps + c) ≡ suc s.rounds
     pub tries : Tries here id c false (round_of_words s w words after)
 
   pub word-try : (after : Bool → List PlainSeat) → suc s.rounds ≢ OPEN → 0 < length v.owed → ((won : Bool) → set seats id (seat_tried won v) ≡ after won)
@@ -77,7 +73,7 @@ module _ (s : Solving) (w : ℕ) (words : List ℕ) (seats : List PlainSeat) (so
   word-try after small some after_is =
       let seat : PlainSeat = get_or seats id spent_seat in
       let c : ℕ = first_of v.owed in
-      let G : ℕ = gaps s.board in
+      let G : ℕ = (graph_of s.game).gaps in
       let r : ℕ = suc s.rounds in
       let old : List (Option ℕ) = map value_of_word (drop G words) in
       let some' : 0 < length seat.owed = subst (λ (u : PlainSeat). 0 < length u.owed) (sym read) some in

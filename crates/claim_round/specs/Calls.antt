@@ -1,8 +1,7 @@
 -- The answers and the effects of a round's calls.
 use Rattle.std.specs.Prelude.{◌≡◌, ℕ, suc, ◌<◌, ◌≤◌, ◌==◌, Bool, cond, [], ◌∷◌, ◌++◌, Option, Some, None}
-use Rattle.positions.specs.Ranks.{configuration_at}
-use Rattle.positions.specs.Gaps.{gap_of, IsDominator}
-use Rattle.solver.specs.Solving.{Solving, AreToStrike}
+use Rattle.graphs.specs.Numbered.{graph_of}
+use Rattle.solver.specs.Solving.{Solving, to_strike}
 use Rattle.retro_core.specs.declared.step.Seen.{Seen}
 use Rattle.retro_core.specs.declared.step.Seen.TheVariants as seen
 use Rattle.retro_core.specs.Round.{first_of, seat_struck, seat_tried}
@@ -13,7 +12,7 @@ pub record Opens (s : Solving) (width : ℕ) (round : RoundId) (seat : SeatId) :
   pub key_is : round.key ≡ record { solving = s; width = width }
   pub table_is : seat.table ≡ round.table
   pub seat_key : seat.view.key ≡ record { solving = s; width = width }
-  pub to_strike : AreToStrike s seat.view.has.todo
+  pub to_strike_is : seat.view.has.todo ≡ to_strike s
   pub no_owed : seat.view.has.owed ≡ []
   pub no_won : seat.view.has.won ≡ []
   pub wide : seat.view.has.width ≡ width
@@ -27,15 +26,14 @@ pub record IsNextAnswer (before : View) (answer : Seen) (after : View) : Type 0 
   pub made_is : after.made ≡ before.made ++ (index, answer) ∷ []
   pub since_is : after.since ≡ suc index
 
--- the first that the seat had to strike was struck in the gap of the pebble that dominates there,
--- whose count was found. With the last the gap is closed, and its open members are owed. The answer
+-- the first that the seat had to strike was struck in the gap in which it is an answer, whose count
+-- was found. With the last the gap is closed, and its open members are owed. The answer
 -- has its index in the history
 pub record HasStruck (before : View) (config : ℕ) (closed : Option ℕ) (after : View) : Type 0 where
   pub first : config ≡ first_of before.has.todo
-  pub pebble : ℕ
-  pub dominates : IsDominator before.key.solving.board (configuration_at before.key.solving.board config) pebble
   pub gap : ℕ
-  pub gap_is : gap ≡ gap_of before.key.solving.board (configuration_at before.key.solving.board config) pebble
+  pub is_gap : gap < (graph_of before.key.solving.game).gaps
+  pub gap_is : gap ≡ (graph_of before.key.solving.game).struck config
   pub count : ℕ
   pub some_left : 0 < count
   pub closed_is : closed ≡ cond (count == 1) (Some gap) None

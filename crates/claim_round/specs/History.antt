@@ -1,12 +1,12 @@
 -- The history of a shared round: the steps of one run of the machine, in which each call of each
 -- seat has its index.
 use Rattle.std.specs.Prelude.{◌≡◌, ℕ, ◌<◌, ◌≤◌, false, true, List, map, length, slice_index, Option, Some, None}
+use Rattle.graphs.specs.Numbered.{graph_of}
 use Rattle.std.specs.List.{All, Contains, sum_by}
 use Rattle.index_lists.specs.Lists.{times}
 use Rattle.retro_core.specs.declared.step.Step.{Step}
 use Rattle.retro_core.specs.declared.step.Seen.{Seen}
 use Rattle.retro_core.specs.declared.step.Seen.TheVariants as seen
-use Rattle.positions.specs.Gaps.{gaps}
 use Rattle.solver.specs.Solving.{Solving, AnswerLasts}
 use Rattle.solver.specs.Words.{AreFirstCounts}
 use Rattle.retro_core.specs.Round.{PlainSeat, Round, IsOpening, IsWorkedOff, all_won}
@@ -81,5 +81,5 @@ pub record TellsClosedGaps (s : Solving) (made : List (ℕ × Seen)) (counts : L
   pub once : (gap index other config another : ℕ) → Contains made (index, seen.Struck config (Some gap))
       → Contains made (other, seen.Struck another (Some gap)) → index ≡ other
   pub only : (gap index config : ℕ) → Contains made (index, seen.Struck config (Some gap)) → slice_index counts gap ≡ 0
-  pub always : (gap label : ℕ) → gap < gaps s.board → AnswerLasts s.board gap s.rounds label → slice_index counts gap ≡ 0
+  pub always : (gap label : ℕ) → gap < (graph_of s.game).gaps → AnswerLasts s.game gap s.rounds label → slice_index counts gap ≡ 0
       → (index : ℕ) × (config : ℕ) × Contains made (index, seen.Struck config (Some gap))

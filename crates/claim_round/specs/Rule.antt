@@ -1,9 +1,9 @@
 -- The rule of a round's table, which holds between any two steps of any threads.
 use Rattle.std.specs.Prelude.{◌≡◌, ℕ, ◌+◌, ◌*◌, ◌<◌, ◌≤◌, Bool, [], length}
+use Rattle.graphs.specs.declared.graph.Numbering.TheVariants.{Ordered}
+use Rattle.graphs.specs.Numbered.{numbered, graph_of}
 use Rattle.std.specs.List.{All, sum_by}
 use Rattle.atomic_table.specs.Table.{State}
-use Rattle.board_text.specs.PlainBoard.{places}
-use Rattle.positions.specs.Ranks.{configurations}
 use Rattle.solver.specs.Solving.{IsSolving}
 use Rattle.retro_core.specs.Round.{spent_seat}
 use Rattle.claim_round.specs.Shared.{Key, View}
@@ -14,11 +14,11 @@ Unit0 = Unit {0}
 
 -- no gap has more members
 abbrev pub most_members : Key → ℕ
-most_members k = places k.solving.board
+most_members k = (graph_of k.solving.game).places
 
 -- no round wins more configurations
 abbrev pub size : Key → ℕ
-size k = configurations k.solving.board
+size k = (graph_of k.solving.game).configurations
 
 -- a bound on the entries that a seat may still owe: those that it owes, and `most` members of a gap
 -- for each configuration that it has to strike
@@ -42,7 +42,7 @@ pub record Kept (k : Key) (s : State Unit0 View) : Type 0 where
 abbrev pub no_key : Key
 no_key = record {
   solving = record {
-    board = record { labels = 0; pebbles = 0; start = []; pairs = [] };
+    game = numbered (record { labels = 0; pebbles = 0; start = []; pairs = [] }) Ordered;
     rounds = 0;
     is_done = Bool.false;
     buckets = [];

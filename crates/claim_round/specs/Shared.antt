@@ -1,10 +1,10 @@
 -- A shared round as clauses see it: its key, its seats, how these split and join, and how it ends.
 use Rattle.std.specs.Prelude.{◌≡◌, ℕ, suc, max, ◌<◌, ◌≤◌, ◌↔◌, List, [], ◌++◌, length}
+use Rattle.graphs.specs.Numbered.{graph_of, configuration_of}
 use Rattle.std.specs.Prelude.{slice_index_or, Option, Some, None}
 use Rattle.atomic_table.specs.Seated.{TableId}
 use Rattle.positions.specs.declared.value.Value.TheVariants.{Finite}
 use Rattle.positions.specs.Value.{HasValue}
-use Rattle.positions.specs.Ranks.{configurations, configuration_at}
 use Rattle.solver.specs.Solving.{Solving}
 use Rattle.retro_core.specs.Round.{PlainSeat}
 use Rattle.retro_core.specs.Round.{seat_kept, seat_new, seat_joined}
@@ -78,6 +78,6 @@ IsClosedBy r p e = (p.view.has.width ≡ r.key.width) × (p.view.has.todo ≡ []
 -- the round of this solver is finished
 pub record Finishes (s : Solving) (e : Ended) : Type 0 where
   pub end : IsRoundEnd s e.won e.counts
-  pub wide : length e.values ≡ configurations s.board
-  pub values : (rank value : ℕ) → rank < configurations s.board → (slice_index_or e.values rank None ≡ Some value)
-      ↔ ((value ≤ suc s.rounds) × HasValue s.board (configuration_at s.board rank) (Finite value))
+  pub wide : length e.values ≡ (graph_of s.game).configurations
+  pub values : (rank value : ℕ) → rank < (graph_of s.game).configurations → (slice_index_or e.values rank None ≡ Some value)
+      ↔ ((value ≤ suc s.rounds) × HasValue s.game.board (configuration_of s.game rank) (Finite value))

@@ -106,7 +106,7 @@ impl<'a, S: ListStore> SharedRound<'a, S> {
     {
         let words = first_words(alloc, solver)?;
         let ranks = solver.to_strike(alloc)?;
-        let most = solver.space().places() as usize;
+        let most = solver.graph().places() as usize;
         let owed = VecDeque::with_capacity(alloc, most)?;
         let won = Vec::with_capacity(alloc, won_capacity(solver, most * ranks.len()))?;
         let todo = VecDeque::from_vec(ranks);
@@ -128,8 +128,8 @@ impl<'a, S: ListStore> SharedRound<'a, S> {
         Ok((round, seat))
     }
 
-    /// Strikes the first configuration that `seat` has to strike: one step on the count of its
-    /// dominator's gap.
+    /// Strikes the first configuration that `seat` has to strike: one step on the count of the gap
+    /// in which it is an answer.
     pub fn strike(&self, seat: &mut RoundSeat) -> Struck
         requires mine { IsOf self.now seat.old }
         requires todo { 0 < length seat.old.view.has.todo }
@@ -140,10 +140,9 @@ impl<'a, S: ListStore> SharedRound<'a, S> {
         let Some(config) = seat.todo.pop_front() else {
             unreachable!();
         };
-        let Some(pebble) = self.solver.dominator(config) else {
+        let Some(gap) = self.solver.graph().struck(config) else {
             unreachable!();
         };
-        let gap = self.solver.space().gap(config, pebble);
         let found = self
             .table
             .shared
@@ -172,7 +171,7 @@ impl<'a, S: ListStore> SharedRound<'a, S> {
         let Some(config) = seat.owed.pop_front() else {
             unreachable!();
         };
-        let word = self.solver.space().gaps() as usize + config as usize;
+        let word = self.solver.graph().gaps() as usize + config as usize;
         let next = u64::from(self.solver.round_number()) + 1;
         let found = self
             .table
@@ -199,7 +198,7 @@ impl<'a, S: ListStore> SharedRound<'a, S> {
     {
         let moved = seat.todo.len() / 2;
         let kept = seat.todo.len() - moved;
-        let most = self.solver.space().places() as usize;
+        let most = self.solver.graph().places() as usize;
         let Ok(owed) = VecDeque::with_capacity(self.alloc, most) else {
             return Err((seat, Memory));
         };
@@ -242,7 +241,7 @@ impl<'a, S: ListStore> SharedRound<'a, S> {
         ensures apart { IfOk result (λ r. (x : ℕ) → times x r.view.has.won ≤ 1) }
         ensures err { IfErr result (λ r. (r.0 ≡ into) × (r.1 ≡ from)) }
     {
-        let most = self.solver.space().places() as usize;
+        let most = self.solver.graph().places() as usize;
         let own = into.owed.len() + most * into.todo.len();
         let other = from.won.len() + from.owed.len() + most * from.todo.len();
         if !make_room(&mut into.todo, from.todo.len()) {
@@ -318,7 +317,7 @@ impl<'a, S: ListStore> SharedRound<'a, S> {
             width: _,
         } = seat;
         Ok(Closed {
-            gaps: solver.space().gaps() as usize,
+            gaps: solver.graph().gaps() as usize,
             rows: table.close_with(seat),
             won,
         })

@@ -12,7 +12,7 @@ use Rattle.retro_core.specs.declared.step.Seen.{Seen}
 use Rattle.retro_core.specs.declared.step.Seen.TheVariants as seen
 use Rattle.retro_core.specs.Stepping.{Does, LeadTo}
 use Rattle.retro_core.specs.History.{answer_at, IsClosedAt}
-use Rattle.solver.proofs.Cited.{same_or_not}
+use Rattle.graphs.proofs.Cited.{same_or_not}
 use Rattle.retro_core.proofs.SeatSums.{total-set, total-cut, total-glue, times-together}
 use Rattle.retro_core.proofs.RoundLaws.{seat-there}
 use Rattle.retro_core.proofs.RoundSteps.{stepped, try-lawful}

@@ -4,9 +4,8 @@ use Rattle.std.specs.Option.{is_none}
 use Rattle.std.proofs.lemmas.Bool.Decides.{nat_tests}
 use Rattle.std.proofs.Math.ListN.{get_or-map}
 use Rattle.std.proofs.lemmas.List.{get_or_default, length-map, map-set, set_comm, set-set, set-append_left, set-get_or}
-use Rattle.positions.specs.Ranks.{configuration_at}
-use Rattle.positions.specs.Gaps.{gap_of, IsDominator}
-use Rattle.positions.specs.Counts.{IsSmallest}
+use Rattle.graphs.specs.Graph.{PlainGraph}
+use Rattle.graphs.specs.Numbered.{graph_of}
 use Rattle.solver.specs.declared.word.TheConstants.{OPEN}
 use Rattle.solver.specs.Solving.{Solving, IsSolving}
 use Rattle.solver.specs.Words.{value_of_word}
@@ -49,36 +48,29 @@ module _ (s : Solving) (w : ℕ) (counts : List ℕ) (values : List (Option ℕ)
 
   -- ---- strike
 
-  pub due-read : (v : PlainSeat) (ranks : List ℕ) → v ≡ get_or seats id v → ranks ≡ v.todo → 0 < length ranks → IsDue s.board (get_or ranks 0 0) s.rounds
+  pub due-read : (v : PlainSeat) (ranks : List ℕ) → v ≡ get_or seats id v → ranks ≡ v.todo → 0 < length ranks → IsDue s.game (get_or ranks 0 0) s.rounds
   due-read v ranks v_is e some =
       let todo = read-list (λ u. u.todo) v ranks v_is e in
-      subst (λ (l : List ℕ). IsDue s.board (get_or l 0 0) s.rounds) (sym todo) (first-due here law id (subst (λ (l : List ℕ). 0 < length l) todo some))
-
-  -- the first configuration to strike has a dominator
-  pub dominated : (v : PlainSeat) (ranks : List ℕ) (found : Option ℕ) → v ≡ get_or seats id v → ranks ≡ v.todo → 0 < length ranks
-      → IsSmallest (IsDominator s.board (configuration_at s.board (get_or ranks 0 0))) found → found ≡ None → ⊥
-  dominated v ranks found v_is e some smallest none =
-      let due = due-read v ranks v_is e some in
-      subst (IsSmallest (IsDominator s.board (configuration_at s.board (get_or ranks 0 0)))) none smallest due.pebble due.dominates
+      subst (λ (l : List ℕ). IsDue s.game (get_or l 0 0) s.rounds) (sym todo) (first-due here law id (subst (λ (l : List ℕ). 0 < length l) todo some))
 
   pub record IsStriking (ranks : List ℕ) (gap count : ℕ) (after : PlainSeat) (closed : Option ℕ) : Type 0 where
     pub some_left : 0 < count
     pub lawful : IsLawful (round_of s w (set counts gap (count - 1)) values (set seats id after))
     pub strikes : closed ≡ cond (count == 1) (Some gap) None → Strikes old id (get_or ranks 0 0) closed (round_of s w (set counts gap (count - 1)) values (set seats id after))
 
-  pub striking : (v : PlainSeat) (ranks : List ℕ) (pebble gap count : ℕ) (v' after : PlainSeat) (closed : Option ℕ) → v ≡ get_or seats id v → ranks ≡ v.todo → 0 < length ranks
-      → IsDominator s.board (configuration_at s.board (get_or ranks 0 0)) pebble → gap ≡ gap_of s.board (configuration_at s.board (get_or ranks 0 0)) pebble → count ≡ get_or counts gap 0
+  pub striking : (v : PlainSeat) (ranks : List ℕ) (gap count : ℕ) (v' after : PlainSeat) (closed : Option ℕ) → v ≡ get_or seats id v → ranks ≡ v.todo → 0 < length ranks
+      → gap < (graph_of s.game).gaps → gap ≡ (graph_of s.game).struck (get_or ranks 0 0) → count ≡ get_or counts gap 0
       → v' ≡ get_or seats id v' → after ≡ seat_struck s gap count v' → IsStriking ranks gap count after closed
-  striking v ranks pebble gap count v' after closed v_is e some dominates gap_is count_is v'_is after_is =
-      let b = s.board in
+  striking v ranks gap count v' after closed v_is e some in_gaps gap_is count_is v'_is after_is =
+      let a : PlainGraph = graph_of s.game in
       let seat : PlainSeat = get_or seats id spent_seat in
       let todo : ranks ≡ seat.todo = read-list (λ u. u.todo) v ranks v_is e in
       let some' : 0 < length seat.todo = subst (λ (l : List ℕ). 0 < length l) todo some in
-      let dominates' : IsDominator b (configuration_at b (first_of seat.todo)) pebble = subst (λ (l : List ℕ). IsDominator b (configuration_at b (get_or l 0 0)) pebble) todo dominates in
-      let gap_same : gap_of b (configuration_at b (first_of seat.todo)) pebble ≡ gap = ap (λ (l : List ℕ). gap_of b (configuration_at b (get_or l 0 0)) pebble) (sym todo) ∙ sym gap_is in
-      let done = strike-lawful here sol law id pebble some' dominates' in
+      let gap_same : a.struck (first_of seat.todo) ≡ gap = ap (λ (l : List ℕ). a.struck (get_or l 0 0)) (sym todo) ∙ sym gap_is in
+      let done = strike-lawful here sol law id some' in
       let left : 0 < get_or counts gap 0 = subst (λ g. 0 < get_or counts g 0) gap_same done.some_left in
-      let seat_is : after ≡ seat_struck s gap (get_or counts gap 0) seat = after_is ∙ ap (seat_struck s gap count) (seat-read seats id v' wide v'_is) ∙ ap (λ n. seat_struck s gap n seat) count_is in
+      let seat_is : after ≡ seat_struck s gap (get_or counts gap 0) seat =
+      after_is ∙ ap (seat_struck s gap count) (seat-read seats id v' wide v'_is) ∙ ap (λ n. seat_struck s gap n seat) count_is in
       let same : round_struck here id gap ≡ round_of s w (set counts gap (count - 1)) values (set seats id after) =
       ap (λ n. round_of s w (set counts gap (n - 1)) values (set seats id (seat_struck s gap (get_or counts gap 0) seat))) (sym count_is)
       ∙ ap (λ u. round_of s w (set counts gap (count - 1)) values (set seats id u)) (sym seat_is) in
@@ -88,9 +80,8 @@ module _ (s : Solving) (w : ℕ) (counts : List ℕ) (values : List (Option ℕ)
         strikes = λ closed_is. subst (λ r. Strikes r id (get_or ranks 0 0) closed (round_of s w (set counts gap (count - 1)) values (set seats id after))) is (record {
           some_todo = some';
           first = ap (λ (l : List ℕ). get_or l 0 0) todo;
-          pebble = pebble;
-          dominates = dominates;
           gap = gap;
+          is_gap = in_gaps;
           gap_is = gap_is;
           closed_is = closed_is ∙ ap (λ n. cond (n == 1) (Some gap) None) count_is;
           after_is = sym same;
@@ -98,17 +89,18 @@ module _ (s : Solving) (w : ℕ) (counts : List ℕ) (values : List (Option ℕ)
       }
 
   -- a strike that closes its gap takes memory, so it may be refused
-  pub closing : (v : PlainSeat) (ranks : List ℕ) (pebble gap count : ℕ) → v ≡ get_or seats id v → ranks ≡ v.todo → 0 < length ranks
-      → IsDominator s.board (configuration_at s.board (get_or ranks 0 0)) pebble → gap ≡ gap_of s.board (configuration_at s.board (get_or ranks 0 0)) pebble → count ≡ get_or counts gap 0
+  pub closing : (v : PlainSeat) (ranks : List ℕ) (gap count : ℕ) → v ≡ get_or seats id v → ranks ≡ v.todo → 0 < length ranks
+      → gap < (graph_of s.game).gaps → gap ≡ (graph_of s.game).struck (get_or ranks 0 0) → count ≡ get_or counts gap 0
       → count ≡ 1 → Refuses old (steps.Strike id) faults.Memory
-  closing v ranks pebble gap count v_is e some dominates gap_is count_is one =
+  closing v ranks gap count v_is e some in_gaps gap_is count_is one =
+      let a : PlainGraph = graph_of s.game in
       let todo : ranks ≡ (get_or seats id spent_seat).todo = read-list (λ u. u.todo) v ranks v_is e in
+      let gap_same : gap ≡ a.struck (first_of (get_or seats id spent_seat).todo) = gap_is ∙ ap (λ (l : List ℕ). a.struck (get_or l 0 0)) todo in
       subst (λ r. (0 < length (seat_at r id).todo) × ClosesGap r id) is (
         subst (λ (l : List ℕ). 0 < length l) todo some,
         record {
-          pebble = pebble;
-          dominates = subst (λ (l : List ℕ). IsDominator s.board (configuration_at s.board (get_or l 0 0)) pebble) todo dominates;
-          last = ap (λ (l : List ℕ). get_or counts (gap_of s.board (configuration_at s.board (get_or l 0 0)) pebble) 0) (sym todo) ∙ ap (λ g. get_or counts g 0) (sym gap_is) ∙ sym count_is ∙ one;
+          struck = subst (λ g. g < a.gaps) gap_same in_gaps;
+          last = ap (λ g. get_or counts g 0) (sym gap_same) ∙ sym count_is ∙ one;
         },
       )
 

@@ -5,19 +5,18 @@ use Rattle.std.proofs.lemmas.Option.{get_or_from_slice_get}
 use Rattle.std.specs.List.{All, sum_by}
 use Rattle.std.proofs.lemmas.List.{get_or_default, get_or_past}
 use Rattle.index_lists.specs.Lists.{times}
-use Rattle.board_text.specs.PlainBoard.{PlainBoard, IsBoard, places}
+use Rattle.board_text.specs.PlainBoard.{IsBoard}
 use Rattle.positions.specs.declared.value.Value.TheVariants.{Finite}
-use Rattle.positions.specs.Ranks.{configurations, rank_of, configuration_at}
-use Rattle.positions.specs.Gaps.{gaps, member_of, IsAnswer}
 use Rattle.positions.specs.Counts.{HasSize}
 use Rattle.positions.proofs.Cited.{same_size, same_value}
-use Rattle.solver.specs.Inside.Arena.{live_answers, lasts}
-use Rattle.solver.specs.Inside.BoardArena.{arena_of}
-use Rattle.solver.specs.Solving.{Solving, IsSolving, AnswerLasts, source, IsWorth}
+use Rattle.graphs.specs.Graph.{PlainGraph, live_answers, lasts}
+use Rattle.graphs.specs.Numbered.{Numbered, graph_of, configuration_of}
+use Rattle.graphs.proofs.Cited.{numbered-is, same_or_not, some_same}
+use Rattle.solver.specs.Solving.{Solving, IsSolving, IsAnswerAt, AnswerLasts, source, IsWorth}
+use Rattle.solver.specs.Striking.{stands, tally}
 use Rattle.retro_core.specs.Round.{PlainSeat, Round, spent_seat, all_todo, all_owed, all_won, IsDue, IsLawful}
-use Rattle.retro_core.proofs.Rules.{Fits, tally, home_among, value_before, rules_of, held_in, AreKept}
-use Rattle.solver.proofs.Cited.{same_or_not, some_same, arena_is, live-size, above-size, stands, stands-true, stands-some}
-use Rattle.retro_core.proofs.Homes.{live-tally}
+use Rattle.retro_core.proofs.Rules.{Fits, value_before, rules_of, held_in, AreKept}
+use Rattle.solver.proofs.Cited.{live-size, live-tally, above-size, stands-true, stands-some}
 use Rattle.retro_core.proofs.SeatSums.{total-sum, times-together, tally-together}
 use Rattle.retro_core.proofs.SeatSteps.{word_none, word_some}
 use Rattle.retro_core.proofs.RoundStart.{same-word, base-is, to-win-is, struck-in-is}
@@ -50,13 +49,15 @@ abbrev pub RoundKept : Round → Type 0
 RoundKept round = AreKept (rules_of round.solving round.width) (slice_index round.counts) (word_at round) round.seats
 
 -- the tally of a gap is the number of its answers that lead into the list
-pub waiting-size : (b : PlainBoard) → IsBoard b → (ranks : List ℕ) (g : ℕ) → g < gaps b → ((x : ℕ) → 0 < times x ranks → x < configurations b) → ((x : ℕ) → times x ranks ≤ 1)
-    → HasSize (λ label. IsAnswer b g label × (0 < times (rank_of b (member_of b g label)) ranks)) (tally (λ x. home_among (arena_of b) x b.pebbles) g ranks)
-waiting-size b board_is ranks g i inside once =
-    subst (HasSize (λ label. IsAnswer b g label × (0 < times (rank_of b (member_of b g label)) ranks))) (live-tally (arena_of b) (arena_is b board_is) g ranks i inside once)
-    (live-size b g (stands ranks) (λ v. 0 < times (rank_of b (member_of b g v)) ranks) i (λ v j. (
-      λ e. stands-some ranks (rank_of b (member_of b g v)) e,
-      λ h. stands-true ranks (rank_of b (member_of b g v)) h,
+pub waiting-size : (n : Numbered) → IsBoard n.board → (ranks : List ℕ) (g : ℕ) → g < (graph_of n).gaps
+    → ((x : ℕ) → 0 < times x ranks → x < (graph_of n).configurations) → ((x : ℕ) → times x ranks ≤ 1)
+    → HasSize (λ place. IsAnswerAt (graph_of n) g place × (0 < times ((graph_of n).member g place) ranks)) (tally (graph_of n).struck g ranks)
+waiting-size n board_is ranks g i inside once =
+    let a : PlainGraph = graph_of n in
+    subst (HasSize (λ place. IsAnswerAt a g place × (0 < times (a.member g place) ranks))) (live-tally a (numbered-is n board_is) g ranks i inside once)
+    (live-size a g (stands ranks) (λ v. 0 < times (a.member g v) ranks) (λ v j. (
+      λ e. stands-some ranks (a.member g v) e,
+      λ h. stands-true ranks (a.member g v) h,
     )))
 
 same_number : (m n : ℕ) → Finite m ≡ Finite n → m ≡ n
@@ -68,17 +69,17 @@ held-times round x =
     let s = total-sum (λ v. times x v.owed) (λ v. times x v.won) round.seats in
     let o = times-together x (λ v. v.owed) round.seats in let w = times-together x (λ v. v.won) round.seats in omega arith
 
-pub lawful-of : (round : Round) → IsSolving round.solving → length round.counts ≡ gaps round.solving.board → length round.values ≡ configurations round.solving.board → RoundKept round → IsLawful round
+pub lawful-of : (round : Round) → IsSolving round.solving → length round.counts ≡ (graph_of round.solving.game).gaps → length round.values ≡ (graph_of round.solving.game).configurations → RoundKept round → IsLawful round
 lawful-of round sol counts_length values_length kept =
-    let b = round.solving.board in
+    let n : Numbered = round.solving.game in
     let r = round.solving.rounds in
     let k = rules_of round.solving round.width in
     let won_times = λ (x : ℕ). times-together x (λ v. v.won) round.seats in
     let todo_times = λ (x : ℕ). times-together x (λ v. v.todo) round.seats in
     let held_times = held-times round in
-    let due : (x : ℕ) → 0 < times x (all_todo round) → IsDue b x r = λ x h. (struck-in-is round.solving sol round.width x).0 (kept.due x (let t = todo_times x in omega arith)) in
-    let next : (x : ℕ) → 0 < sum_by (held_in x) round.seats → IsWorth b x (suc r) = λ x h. (to-win-is round.solving sol round.width x).0 (kept.next x h) in
-    let worth : (x : ℕ) → 0 < times x (all_won round) → IsWorth b x (suc r) = λ x h. next x (let t = held_times x in omega arith) in
+    let due : (x : ℕ) → 0 < times x (all_todo round) → IsDue n x r = λ x h. (struck-in-is round.solving sol round.width x).0 (kept.due x (let t = todo_times x in omega arith)) in
+    let next : (x : ℕ) → 0 < sum_by (held_in x) round.seats → IsWorth n x (suc r) = λ x h. (to-win-is round.solving sol round.width x).0 (kept.next x h) in
+    let worth : (x : ℕ) → 0 < times x (all_won round) → IsWorth n x (suc r) = λ x h. next x (let t = held_times x in omega arith) in
     let once : (x : ℕ) → times x (all_todo round) ≤ 1 = λ x. let t = todo_times x in let o = kept.due_once x in omega arith in
     record {
       counts_length = counts_length;
@@ -90,9 +91,9 @@ lawful-of round sol counts_length values_length kept =
           elim (same_or_not T 0) [
             | inl none ↦ (
                 let base = word ∙ word_none k x T none in (
-                  λ e. inl ((base-is b sol.is_board r x v i).0 (sym base ∙ e)),
+                  λ e. inl ((base-is n sol.is_board r x v i).0 (sym base ∙ e)),
                   λ h. elim h [
-                    | inl has ↦ base ∙ (base-is b sol.is_board r x v i).1 has
+                    | inl has ↦ base ∙ (base-is n sol.is_board r x v i).1 has
                     | inr has ↦ absurd (let some = has.1 in omega arith)
                   ],
                 ))
@@ -101,7 +102,7 @@ lawful-of round sol counts_length values_length kept =
                   λ e. inr (sym (some_same (suc r) v (sym next_word ∙ e)), omega arith),
                   λ h. elim h [
                     | inl has ↦ absurd (
-                        let same : suc r ≡ v = same_number (suc r) v (same_value b (configuration_at b x) (Finite (suc r)) (Finite v) (worth x (omega arith)).has_value has.1) in
+                        let same : suc r ≡ v = same_number (suc r) v (same_value n.board (configuration_of n x) (Finite (suc r)) (Finite v) (worth x (omega arith)).has_value has.1) in
                         let low : v ≤ r = has.0 in omega arith)
                     | inr has ↦ next_word ∙ ap Some (sym has.0)
                   ],
@@ -112,15 +113,15 @@ lawful-of round sol counts_length values_length kept =
       counts = λ g i. record {
         above = k.live g;
         waiting = tally k.home g (all_todo round);
-        are_above = above-size b sol.is_board (suc r) g i;
-        are_waiting = waiting-size b sol.is_board (all_todo round) g i (λ x h. (due x h).worth.is_rank) once;
+        are_above = above-size n sol.is_board (suc r) g i;
+        are_waiting = waiting-size n sol.is_board (all_todo round) g i (λ x h. (due x h).worth.is_rank) once;
         sum = (let c = kept.counts g i in let t = tally-together k.home g (λ v. v.todo) round.seats in omega arith);
       };
       owed = λ x h. next x (let t = held_times x in omega arith);
       won = worth;
       won_once = λ x. let w = won_times x in let o = kept.won_once x in omega arith;
       closed = λ g v i none low tree.
-          let x : ℕ = rank_of b (member_of b g v) in
+          let x : ℕ = (graph_of n).member g v in
           let held = kept.closed g x i none ((sol.sources.listed g v i low).1 tree) in
           let t = held_times x in
           elim (cases_lt 0 (times x (all_owed round))) [
@@ -132,20 +133,20 @@ lawful-of round sol counts_length values_length kept =
     }
 
 -- the count of a lawful round is the number of answers above its value and of those still to strike
-count-is : (round : Round) → IsSolving round.solving → IsLawful round → (g : ℕ) → g < gaps round.solving.board
-    → slice_index round.counts g ≡ live_answers (arena_of round.solving.board) (lasts (arena_of round.solving.board) (suc round.solving.rounds)) g + tally (λ x. home_among (arena_of round.solving.board) x round.solving.board.pebbles) g (all_todo round)
+count-is : (round : Round) → IsSolving round.solving → IsLawful round → (g : ℕ) → g < (graph_of round.solving.game).gaps
+    → slice_index round.counts g ≡ live_answers (graph_of round.solving.game) (lasts (graph_of round.solving.game) (suc round.solving.rounds)) g + tally (graph_of round.solving.game).struck g (all_todo round)
 count-is round sol law g i =
-    let b = round.solving.board in
+    let n : Numbered = round.solving.game in
     let count = law.counts g i in
-    let above = same_size (AnswerLasts b g (suc round.solving.rounds)) count.above (live_answers (arena_of b) (lasts (arena_of b) (suc round.solving.rounds)) g) count.are_above (above-size b sol.is_board (suc round.solving.rounds) g i) in
-    let waiting = same_size (λ label. IsAnswer b g label × (0 < times (rank_of b (member_of b g label)) (all_todo round))) count.waiting (tally (λ x. home_among (arena_of b) x b.pebbles) g (all_todo round)) count.are_waiting
-    (waiting-size b sol.is_board (all_todo round) g i (λ x h. (law.due x h).worth.is_rank) law.due_once) in
+    let above = same_size (AnswerLasts n g (suc round.solving.rounds)) count.above (live_answers (graph_of n) (lasts (graph_of n) (suc round.solving.rounds)) g) count.are_above (above-size n sol.is_board (suc round.solving.rounds) g i) in
+    let waiting = same_size (λ place. IsAnswerAt (graph_of n) g place × (0 < times ((graph_of n).member g place) (all_todo round))) count.waiting (tally (graph_of n).struck g (all_todo round)) count.are_waiting
+    (waiting-size n sol.is_board (all_todo round) g i (λ x h. (law.due x h).worth.is_rank) law.due_once) in
     let sum = count.sum in
     omega arith
 
 pub kept-of : (round : Round) → IsSolving round.solving → IsLawful round → RoundKept round
 kept-of round sol law =
-    let b = round.solving.board in
+    let n : Numbered = round.solving.game in
     let r = round.solving.rounds in
     let k = rules_of round.solving round.width in
     let won_times = λ (x : ℕ). times-together x (λ v. v.won) round.seats in
@@ -171,7 +172,7 @@ kept-of round sol law =
       won_once = λ x. let w = won_times x in let o = law.won_once x in omega arith;
       closed = λ g x i none there.
           let m = sol.sources.members g x i there in
-          let low : m.0 < places b = m.1 in
+          let low : m.0 < (graph_of n).places = m.1 in
           let tree = (sol.sources.listed g m.0 i low).0 (subst (λ y. 0 < times y (source round.solving g)) m.2 there) in
           let t = held_times x in
           elim (law.closed g m.0 i none low tree) [
@@ -184,24 +185,24 @@ kept-of round sol law =
           here ∙ law.spent_seats id (sym (ap (λ (u : PlainSeat). u.width) here) ∙ none);
     }
   where
-    same-base : (x : ℕ) → x < configurations round.solving.board → times x (all_won round) ≡ 0 → word_at round x ≡ value_before (arena_of round.solving.board) round.solving.rounds x
-    same-base x i none = same-word (word_at round x) (value_before (arena_of round.solving.board) round.solving.rounds x)
+    same-base : (x : ℕ) → x < (graph_of round.solving.game).configurations → times x (all_won round) ≡ 0 → word_at round x ≡ value_before (graph_of round.solving.game) round.solving.rounds x
+    same-base x i none = same-word (word_at round x) (value_before (graph_of round.solving.game) round.solving.rounds x)
         (λ v e. elim ((law.values x v i).0 e) [
-          | inl has ↦ (base-is round.solving.board sol.is_board round.solving.rounds x v i).1 has
+          | inl has ↦ (base-is round.solving.game sol.is_board round.solving.rounds x v i).1 has
           | inr has ↦ absurd (let some = has.1 in omega arith)
         ])
-        (λ v e. (law.values x v i).1 (inl ((base-is round.solving.board sol.is_board round.solving.rounds x v i).0 e)))
+        (λ v e. (law.values x v i).1 (inl ((base-is round.solving.game sol.is_board round.solving.rounds x v i).0 e)))
 
 -- ---- open members
 
 -- an open member of a gap is a configuration, and is listed once
-pub source-rank : (s : Solving) → IsSolving s → (g rank : ℕ) → g < gaps s.board → 0 < times rank (source s g) → rank < configurations s.board
+pub source-rank : (s : Solving) → IsSolving s → (g rank : ℕ) → g < (graph_of s.game).gaps → 0 < times rank (source s g) → rank < (graph_of s.game).configurations
 source-rank s sol g rank i h =
     let m = sol.sources.members g rank i h in
-    subst (λ x. x < configurations s.board) (sym m.2) ((arena_is s.board sol.is_board).member_in g m.0 i m.1)
+    subst (λ x. x < (graph_of s.game).configurations) (sym m.2) ((numbered-is s.game sol.is_board).member_in g m.0 i m.1)
 
-pub source-once : (s : Solving) → IsSolving s → (g : ℕ) → g < gaps s.board → (rank : ℕ) → times rank (source s g) ≤ 1
-source-once s sol g i rank = elim (cases_lt rank (configurations s.board)) [
+pub source-once : (s : Solving) → IsSolving s → (g : ℕ) → g < (graph_of s.game).gaps → (rank : ℕ) → times rank (source s g) ≤ 1
+source-once s sol g i rank = elim (cases_lt rank ((graph_of s.game).configurations)) [
   | inl low ↦ sol.sources.once g rank i low
   | inr high ↦ elim (cases_lt 0 (times rank (source s g))) [
     | inl some ↦ absurd (let low = source-rank s sol g rank i some in omega arith)

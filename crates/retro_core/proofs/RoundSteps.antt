@@ -8,12 +8,11 @@ use Rattle.std.proofs.lemmas.List.Sums.{sum_by-cons}
 use Rattle.index_lists.specs.Lists.{times}
 use Rattle.board_text.specs.PlainBoard.{IsBoard}
 use Rattle.positions.specs.Game.{LabellerTree}
-use Rattle.positions.specs.Ranks.{configurations, rank_of, configuration_at}
-use Rattle.positions.specs.Gaps.{gaps, gap_of, member_of, IsAnswer, IsDominator}
-use Rattle.positions.proofs.Cited.{same_size, size_zero, configuration_at_is, gap_below}
-use Rattle.solver.specs.Inside.Arena.{live_answers, lasts}
-use Rattle.solver.specs.Inside.BoardArena.{arena_of}
-use Rattle.solver.specs.Solving.{Solving, IsSolving, AnswerLasts, AreToStrike}
+use Rattle.positions.proofs.Cited.{same_size, size_zero}
+use Rattle.graphs.specs.Graph.{PlainGraph, live_answers, lasts}
+use Rattle.graphs.specs.Numbered.{Numbered, graph_of, configuration_of}
+use Rattle.graphs.proofs.Cited.{next-fails, tree_of_lasts, lasts_of_value}
+use Rattle.solver.specs.Solving.{Solving, IsSolving, IsAnswerAt, AnswerLasts, to_strike}
 use Rattle.solver.specs.Words.{value_of_word, AreFirstCounts, AreFirstValues}
 use Rattle.retro_core.specs.Round.{PlainSeat, Round, spent_seat, seat_at, all_todo, all_owed, all_won, IsDue, IsLawful, round_of}
 use Rattle.retro_core.specs.Round.{opening_round, IsOpening, IsWorkedOff, HasWonAll, first_of}
@@ -24,10 +23,10 @@ use Rattle.retro_core.specs.declared.step.Seen.{Seen}
 use Rattle.retro_core.specs.declared.step.Seen.TheVariants as seen
 use Rattle.retro_core.specs.Stepping.{Does, LeadTo}
 use Rattle.retro_core.proofs.Rules.{rules_of}
-use Rattle.solver.proofs.Cited.{above-size, next-fails, arena_is, at_member, tree_of_lasts, lasts_of_value}
+use Rattle.solver.proofs.Cited.{above-size}
 use Rattle.retro_core.proofs.SeatSums.{total-at, times-together}
 use Rattle.retro_core.proofs.SeatSteps.{strikes, tries, first-known, splits, joins, opens, split_first, times_here}
-use Rattle.retro_core.proofs.RoundStart.{home-is, sound-is, ready-is}
+use Rattle.retro_core.proofs.RoundStart.{sound-is, ready-is}
 use Rattle.retro_core.proofs.RoundLaws.{word_at, seat-there, lawful-of, kept-of}
 
 -- ---- live seats
@@ -41,8 +40,8 @@ wide-with list none round law id some = elim (cases_lt 0 (seat_at round id).widt
 
 -- ---- strike
 
--- the first configuration that a seat has to strike has the round's value and a dominator
-pub first-due : (round : Round) → IsLawful round → (id : ℕ) → 0 < length (seat_at round id).todo → IsDue round.solving.board (first_of (seat_at round id).todo) round.solving.rounds
+-- the first configuration that a seat has to strike has the round's value and is an answer in some gap
+pub first-due : (round : Round) → IsLawful round → (id : ℕ) → 0 < length (seat_at round id).todo → IsDue round.solving.game (first_of (seat_at round id).todo) round.solving.rounds
 first-due round law id some =
     let v = seat_at round id in
     let c : ℕ = first_of v.todo in
@@ -53,33 +52,29 @@ first-due round law id some =
     law.due c (omega arith)
 
 pub record IsStruck (round : Round) (id gap : ℕ) : Type 0 where
-  pub gap_in : gap < gaps round.solving.board
+  pub gap_in : gap < (graph_of round.solving.game).gaps
   pub some_left : 0 < slice_index round.counts gap
   pub lawful : IsLawful (round_struck round id gap)
 
-pub strike-lawful : (round : Round) → IsSolving round.solving → IsLawful round → (id pebble : ℕ) → 0 < length (seat_at round id).todo
-    → IsDominator round.solving.board (configuration_at round.solving.board (first_of (seat_at round id).todo)) pebble
-    → IsStruck round id (gap_of round.solving.board (configuration_at round.solving.board (first_of (seat_at round id).todo)) pebble)
-strike-lawful round sol law id pebble some dominates =
-    let b = round.solving.board in
+pub strike-lawful : (round : Round) → IsSolving round.solving → IsLawful round → (id : ℕ) → 0 < length (seat_at round id).todo
+    → IsStruck round id ((graph_of round.solving.game).struck (first_of (seat_at round id).todo))
+strike-lawful round sol law id some =
     let v = seat_at round id in
     let c : ℕ = first_of v.todo in
     let k = rules_of round.solving round.width in
     let due = first-due round law id some in
-    let i : c < configurations b = due.worth.is_rank in
-    let home : k.home c ≡ gap_of b (configuration_at b c) pebble = home-is round.solving sol c pebble i dominates in
     let wide = wide-with (λ v. v.todo) refl round law id some in
-    let in_gaps : k.home c < gaps b = subst (λ g. g < gaps b) (sym home) (gap_below b (configuration_at b c) pebble (configuration_at_is b c i) dominates.is_pebble) in
+    let in_gaps : k.home c < (graph_of round.solving.game).gaps = due.struck in
     let long = law.counts_length in
     let n : ℕ = slice_index round.counts (k.home c) in
     let done = strikes k (slice_index round.counts) (word_at round) round.seats id v (slice_index (set round.counts (k.home c) (n - 1))) (kept-of round sol law) (seat-there round.seats id wide) wide some
     (get_or-set_same round.counts (k.home c) (n - 1) 0 (omega arith))
     (λ g j ne. get_or-set_other round.counts (k.home c) g (n - 1) 0 ne) in
-    subst (IsStruck round id) home (record {
+    record {
       gap_in = in_gaps;
       some_left = done.some_left;
       lawful = lawful-of (round_struck round id (k.home c)) sol (length-set round.counts (k.home c) (n - 1) ∙ law.counts_length) law.values_length done.kept;
-    })
+    }
 
 -- ---- try
 
@@ -91,14 +86,13 @@ tried_as is_open round seat = record round {
 }
 
 pub record IsTried (round : Round) (id : ℕ) : Type 0 where
-  pub is_rank : first_of (seat_at round id).owed < configurations round.solving.board
+  pub is_rank : first_of (seat_at round id).owed < (graph_of round.solving.game).configurations
   pub word : (word_at round (first_of (seat_at round id).owed) ≡ None) ⊎ (word_at round (first_of (seat_at round id).owed) ≡ Some (suc round.solving.rounds))
   pub not_won : first_is_open round id ≡ false → 0 < times (first_of (seat_at round id).owed) (all_won round)
   pub lawful : IsLawful (round_tried round id)
 
 pub try-lawful : (round : Round) → IsSolving round.solving → IsLawful round → (id : ℕ) → 0 < length (seat_at round id).owed → IsTried round id
 try-lawful round sol law id some =
-    let b = round.solving.board in
     let v = seat_at round id in
     let c : ℕ = first_of v.owed in
     let k = rules_of round.solving round.width in
@@ -118,7 +112,7 @@ try-lawful round sol law id some =
             not_won = λ e. absurd (different (first_is_open round id) opened e);
             lawful = subst (λ (o : Bool). IsLawful (tried_as o round id)) (sym opened)
                 (lawful-of (tried_as true round id) sol law.counts_length (length-set round.values c (Some (suc round.solving.rounds)) ∙ law.values_length)
-                (w.kept (get_or-set_same round.values c (Some (suc round.solving.rounds)) None (let long = law.values_length in let low : c < configurations b = known.0 in omega arith))
+                (w.kept (get_or-set_same round.values c (Some (suc round.solving.rounds)) None (let long = law.values_length in let low : c < (graph_of round.solving.game).configurations = known.0 in omega arith))
                 (λ x j ne. get_or-set_other round.values c x (Some (suc round.solving.rounds)) None ne)));
           })
       | inr lost ↦ (
@@ -150,15 +144,15 @@ join-lawful round sol law into from differ wide other_wide = lawful-of (round_jo
 -- ---- the opening
 
 pub opening-lawful : (s : Solving) → IsSolving s → (width : ℕ) (counts : List ℕ) (values : List (Option ℕ)) (todo : List ℕ) → 0 < width
-    → length counts ≡ gaps s.board → length values ≡ configurations s.board
-    → AreFirstCounts s counts → AreFirstValues s values → AreToStrike s todo → IsOpening s width (opening_round s width counts values todo)
-opening-lawful s sol width counts values todo some_width counts_length values_length counts_are values_are to_strike = record {
+    → length counts ≡ (graph_of s.game).gaps → length values ≡ (graph_of s.game).configurations
+    → AreFirstCounts s counts → AreFirstValues s values → todo ≡ to_strike s → IsOpening s width (opening_round s width counts values todo)
+opening-lawful s sol width counts values todo some_width counts_length values_length counts_are values_are picked = record {
   ranks = todo;
-  to_strike = to_strike;
+  to_strike_is = picked;
   is = refl;
   lawful = lawful-of (opening_round s width counts values todo) sol counts_length values_length
       (opens (rules_of s width) (slice_index counts) (λ x. get_or values x None) todo
-      (ready-is s sol width (slice_index counts) (λ x. get_or values x None) todo some_width counts_are values_are to_strike));
+      (ready-is s sol width (slice_index counts) (λ x. get_or values x None) todo some_width counts_are values_are picked));
 }
 
 -- ---- the end
@@ -175,35 +169,34 @@ none-together list none seats each x = times-together x list seats ∙ by seats 
         omega arith
 
 -- if no work is left, the won configurations are those of the next value, each once
-pub worked-off : (round : Round) → IsBoard round.solving.board → IsLawful round → IsWorkedOff round → HasWonAll round
+pub worked-off : (round : Round) → IsBoard round.solving.game.board → IsLawful round → IsWorkedOff round → HasWonAll round
 worked-off round board_is law off = λ rank. (
   law.won_once rank,
   (
     law.won rank,
     λ worth.
-        let b = round.solving.board in
-        let a = arena_of b in
-        let is = arena_is b board_is in
+        let n : Numbered = round.solving.game in
+        let a : PlainGraph = graph_of n in
         let r = round.solving.rounds in
-        let i : rank < configurations b = worth.is_rank in
-        let last = lasts_of_value b board_is (suc r) rank i worth.has_value in
+        let last = lasts_of_value n board_is (suc r) rank worth.is_rank worth.has_value in
         let found = next-fails a (lasts a (suc r)) rank last.1 in
-        let p : ℕ = found.0 in
-        let g : ℕ = a.gap rank p in
-        let in_gaps = is.gap_in rank p i found.1 in
-        let v : ℕ = a.place rank p in
-        let low = is.place_in rank p i found.1 in
-        let back : rank_of b (member_of b g v) ≡ rank = is.member_of_gap rank p i found.1 in
-        let at : configuration_at b rank ≡ member_of b g v = ap (configuration_at b) (sym back) ∙ at_member b g v in_gaps low in
+        let g : ℕ = found.0 in
+        let in_gaps = found.1 in
+        let v : ℕ = found.2.0 in
+        let low = found.2.1 in
+        let back : a.member g v ≡ rank = found.2.2 in
         let count = law.counts g in_gaps in
-        let above : count.above ≡ 0 = same_size (AnswerLasts b g (suc r)) count.above (live_answers a (lasts a (suc r)) g) count.are_above (above-size b board_is (suc r) g in_gaps) ∙ found.2 in
+        let above : count.above ≡ 0 =
+        same_size (AnswerLasts n g (suc r)) count.above (live_answers a (lasts a (suc r)) g) count.are_above (above-size n board_is (suc r) g in_gaps) ∙ found.3 in
         let no_todo : (x : ℕ) → times x (all_todo round) ≡ 0 = none-together (λ u. u.todo) refl round.seats off.no_todo in
         let no_owed : (x : ℕ) → times x (all_owed round) ≡ 0 = none-together (λ u. u.owed) refl round.seats off.no_owed in
-        let waiting : count.waiting ≡ 0 = same_size (λ label. IsAnswer b g label × (0 < times (rank_of b (member_of b g label)) (all_todo round))) count.waiting 0 count.are_waiting
-        ((size_zero (λ label. IsAnswer b g label × (0 < times (rank_of b (member_of b g label)) (all_todo round)))).1 (λ label h. let none = no_todo (rank_of b (member_of b g label)) in let some = h.1 in omega arith)) in
+        let waiting : count.waiting ≡ 0 = same_size (λ place. IsAnswerAt a g place × (0 < times (a.member g place) (all_todo round))) count.waiting 0 count.are_waiting
+        ((size_zero (λ place. IsAnswerAt a g place × (0 < times (a.member g place) (all_todo round)))).1
+        (λ place h. let none = no_todo (a.member g place) in let some = h.1 in omega arith)) in
         let sum = count.sum in
-        elim (law.closed g v in_gaps (omega arith) low (subst (LabellerTree b (suc r)) at (tree_of_lasts b board_is (suc r) rank i last.0))) [
-          | inl owed ↦ absurd (let none = no_owed (rank_of b (member_of b g v)) in omega arith)
+        let tree = tree_of_lasts n board_is (suc r) rank worth.is_rank last.0 in
+        elim (law.closed g v in_gaps (omega arith) low (subst (λ x. LabellerTree n.board (suc r) (configuration_of n x)) (sym back) tree)) [
+          | inl owed ↦ absurd (let none = no_owed (a.member g v) in omega arith)
           | inr won ↦ subst (λ x. 0 < times x (all_won round)) back won
         ],
   ),
@@ -214,11 +207,11 @@ worked-off round board_is law off = λ rank. (
 pub stepped : (before : Round) (step : Step) (answer : Seen) (after : Round) → IsSolving before.solving → IsLawful before → Does before step answer after
     → IsLawful after × (after.solving ≡ before.solving)
 stepped before (steps.Strike seat) (seen.Struck config closed) after sol law does =
-    let first : config ≡ first_of (seat_at before seat).todo = does.first in
-    let b = before.solving.board in
-    let done = strike-lawful before sol law seat does.pebble does.some_todo (subst (λ x. IsDominator b (configuration_at b x) does.pebble) first does.dominates) in
-    let same : round_struck before seat (gap_of b (configuration_at b (first_of (seat_at before seat).todo)) does.pebble) ≡ after =
-    ap (round_struck before seat) (ap (λ x. gap_of b (configuration_at b x) does.pebble) (sym first) ∙ sym does.gap_is) ∙ sym does.after_is in
+    let done = strike-lawful before sol law seat does.some_todo in
+    let gap : (graph_of before.solving.game).struck (first_of (seat_at before seat).todo) ≡ does.gap =
+    ap (graph_of before.solving.game).struck (sym does.first) ∙ sym does.gap_is in
+    let same : round_struck before seat ((graph_of before.solving.game).struck (first_of (seat_at before seat).todo)) ≡ after =
+    ap (round_struck before seat) gap ∙ sym does.after_is in
     (subst IsLawful same done.lawful, ap (λ r. r.solving) does.after_is)
 stepped before (steps.Try seat) (seen.Tried config won) after sol law does = (subst IsLawful (sym does.after_is) (try-lawful before sol law seat does.some_owed).lawful, ap (λ r. r.solving) does.after_is)
 stepped before (steps.Split seat) (seen.Parted new_seat) after sol law does = (subst IsLawful (sym does.after_is) (split-lawful before sol law seat does.wide), ap (λ r. r.solving) does.after_is)
@@ -262,11 +255,11 @@ opened-and-worked-off s width first made last sol opens lead off =
 -- ---- the opening as the machine has it, with copies of its solver's words
 
 pub opening-state : (s : Solving) → IsSolving s → (width : ℕ) (counts words lent_counts lent_words : List ℕ) (seats : List PlainSeat) (todo : List ℕ) → 0 < width
-    → length lent_counts ≡ gaps s.board → length lent_words ≡ configurations s.board
-    → AreFirstCounts s lent_counts → AreFirstValues s (map value_of_word lent_words) → AreToStrike s todo
+    → length lent_counts ≡ (graph_of s.game).gaps → length lent_words ≡ (graph_of s.game).configurations
+    → AreFirstCounts s lent_counts → AreFirstValues s (map value_of_word lent_words) → todo ≡ to_strike s
     → counts ≡ lent_counts → words ≡ lent_words → seats ≡ record { width = width; todo = todo; owed = []; won = [] } ∷ []
     → IsOpening s width (round_of s width counts (map value_of_word words) seats)
-opening-state s sol width counts words lent_counts lent_words seats todo some counts_length words_length counts_are values_are to_strike counts_same words_same seats_are =
+opening-state s sol width counts words lent_counts lent_words seats todo some counts_length words_length counts_are values_are picked counts_same words_same seats_are =
     subst (λ (l : List PlainSeat). IsOpening s width (round_of s width counts (map value_of_word words) l)) (sym seats_are)
     (subst (λ (p : List ℕ × List ℕ). IsOpening s width (opening_round s width p.0 (map value_of_word p.1) todo)) (λ i. (sym counts_same i, sym words_same i))
-    (opening-lawful s sol width lent_counts (map value_of_word lent_words) todo some counts_length (length-map lent_words value_of_word ∙ words_length) counts_are values_are to_strike))
+    (opening-lawful s sol width lent_counts (map value_of_word lent_words) todo some counts_length (length-map lent_words value_of_word ∙ words_length) counts_are values_are picked))

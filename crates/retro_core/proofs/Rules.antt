@@ -1,12 +1,11 @@
 -- The rules of a round, by numbers alone.
-use Rattle.std.specs.Prelude.{◌≡◌, ℕ, zero, suc, ◌+◌, ◌<◌, ◌≤◌, ◌==◌, cond, List, [], ◌∷◌, Option, Some, None}
+use Rattle.std.specs.Prelude.{◌≡◌, ℕ, zero, suc, ◌+◌, ◌<◌, ◌≤◌, cond, List, Option, Some, None}
 use Rattle.std.specs.List.{All, sum_by}
 use Rattle.index_lists.specs.Lists.{times}
-use Rattle.positions.specs.Ranks.{configurations}
-use Rattle.positions.specs.Gaps.{gaps}
-use Rattle.solver.specs.Inside.Arena.{Arena, count_below, live_answers, lasts}
-use Rattle.solver.specs.Inside.BoardArena.{arena_of}
+use Rattle.graphs.specs.Graph.{PlainGraph, count_below, live_answers, lasts}
+use Rattle.graphs.specs.Numbered.{graph_of}
 use Rattle.solver.specs.Solving.{Solving, source}
+use Rattle.solver.specs.Striking.{tally}
 use Rattle.retro_core.specs.Round.{PlainSeat, spent_seat}
 
 -- the value and the width of a round, the numbers of gaps and configurations; for each gap the number of its answers
@@ -20,11 +19,6 @@ pub record Rules : Type 0 where
   pub opens : ℕ → List ℕ
   pub home : ℕ → ℕ
   pub base : ℕ → Option ℕ
-
--- the number of entries of a list that are struck in the gap
-abbrev pub tally : (ℕ → ℕ) → ℕ → List ℕ → ℕ
-tally home gap [] = 0
-tally home gap (rank ∷ ranks) = cond (home rank == gap) 1 0 + tally home gap ranks
 
 -- the configuration has the round's value and a gap in which it is struck
 pub record IsStruckIn (k : Rules) (rank : ℕ) : Type 0 where
@@ -77,13 +71,8 @@ pub record AreKept (k : Rules) (count : ℕ → ℕ) (value : ℕ → Option ℕ
   pub widths : sum_by (λ seat. seat.width) seats ≡ k.width
   pub fits : All Fits seats
 
--- the gap of the dominator, if it is among the first pebbles, or a number that no gap has
-abbrev pub home_among : Arena → ℕ → ℕ → ℕ
-home_among a rank zero = a.gaps
-home_among a rank (suc pebble) = cond (a.is_answer (a.gap rank pebble) (a.place rank pebble)) (a.gap rank pebble) (home_among a rank pebble)
-
 -- the value of a configuration if it is at most the round's: the number of requests that it lasts
-abbrev pub value_before : Arena → ℕ → ℕ → Option ℕ
+abbrev pub value_before : PlainGraph → ℕ → ℕ → Option ℕ
 value_before a round rank = cond (lasts a (suc round) rank) None (Some (count_below round (λ k. lasts a (suc k) rank)))
 
 -- the rules of a round of a solver
@@ -91,10 +80,10 @@ abbrev pub rules_of : Solving → ℕ → Rules
 rules_of s width = record {
   round = s.rounds;
   width = width;
-  gaps = gaps s.board;
-  size = configurations s.board;
-  live = live_answers (arena_of s.board) (lasts (arena_of s.board) (suc s.rounds));
+  gaps = (graph_of s.game).gaps;
+  size = (graph_of s.game).configurations;
+  live = live_answers (graph_of s.game) (lasts (graph_of s.game) (suc s.rounds));
   opens = source s;
-  home = λ rank. home_among (arena_of s.board) rank s.board.pebbles;
-  base = value_before (arena_of s.board) s.rounds;
+  home = (graph_of s.game).struck;
+  base = value_before (graph_of s.game) s.rounds;
 }

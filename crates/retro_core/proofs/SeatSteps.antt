@@ -6,8 +6,9 @@ use Rattle.std.proofs.lemmas.List.Sums.{sum_by-le-sum_by}
 use Rattle.index_lists.specs.Lists.{times}
 use Rattle.index_lists.proofs.Cited.{cond_same, cond_other, times-append}
 use Rattle.retro_core.specs.Round.{PlainSeat, spent_seat, first_of, seat_tried, seat_kept, seat_new, seat_joined}
-use Rattle.retro_core.proofs.Rules.{Fits, Rules, tally, IsStruckIn, IsToWin, value_word, held_in, AreSound, AreReadyLists, AreKept}
-use Rattle.solver.proofs.Cited.{same_or_not}
+use Rattle.retro_core.proofs.Rules.{Fits, Rules, IsStruckIn, IsToWin, value_word, held_in, AreSound, AreReadyLists, AreKept}
+use Rattle.graphs.proofs.Cited.{same_or_not}
+use Rattle.solver.specs.Striking.{tally}
 use Rattle.retro_core.proofs.SeatSums.{total-set, total-at, total-cut, total-glue, times-cut, tally-append, tally-cut}
 
 one_if : (x y : ℕ) → x ≡ y → ◌≡◌ {A = ℕ} (cond (x == y) 1 0) 1

@@ -6,7 +6,7 @@ use Rattle.std.proofs.lemmas.Option.{slice_get_within, get_or_from_slice_get}
 use Rattle.index_lists.specs.Lists.{times}
 use Rattle.index_lists.proofs.Cited.{times-append}
 use Rattle.retro_core.specs.Round.{PlainSeat}
-use Rattle.retro_core.proofs.Rules.{tally}
+use Rattle.solver.specs.Striking.{tally}
 
 module _ {X : Type 0} where
   pub total-set : (f : X → ℕ) (xs : List X) (i : ℕ) (v w : X) → slice_get xs i ≡ Some v → sum_by f (set xs i w) + f v ≡ sum_by f xs + f w

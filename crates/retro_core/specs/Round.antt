@@ -5,14 +5,13 @@ use Rattle.std.specs.Prelude.{drop, slice_index, slice_index_or, slice_set, Opti
 use Rattle.std.specs.Option.{is_none}
 use Rattle.std.specs.List.{flat_map, sum_by}
 use Rattle.index_lists.specs.Lists.{times}
-use Rattle.board_text.specs.PlainBoard.{PlainBoard, places}
 use Rattle.positions.specs.declared.value.Value.TheVariants.{Finite}
 use Rattle.positions.specs.Game.{LabellerTree}
 use Rattle.positions.specs.Value.{HasValue}
-use Rattle.positions.specs.Ranks.{configurations, rank_of, configuration_at}
-use Rattle.positions.specs.Gaps.{gaps, member_of, IsAnswer, IsDominator}
 use Rattle.positions.specs.Counts.{HasSize}
-use Rattle.solver.specs.Solving.{Solving, AnswerLasts, IsWorth, source, AreToStrike}
+use Rattle.graphs.specs.Graph.{PlainGraph}
+use Rattle.graphs.specs.Numbered.{Numbered, graph_of, configuration_of}
+use Rattle.solver.specs.Solving.{Solving, AnswerLasts, IsAnswerAt, IsWorth, source, to_strike}
 
 -- a seat's width, and the configurations that it has to strike, that it owes, and that it has won
 pub record PlainSeat : Type 0 where
@@ -33,19 +32,18 @@ pub record Round : Type 0 where
 abbrev pub round_of : Solving → ℕ → List ℕ → List (Option ℕ) → List PlainSeat → Round
 round_of s width counts values seats = record { solving = s; width = width; counts = counts; values = values; seats = seats }
 
--- the board of a round, the value that the round is at, and the value that it gives
-abbrev pub board_of : Round → PlainBoard
-board_of round = round.solving.board
+-- the game of a round and its graph, the value that the round is at, and the value that it gives
+abbrev pub game_of : Round → Numbered
+game_of round = round.solving.game
+
+abbrev pub round_graph : Round → PlainGraph
+round_graph round = graph_of round.solving.game
 
 abbrev pub value_of : Round → ℕ
 value_of round = round.solving.rounds
 
 abbrev pub next_value : Round → ℕ
 next_value round = suc (value_of round)
-
--- the rank of a gap's member with this place for its pebble
-abbrev pub member_rank : Round → ℕ → ℕ → ℕ
-member_rank round gap place = rank_of (board_of round) (member_of (board_of round) gap place)
 
 -- a seat that was joined into another
 abbrev pub spent_seat : PlainSeat
@@ -67,44 +65,42 @@ all_owed round = flat_map (λ seat. seat.owed) round.seats
 abbrev pub all_won : Round → List ℕ
 all_won round = flat_map (λ seat. seat.won) round.seats
 
--- the configurations of a value that have a dominating pebble must be struck in a round at that
--- value
-pub record IsDue (board : PlainBoard) (rank value : ℕ) : Type 0 where
-  pub worth : IsWorth board rank value
-  pub pebble : ℕ
-  pub dominates : IsDominator board (configuration_at board rank) pebble
+-- the configurations of a value that are answers in some gap must be struck in a round at that value
+pub record IsDue (n : Numbered) (rank value : ℕ) : Type 0 where
+  pub worth : IsWorth n rank value
+  pub struck : (graph_of n).struck rank < (graph_of n).gaps
 
 -- `count` is the number of a gap's answers that lead to a value above the round's or to a
 -- configuration that a seat has to strike
 pub record IsCount (round : Round) (gap count : ℕ) : Type 0 where
   pub above : ℕ
   pub waiting : ℕ
-  pub are_above : HasSize (AnswerLasts (board_of round) gap (next_value round)) above
-  pub are_waiting : HasSize (λ label. IsAnswer (board_of round) gap label
-      × (0 < times (member_rank round gap label) (all_todo round))) waiting
+  pub are_above : HasSize (AnswerLasts (game_of round) gap (next_value round)) above
+  pub are_waiting : HasSize (λ place. IsAnswerAt (round_graph round) gap place
+      × (0 < times ((round_graph round).member gap place) (all_todo round))) waiting
   pub sum : count ≡ above + waiting
 
 -- the words and the seats fit the values of the game
 pub record IsLawful (round : Round) : Type 0 where
-  pub counts_length : length round.counts ≡ gaps (board_of round)
-  pub values_length : length round.values ≡ configurations (board_of round)
+  pub counts_length : length round.counts ≡ (round_graph round).gaps
+  pub values_length : length round.values ≡ (round_graph round).configurations
   -- a value is written if it is at most the round's, or if it is the next one and the rank is in a
   -- won list
-  pub values : (rank value : ℕ) → rank < configurations (board_of round)
+  pub values : (rank value : ℕ) → rank < (round_graph round).configurations
       → (slice_index_or round.values rank None ≡ Some value)
-      ↔ (((value ≤ value_of round) × HasValue (board_of round) (configuration_at (board_of round) rank) (Finite value))
+      ↔ (((value ≤ value_of round) × HasValue (game_of round).board (configuration_of (game_of round) rank) (Finite value))
       ⊎ ((value ≡ next_value round) × (0 < times rank (all_won round))))
-  pub due : (rank : ℕ) → 0 < times rank (all_todo round) → IsDue (board_of round) rank (value_of round)
+  pub due : (rank : ℕ) → 0 < times rank (all_todo round) → IsDue (game_of round) rank (value_of round)
   pub due_once : (rank : ℕ) → times rank (all_todo round) ≤ 1
-  pub counts : (gap : ℕ) → gap < gaps (board_of round) → IsCount round gap (slice_index round.counts gap)
-  pub owed : (rank : ℕ) → 0 < times rank (all_owed round) → IsWorth (board_of round) rank (next_value round)
-  pub won : (rank : ℕ) → 0 < times rank (all_won round) → IsWorth (board_of round) rank (next_value round)
+  pub counts : (gap : ℕ) → gap < (round_graph round).gaps → IsCount round gap (slice_index round.counts gap)
+  pub owed : (rank : ℕ) → 0 < times rank (all_owed round) → IsWorth (game_of round) rank (next_value round)
+  pub won : (rank : ℕ) → 0 < times rank (all_won round) → IsWorth (game_of round) rank (next_value round)
   pub won_once : (rank : ℕ) → times rank (all_won round) ≤ 1
   -- the members of a closed gap that have no value of at most the round's are owed or won
-  pub closed : (gap label : ℕ) → gap < gaps (board_of round) → slice_index round.counts gap ≡ 0 → label < places (board_of round)
-      → LabellerTree (board_of round) (next_value round) (member_of (board_of round) gap label)
-      → (0 < times (member_rank round gap label) (all_owed round))
-      ⊎ (0 < times (member_rank round gap label) (all_won round))
+  pub closed : (gap place : ℕ) → gap < (round_graph round).gaps → slice_index round.counts gap ≡ 0 → place < (round_graph round).places
+      → LabellerTree (game_of round).board (next_value round) (configuration_of (game_of round) ((round_graph round).member gap place))
+      → (0 < times ((round_graph round).member gap place) (all_owed round))
+      ⊎ (0 < times ((round_graph round).member gap place) (all_won round))
   pub widths : sum_by (λ seat. seat.width) round.seats ≡ round.width
   pub spent_seats : (seat : ℕ) → (seat_at round seat).width ≡ 0 → seat_at round seat ≡ spent_seat
 
@@ -116,7 +112,7 @@ opening_round s width counts values ranks =
 -- one seat has the whole width and all to strike, and nothing is owed or won
 pub record IsOpening (s : Solving) (width : ℕ) (round : Round) : Type 0 where
   pub ranks : List ℕ
-  pub to_strike : AreToStrike s ranks
+  pub to_strike_is : ranks ≡ to_strike s
   pub is : round ≡ opening_round s width round.counts round.values ranks
   pub lawful : IsLawful round
 
@@ -128,7 +124,7 @@ pub record IsWorkedOff (round : Round) : Type 0 where
 -- the won configurations are exactly those of the value after the round's, each once
 abbrev pub HasWonAll : Round → Type 0
 HasWonAll round = (rank : ℕ) → (times rank (all_won round) ≤ 1)
-    × ((0 < times rank (all_won round)) ↔ IsWorth (board_of round) rank (next_value round))
+    × ((0 < times rank (all_won round)) ↔ IsWorth (game_of round) rank (next_value round))
 
 -- the first of a list
 abbrev pub first_of : List ℕ → ℕ

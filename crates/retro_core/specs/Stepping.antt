@@ -1,23 +1,20 @@
 -- The effect and the answer of a step of a round, and the reasons why it is refused.
 use Rattle.std.specs.Prelude.{◌≡◌, ℕ, ◌<◌, ◌≤◌, ◌⊎◌, ◌==◌, Bool, true, cond, List, [], ◌∷◌, length, slice_index, Option, Some, None}
-use Rattle.positions.specs.Ranks.{configuration_at}
-use Rattle.positions.specs.Gaps.{gap_of, IsDominator}
 use Rattle.retro_core.specs.declared.step.Step.{Step}
 use Rattle.retro_core.specs.declared.step.Step.TheVariants as steps
 use Rattle.retro_core.specs.declared.step.Seen.{Seen}
 use Rattle.retro_core.specs.declared.step.Seen.TheVariants as seen
 use Rattle.retro_core.specs.declared.step.StepFault.{StepFault}
 use Rattle.retro_core.specs.declared.step.StepFault.TheVariants as faults
-use Rattle.retro_core.specs.Round.{Round, board_of, seat_at, first_of, round_struck, first_is_open, round_tried, round_split, round_joined}
+use Rattle.retro_core.specs.Round.{Round, round_graph, seat_at, first_of, round_struck, first_is_open, round_tried, round_split, round_joined}
 
--- the seat strikes the first that it has to strike in the gap of the pebble that dominates there
+-- the seat strikes the first that it has to strike in the gap in which that is an answer
 pub record Strikes (round : Round) (seat config : ℕ) (closed : Option ℕ) (after : Round) : Type 0 where
   pub some_todo : 0 < length (seat_at round seat).todo
   pub first : config ≡ first_of (seat_at round seat).todo
-  pub pebble : ℕ
-  pub dominates : IsDominator (board_of round) (configuration_at (board_of round) config) pebble
   pub gap : ℕ
-  pub gap_is : gap ≡ gap_of (board_of round) (configuration_at (board_of round) config) pebble
+  pub is_gap : gap < (round_graph round).gaps
+  pub gap_is : gap ≡ (round_graph round).struck config
   pub closed_is : closed ≡ cond (slice_index round.counts gap == 1) (Some gap) None
   pub after_is : after ≡ round_struck round seat gap
 
@@ -70,10 +67,8 @@ IsAllowed round (steps.Join into from) = (into ≡ from → ⊥) × (0 < (seat_a
 
 -- the first that the seat has to strike is the last live answer of the gap that it is struck in
 pub record ClosesGap (round : Round) (seat : ℕ) : Type 0 where
-  pub pebble : ℕ
-  pub dominates : IsDominator (board_of round) (configuration_at (board_of round) (first_of (seat_at round seat).todo)) pebble
-  pub last : slice_index round.counts
-      (gap_of (board_of round) (configuration_at (board_of round) (first_of (seat_at round seat).todo)) pebble) ≡ 1
+  pub struck : (round_graph round).struck (first_of (seat_at round seat).todo) < (round_graph round).gaps
+  pub last : slice_index round.counts ((round_graph round).struck (first_of (seat_at round seat).todo)) ≡ 1
 
 -- the step makes a list longer or makes a seat, for which memory is taken
 abbrev pub TakesMemory : Round → Step → Type 0

@@ -2,9 +2,8 @@
 
 ghost use Rattle.std.specs.Prelude.{◌≡◌, ℕ, ◌<◌, List, Option, Some, true, false, length, slice_index};
 ghost use Rattle.index_lists.specs.Lists.{times};
-ghost use Rattle.positions.specs.Ranks.{configurations};
-ghost use Rattle.positions.specs.Gaps.{gaps};
-ghost use Rattle.solver.specs.Solving.{Solving, IsSolving, AreToStrike};
+ghost use Rattle.graphs.specs.Numbered.{graph_of};
+ghost use Rattle.solver.specs.Solving.{Solving, IsSolving, to_strike};
 ghost use Rattle.solver.specs.Words.{AreFirstCounts, AreFirstValues};
 ghost use Rattle.retro_core.specs.Round.{Round, opening_round, IsOpening, IsLawful, IsWorkedOff};
 ghost use Rattle.retro_core.specs.Round.{all_won};
@@ -19,8 +18,8 @@ ghost use Rattle.retro_core.specs.declared.step.Seen.TheVariants as answers;
 /// strike.
 pub fn rounds_open_lawfully()
     ensures { (s : Solving) → IsSolving s → (width : ℕ) → 0 < width → (counts : List ℕ) → (values : List (Option ℕ)) → (ranks : List ℕ)
-        → length counts ≡ gaps s.board → length values ≡ configurations s.board
-        → AreFirstCounts s counts → AreFirstValues s values → AreToStrike s ranks
+        → length counts ≡ (graph_of s.game).gaps → length values ≡ (graph_of s.game).configurations
+        → AreFirstCounts s counts → AreFirstValues s values → ranks ≡ to_strike s
         → IsOpening s width (opening_round s width counts values ranks) }
 {}
 

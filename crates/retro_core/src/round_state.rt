@@ -4,10 +4,8 @@
 
 ghost use Rattle.std.specs.Prelude.{◌≡◌, ◌+◌, ◌<◌, ◌↔◌, true, false, length, slice_index, slice_index_or};
 ghost use Rattle.std.specs.Prelude.{None, Some, IfOk, IfErr};
-ghost use Rattle.positions.specs.Ranks.{configurations};
-ghost use Rattle.positions.specs.Gaps.{gaps};
 ghost use Rattle.solver.specs.Solving.{IsSolving};
-ghost use Rattle.retro_core.specs.Round.{board_of, seat_at, spent_seat, IsOpening, IsLawful};
+ghost use Rattle.retro_core.specs.Round.{round_graph, seat_at, spent_seat, IsOpening, IsLawful};
 ghost use Rattle.retro_core.specs.Round.{round_of};
 ghost use Rattle.retro_core.specs.Stepping.{Does, IsAllowed, LacksSeat, Refuses};
 
@@ -116,10 +114,9 @@ impl<'a, S: ListStore> RoundState<'a, S> {
             return Err(StepFault::NothingToStrike);
         }
         let config = todo[0];
-        let Some(pebble) = self.solver.dominator(config) else {
+        let Some(gap) = self.solver.graph().struck(config) else {
             unreachable!()
         };
-        let gap = self.solver.space().gap(config, pebble);
         let count = self.counts[gap as usize];
         self.seats[seat].strike(self.solver, gap, count)?;
         self.counts[gap as usize] = count - 1;
@@ -232,7 +229,7 @@ impl<'a, S: ListStore> RoundState<'a, S> {
     /// The number of answers of `gap` that lead above the round's value or to a configuration that
     /// a seat has to strike.
     pub fn count_of(&self, gap: u32) -> u32
-        requires { gap < gaps (board_of self.now) }
+        requires { gap < (round_graph self.now).gaps }
         ensures { result ≡ slice_index self.now.counts gap }
     {
         self.counts[gap as usize]
@@ -241,7 +238,7 @@ impl<'a, S: ListStore> RoundState<'a, S> {
     /// The value of the configuration of `rank`, if it has one of at most the round's or has won
     /// the next one.
     pub fn value_at(&self, rank: u32) -> Option<u32>
-        requires { rank < configurations (board_of self.now) }
+        requires { rank < (round_graph self.now).configurations }
         ensures { result ≡ slice_index_or self.now.values rank None }
     {
         value_of(self.words[rank as usize])

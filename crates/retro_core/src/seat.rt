@@ -1,7 +1,7 @@
 //! A seat of the machine.
 
 ghost use Rattle.std.specs.Prelude.{◌≡◌, ◌+◌, ◌++◌, ◌^◌, ◌<◌, true, false, [], length, is_ok, if◌then◌else◌, IfOk};
-ghost use Rattle.positions.specs.Gaps.{gaps};
+ghost use Rattle.graphs.specs.Numbered.{graph_of};
 ghost use Rattle.solver.specs.Solving.{source};
 ghost use Rattle.retro_core.specs.Round.{spent_seat, seat_struck, seat_tried, seat_kept, seat_new, seat_joined};
 
@@ -84,7 +84,7 @@ impl Seat {
         count: u32,
     ) -> Result<(), Memory>
         requires some { 0 < length self.old.todo }
-        requires gap { gap < gaps solver.now.board }
+        requires gap { gap < (graph_of solver.now.game).gaps }
         ensures seat { self.new ≡ (if is_ok result then seat_struck solver.now gap count self.old else self.old) }
         ensures memory { is_ok result ≡ false → count ≡ 1 }
     {
@@ -155,7 +155,7 @@ fn owe_members<S: ListStore>(
     solver: &Solver<S>,
     gap: u32,
 ) -> Result<(), Memory>
-    requires { gap < gaps solver.now.board }
+    requires { gap < (graph_of solver.now.game).gaps }
     ensures { owed.new.items ≡ (if is_ok result then owed.old.items ++ source solver.now gap else owed.old.items) }
 {
     let before = owed.len();

@@ -3,6 +3,7 @@
 ghost use Rattle.std.specs.Prelude.{◌≡◌, ◌<◌, ◌≤◌, ◌↔◌, ◌≢◌, false, Err, IfOk, IfErr};
 ghost use Rattle.positions.specs.Ranks.{configurations};
 ghost use Rattle.solver.specs.Ending.{IsRoundEnd};
+ghost use Rattle.solver.specs.Solving.{IsSolving};
 
 use crate::gate::Gate;
 use crate::tree::share;
@@ -62,7 +63,43 @@ pub fn solve_values<G: Gate, R: Threads + Wait + Sync>(
     ensures too_large { (result ≡ Err SolveFault.TooLarge) ↔ (MAX_CONFIGURATIONS < configurations board.now) }
     ensures worker { result ≡ Err SolveFault.Worker → 1 < workers }
 {
-    let mut solver = Solver::<PlainLists>::open(alloc, board)?;
+    let solver = Solver::<PlainLists>::open(alloc, board)?;
+    solve_rounds(rt, alloc, solver, workers, gate)
+}
+
+/// The values of `board`, as `solve_values` finds them, in rounds over classes of configurations:
+/// all that exchanged pebbles give are one.
+pub fn solve_classes<G: Gate, R: Threads + Wait + Sync>(
+    rt: &R,
+    alloc: Global,
+    board: &Board,
+    workers: u32,
+    gate: &G,
+) -> Result<Values, SolveFault>
+    requires workers { (1 ≤ workers) × (workers ≤ MAX_WORKERS) }
+    ensures values { IfOk result (λ values. values ≡ board.now) }
+    ensures too_large { (result ≡ Err SolveFault.TooLarge) ↔ (MAX_CONFIGURATIONS < configurations board.now) }
+    ensures worker { result ≡ Err SolveFault.Worker → 1 < workers }
+{
+    let solver = Solver::<PlainLists>::of_classes(alloc, board)?;
+    solve_rounds(rt, alloc, solver, workers, gate)
+}
+
+/// The values of the board of `solver`, found in rounds that `workers` workers share.
+fn solve_rounds<G: Gate, R: Threads + Wait + Sync>(
+    rt: &R,
+    alloc: Global,
+    solver: Solver<PlainLists>,
+    workers: u32,
+    gate: &G,
+) -> Result<Values, SolveFault>
+    requires kept { IsSolving solver }
+    requires workers { (1 ≤ workers) × (workers ≤ MAX_WORKERS) }
+    ensures values { IfOk result (λ values. values ≡ solver.game.board) }
+    ensures fault { IfErr result (λ f. f ≢ SolveFault.TooLarge) }
+    ensures worker { result ≡ Err SolveFault.Worker → 1 < workers }
+{
+    let mut solver = solver;
     loop {
         match solver.finish() {
             Ok(values) => return Ok(values),

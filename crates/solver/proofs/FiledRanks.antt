@@ -6,12 +6,11 @@ use Rattle.std.proofs.lemmas.List.{ext_get_or}
 use Rattle.std.proofs.lemmas.List.FromFn.{length-map-range_with_len, get_or-map-range_with_len}
 use Rattle.index_lists.specs.Lists.{Lists, times, AreLists, AreSame, node_pushed}
 use Rattle.index_lists.proofs.Cited.{cond_same, cond_other, times-append}
-use Rattle.board_text.specs.PlainBoard.{PlainBoard}
-use Rattle.positions.specs.Ranks.{configurations}
+use Rattle.graphs.specs.Numbered.{Numbered, graph_of}
 use Rattle.positions.specs.declared.space.TheConstants.{MAX_CONFIGURATIONS}
 use Rattle.solver.specs.Inside.Stage.{first_lists, PlainStage, stage_of, filed_at, rank_listed, rank_filed, IsFiled}
 use Rattle.solver.specs.Inside.Tables.{is_open}
-use Rattle.solver.proofs.LastingRanks.{same_or_not}
+use Rattle.graphs.proofs.Cited.{same_or_not}
 use Rattle.solver.proofs.ListedWords.{open_word, times_one, times_none}
 
 -- ---- the lists of a store as a list of lists
@@ -30,7 +29,7 @@ list-shown s are l = elim (cases_lt l s.lists) [
 ]
 
 -- the list of a value is the store's list of this number
-pub filed-shown : (b : PlainBoard) (value : ℕ) (values counts : List ℕ) (s : Lists) (strikes : List ℕ) (v : PlainStage)
+pub filed-shown : (b : Numbered) (value : ℕ) (values counts : List ℕ) (s : Lists) (strikes : List ℕ) (v : PlainStage)
     → stage_of b value values counts s strikes ≡ v → AreLists s → (l : ℕ) → filed_at v l ≡ s.list l
 filed-shown b value values counts s strikes v view are l = ap (λ (w : PlainStage). filed_at w l) (sym view) ∙ list-shown s are l
 
@@ -63,7 +62,7 @@ module _ (s s' : Lists) (to node : ℕ) (same : AreSame s' (node_pushed s to nod
             ∙ sym (get_or-set_other was to i longer [] away ∙ get_or-map-range_with_len s.list 0 s.lists i i [] within (omega arith))
       ])
 
-  pub push-shown : (b : PlainBoard) (value : ℕ) (values counts strikes : List ℕ) (v : PlainStage) → value ≡ to → to < s.lists
+  pub push-shown : (b : Numbered) (value : ℕ) (values counts strikes : List ℕ) (v : PlainStage) → value ≡ to → to < s.lists
       → stage_of b value values counts s strikes ≡ v → stage_of b value values counts s' strikes ≡ rank_listed v node
   push-shown b value values counts strikes v here inside view =
       subst (λ (w : PlainStage). stage_of b value values counts s' strikes ≡ rank_listed w node) view
@@ -88,13 +87,13 @@ module _ (s : PlainStage) (rank : ℕ) where
   ]
 
 -- an open configuration is in no list
-pub open-free : (s : PlainStage) (rank : ℕ) → IsFiled s → configurations s.board ≤ MAX_CONFIGURATIONS → rank < configurations s.board → is_open s.values rank ≡ true → (v : ℕ) → times rank (filed_at s v) ≡ 0
-open-free s rank are few i still v = elim (cases_lt (configurations s.board) v) [
+pub open-free : (s : PlainStage) (rank : ℕ) → IsFiled s → (graph_of s.game).configurations ≤ MAX_CONFIGURATIONS → rank < (graph_of s.game).configurations → is_open s.values rank ≡ true → (v : ℕ) → times rank (filed_at s v) ≡ 0
+open-free s rank are few i still v = elim (cases_lt ((graph_of s.game).configurations) v) [
   | inl beyond ↦ ap (times rank) (past s.buckets v (let size = are.lists_length in omega arith))
   | inr low ↦ are.once v rank low i ∙ cond_other (slice_index s.values rank) v 1 0 (let word = open_word s.values rank still in λ e. omega arith)
 ]
 
-pub filed-once : (s : PlainStage) (rank : ℕ) → IsFiled s → configurations s.board ≤ MAX_CONFIGURATIONS → s.value ≤ configurations s.board → rank < configurations s.board → is_open s.values rank ≡ true → IsFiled (rank_filed s rank)
+pub filed-once : (s : PlainStage) (rank : ℕ) → IsFiled s → (graph_of s.game).configurations ≤ MAX_CONFIGURATIONS → s.value ≤ (graph_of s.game).configurations → rank < (graph_of s.game).configurations → is_open s.values rank ≡ true → IsFiled (rank_filed s rank)
 filed-once s rank are few low i still = record {
   values_length = length-set s.values rank s.value ∙ are.values_length;
   lists_length = length-set s.buckets s.value (filed_at s s.value ++ rank ∷ []) ∙ are.lists_length;

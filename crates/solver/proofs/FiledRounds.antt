@@ -4,39 +4,35 @@ use Rattle.std.proofs.lemmas.Bool.{cases_lt}
 use Rattle.std.proofs.lemmas.List.{take_more, take-append-drop}
 use Rattle.index_lists.specs.Lists.{times}
 use Rattle.index_lists.proofs.Cited.{times-append}
-use Rattle.positions.specs.Ranks.{configurations}
-use Rattle.positions.specs.Gaps.{gaps}
 use Rattle.positions.specs.Counts.{HasSize}
 use Rattle.positions.specs.declared.space.TheConstants.{MAX_CONFIGURATIONS}
 use Rattle.positions.proofs.Cited.{same_size}
-use Rattle.solver.specs.Inside.Arena.{Arena, live_answers, lasts}
-use Rattle.solver.specs.Inside.BoardArena.{arena_of}
+use Rattle.graphs.specs.Graph.{PlainGraph, IsGraph, live_answers, lasts}
+use Rattle.graphs.specs.Numbered.{Numbered, graph_of}
 use Rattle.solver.specs.Ending.{IsRoundEnd}
 use Rattle.solver.specs.Solving.{IsWorth}
 use Rattle.solver.specs.Solving.{AnswerLasts}
 use Rattle.solver.specs.Inside.Stage.{PlainStage, rank_filed, as_solving, IsKept, IsStriking, IsUnstruck, FilesAll, TakesCounts}
 use Rattle.solver.specs.Inside.Tables.{is_open, is_unstruck, IsCounted, AreWords}
-use Rattle.solver.proofs.Arenas.{IsArena}
-use Rattle.solver.proofs.BoardArenas.{arena_is, value_of_lasts, lasts_of_value}
+use Rattle.graphs.proofs.Cited.{value_of_lasts, lasts_of_value, same_test, true_or_false, same_or_not, lasts-less}
 use Rattle.solver.proofs.StruckTables.{IsCounted-same, AreWords-same, same-open}
 use Rattle.solver.proofs.FiledRanks.{listed-away, filed-once}
-use Rattle.solver.proofs.LastingRanks.{same_test, true_or_false, same_or_not, lasts-less}
 use Rattle.solver.proofs.ListedWords.{valued_word, times_one, times_none}
-use Rattle.solver.proofs.EnteredAnswers.{above-size}
+use Rattle.solver.proofs.AnswerSizes.{above-size}
 use Rattle.solver.proofs.StageStrikes.{unstruck-none, filed-counting}
 
 -- ---- filing one after the other
 
-pub files-more : (s : PlainStage) (ranks : List ℕ) (rank : ℕ) (now : PlainStage) → configurations s.board ≤ MAX_CONFIGURATIONS → s.value ≤ configurations s.board
-    → rank < configurations s.board → is_open s.values rank ≡ true → times rank ranks ≡ 0 → FilesAll s ranks now → FilesAll s (ranks ++ rank ∷ []) (rank_filed now rank)
+pub files-more : (s : PlainStage) (ranks : List ℕ) (rank : ℕ) (now : PlainStage) → (graph_of s.game).configurations ≤ MAX_CONFIGURATIONS → s.value ≤ (graph_of s.game).configurations
+    → rank < (graph_of s.game).configurations → is_open s.values rank ≡ true → times rank ranks ≡ 0 → FilesAll s ranks now → FilesAll s (ranks ++ rank ∷ []) (rank_filed now rank)
 files-more s ranks rank now few low i still new so_far =
     let value_is : now.value ≡ s.value = so_far.kept.value_is in
-    let same : configurations now.board ≡ configurations s.board = ap configurations so_far.kept.board_is in
+    let same : (graph_of now.game).configurations ≡ (graph_of s.game).configurations = ap (λ (n : Numbered). (graph_of n).configurations) so_far.kept.game_is in
     let open_now : is_open now.values rank ≡ true = same-open (slice_index now.values rank) (slice_index s.values rank) (so_far.elsewhere rank new) ∙ still in
     let inside : rank < length now.values = (let size = so_far.filed_are.values_length in omega arith) in
     record {
       kept = record {
-        board_is = so_far.kept.board_is;
+        game_is = so_far.kept.game_is;
         value_is = value_is;
         others = λ v d. listed-away now rank v (λ e. d (e ∙ value_is)) ∙ so_far.kept.others v d;
       };
@@ -71,11 +67,11 @@ is-next xs i inside once =
 -- ---- the stage of a finished round
 
 module _ (s : PlainStage) (unstruck : IsUnstruck s) where
-  abbrev a : Arena
-  a = arena_of s.board
+  abbrev a : PlainGraph
+  a = graph_of s.game
 
-  is : IsArena a
-  is = arena_is s.board unstruck.small.is_board
+  is : IsGraph a
+  is = unstruck.small.is_graph
 
   abbrev r : ℕ
   r = unstruck.round
@@ -84,10 +80,10 @@ module _ (s : PlainStage) (unstruck : IsUnstruck s) where
   rounds-is = let v = unstruck.value_is in omega arith
 
   -- a configuration that has the next value is open
-  worth-lasts : (x : ℕ) → IsWorth s.board x (suc (s.value - 1)) → (lasts a (suc r) x ≡ true) × (lasts a (suc (suc r)) x ≡ false)
-  worth-lasts x worth = subst (λ k. (lasts a (suc k) x ≡ true) × (lasts a (suc (suc k)) x ≡ false)) rounds-is (lasts_of_value s.board unstruck.small.is_board (suc (s.value - 1)) x worth.is_rank worth.has_value)
+  worth-lasts : (x : ℕ) → IsWorth s.game x (suc (s.value - 1)) → (lasts a (suc r) x ≡ true) × (lasts a (suc (suc r)) x ≡ false)
+  worth-lasts x worth = subst (λ k. (lasts a (suc k) x ≡ true) × (lasts a (suc (suc k)) x ≡ false)) rounds-is (lasts_of_value s.game unstruck.is_board (suc (s.value - 1)) x worth.is_rank worth.has_value)
 
-  pub worth-open : (won counts : List ℕ) → IsRoundEnd (as_solving s false) won counts → (x : ℕ) → 0 < times x won → (x < configurations s.board) × (is_open s.values x ≡ true)
+  pub worth-open : (won counts : List ℕ) → IsRoundEnd (as_solving s false) won counts → (x : ℕ) → 0 < times x won → (x < (graph_of s.game).configurations) × (is_open s.values x ≡ true)
   worth-open won counts end x h =
       let worth = (end.next x).0 h in
       (worth.is_rank, unstruck.stage.words_are.opened x worth.is_rank ∙ (worth-lasts x worth).0)
@@ -95,18 +91,18 @@ module _ (s : PlainStage) (unstruck : IsUnstruck s) where
   module _ (won counts : List ℕ) (end : IsRoundEnd (as_solving s false) won counts)
       (m t : PlainStage) (files : FilesAll s won m) (takes : TakesCounts m counts t) where
     -- a configuration that lasts the round and wasn't won lasts one request more
-    lost-lasts : (x : ℕ) → x < configurations s.board → times x won ≡ 0 → lasts a (suc r) x ≡ true → lasts a (suc (suc r)) x ≡ true
+    lost-lasts : (x : ℕ) → x < (graph_of s.game).configurations → times x won ≡ 0 → lasts a (suc r) x ≡ true → lasts a (suc (suc r)) x ≡ true
     lost-lasts x i none e = elim (true_or_false (lasts a (suc (suc r)) x)) [
       | inl so ↦ so
       | inr stops ↦ absurd (
-          let has = value_of_lasts s.board unstruck.small.is_board (suc r) x i e stops in
-          let worth : IsWorth s.board x (suc (s.value - 1)) = subst (λ k. IsWorth s.board x (suc k)) (sym rounds-is) (record { is_rank = i; has_value = has }) in
+          let has = value_of_lasts s.game unstruck.is_board (suc r) x i e stops in
+          let worth : IsWorth s.game x (suc (s.value - 1)) = subst (λ k. IsWorth s.game x (suc k)) (sym rounds-is) (record { is_rank = i; has_value = has }) in
           let some = (end.next x).1 worth in omega arith)
     ]
 
     end-words : AreWords a (lasts a (suc r)) m.values
     end-words = record {
-      values_length = files.filed_are.values_length ∙ ap configurations files.kept.board_is;
+      values_length = files.filed_are.values_length ∙ ap (λ (n : Numbered). (graph_of n).configurations) files.kept.game_is;
       opened = λ x i. elim (cases_lt 0 (times x won)) [
         | inl some ↦ shut x some ∙ sym (worth-lasts x ((end.next x).0 some)).1
         | inr more ↦ (let none : times x won ≡ 0 = omega arith in
@@ -127,16 +123,16 @@ module _ (s : PlainStage) (unstruck : IsUnstruck s) where
         shut : (x : ℕ) → 0 < times x won → is_open m.values x ≡ false
         shut x some = let few = unstruck.small.few in let low = unstruck.small.low in let at = files.there x some in valued_word m.values x (λ e. omega arith)
 
-        same_now : (x : ℕ) → x < configurations s.board → times x won ≡ 0 → lasts a (suc r) x ≡ lasts a (suc (suc r)) x
+        same_now : (x : ℕ) → x < (graph_of s.game).configurations → times x won ≡ 0 → lasts a (suc r) x ≡ lasts a (suc (suc r)) x
         same_now x i none = same_test (lasts a (suc r) x) (lasts a (suc (suc r)) x) (lost-lasts x i none) (lasts-less a is (suc r) x i)
 
     end-counts : IsCounted a (lasts a (suc r)) t.counts
     end-counts = record {
       counts_length = takes.counts_length ∙ ap length files.counts_is ∙ unstruck.stage.counts_are.counts_length;
-      counted = λ g i. takes.each g (subst (λ b. g < gaps b) (sym files.kept.board_is) i)
-          ∙ same_size (AnswerLasts s.board g (suc r)) (slice_index counts g) (live_answers a (lasts a (suc r)) g)
-          (subst (λ k. HasSize (AnswerLasts s.board g (suc k)) (slice_index counts g)) rounds-is (end.above g i))
-          (above-size s.board unstruck.small.is_board (suc r) g i);
+      counted = λ g i. takes.each g (subst (λ (n : Numbered). g < (graph_of n).gaps) (sym files.kept.game_is) i)
+          ∙ same_size (AnswerLasts s.game g (suc r)) (slice_index counts g) (live_answers a (lasts a (suc r)) g)
+          (subst (λ k. HasSize (AnswerLasts s.game g (suc k)) (slice_index counts g)) rounds-is (end.above g i))
+          (above-size s.game unstruck.is_board (suc r) g i);
     }
 
     pub end-struck : IsStriking t []
@@ -144,10 +140,10 @@ module _ (s : PlainStage) (unstruck : IsUnstruck s) where
       round = r;
       value_is = files.kept.value_is ∙ unstruck.value_is;
       stage = record {
-        counts_are = subst (λ q. IsCounted (arena_of q) (is_unstruck (arena_of q) r []) t.counts) (sym files.kept.board_is)
+        counts_are = subst (λ (q : Numbered). IsCounted (graph_of q) (is_unstruck (graph_of q) r []) t.counts) (sym files.kept.game_is)
             (IsCounted-same a is (lasts a (suc r)) (is_unstruck a r []) t.counts
             (λ x i. unstruck-none a r x) end-counts);
-        words_are = subst (λ q. AreWords (arena_of q) (is_unstruck (arena_of q) r []) m.values) (sym files.kept.board_is)
+        words_are = subst (λ (q : Numbered). AreWords (graph_of q) (is_unstruck (graph_of q) r []) m.values) (sym files.kept.game_is)
             (AreWords-same a is (lasts a (suc r)) (is_unstruck a r []) m.values
             (λ x i. unstruck-none a r x) end-words);
         filed_are = filed-counting m t.counts files.filed_are;
@@ -158,7 +154,7 @@ module _ (s : PlainStage) (unstruck : IsUnstruck s) where
 
     pub end-kept : IsKept s t
     end-kept = subst (IsKept s) (sym takes.rest) (record {
-      board_is = files.kept.board_is;
+      game_is = files.kept.game_is;
       value_is = files.kept.value_is;
       others = files.kept.others;
     })

@@ -6,24 +6,24 @@ use Rattle.std.proofs.lemmas.Bool.{cases_lt}
 use Rattle.std.proofs.lemmas.List.Quantifiers.{all_pairs_push}
 use Rattle.index_lists.specs.Lists.{times}
 use Rattle.index_lists.proofs.Cited.{cond_same, cond_other, times-here, times-more, times-append}
-use Rattle.positions.specs.Ranks.{configurations}
 use Rattle.positions.specs.declared.space.TheConstants.{MAX_CONFIGURATIONS}
-use Rattle.solver.specs.Inside.Arena.{Arena, is_answered, lasts}
-use Rattle.solver.specs.Inside.BoardArena.{arena_of}
-use Rattle.solver.specs.Inside.Stage.{PlainStage, filed_at, rank_listed, IsUnlisted, IsOpened}
+use Rattle.graphs.specs.Graph.{PlainGraph, is_answered, lasts}
+use Rattle.graphs.specs.Numbered.{Numbered, graph_of}
+use Rattle.solver.specs.Inside.Stage.{PlainStage, filed_at, rank_listed}
+use Rattle.solver.specs.Inside.Opening.{IsUnlisted, IsOpened}
 use Rattle.solver.specs.Inside.Tables.{is_open, AreWords, AreFirstWords}
 use Rattle.solver.specs.declared.word.TheConstants.{OPEN}
 use Rattle.solver.proofs.FiledRanks.{listed-here, listed-away}
-use Rattle.solver.proofs.LastingRanks.{same_or_not, true_or_false}
+use Rattle.graphs.proofs.Cited.{same_or_not, true_or_false}
 use Rattle.solver.proofs.ListedWords.{times_one, times_none}
 
 -- the configurations below a rank that have the word 0 are listed
 pub record IsListing (s : PlainStage) (rank : ℕ) (now : PlainStage) : Type 0 where
-  pub board_is : now.board ≡ s.board
+  pub game_is : now.game ≡ s.game
   pub value_is : now.value ≡ 0
   pub values_is : now.values ≡ s.values
   pub counts_is : now.counts ≡ s.counts
-  pub lists_length : length now.buckets ≡ configurations s.board + 1
+  pub lists_length : length now.buckets ≡ (graph_of s.game).configurations + 1
   pub others : (v : ℕ) → 0 < v → filed_at now v ≡ []
   pub below : (x : ℕ) → 0 < times x (filed_at now 0) → x < rank
   pub once : (x : ℕ) → x < rank → times x (filed_at now 0) ≡ cond (slice_index s.values x == 0) 1 0
@@ -48,7 +48,7 @@ module _ (s : PlainStage) (rank : ℕ) (now : PlainStage) (so_far : IsListing s 
 
   pub listing-skip : slice_index s.values rank ≢ 0 → IsListing s (rank + 1) now
   listing-skip other = record {
-    board_is = so_far.board_is;
+    game_is = so_far.game_is;
     value_is = so_far.value_is;
     values_is = so_far.values_is;
     counts_is = so_far.counts_is;
@@ -72,7 +72,7 @@ module _ (s : PlainStage) (rank : ℕ) (now : PlainStage) (so_far : IsListing s 
 
   pub listing-more : slice_index s.values rank ≡ 0 → IsListing s (rank + 1) (rank_listed now rank)
   listing-more none = record {
-    board_is = so_far.board_is;
+    game_is = so_far.game_is;
     value_is = so_far.value_is;
     values_is = so_far.values_is;
     counts_is = so_far.counts_is;
@@ -103,20 +103,20 @@ module _ (s : PlainStage) (rank : ℕ) (now : PlainStage) (so_far : IsListing s 
 
 -- ---- all of them
 
-first-open : (a : Arena) (words : List ℕ) → AreFirstWords a words → (x : ℕ) → x < a.configurations → is_open words x ≡ is_answered a (lasts a 0) x
+first-open : (a : PlainGraph) (words : List ℕ) → AreFirstWords a words → (x : ℕ) → x < a.configurations → is_open words x ≡ is_answered a (lasts a 0) x
 first-open a words are x i = ap (λ w. w == OPEN) (are.each x i) ∙ by (is_answered a (lasts a 0) x)
   where
     by : (t : Bool) → (cond {A = ℕ} t OPEN 0 == OPEN) ≡ t
     by true = refl
     by false = refl
 
-first-zero : (a : Arena) (words : List ℕ) → AreFirstWords a words → (x : ℕ) → x < a.configurations → is_open words x ≡ false → (slice_index words x ≡ 0) × (is_answered a (lasts a 0) x ≡ false)
+first-zero : (a : PlainGraph) (words : List ℕ) → AreFirstWords a words → (x : ℕ) → x < a.configurations → is_open words x ≡ false → (slice_index words x ≡ 0) × (is_answered a (lasts a 0) x ≡ false)
 first-zero a words are x i shut =
     let stuck : is_answered a (lasts a 0) x ≡ false = sym (first-open a words are x i) ∙ shut in
     (are.each x i ∙ ap (λ t. cond {A = ℕ} t OPEN 0) stuck, stuck)
 
 -- the first words are right before the first round
-first-are-words : (a : Arena) (words : List ℕ) → AreFirstWords a words → AreWords a (lasts a 0) words
+first-are-words : (a : PlainGraph) (words : List ℕ) → AreFirstWords a words → AreWords a (lasts a 0) words
 first-are-words a words are = record {
   values_length = are.words_length;
   opened = first-open a words are;
@@ -124,17 +124,17 @@ first-are-words a words are = record {
   stopping = λ x i shut. let zero = first-zero a words are x i shut in rw zero.0 zero.1;
 }
 
-pub all-listed : (s : PlainStage) (rank : ℕ) (now : PlainStage) → IsUnlisted s → configurations s.board ≤ MAX_CONFIGURATIONS → rank ≡ configurations s.board → IsListing s rank now → IsOpened now
+pub all-listed : (s : PlainStage) (rank : ℕ) (now : PlainStage) → IsUnlisted s → (graph_of s.game).configurations ≤ MAX_CONFIGURATIONS → rank ≡ (graph_of s.game).configurations → IsListing s rank now → IsOpened now
 all-listed s rank now are few all l = record {
   value_is = l.value_is;
   stage = record {
-    counts_are = rw (l.board_is, l.counts_is) are.counts_are;
-    words_are = rw (l.board_is, l.values_is) (first-are-words (arena_of s.board) s.values are.words_are);
+    counts_are = rw (l.game_is, l.counts_is) are.counts_are;
+    words_are = rw (l.game_is, l.values_is) (first-are-words (graph_of s.game) s.values are.words_are);
     filed_are = record {
-      values_length = ap length l.values_is ∙ are.words_are.words_length ∙ ap configurations (sym l.board_is);
-      lists_length = l.lists_length ∙ ap (λ b. configurations b + 1) (sym l.board_is);
-      below = λ v x h. subst (λ b. x < configurations b) (sym l.board_is) (below v x h);
-      once = λ v x low i. once v x (subst (λ b. v ≤ configurations b) l.board_is low) (subst (λ b. x < configurations b) l.board_is i)
+      values_length = ap length l.values_is ∙ are.words_are.words_length ∙ ap (λ (n : Numbered). (graph_of n).configurations) (sym l.game_is);
+      lists_length = l.lists_length ∙ ap (λ (n : Numbered). (graph_of n).configurations + 1) (sym l.game_is);
+      below = λ v x h. subst (λ (n : Numbered). x < (graph_of n).configurations) (sym l.game_is) (below v x h);
+      once = λ v x low i. once v x (subst (λ (n : Numbered). v ≤ (graph_of n).configurations) l.game_is low) (subst (λ (n : Numbered). x < (graph_of n).configurations) l.game_is i)
           ∙ ap (λ (ws : List ℕ). cond (slice_index ws x == v) 1 0) (sym l.values_is);
     };
   };
@@ -142,16 +142,16 @@ all-listed s rank now are few all l = record {
   none_later = l.others;
 }
   where
-    below : (v x : ℕ) → 0 < times x (filed_at now v) → x < configurations s.board
+    below : (v x : ℕ) → 0 < times x (filed_at now v) → x < (graph_of s.game).configurations
     below zero x h = let low = l.below x h in omega arith
     below (suc v) x h = absurd (let none = ap (times x) (l.others (suc v) (omega arith)) in omega arith)
 
-    other-word : (v x : ℕ) → suc v ≤ configurations s.board → x < configurations s.board → slice_index s.values x ≢ suc v
-    other-word v x low i e = elim (true_or_false (is_answered (arena_of s.board) (lasts (arena_of s.board) 0) x)) [
+    other-word : (v x : ℕ) → suc v ≤ (graph_of s.game).configurations → x < (graph_of s.game).configurations → slice_index s.values x ≢ suc v
+    other-word v x low i e = elim (true_or_false (is_answered (graph_of s.game) (lasts (graph_of s.game) 0) x)) [
       | inl going ↦ let word = are.words_are.each x i ∙ ap (λ t. cond {A = ℕ} t OPEN 0) going in omega arith
       | inr stuck ↦ let word = are.words_are.each x i ∙ ap (λ t. cond {A = ℕ} t OPEN 0) stuck in omega arith
     ]
 
-    once : (v x : ℕ) → v ≤ configurations s.board → x < configurations s.board → times x (filed_at now v) ≡ cond (slice_index s.values x == v) 1 0
+    once : (v x : ℕ) → v ≤ (graph_of s.game).configurations → x < (graph_of s.game).configurations → times x (filed_at now v) ≡ cond (slice_index s.values x == v) 1 0
     once zero x low i = l.once x (omega arith)
     once (suc v) x low i = ap (times x) (l.others (suc v) (omega arith)) ∙ sym (cond_other (slice_index s.values x) (suc v) 1 0 (other-word v x low i))

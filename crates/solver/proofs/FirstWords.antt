@@ -1,133 +1,105 @@
--- The words before the first round: 0 if some gap of the configuration has no answer, else open.
-use Rattle.std.proofs.Common.{◌≡◌, ℕ, ◌+◌, ◌-◌, ◌<◌, ◌⊎◌, inl, inr, cond, arith, sym, ap, ◌∙◌, subst, List, length, slice_index}
+-- The words before the first round.
+use Rattle.std.proofs.Common.{◌≡◌, ◌≢◌, ◌⊎◌, ℕ, ◌+◌, ◌<◌, ◌==◌, ◌&&◌, inl, inr, Bool, true, false, cond, refl, arith, sym, ap, ◌∙◌, List, length, slice_index, slice_set, get_or-set_other, get_or-set_same}
+use Rattle.std.proofs.Math.ListN.{length-set}
 use Rattle.std.proofs.lemmas.Bool.{cases_lt}
-use Rattle.solver.specs.Inside.Arena.{Arena, is_answered, lasts}
-use Rattle.solver.specs.Inside.Opening.{AreAdjacent, IsZeroedMember, AreZeroed, IsWritten}
+use Rattle.graphs.specs.Graph.{PlainGraph, is_member, is_answered, lasts}
+use Rattle.solver.specs.Inside.Opening.{AreZeroed}
 use Rattle.solver.specs.Inside.Tables.{IsCounted, AreFirstWords}
 use Rattle.solver.specs.declared.word.TheConstants.{OPEN}
-use Rattle.solver.proofs.Arenas.{IsArena}
-use Rattle.index_lists.proofs.Cited.{cond_same, cond_other}
-use Rattle.solver.proofs.LastingRanks.{true_or_false, same_or_not, next-gives, next-fails}
+use Rattle.graphs.proofs.Cited.{member-is, member-at}
+use Rattle.graphs.proofs.Cited.{same_is, differ_is, true_or_false, true_not_false, same_or_not, next-closed, next-fails}
 
--- ---- the members of a run of gaps
+-- ---- the members of one gap
 
--- each word is 0 or as before
-written_or : (first : ℕ) (counts words new : List ℕ) → IsWritten first counts (length counts) words new → (x : ℕ)
-    → (slice_index new x ≡ slice_index words x) ⊎ ((slice_index new x ≡ 0) × ((k : ℕ) × (k < length counts) × (slice_index counts k ≡ 0) × (first + k ≡ x)))
-written_or first counts words new w x = elim (cases_lt x first) [
-  | inl early ↦ inl (w.before x early)
-  | inr from ↦ elim (cases_lt x (first + length counts)) [
-    | inr late ↦ inl (w.behind x late)
-    | inl here ↦
-        let k : ℕ = x - first in
-        let is : first + k ≡ x = omega arith in
-        let at = w.inside k (omega arith) in
-        elim (same_or_not (slice_index counts k) 0) [
-          | inl none ↦ inr (ap (slice_index new) (sym is) ∙ at ∙ cond_same (slice_index counts k) 0 0 (slice_index words (first + k)) none, (k, omega arith, none, is))
-          | inr some ↦ inl (ap (slice_index new) (sym is) ∙ at ∙ cond_other (slice_index counts k) 0 0 (slice_index words (first + k)) some ∙ ap (slice_index words) is)
-        ]
-  ]
-]
+pub zeroed-none : (a : PlainGraph) (gap : ℕ) (words : List ℕ) → AreZeroed a gap 0 words words
+zeroed-none a gap words = record { same_length = refl; zeroed = λ v low. absurd (omega arith); others = λ x. inl refl }
 
-pub stopping-more : (a : Arena) → IsArena a → (gap place first : ℕ) (counts old words new : List ℕ) → AreAdjacent a gap (length counts) → place < a.places → first ≡ a.member gap place
-    → IsWritten first counts (length counts) words new → AreZeroed a gap counts place old words → AreZeroed a gap counts (place + 1) old new
-stopping-more a is gap place first counts old words new run low first_is written so_far = record {
-  same_length = written.same_length ∙ so_far.same_length;
-  zeroed = λ x i stop most. elim (written_or first counts words new written x) [
-    | inr zero_is ↦ zero_is.0
-    | inl same ↦ same ∙ elim (cases_lt (a.place x (a.pebble (gap + stop.more))) place) [
-      | inl before ↦ so_far.zeroed x i stop before
-      | inr last ↦
-          let below = stop.low in
-          let within = run.inside in
-          let at : a.place x (a.pebble (gap + stop.more)) ≡ place = omega arith in
-          let rank_is : first + stop.more ≡ x =
-          ap (λ n. n + stop.more) first_is ∙ sym (run.ranks stop.more place below low) ∙ ap (a.member (gap + stop.more)) (sym at)
-          ∙ ap (λ h. a.member h (a.place x (a.pebble (gap + stop.more)))) (sym stop.member) ∙ is.member_of_gap x (a.pebble (gap + stop.more)) i (is.pebble_in (gap + stop.more) (omega arith)) in
-          sym same ∙ ap (slice_index new) (sym rank_is) ∙ written.inside stop.more below ∙ cond_same (slice_index counts stop.more) 0 0 (slice_index words (first + stop.more)) stop.none
+pub zeroed-more : (a : PlainGraph) (gap place rank : ℕ) (old now : List ℕ) → place < a.places → rank ≡ a.member gap place → rank < length now
+    → AreZeroed a gap place old now → AreZeroed a gap (place + 1) old (slice_set now rank 0)
+zeroed-more a gap place rank old now inside is low z = record {
+  same_length = length-set now rank 0 ∙ z.same_length;
+  zeroed = λ v less. elim (same_or_not (a.member gap v) rank) [
+    | inl here ↦ ap (slice_index (slice_set now rank 0)) here ∙ get_or-set_same now rank 0 0 low
+    | inr other ↦ get_or-set_other now rank (a.member gap v) 0 0 other ∙ elim (cases_lt v place) [
+      | inl before ↦ z.zeroed v before
+      | inr last ↦ absurd (other (ap (a.member gap) (let same : v ≡ place = omega arith in same) ∙ sym is))
     ]
   ];
-  others = λ x i. elim (written_or first counts words new written x) [
-    | inl same ↦ elim (so_far.others x i) [ inl kept ↦ inl (same ∙ kept) | inr stop ↦ inr (same ∙ stop.0, stop.1) ]
-    | inr zero_is ↦
-        let k : ℕ = zero_is.1.0 in
-        let below : k < length counts = zero_is.1.1 in
-        let within = run.inside in
-        let rank_is : a.member (gap + k) place ≡ x = run.ranks k place below low ∙ ap (λ n. n + k) (sym first_is) ∙ zero_is.1.3 in
-        inr (
-          zero_is.0,
-          record {
-            more = k;
-            low = below;
-            none = zero_is.1.2;
-            member = ap (λ y. a.gap y (a.pebble (gap + k))) (sym rank_is) ∙ is.gap_of_member (gap + k) place (omega arith) low;
-          },
-        )
+  others = λ x. elim (same_or_not x rank) [
+    | inl here ↦ inr (ap (slice_index (slice_set now rank 0)) here ∙ get_or-set_same now rank 0 0 low, member-is a gap place x inside (sym is ∙ sym here))
+    | inr other ↦
+        let same = get_or-set_other now rank x 0 0 other in
+        elim (z.others x) [ inl kept ↦ inl (same ∙ kept) | inr zero ↦ inr (same ∙ zero.0, zero.1) ]
   ];
 }
 
--- ---- gap by gap
+-- ---- the gaps without answers
 
--- the members of the first gaps that have no answer have the word 0, and all other configurations are open
-pub record AreStopped (a : Arena) (counts : List ℕ) (gap : ℕ) (words : List ℕ) : Type 0 where
+-- the configuration is a member of one of the first gaps, which has no answer
+pub record IsStopped (a : PlainGraph) (counts : List ℕ) (gap x : ℕ) : Type 0 where
+  pub at : ℕ
+  pub below : at < gap
+  pub none : slice_index counts at ≡ 0
+  pub member : is_member a at x ≡ true
+
+-- the members of the first gaps that have no answers have the word 0, and all others are open
+pub record AreStopped (a : PlainGraph) (counts : List ℕ) (gap : ℕ) (words : List ℕ) : Type 0 where
   pub words_length : length words ≡ a.configurations
-  pub either : (x : ℕ) → x < a.configurations → (slice_index words x ≡ OPEN) ⊎ (slice_index words x ≡ 0)
-  pub sound : (x : ℕ) → x < a.configurations → slice_index words x ≡ 0 → (p : ℕ) × (p < a.pebbles) × (slice_index counts (a.gap x p) ≡ 0)
-  pub found : (x p : ℕ) → x < a.configurations → p < a.pebbles → a.gap x p < gap → slice_index counts (a.gap x p) ≡ 0 → slice_index words x ≡ 0
+  pub zeroed : (g v : ℕ) → g < gap → v < a.places → slice_index counts g ≡ 0 → slice_index words (a.member g v) ≡ 0
+  pub others : (x : ℕ) → x < a.configurations → (slice_index words x ≡ OPEN) ⊎ ((slice_index words x ≡ 0) × IsStopped a counts gap x)
 
--- one more run of gaps
-pub stopped-more : (a : Arena) → IsArena a → (counts part : List ℕ) (gap : ℕ) (words new : List ℕ) → AreAdjacent a gap (length part) → ((k : ℕ) → k < length part → slice_index part k ≡ slice_index counts (gap + k))
-    → AreZeroed a gap part a.places words new → AreStopped a counts gap words → AreStopped a counts (gap + length part) new
-stopped-more a is counts part gap words new run part_is stopping so_far = record {
-  words_length = stopping.same_length ∙ so_far.words_length;
-  either = λ x i. elim (stopping.others x i) [
-    | inr stop ↦ inr stop.0
-    | inl same ↦ elim (so_far.either x i) [ inl still ↦ inl (same ∙ still) | inr stop ↦ inr (same ∙ stop) ]
+stopped-later : (a : PlainGraph) (counts : List ℕ) (gap x : ℕ) → IsStopped a counts gap x → IsStopped a counts (gap + 1) x
+stopped-later a counts gap x s = record { at = s.at; below = (let low = s.below in omega arith); none = s.none; member = s.member }
+
+pub stopped-none : (a : PlainGraph) (counts words : List ℕ) → length words ≡ a.configurations → ((x : ℕ) → x < a.configurations → slice_index words x ≡ OPEN) → AreStopped a counts 0 words
+stopped-none a counts words size all = record { words_length = size; zeroed = λ g v low. absurd (omega arith); others = λ x i. inl (all x i) }
+
+pub stopped-skip : (a : PlainGraph) (counts words : List ℕ) (gap : ℕ) → slice_index counts gap ≢ 0 → AreStopped a counts gap words → AreStopped a counts (gap + 1) words
+stopped-skip a counts words gap some s = record {
+  words_length = s.words_length;
+  zeroed = λ g v low inside none. elim (cases_lt g gap) [
+    | inl before ↦ s.zeroed g v before inside none
+    | inr last ↦ absurd (some (ap (slice_index counts) (let same : gap ≡ g = omega arith in same) ∙ none))
   ];
-  sound = λ x i none. elim (stopping.others x i) [
-    | inl same ↦ so_far.sound x i (sym same ∙ none)
-    | inr stop ↦
-        let there = stop.1 in
-        let low = there.low in
-        let within = run.inside in
-        (a.pebble (gap + there.more), is.pebble_in (gap + there.more) (omega arith), ap (slice_index counts) there.member ∙ sym (part_is there.more low) ∙ there.none)
+  others = λ x i. elim (s.others x i) [ inl still ↦ inl still | inr zero ↦ inr (zero.0, stopped-later a counts gap x zero.1) ];
+}
+
+pub stopped-more : (a : PlainGraph) (counts words now : List ℕ) (gap : ℕ) → slice_index counts gap ≡ 0 → AreZeroed a gap a.places words now → AreStopped a counts gap words → AreStopped a counts (gap + 1) now
+stopped-more a counts words now gap none z s = record {
+  words_length = z.same_length ∙ s.words_length;
+  zeroed = λ g v low inside zero. elim (cases_lt g gap) [
+    | inl before ↦ elim (z.others (a.member g v)) [ inl kept ↦ kept ∙ s.zeroed g v before inside zero | inr here ↦ here.0 ]
+    | inr last ↦ ap (λ h. slice_index now (a.member h v)) (let same : g ≡ gap = omega arith in same) ∙ z.zeroed v inside
   ];
-  found = λ x p i j low none. elim (cases_lt (a.gap x p) gap) [
-    | inl before ↦ elim (stopping.others x i) [
-      | inl same ↦ same ∙ so_far.found x p i j before none
-      | inr stop ↦ stop.0
-    ]
-    | inr from ↦
-        let k : ℕ = a.gap x p - gap in
-        let at : gap + k ≡ a.gap x p = omega arith in
-        let below : k < length part = omega arith in
-        let pebble_is : a.pebble (gap + k) ≡ p = ap a.pebble at ∙ is.pebble_of_gap x p i j in
-        let stop : IsZeroedMember a gap part x = record {
-          more = k;
-          low = below;
-          none = part_is k below ∙ ap (slice_index counts) at ∙ none;
-          member = ap (a.gap x) pebble_is ∙ sym at;
-        } in
-        stopping.zeroed x i stop (is.place_in x (a.pebble (gap + k)) i (subst (λ q. q < a.pebbles) (sym pebble_is) j))
+  others = λ x i. elim (z.others x) [
+    | inr here ↦ inr (here.0, record { at = gap; below = omega arith; none = none; member = here.1 })
+    | inl kept ↦ elim (s.others x i) [ inl still ↦ inl (kept ∙ still) | inr zero ↦ inr (kept ∙ zero.0, stopped-later a counts gap x zero.1) ]
   ];
 }
 
-pub first-words : (a : Arena) → IsArena a → (counts words : List ℕ) → IsCounted a (lasts a 0) counts → AreStopped a counts a.gaps words → AreFirstWords a words
-first-words a is counts words counted stopped = record {
-  words_length = stopped.words_length;
+pub first-words : (a : PlainGraph) (counts words : List ℕ) → IsCounted a (lasts a 0) counts → AreStopped a counts a.gaps words → AreFirstWords a words
+first-words a counts words t s = record {
+  words_length = s.words_length;
   each = λ x i. elim (true_or_false (is_answered a (lasts a 0) x)) [
-    | inl going ↦ elim (stopped.either x i) [
-      | inl still ↦ still ∙ sym (ap (λ t. cond {A = ℕ} t OPEN 0) going)
-      | inr stop ↦ absurd (
-          let found = stopped.sound x i stop in
-          let some = next-gives a (lasts a 0) x found.0 going found.1 in
-          let count = counted.counted (a.gap x found.0) (is.gap_in x found.0 i found.1) in
-          let none = found.2 in
-          omega arith)
+    | inl going ↦ elim (s.others x i) [
+      | inl still ↦ still ∙ sym (ap (λ (c : Bool). cond c OPEN 0) going)
+      | inr zero ↦ absurd (
+          let stop = zero.1 in
+          let w = member-at a stop.at x stop.member in
+          true_not_false (is_answered a (lasts a 0) x) going (next-closed a (lasts a 0) x stop.at w.0 stop.below w.1 w.2 (sym (t.counted stop.at stop.below) ∙ stop.none)))
     ]
     | inr stuck ↦
-        let gap = next-fails a (lasts a 0) x stuck in
-        stopped.found x gap.0 i gap.1 (is.gap_in x gap.0 i gap.1) (counted.counted (a.gap x gap.0) (is.gap_in x gap.0 i gap.1) ∙ gap.2)
-        ∙ sym (ap (λ t. cond {A = ℕ} t OPEN 0) stuck)
+        let found = next-fails a (lasts a 0) x stuck in
+        let none = t.counted found.0 found.1 ∙ found.3 in
+        ap (slice_index words) (sym found.2.2) ∙ s.zeroed found.0 found.2.0 found.1 found.2.1 none ∙ sym (ap (λ (c : Bool). cond c OPEN 0) stuck)
   ];
 }
+
+-- ---- the answers of one gap
+
+-- one place more
+pub count-yes : (a : PlainGraph) (gap place count : ℕ) → a.struck (a.member gap place) ≡ gap → (a.struck (a.member gap place) == gap && true) ≡ true
+count-yes a gap place count e = rw (same_is (a.struck (a.member gap place)) gap e) refl
+
+pub count-no : (a : PlainGraph) (gap place count : ℕ) → (a.struck (a.member gap place) ≡ gap → ⊥) → (a.struck (a.member gap place) == gap && true) ≡ false
+count-no a gap place count e = rw (differ_is (a.struck (a.member gap place)) gap e) refl

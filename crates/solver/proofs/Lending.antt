@@ -6,6 +6,7 @@ use Rattle.std.proofs.Crossing.{crosses}
 use Rattle.index_lists.specs.declared.store.ListStore.{Ghosts}
 use Rattle.positions.specs.contracts.space.Space as space
 use Rattle.positions.specs.contracts.tuple_answers.TupleAnswers as tuples
+use Rattle.graphs.specs.contracts.graph.Graph as graph
 use Rattle.solver.specs.contracts.solver.Solver as solver
 use Rattle.solver.specs.contracts.solver.Solver.TheInside as inside
 use Rattle.solver.specs.contracts.stage.Stage as stage
@@ -17,24 +18,21 @@ space_sync = search (sendable, crosses) depth 30
 tuples_sync : IsSync tuples.the_row
 tuples_sync = search (sendable, crosses) depth 30
 
+graph_sync : IsSync graph.the_row
+graph_sync = search (sendable, crosses) depth 30
+
 stage_sync : (T : RattleType) (g : Ghosts T.Denot) → IsSync T → IsSync (stage.the_row T g)
 stage_sync T g lent = view_sync (parts.the_row T g) _ _ _ _ (recorded_sync (parts.the_field T g).row _ _ (parts.the_type T g).to_one (struct_sync (shape (parts.the_type T g)) (
-  search (sendable, crosses, space_sync) depth 30,
+  search (sendable, crosses, graph_sync) depth 30,
   (
-    search (sendable, crosses, tuples_sync) depth 30,
+    search sendable,
     (
-      search sendable,
+      search (sendable, crosses) depth 30,
       (
         search (sendable, crosses) depth 30,
         (
-          search (sendable, crosses) depth 30,
-          (
-            search (sendable, crosses) depth 30,
-            (
-              search (sendable, lent),
-              (search (sendable, crosses) depth 30, tt),
-            ),
-          ),
+          search (sendable, lent),
+          (search (sendable, crosses) depth 30, tt),
         ),
       ),
     ),
@@ -42,5 +40,16 @@ stage_sync T g lent = view_sync (parts.the_row T g) _ _ _ _ (recorded_sync (part
 )))
 
 pub solver_sync : (T : RattleType) (g : Ghosts T.Denot) → IsSync T → IsSync (solver.the_row T g)
-solver_sync T g lent = view_sync (inside.the_row T g) _ _ _ _ (recorded_sync (inside.the_field T g).row _ _ (inside.the_type T g).to_one (struct_sync (shape (inside.the_type T g))
-    (search (stage_sync, lent), (search (sendable, crosses) depth 30, (search sendable, tt)))))
+solver_sync T g lent = view_sync (inside.the_row T g) _ _ _ _ (recorded_sync (inside.the_field T g).row _ _ (inside.the_type T g).to_one (struct_sync (shape (inside.the_type T g)) (
+  search (stage_sync, lent),
+  (
+    search (sendable, crosses, space_sync) depth 30,
+    (
+      search (sendable, crosses, tuples_sync) depth 30,
+      (
+        search (sendable, crosses) depth 30,
+        (search (sendable, crosses) depth 30, (search sendable, tt)),
+      ),
+    ),
+  ),
+)))

@@ -1,14 +1,11 @@
 -- Whether a rank is in a list, and lists filtered by a test.
-use Rattle.std.proofs.Common.{◌≡◌, ℕ, ◌<◌, ◌≤◌, ◌==◌, not, Bool, true, false, cond, List, [], ◌∷◌, sym, ap, ◌∙◌, inl, inr, subst, arith}
+use Rattle.std.proofs.Common.{◌≡◌, ℕ, ◌<◌, ◌≤◌, not, Bool, true, false, cond, List, [], ◌∷◌, sym, ap, ◌∙◌, inl, inr, subst, arith}
 use Rattle.std.specs.List.{filter}
 use Rattle.std.proofs.lemmas.Bool.{cases_lt}
 use Rattle.index_lists.specs.Lists.{times}
 use Rattle.index_lists.proofs.Cited.{times-later}
-use Rattle.solver.proofs.LastingRanks.{true_or_false, true_not_false, same_or_not, zero_is, positive_is}
-
--- whether the rank is in the list
-abbrev pub stands : List ℕ → ℕ → Bool
-stands ranks x = not (times x ranks == 0)
+use Rattle.solver.specs.Striking.{stands}
+use Rattle.graphs.proofs.Cited.{true_or_false, true_not_false, same_or_not, zero_is, positive_is}
 
 pub stands-true : (ranks : List ℕ) (x : ℕ) → 0 < times x ranks → stands ranks x ≡ true
 stands-true ranks x h = ap not (positive_is (times x ranks) h)

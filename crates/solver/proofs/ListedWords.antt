@@ -4,11 +4,19 @@ use Rattle.std.proofs.Math.ListN.{length-set}
 use Rattle.std.proofs.lemmas.Bool.{cases_lt}
 use Rattle.index_lists.specs.Lists.{times}
 use Rattle.index_lists.proofs.Cited.{same_is, differ_is, times-later}
-use Rattle.solver.specs.Inside.Arena.{Arena}
+use Rattle.graphs.specs.Graph.{PlainGraph, is_member}
 use Rattle.solver.specs.Inside.Tables.{is_open, GapIsClosed}
 use Rattle.solver.specs.declared.word.TheConstants.{OPEN}
-use Rattle.solver.proofs.Arenas.{IsArena, IsClosing}
-use Rattle.solver.proofs.LastingRanks.{true_or_false, true_not_false, same_or_not}
+use Rattle.graphs.proofs.Cited.{member-at}
+use Rattle.graphs.proofs.Cited.{true_or_false, true_not_false, same_or_not}
+
+-- some open members of a gap are filed at a value, and nothing else changes
+pub record IsClosing (a : PlainGraph) (g value : ℕ) (values values' : List ℕ) : Type 0 where
+  pub same_length : length values' ≡ length values
+  pub filed : (x : ℕ) → x < a.configurations → is_open values x ≡ true → is_open values' x ≡ false
+      → (slice_index values' x ≡ value) × (is_member a g x ≡ true)
+  pub waiting : (x : ℕ) → x < a.configurations → is_open values' x ≡ true → is_open values x ≡ true
+  pub kept : (x : ℕ) → x < a.configurations → is_open values x ≡ false → slice_index values' x ≡ slice_index values x
 
 pub open_word : (values : List ℕ) (x : ℕ) → is_open values x ≡ true → slice_index values x ≡ OPEN
 open_word values x e = elim (same_or_not (slice_index values x) OPEN) [
@@ -37,13 +45,13 @@ open-after values rank value i small = ap (λ w. w == OPEN) (get_or-set_same val
 pub open-elsewhere : (values : List ℕ) (rank value x : ℕ) → x ≢ rank → is_open (slice_set values rank value) x ≡ is_open values x
 open-elsewhere values rank value x d = ap (λ w. w == OPEN) (get_or-set_other values rank x value 0 d)
 
-pub closing-step : (a : Arena) (g value : ℕ) (values values' : List ℕ) (rank : ℕ) → rank < a.configurations → length values ≡ a.configurations → value ≢ OPEN → is_open values' rank ≡ true → a.gap rank (a.pebble g) ≡ g
+pub closing-step : (a : PlainGraph) (g value : ℕ) (values values' : List ℕ) (rank : ℕ) → rank < a.configurations → length values ≡ a.configurations → value ≢ OPEN → is_open values' rank ≡ true → is_member a g rank ≡ true
     → IsClosing a g value values values' → IsClosing a g value values (slice_set values' rank value)
 closing-step a g value values values' rank i size small was_open member c =
     let place : rank < length values' = (let s = c.same_length in omega arith) in record {
       same_length = length-set values' rank value ∙ c.same_length;
       filed = λ x j was shut. elim (same_or_not x rank) [
-        | inl here ↦ (ap (slice_index (slice_set values' rank value)) here ∙ get_or-set_same values' rank value 0 place, ap (λ y. a.gap y (a.pebble g)) here ∙ member)
+        | inl here ↦ (ap (slice_index (slice_set values' rank value)) here ∙ get_or-set_same values' rank value 0 place, ap (is_member a g) here ∙ member)
         | inr other ↦ (let before = c.filed x j was (sym (open-elsewhere values' rank value x other) ∙ shut) in (get_or-set_other values' rank x value 0 other ∙ before.0, before.1))
       ];
       waiting = λ x j e. elim (same_or_not x rank) [
@@ -56,7 +64,7 @@ closing-step a g value values values' rank i size small was_open member c =
       ];
     }
 
-pub closing-end : (a : Arena) (g value : ℕ) (values values' : List ℕ) → ((x : ℕ) → x < a.configurations → a.gap x (a.pebble g) ≡ g → is_open values' x ≡ false) → IsClosing a g value values values' → GapIsClosed a g value values values'
+pub closing-end : (a : PlainGraph) (g value : ℕ) (values values' : List ℕ) → ((x : ℕ) → x < a.configurations → is_member a g x ≡ true → is_open values' x ≡ false) → IsClosing a g value values values' → GapIsClosed a g value values values'
 closing-end a g value values values' shut c = record {
   same_length = c.same_length;
   filed = λ x i member was. (c.filed x i was (shut x i member)).0;
@@ -64,14 +72,14 @@ closing-end a g value values values' shut c = record {
     | inr was_shut ↦ c.kept x i was_shut
     | inl was ↦ elim (true_or_false (is_open values' x)) [
       | inl still ↦ open_word values' x still ∙ sym (open_word values x was)
-      | inr now ↦ absurd (out (c.filed x i was now).1)
+      | inr now ↦ absurd (true_not_false (is_member a g x) (c.filed x i was now).1 out)
     ]
   ];
   kept = c.kept;
 }
 
 -- the members of a gap with the first labels are not open
-pub shut-more : (a : Arena) (g label : ℕ) (values values' : List ℕ) (rank value : ℕ) → rank < length values → value ≢ OPEN → a.member g label ≡ rank → values' ≡ slice_set values rank value
+pub shut-more : (a : PlainGraph) (g label : ℕ) (values values' : List ℕ) (rank value : ℕ) → rank < length values → value ≢ OPEN → a.member g label ≡ rank → values' ≡ slice_set values rank value
     → ((v : ℕ) → v < label → is_open values (a.member g v) ≡ false) → (v : ℕ) → v < label + 1 → is_open values' (a.member g v) ≡ false
 shut-more a g label values values' rank value i small here set shut v h = ap (λ (ws : List ℕ). is_open ws (a.member g v)) set ∙ elim (same_or_not (a.member g v) rank) [
   | inl same ↦ ap (is_open (slice_set values rank value)) same ∙ open-after values rank value i small
@@ -81,7 +89,7 @@ shut-more a g label values values' rank value i small here set shut v h = ap (λ
   ]
 ]
 
-pub shut-same : (a : Arena) (g label : ℕ) (values : List ℕ) (rank : ℕ) → a.member g label ≡ rank → is_open values rank ≡ false
+pub shut-same : (a : PlainGraph) (g label : ℕ) (values : List ℕ) (rank : ℕ) → a.member g label ≡ rank → is_open values rank ≡ false
     → ((v : ℕ) → v < label → is_open values (a.member g v) ≡ false) → (v : ℕ) → v < label + 1 → is_open values (a.member g v) ≡ false
 shut-same a g label values rank here closed shut v h = elim (cases_lt v label) [
   | inl low ↦ shut v low
@@ -89,9 +97,6 @@ shut-same a g label values rank here closed shut v h = elim (cases_lt v label) [
 ]
 
 -- if no place of a gap has an open member, the gap has no open member
-pub all-shut : (a : Arena) → IsArena a → (g : ℕ) (values : List ℕ) → g < a.gaps → ((v : ℕ) → v < a.places → is_open values (a.member g v) ≡ false)
-    → (x : ℕ) → x < a.configurations → a.gap x (a.pebble g) ≡ g → is_open values x ≡ false
-all-shut a is g values i shut x j member =
-    let p_in = is.pebble_in g i in
-    let x_is : a.member g (a.place x (a.pebble g)) ≡ x = ap (λ h. a.member h (a.place x (a.pebble g))) (sym member) ∙ is.member_of_gap x (a.pebble g) j p_in in
-    ap (is_open values) (sym x_is) ∙ shut (a.place x (a.pebble g)) (is.place_in x (a.pebble g) j p_in)
+pub all-shut : (a : PlainGraph) (g : ℕ) (values : List ℕ) → ((v : ℕ) → v < a.places → is_open values (a.member g v) ≡ false)
+    → (x : ℕ) → x < a.configurations → is_member a g x ≡ true → is_open values x ≡ false
+all-shut a g values shut x j member = let w = member-at a g x member in ap (is_open values) (sym w.2) ∙ shut w.0 w.1

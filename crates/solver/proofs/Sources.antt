@@ -1,34 +1,34 @@
 -- The members of a gap that pass a test, by label.
-use Rattle.std.proofs.Common.{◌≡◌, ℕ, zero, suc, ◌+◌, ◌<◌, ◌≤◌, ◌==◌, ◌&&◌, Bool, true, false, cond, inl, inr, refl, sym, ap, ◌∙◌, subst, arith, List, ◌∷◌}
+use Rattle.std.proofs.Common.{◌≡◌, ℕ, zero, suc, ◌+◌, ◌<◌, ◌≤◌, ◌&&◌, Bool, true, false, cond, inl, inr, refl, sym, ap, ◌∙◌, subst, arith, List, ◌∷◌}
 use Rattle.index_lists.specs.Lists.{times}
 use Rattle.index_lists.proofs.Cited.{times-later}
-use Rattle.solver.specs.Inside.Arena.{Arena}
+use Rattle.graphs.specs.Graph.{PlainGraph, IsGraph, is_member}
 use Rattle.solver.specs.Inside.Tables.{members_from}
-use Rattle.solver.proofs.Arenas.{IsArena}
-use Rattle.solver.proofs.LastingRanks.{both_true, and_true, true_or_false, true_not_false, same_or_not, same_is, differ_is}
+use Rattle.graphs.proofs.Cited.{one-place, member-is, member-at}
+use Rattle.graphs.proofs.Cited.{both_true, and_true, true_or_false, true_not_false, same_or_not, same_is}
 
 -- a member that fails the test is left out, and one that passes comes first
-pub members-skip : (a : Arena) (test : ℕ → Bool) (g from n : ℕ) → test (a.member g from) ≡ false → members_from a test g from (suc n) ≡ members_from a test g (from + 1) n
+pub members-skip : (a : PlainGraph) (test : ℕ → Bool) (g from n : ℕ) → test (a.member g from) ≡ false → members_from a test g from (suc n) ≡ members_from a test g (from + 1) n
 members-skip a test g from n e = rw e refl
 
-pub members-take : (a : Arena) (test : ℕ → Bool) (g from n : ℕ) → test (a.member g from) ≡ true → members_from a test g from (suc n) ≡ a.member g from ∷ members_from a test g (from + 1) n
+pub members-take : (a : PlainGraph) (test : ℕ → Bool) (g from n : ℕ) → test (a.member g from) ≡ true → members_from a test g from (suc n) ≡ a.member g from ∷ members_from a test g (from + 1) n
 members-take a test g from n e = rw e refl
 
 -- a number in the list is a member of the gap that passes the test
-pub record IsMember (a : Arena) (test : ℕ → Bool) (g from n x : ℕ) : Type 0 where
+pub record IsMember (a : PlainGraph) (test : ℕ → Bool) (g from n x : ℕ) : Type 0 where
   pub label : ℕ
   pub at_least : from ≤ label
   pub below : label < from + n
   pub passes : test x ≡ true
   pub is : a.member g label ≡ x
 
-member-later : (a : Arena) (test : ℕ → Bool) (g from n x : ℕ) → IsMember a test g (from + 1) n x → IsMember a test g from (suc n) x
+member-later : (a : PlainGraph) (test : ℕ → Bool) (g from n x : ℕ) → IsMember a test g (from + 1) n x → IsMember a test g from (suc n) x
 member-later a test g from n x rest =
     let low = rest.at_least in
     let high = rest.below in
     record { label = rest.label; at_least = omega arith; below = omega arith; passes = rest.passes; is = rest.is }
 
-pub members-are : (a : Arena) (test : ℕ → Bool) (g from n x : ℕ) → 0 < times x (members_from a test g from n) → IsMember a test g from n x
+pub members-are : (a : PlainGraph) (test : ℕ → Bool) (g from n x : ℕ) → 0 < times x (members_from a test g from n) → IsMember a test g from n x
 members-are a test g from zero x h = absurd (omega arith)
 members-are a test g from (suc n) x h = elim (true_or_false (test (a.member g from))) [
   | inr fails ↦ member-later a test g from n x (members-are a test g (from + 1) n x (subst (λ xs. 0 < times x xs) (members-skip a test g from n fails) h))
@@ -42,9 +42,9 @@ members-are a test g from (suc n) x h = elim (true_or_false (test (a.member g fr
 first_more : (x node : ℕ) (xs : List ℕ) → x ≡ node → times node (x ∷ xs) ≡ 1 + times node xs
 first_more x node xs e = rw (same_is x node e) refl
 
-module _ (a : Arena) (is : IsArena a) (test : ℕ → Bool) (g : ℕ) (i : g < a.gaps) where
+module _ (a : PlainGraph) (is : IsGraph a) (test : ℕ → Bool) (g : ℕ) (i : g < a.gaps) where
   one_label : (v w : ℕ) → v < a.places → w < a.places → a.member g v ≡ a.member g w → v ≡ w
-  one_label v w low high e = sym (is.place_of_member g v i low) ∙ ap (λ x. a.place x (a.pebble g)) e ∙ is.place_of_member g w i high
+  one_label v w low high e = one-place a is g v w i low high e
 
   -- each member is in the list once
   pub member-once : (from n v : ℕ) → from + n ≤ a.places → from ≤ v → v < from + n → test (a.member g v) ≡ true → times (a.member g v) (members_from a test g from n) ≡ 1
@@ -77,28 +77,21 @@ module _ (a : Arena) (is : IsArena a) (test : ℕ → Bool) (g : ℕ) (i : g < a
           omega arith)
 
   -- a configuration is in the list once if it passes the test and is a member, and else never
-  pub member-times : (x : ℕ) → x < a.configurations → times x (members_from a test g 0 a.places) ≡ cond (test x && (a.gap x (a.pebble g) == g)) 1 0
-  member-times x j = elim (true_or_false (test x && (a.gap x (a.pebble g) == g))) [
+  pub member-times : (x : ℕ) → times x (members_from a test g 0 a.places) ≡ cond (test x && is_member a g x) 1 0
+  member-times x = elim (true_or_false (test x && is_member a g x)) [
     | inl both ↦ (
-        let parts = both_true (test x) (a.gap x (a.pebble g) == g) both in
-        let member = is_same parts.1 in
-        let p_in = is.pebble_in g i in
-        let x_is : a.member g (a.place x (a.pebble g)) ≡ x = ap (λ h. a.member h (a.place x (a.pebble g))) (sym member) ∙ is.member_of_gap x (a.pebble g) j p_in in
-        let low = is.place_in x (a.pebble g) j p_in in
-        ap (λ y. times y (members_from a test g 0 a.places)) (sym x_is)
-        ∙ member-once 0 a.places (a.place x (a.pebble g)) (omega arith) (omega arith) (omega arith) (ap test x_is ∙ parts.0)
+        let parts = both_true (test x) (is_member a g x) both in
+        let w = member-at a g x parts.1 in
+        ap (λ y. times y (members_from a test g 0 a.places)) (sym w.2)
+        ∙ member-once 0 a.places w.0 (omega arith) (omega arith) (let low = w.1 in omega arith) (ap test w.2 ∙ parts.0)
         ∙ sym (ap (λ b. cond {A = ℕ} b 1 0) both))
     | inr not_both ↦ none (times x (members_from a test g 0 a.places)) (λ some.
         let found = members-are a test g 0 a.places x some in
-        let high = found.below in
-        let member : a.gap x (a.pebble g) ≡ g = ap (λ y. a.gap y (a.pebble g)) (sym found.is) ∙ is.gap_of_member g found.label i (omega arith) in
-        true_not_false (test x && (a.gap x (a.pebble g) == g)) (and_true (test x) (a.gap x (a.pebble g) == g) found.passes (same_is (a.gap x (a.pebble g)) g member)) not_both)
+        let low = found.below in
+        true_not_false (test x && is_member a g x) (and_true (test x) (is_member a g x) found.passes (member-is a g found.label x (omega arith) found.is)) not_both)
         ∙ sym (ap (λ b. cond {A = ℕ} b 1 0) not_both)
   ]
     where
       none : (k : ℕ) → (0 < k → ⊥) → k ≡ 0
       none zero h = refl
       none (suc k) h = absurd (h (omega arith))
-
-      is_same : {m n : ℕ} → (m == n) ≡ true → m ≡ n
-      is_same {m} {n} e = elim (same_or_not m n) [ inl s ↦ s | inr d ↦ absurd (true_not_false (m == n) e (differ_is m n d)) ]

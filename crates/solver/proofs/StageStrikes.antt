@@ -3,31 +3,28 @@ use Rattle.std.proofs.Common.{◌≡◌, ◌≢◌, ℕ, ◌+◌, ◌<◌, ◌�
 use Rattle.std.proofs.lemmas.Bool.Decides.{nat_tests}
 use Rattle.index_lists.specs.Lists.{times}
 use Rattle.index_lists.proofs.Cited.{times-here, times-more, times-later}
-use Rattle.board_text.specs.PlainBoard.{PlainBoard, IsBoard}
-use Rattle.positions.specs.Ranks.{configurations}
+use Rattle.graphs.specs.Numbered.{graph_of}
 use Rattle.positions.specs.declared.space.TheConstants.{MAX_CONFIGURATIONS}
-use Rattle.solver.specs.Inside.Arena.{Arena, lasts, IsDominant}
-use Rattle.solver.specs.Inside.BoardArena.{arena_of}
+use Rattle.graphs.specs.Graph.{PlainGraph, IsGraph, live_answers, lasts}
 use Rattle.solver.specs.Inside.Stage.{PlainStage, with_counts, strikes_copied, IsFiled, IsKept, Closes, IsStruckAt, IsStriking}
 use Rattle.solver.specs.Inside.Tables.{is_unstruck, IsCounted, AreWords}
-use Rattle.solver.proofs.Arenas.{IsArena, without, IsBetween}
-use Rattle.solver.proofs.BoardArenas.{arena_is}
+use Rattle.graphs.proofs.Cited.{without, IsBetween}
 use Rattle.solver.proofs.StruckTables.{IsCounted-same, AreWords-same, counted-struck, words-some, words-closed, home-now}
-use Rattle.solver.proofs.LastingRanks.{true_or_false, same_or_not, same_is, lasts-less}
+use Rattle.graphs.proofs.Cited.{true_or_false, same_or_not, same_is, lasts-less}
 use Rattle.solver.proofs.Strikes.{strike-home}
 
 -- ---- the configurations that are not struck
 
-pub unstruck-lasts : (a : Arena) (r : ℕ) (todo : List ℕ) (x : ℕ)
+pub unstruck-lasts : (a : PlainGraph) (r : ℕ) (todo : List ℕ) (x : ℕ)
     → lasts a (suc r) x ≡ true → is_unstruck a r todo x ≡ true
 unstruck-lasts a r todo x e = rw e refl
 
-pub unstruck-fails : (a : Arena) (r : ℕ) (todo : List ℕ) (x : ℕ)
+pub unstruck-fails : (a : PlainGraph) (r : ℕ) (todo : List ℕ) (x : ℕ)
     → lasts a (suc r) x ≡ false → is_unstruck a r todo x ≡ not (times x todo == 0)
 unstruck-fails a r todo x e = rw e refl
 
 -- if the list to strike is empty, the unstruck configurations are those that last longer than the round
-pub unstruck-none : (a : Arena) (r x : ℕ) → lasts a (suc r) x ≡ is_unstruck a r [] x
+pub unstruck-none : (a : PlainGraph) (r x : ℕ) → lasts a (suc r) x ≡ is_unstruck a r [] x
 unstruck-none a r x = by (lasts a (suc r) x)
   where
     by : (b : Bool) → b ≡ cond b true (not (0 == 0))
@@ -44,7 +41,7 @@ times_some : (n : ℕ) → not (n == 0) ≡ true → 0 < n
 times_some n h = grind (arith, nat_tests)
 
 -- an unstruck configuration lasts as long as the round
-pub unstruck-between : (a : Arena) → IsArena a → (r : ℕ) (todo : List ℕ)
+pub unstruck-between : (a : PlainGraph) → IsGraph a → (r : ℕ) (todo : List ℕ)
     → ((x : ℕ) → 0 < times x todo → IsStruckAt a r x) → IsBetween a r (is_unstruck a r todo)
 unstruck-between a is r todo due = record {
   lower = λ y j e. unstruck-lasts a r todo y e;
@@ -54,13 +51,13 @@ unstruck-between a is r todo due = record {
   ];
 }
 
-pub unstruck-first : (a : Arena) (r c : ℕ) (rest : List ℕ)
+pub unstruck-first : (a : PlainGraph) (r c : ℕ) (rest : List ℕ)
     → lasts a (suc r) c ≡ false → is_unstruck a r (c ∷ rest) c ≡ true
 unstruck-first a r c rest stops =
     unstruck-fails a r (c ∷ rest) c stops ∙ some_times (times c (c ∷ rest)) (times-here c c rest refl)
 
 -- after the first is struck, the unstruck configurations are those of the rest of the list
-pub unstruck-rest : (a : Arena) (r c : ℕ) (rest : List ℕ)
+pub unstruck-rest : (a : PlainGraph) (r c : ℕ) (rest : List ℕ)
     → lasts a (suc r) c ≡ false → times c (c ∷ rest) ≤ 1
     → (x : ℕ) → without (is_unstruck a r (c ∷ rest)) c x ≡ is_unstruck a r rest x
 unstruck-rest a r c rest stops once x = elim (same_or_not x c) [
@@ -80,11 +77,11 @@ unstruck-rest a r c rest stops once x = elim (same_or_not x c) [
 
 -- ---- the stage after a strike
 
--- a stage of a board, from its parts
-pub striking-of : (s : PlainStage) (todo : List ℕ) (b : PlainBoard) → s.board ≡ b → (round : ℕ) → s.value ≡ suc round → IsCounted (arena_of b) (is_unstruck (arena_of b) round todo) s.counts
-    → AreWords (arena_of b) (is_unstruck (arena_of b) round todo) s.values → IsFiled s → ((x : ℕ) → 0 < times x todo → IsStruckAt (arena_of b) round x) → ((x : ℕ) → times x todo ≤ 1) → IsStriking s todo
-striking-of s todo b same = subst (λ (p : PlainBoard). (round : ℕ) → s.value ≡ suc round → IsCounted (arena_of p) (is_unstruck (arena_of p) round todo) s.counts
-    → AreWords (arena_of p) (is_unstruck (arena_of p) round todo) s.values → IsFiled s → ((x : ℕ) → 0 < times x todo → IsStruckAt (arena_of p) round x) → ((x : ℕ) → times x todo ≤ 1) → IsStriking s todo) same
+-- a stage of a graph, from its parts
+pub striking-of : (s : PlainStage) (todo : List ℕ) (a : PlainGraph) → (graph_of s.game) ≡ a → (round : ℕ) → s.value ≡ suc round → IsCounted a (is_unstruck a round todo) s.counts
+    → AreWords a (is_unstruck a round todo) s.values → IsFiled s → ((x : ℕ) → 0 < times x todo → IsStruckAt a round x) → ((x : ℕ) → times x todo ≤ 1) → IsStriking s todo
+striking-of s todo a same = subst (λ (p : PlainGraph). (round : ℕ) → s.value ≡ suc round → IsCounted p (is_unstruck p round todo) s.counts
+    → AreWords p (is_unstruck p round todo) s.values → IsFiled s → ((x : ℕ) → 0 < times x todo → IsStruckAt p round x) → ((x : ℕ) → times x todo ≤ 1) → IsStriking s todo) same
     (λ round value_is counts words filed due once. record {
       round = round;
       value_is = value_is;
@@ -96,18 +93,18 @@ striking-of s todo b same = subst (λ (p : PlainBoard). (round : ℕ) → s.valu
 pub filed-counting : (s : PlainStage) (counts : List ℕ) → IsFiled s → IsFiled (with_counts s counts)
 filed-counting s counts are = record { values_length = are.values_length; lists_length = are.lists_length; below = are.below; once = are.once }
 
-module _ (s : PlainStage) (board_is : IsBoard s.board) (c : ℕ) (rest : List ℕ) (k : IsStriking s (c ∷ rest)) (p g n : ℕ) (d : IsDominant (arena_of s.board) c p) (g_is : g ≡ (arena_of s.board).gap c p) where
-  abbrev a : Arena
-  a = arena_of s.board
-
-  is : IsArena a
-  is = arena_is s.board board_is
+module _ (s : PlainStage) (is : IsGraph (graph_of s.game)) (c : ℕ) (rest : List ℕ) (k : IsStriking s (c ∷ rest)) (g n : ℕ) (g_is : g ≡ (graph_of s.game).struck c) where
+  abbrev a : PlainGraph
+  a = (graph_of s.game)
 
   abbrev above : ℕ → Bool
   above = is_unstruck a k.round (c ∷ rest)
 
   here : IsStruckAt a k.round c
   here = k.due c (times-here c c rest refl)
+
+  pub gap-in : g < a.gaps
+  gap-in = let low = here.has_gap in omega arith
 
   is_above : above c ≡ true
   is_above = unstruck-first a k.round c rest here.stopping
@@ -124,17 +121,17 @@ module _ (s : PlainStage) (board_is : IsBoard s.board) (c : ℕ) (rest : List �
   -- the count of the gap isn't 0 before the strike
   pub count-left : 0 < slice_index s.counts g
   count-left =
-      let home = strike-home a is above c p here.is_rank d is_above in
-      let counted = k.stage.counts_are.counted (a.gap c p) (is.gap_in c p here.is_rank d.0) in
-      rw g_is (omega arith)
+      let home = strike-home a is above c g here.is_rank g_is gap-in is_above in
+      let counted = k.stage.counts_are.counted g gap-in in
+      omega arith
 
   module _ (n_is : slice_index s.counts g ≡ n + 1) where
-    counted : slice_index s.counts (a.gap c p) ≡ n + 1
-    counted = ap (slice_index s.counts) (sym g_is) ∙ n_is
+    now : live_answers a (without above c) g ≡ n
+    now = home-now a is above c g here.is_rank g_is gap-in n s.counts is_above n_is k.stage.counts_are
 
     counts : IsCounted a (is_unstruck a k.round rest) (slice_set s.counts g n)
     counts = IsCounted-same a is (without above c) (is_unstruck a k.round rest) (slice_set s.counts g n) next
-        (rw g_is (counted-struck a is above c p n s.counts here.is_rank d is_above counted k.stage.counts_are))
+        (counted-struck a is above c g here.is_rank g_is gap-in n s.counts is_above n_is k.stage.counts_are)
 
     pub struck-some : 0 < n → IsStriking (with_counts s (slice_set s.counts g n)) rest
     struck-some some = record {
@@ -143,34 +140,34 @@ module _ (s : PlainStage) (board_is : IsBoard s.board) (c : ℕ) (rest : List �
       stage = record {
         counts_are = counts;
         words_are = AreWords-same a is (without above c) (is_unstruck a k.round rest) s.values next
-            (words-some a is above c p n s.values here.is_rank d (home-now a is above c p n s.counts here.is_rank d is_above counted k.stage.counts_are) some k.stage.words_are);
+            (words-some a is above c g here.is_rank g_is gap-in n now s.values some k.stage.words_are);
         filed_are = filed-counting s (slice_set s.counts g n) k.stage.filed_are;
       };
       due = due;
       once = fewer;
     }
 
-    pub struck-closed : (s' : PlainStage) → n ≡ 0 → configurations s.board ≤ MAX_CONFIGURATIONS → s.value ≤ configurations s.board → Closes (with_counts s (slice_set s.counts g n)) g s' → IsStriking s' rest
+    pub struck-closed : (s' : PlainStage) → n ≡ 0 → (graph_of s.game).configurations ≤ MAX_CONFIGURATIONS → s.value ≤ (graph_of s.game).configurations → Closes (with_counts s (slice_set s.counts g n)) g s' → IsStriking s' rest
     struck-closed s' none few low closes =
         let value_is : s.value ≡ suc k.round = k.value_is in
-        striking-of s' rest s.board closes.kept.board_is k.round (closes.kept.value_is ∙ value_is)
+        striking-of s' rest (graph_of s.game) (ap graph_of closes.kept.game_is) k.round (closes.kept.value_is ∙ value_is)
         (rw closes.counts_is counts)
         (AreWords-same a is (without above c) (is_unstruck a k.round rest) s'.values next
-        (words-closed a is above c p k.round s.values s'.values here.is_rank d (home-now a is above c p n s.counts here.is_rank d is_above counted k.stage.counts_are ∙ none) (λ e. omega arith)
-        (unstruck-between a is k.round (c ∷ rest) k.due) here.stopping (rw (← g_is, ← value_is) closes.words) k.stage.words_are))
+        (words-closed a is above c g here.is_rank g_is gap-in s.values s'.values (now ∙ none) k.stage.words_are k.round
+        (unstruck-between a is k.round (c ∷ rest) k.due) here.stopping (λ e. omega arith) (rw (← value_is) closes.words)))
         closes.filed_are due fewer
 
 -- ---- one strike after another
 
 pub kept-on : (s t u : PlainStage) → IsKept s t → IsKept t u → IsKept s u
 kept-on s t u one two = record {
-  board_is = two.board_is ∙ one.board_is;
+  game_is = two.game_is ∙ one.game_is;
   value_is = two.value_is ∙ one.value_is;
   others = λ v d. two.others v (λ e. d (e ∙ one.value_is)) ∙ one.others v d;
 }
 
 pub kept-self : (s : PlainStage) → IsKept s s
-kept-self s = record { board_is = refl; value_is = refl; others = λ v d. refl }
+kept-self s = record { game_is = refl; value_is = refl; others = λ v d. refl }
 
 -- a stage that has copied the configurations from the store has the same ones to strike
 pub striking-taken : (s : PlainStage) (todo : List ℕ) → IsStriking s todo → IsStriking (strikes_copied s) todo
@@ -192,4 +189,4 @@ striking-taken s todo k = record {
 }
 
 pub kept-taken : (s t : PlainStage) → IsKept (strikes_copied s) t → IsKept s t
-kept-taken s t k = record { board_is = k.board_is; value_is = k.value_is; others = k.others }
+kept-taken s t k = record { game_is = k.game_is; value_is = k.value_is; others = k.others }

@@ -1,10 +1,10 @@
 -- The effect of one strike on counts and open configurations, and the end of the rounds.
-use Rattle.std.proofs.Common.{◌≡◌, ℕ, ◌+◌, ◌<◌, ◌≢◌, ◌&&◌, inl, inr, Bool, true, false, zero, suc, refl, arith, sym, ap, ◌∙◌, subst}
+use Rattle.std.proofs.Common.{◌≡◌, ℕ, ◌+◌, ◌<◌, ◌≢◌, ◌&&◌, ◌==◌, inl, inr, Bool, true, false, zero, suc, refl, arith, sym, ap, ◌∙◌}
 use Rattle.std.proofs.lemmas.Bool.Decides.{nat_tests}
-use Rattle.solver.specs.Inside.Arena.{Arena, live_answers, is_answered, lasts, IsDominant}
-use Rattle.solver.proofs.Arenas.{IsArena, without}
-use Rattle.solver.proofs.Counts.{count_below-same, count_below-without}
-use Rattle.solver.proofs.LastingRanks.{both_true, and_true, same_test, true_or_false, next-gives, next-from, next-closed, next-le}
+use Rattle.graphs.specs.Graph.{PlainGraph, IsGraph, is_member, live_answers, is_answered, lasts}
+use Rattle.graphs.proofs.Cited.{without, member-is, member-at, one-place}
+use Rattle.graphs.proofs.Cited.{count_below-same, count_below-without}
+use Rattle.graphs.proofs.Cited.{both_true, and_true, and_second, same_is, same_test, true_or_false, true_not_false, next-gives, next-from, next-closed, next-le}
 
 -- the test without c fails at c
 without-here : (above : ℕ → Bool) (c x : ℕ) → x ≡ c → without above c x ≡ false
@@ -16,69 +16,53 @@ without-elsewhere above c x e = grind (arith, nat_tests)
 without-less : (above : ℕ → Bool) (c x : ℕ) → without above c x ≡ true → above x ≡ true
 without-less above c x e = let both = both_true _ _ e in both.0
 
--- if no answer of a gap leads to c, its count is the same without c
-live-elsewhere : (a : Arena) (above : ℕ → Bool) (c g : ℕ) → ((v : ℕ) → v < a.places → a.is_answer g v ≡ true → a.member g v ≢ c) → live_answers a (without above c) g ≡ live_answers a above g
+test_same : (m n : ℕ) → (m == n) ≡ true → m ≡ n
+test_same m n e = grind (arith, nat_tests)
+
+-- if no answer of a gap is c, its count is the same without c
+live-elsewhere : (a : PlainGraph) (above : ℕ → Bool) (c g : ℕ) → ((v : ℕ) → v < a.places → a.struck (a.member g v) ≡ g → a.member g v ≢ c) → live_answers a (without above c) g ≡ live_answers a above g
 live-elsewhere a above c g other =
-    count_below-same a.places (λ v. a.is_answer g v && without above c (a.member g v)) (λ v. a.is_answer g v && above (a.member g v)) (λ v i.
-    elim (true_or_false (a.is_answer g v)) [
-      | inl legal ↦ ap (λ b. a.is_answer g v && b) (without-elsewhere above c (a.member g v) (other v i legal))
+    count_below-same a.places (λ v. a.struck (a.member g v) == g && without above c (a.member g v)) (λ v. a.struck (a.member g v) == g && above (a.member g v)) (λ v i.
+    elim (true_or_false (a.struck (a.member g v) == g)) [
+      | inl legal ↦ ap (λ b. a.struck (a.member g v) == g && b) (without-elsewhere above c (a.member g v) (other v i (test_same (a.struck (a.member g v)) g legal)))
       | inr illegal ↦ rw illegal refl
     ])
 
--- if an answer of g leads to c, the pebble of g is the dominator of c, and g is its gap
-pub answer-dominates : (a : Arena) → IsArena a → (c g v : ℕ) → g < a.gaps → v < a.places → a.is_answer g v ≡ true → a.member g v ≡ c → (IsDominant a c (a.pebble g)) × (a.gap c (a.pebble g) ≡ g)
-answer-dominates a is c g v i j legal e =
-    let same_gap : a.gap c (a.pebble g) ≡ g = subst (λ x. a.gap x (a.pebble g) ≡ g) e (is.gap_of_member g v i j) in
-    let same_label : a.place c (a.pebble g) ≡ v = subst (λ x. a.place x (a.pebble g) ≡ v) e (is.place_of_member g v i j) in
-    ((is.pebble_in g i, rw (same_gap, same_label) legal), same_gap)
-
--- a strike at c takes 1 from the count of the dominator's gap
-pub strike-home : (a : Arena) → IsArena a → (above : ℕ → Bool) (c p : ℕ) → c < a.configurations → IsDominant a c p → above c ≡ true → live_answers a (without above c) (a.gap c p) + 1 ≡ live_answers a above (a.gap c p)
-strike-home a is above c p i dominates is_above =
-    let g = a.gap c p in
-    let in_gaps = is.gap_in c p i dominates.0 in
-    let back = is.member_of_gap c p i dominates.0 in
-    count_below-without a.places (a.place c p) (λ v. a.is_answer g v && above (a.member g v)) (λ v. a.is_answer g v && without above c (a.member g v)) (is.place_in c p i dominates.0)
-    (and_true _ _ dominates.1 (ap above back ∙ is_above))
-    (rw (dominates.1) (without-here above c (a.member g (a.place c p)) back))
-    (λ j in_labels other. ap (λ b. a.is_answer g j && b) (sym (without-elsewhere above c (a.member g j) (λ e.
-    let j_is = is.place_of_member g j in_gaps in_labels in
-    let p_is = is.pebble_of_gap c p i dominates.0 in
-    other (sym j_is ∙ ap (λ x. a.place x (a.pebble g)) e ∙ ap (a.place c) p_is)))))
+-- a strike at c takes 1 from the count of the gap in which c is an answer
+pub strike-home : (a : PlainGraph) → IsGraph a → (above : ℕ → Bool) (c g : ℕ) → c < a.configurations → g ≡ a.struck c → g < a.gaps → above c ≡ true → live_answers a (without above c) g + 1 ≡ live_answers a above g
+strike-home a is above c g i g_is in_gaps is_above =
+    let w = is.struck_in c i (omega arith) in
+    let back : a.member g w.0 ≡ c = ap (λ h. a.member h w.0) g_is ∙ w.2 in
+    count_below-without a.places w.0 (λ v. a.struck (a.member g v) == g && above (a.member g v)) (λ v. a.struck (a.member g v) == g && without above c (a.member g v)) w.1
+    (and_true _ _ (same_is (a.struck (a.member g w.0)) g (ap a.struck back ∙ sym g_is)) (ap above back ∙ is_above))
+    (and_second _ _ (without-here above c (a.member g w.0) back))
+    (λ j in_places other. ap (λ b. a.struck (a.member g j) == g && b) (sym (without-elsewhere above c (a.member g j) (λ e.
+    other (one-place a is g j w.0 in_gaps in_places w.1 (e ∙ sym back))))))
 
 -- a strike at c leaves the counts of all other gaps
-pub strike-other : (a : Arena) → IsArena a → (above : ℕ → Bool) (c p g : ℕ) → c < a.configurations → IsDominant a c p → g < a.gaps → g ≢ a.gap c p → live_answers a (without above c) g ≡ live_answers a above g
-strike-other a is above c p g i dominates in_gaps other =
-    live-elsewhere a above c g (λ v in_labels legal e.
-    let d = answer-dominates a is c g v in_gaps in_labels legal e in
-    let same = is.one_dominator c (a.pebble g) p i d.0.0 dominates.0 d.0.1 dominates.1 in
-    other (sym d.1 ∙ ap (a.gap c) same))
-
--- if c has no dominator, a strike at c changes no count
-pub strike-none : (a : Arena) → IsArena a → (above : ℕ → Bool) (c g : ℕ) → ((p : ℕ) → IsDominant a c p → ⊥) → g < a.gaps → live_answers a (without above c) g ≡ live_answers a above g
-strike-none a is above c g alone in_gaps =
-    live-elsewhere a above c g (λ v in_labels legal e. alone (a.pebble g) (answer-dominates a is c g v in_gaps in_labels legal e).0)
+pub strike-other : (a : PlainGraph) (above : ℕ → Bool) (c g : ℕ) → g ≢ a.struck c → live_answers a (without above c) g ≡ live_answers a above g
+strike-other a above c g other =
+    live-elsewhere a above c g (λ v in_places legal e. other (sym legal ∙ ap a.struck e))
 
 -- if no count falls to 0, the same configurations are open
-pub open-same : (a : Arena) → IsArena a → (above less : ℕ → Bool) (x : ℕ) → x < a.configurations → ((g : ℕ) → g < a.gaps → 0 < live_answers a above g → 0 < live_answers a less g) → ((y : ℕ) → y < a.configurations → less y ≡ true → above y ≡ true) → is_answered a less x ≡ is_answered a above x
+pub open-same : (a : PlainGraph) → IsGraph a → (above less : ℕ → Bool) (x : ℕ) → x < a.configurations → ((g : ℕ) → g < a.gaps → 0 < live_answers a above g → 0 < live_answers a less g) → ((y : ℕ) → y < a.configurations → less y ≡ true → above y ≡ true) → is_answered a less x ≡ is_answered a above x
 open-same a is above less x i kept implies = same_test _ _ (next-le a is less above x i implies) (λ e.
-    next-from a less x (λ p j. kept (a.gap x p) (is.gap_in x p i j) (next-gives a above x p e j)))
+    next-from a less x (λ g v j k m. kept g j (next-gives a above x g v e j k m)))
 
 -- a configuration that isn't a member of the gap that closes stays open
-pub open-outside : (a : Arena) → IsArena a → (above less : ℕ → Bool) (x g : ℕ) → x < a.configurations → g < a.gaps → a.gap x (a.pebble g) ≢ g → ((h : ℕ) → h < a.gaps → h ≢ g → live_answers a less h ≡ live_answers a above h) → ((y : ℕ) → y < a.configurations → less y ≡ true → above y ≡ true) → is_answered a less x ≡ is_answered a above x
-open-outside a is above less x g i in_gaps outside others implies = same_test _ _ (next-le a is less above x i implies) (λ e.
-    next-from a less x (λ p j.
-    let ne : a.gap x p ≢ g = λ same. outside (ap (a.gap x) (sym (ap a.pebble same) ∙ is.pebble_of_gap x p i j) ∙ same) in
-    let some = next-gives a above x p e j in
-    let same = others (a.gap x p) (is.gap_in x p i j) ne in
+pub open-outside : (a : PlainGraph) → IsGraph a → (above less : ℕ → Bool) (x g : ℕ) → x < a.configurations → is_member a g x ≡ false → ((h : ℕ) → h < a.gaps → h ≢ g → live_answers a less h ≡ live_answers a above h) → ((y : ℕ) → y < a.configurations → less y ≡ true → above y ≡ true) → is_answered a less x ≡ is_answered a above x
+open-outside a is above less x g i outside others implies = same_test _ _ (next-le a is less above x i implies) (λ e.
+    next-from a less x (λ h v j k m.
+    let ne : h ≢ g = λ same. true_not_false (is_member a g x) (ap (λ f. is_member a f x) (sym same) ∙ member-is a h v x k m) outside in
+    let some = next-gives a above x h v e j k m in
+    let same = others h j ne in
     omega arith))
 
 -- no member of a gap whose count is 0 is open
-pub open-member : (a : Arena) → IsArena a → (less : ℕ → Bool) (x g : ℕ) → g < a.gaps → a.gap x (a.pebble g) ≡ g → live_answers a less g ≡ 0 → is_answered a less x ≡ false
-open-member a is less x g in_gaps member closed =
-    next-closed a less x (a.pebble g) (is.pebble_in g in_gaps) (ap (live_answers a less) member ∙ closed)
+pub open-member : (a : PlainGraph) (less : ℕ → Bool) (x g : ℕ) → g < a.gaps → is_member a g x ≡ true → live_answers a less g ≡ 0 → is_answered a less x ≡ false
+open-member a less x g in_gaps member closed = let w = member-at a g x member in next-closed a less x g w.0 in_gaps w.1 w.2 closed
 
 -- if a round files nothing, a configuration that lasts the round lasts for ever
-pub lasts-forever : (a : Arena) → IsArena a → (r : ℕ) → ((x : ℕ) → x < a.configurations → lasts a r x ≡ true → lasts a (suc r) x ≡ true) → (k x : ℕ) → x < a.configurations → lasts a r x ≡ true → lasts a k x ≡ true
+pub lasts-forever : (a : PlainGraph) → IsGraph a → (r : ℕ) → ((x : ℕ) → x < a.configurations → lasts a r x ≡ true → lasts a (suc r) x ≡ true) → (k x : ℕ) → x < a.configurations → lasts a r x ≡ true → lasts a k x ≡ true
 lasts-forever a is r none zero x i e = refl
 lasts-forever a is r none (suc k) x i e = next-le a is (lasts a r) (lasts a k) x i (λ y j. lasts-forever a is r none k y j) (none x i e)

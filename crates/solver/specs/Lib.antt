@@ -1,5 +1,7 @@
 pub mod Solving
-pub mod Sizes
-pub mod Words
 pub mod Ending
+pub mod Striking
+pub mod Words
+pub mod Sizes
+pub mod SafeAnswers
 pub mod Inside

@@ -1,19 +1,19 @@
 -- A solver as plain data, and its knowledge of the game.
 use Rattle.std.specs.Prelude.{◌≡◌, ℕ, suc, ◌+◌, ◌<◌, ◌≤◌, ◌↔◌, Bool, true, false, List, [], length, filter, AllPairs, slice_index_or}
-use Rattle.board_text.specs.PlainBoard.{PlainBoard, IsBoard, IsConfiguration, places}
+use Rattle.board_text.specs.PlainBoard.{PlainBoard, IsBoard, IsConfiguration}
 use Rattle.index_lists.specs.Lists.{times}
+use Rattle.positions.specs.declared.space.TheConstants.{MAX_CONFIGURATIONS}
 use Rattle.positions.specs.declared.value.Value.TheVariants.{Finite, Forever}
 use Rattle.positions.specs.Game.{LabellerTree}
 use Rattle.positions.specs.Value.{HasValue}
-use Rattle.positions.specs.Ranks.{configurations, rank_of, configuration_at}
-use Rattle.positions.specs.Gaps.{gaps, member_of, IsAnswer, IsDominator}
-use Rattle.positions.specs.declared.space.TheConstants.{MAX_CONFIGURATIONS}
+use Rattle.graphs.specs.Graph.{PlainGraph, is_struck}
+use Rattle.graphs.specs.Numbered.{Numbered, graph_of, configuration_of}
 
--- the board, the last round that filed something, whether a later one filed nothing; the
--- configurations filed at each value, the members of each gap that are not filed, and the
--- configurations that must be struck next
+-- a board and what its numbers stand for, the last round that filed something, whether a later one
+-- filed nothing; the configurations filed at each value, the members of each gap that are not filed,
+-- and the configurations that must be struck next
 pub record Solving : Type 0 where
-  pub board : PlainBoard
+  pub game : Numbered
   pub rounds : ℕ
   pub is_done : Bool
   pub buckets : List (List ℕ)
@@ -28,45 +28,45 @@ bucket s value = slice_index_or s.buckets value []
 abbrev pub source : Solving → ℕ → List ℕ
 source s gap = slice_index_or s.sources gap []
 
--- a rank is filed at a value exactly if that is the value of its configuration, and no round is
+-- the number is that of a configuration of this finite value
+pub record IsWorth (n : Numbered) (x value : ℕ) : Type 0 where
+  pub is_rank : x < (graph_of n).configurations
+  pub has_value : HasValue n.board (configuration_of n x) (Finite value)
+
+-- a number is filed at a value exactly if that is the value of its configuration, and no round is
 -- still to come for it
 pub record AreBuckets (s : Solving) : Type 0 where
-  pub filed : (value rank : ℕ) → rank < configurations s.board
-      → (0 < times rank (bucket s value)) ↔ ((value ≤ s.rounds) × HasValue s.board (configuration_at s.board rank) (Finite value))
-  pub once : (value rank : ℕ) → times rank (bucket s value) ≤ 1
-  pub ranks : (value rank : ℕ) → 0 < times rank (bucket s value) → rank < configurations s.board
+  pub filed : (value x : ℕ) → x < (graph_of s.game).configurations
+      → (0 < times x (bucket s value)) ↔ ((value ≤ s.rounds) × HasValue s.game.board (configuration_of s.game x) (Finite value))
+  pub once : (value x : ℕ) → times x (bucket s value) ≤ 1
+  pub ranks : (value x : ℕ) → 0 < times x (bucket s value) → x < (graph_of s.game).configurations
   pub ascending : AllPairs (λ first second. first < second) (bucket s 0)
 
--- the members of a gap that have no value of at most the number of rounds, each once, in ascending rank
+-- the members of a gap that have no value of at most the number of rounds, each once, in ascending
+-- order
 pub record AreOpenMembers (s : Solving) : Type 0 where
-  pub listed : (gap place : ℕ) → gap < gaps s.board → place < places s.board
-      → (0 < times (rank_of s.board (member_of s.board gap place)) (source s gap))
-      ↔ LabellerTree s.board (suc s.rounds) (member_of s.board gap place)
-  pub once : (gap rank : ℕ) → gap < gaps s.board → rank < configurations s.board → times rank (source s gap) ≤ 1
-  pub members : (gap rank : ℕ) → gap < gaps s.board → 0 < times rank (source s gap)
-      → (place : ℕ) × (place < places s.board) × (rank ≡ rank_of s.board (member_of s.board gap place))
-  pub ascending : (gap : ℕ) → gap < gaps s.board → AllPairs (λ first second. first < second) (source s gap)
+  pub listed : (gap place : ℕ) → gap < (graph_of s.game).gaps → place < (graph_of s.game).places
+      → (0 < times ((graph_of s.game).member gap place) (source s gap))
+      ↔ LabellerTree s.game.board (suc s.rounds) (configuration_of s.game ((graph_of s.game).member gap place))
+  pub once : (gap x : ℕ) → gap < (graph_of s.game).gaps → x < (graph_of s.game).configurations → times x (source s gap) ≤ 1
+  pub members : (gap x : ℕ) → gap < (graph_of s.game).gaps → 0 < times x (source s gap)
+      → (place : ℕ) × (place < (graph_of s.game).places) × (x ≡ (graph_of s.game).member gap place)
+  pub ascending : (gap : ℕ) → gap < (graph_of s.game).gaps → AllPairs (λ first second. first < second) (source s gap)
 
--- the test holds exactly of the configurations that have a dominating pebble
-abbrev pub TellsDominated : PlainBoard → (ℕ → Bool) → Type 0
-TellsDominated board test = (rank : ℕ) → rank < configurations board
-    → (test rank ≡ true) ↔ ((pebble : ℕ) × IsDominator board (configuration_at board rank) pebble)
-
--- a round strikes these: the configurations filed at its value that have a dominating pebble, in
--- order of filing
-abbrev pub AreToStrike : Solving → List ℕ → Type 0
-AreToStrike s ranks = (test : ℕ → Bool) → TellsDominated s.board test → ranks ≡ filter test (bucket s s.rounds)
+-- a round strikes these: the configurations filed at its value that are answers, in order of filing
+abbrev pub to_strike : Solving → List ℕ
+to_strike s = filter (is_struck (graph_of s.game)) (bucket s s.rounds)
 
 -- the knowledge of a solver, whenever no call of it runs
 pub record IsSolving (s : Solving) : Type 0 where
-  pub is_board : IsBoard s.board
-  pub few : configurations s.board ≤ MAX_CONFIGURATIONS
-  pub below : s.rounds < configurations s.board
+  pub is_board : IsBoard s.game.board
+  pub few : (graph_of s.game).configurations ≤ MAX_CONFIGURATIONS
+  pub below : s.rounds < (graph_of s.game).configurations
   pub buckets : AreBuckets s
   pub sources : AreOpenMembers s
-  pub due : AreToStrike s s.due
-  pub forever : s.is_done ≡ true → (rank : ℕ) → rank < configurations s.board
-      → LabellerTree s.board (suc s.rounds) (configuration_at s.board rank) → HasValue s.board (configuration_at s.board rank) Forever
+  pub due : s.due ≡ to_strike s
+  pub forever : s.is_done ≡ true → (x : ℕ) → x < (graph_of s.game).configurations
+      → LabellerTree s.game.board (suc s.rounds) (configuration_of s.game x) → HasValue s.game.board (configuration_of s.game x) Forever
 
 -- no configuration has the value
 abbrev pub NoneHas : PlainBoard → ℕ → Type 0
@@ -79,17 +79,17 @@ HasFiled before after n = (0 < n) × (n ≡ length (bucket after (suc before.rou
 
 -- no configuration has the next value, and nothing was filed
 abbrev pub HasFoundNone : Solving → Solving → Type 0
-HasFoundNone before after = NoneHas before.board (suc before.rounds) × (after.rounds ≡ before.rounds) × (after.is_done ≡ true)
+HasFoundNone before after = NoneHas before.game.board (suc before.rounds) × (after.rounds ≡ before.rounds) × (after.is_done ≡ true)
 
--- the label is an answer, and a labeller lasts `depth` requests more after it
-abbrev pub AnswerLasts : PlainBoard → ℕ → ℕ → ℕ → Type 0
-AnswerLasts board gap depth label = IsAnswer board gap label × LabellerTree board depth (member_of board gap label)
+-- the member of the gap at the place is an answer there
+pub record IsAnswerAt (a : PlainGraph) (gap place : ℕ) : Type 0 where
+  pub is_place : place < a.places
+  pub struck : a.struck (a.member gap place) ≡ gap
 
--- the label is an answer, and a labeller lasts forever after it
-abbrev pub AnswerForever : PlainBoard → ℕ → ℕ → Type 0
-AnswerForever board gap label = IsAnswer board gap label × HasValue board (member_of board gap label) Forever
+-- the place is an answer, and a labeller lasts `depth` requests more after it
+abbrev pub AnswerLasts : Numbered → ℕ → ℕ → ℕ → Type 0
+AnswerLasts n gap depth place = IsAnswerAt (graph_of n) gap place × LabellerTree n.board depth (configuration_of n ((graph_of n).member gap place))
 
--- the rank is that of a configuration of this finite value
-pub record IsWorth (board : PlainBoard) (rank value : ℕ) : Type 0 where
-  pub is_rank : rank < configurations board
-  pub has_value : HasValue board (configuration_at board rank) (Finite value)
+-- the place is an answer, and a labeller lasts forever after it
+abbrev pub AnswerForever : Numbered → ℕ → ℕ → Type 0
+AnswerForever n gap place = IsAnswerAt (graph_of n) gap place × HasValue n.board (configuration_of n ((graph_of n).member gap place)) Forever

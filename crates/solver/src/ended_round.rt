@@ -2,12 +2,10 @@
 
 ghost use Rattle.std.specs.Prelude.{◌≡◌, ℕ, ◌<◌, ◌≤◌, true, false, [], length, slice_set};
 ghost use Rattle.index_lists.specs.Lists.{times};
-ghost use Rattle.positions.specs.Ranks.{configurations};
-ghost use Rattle.positions.specs.Gaps.{gaps};
+ghost use Rattle.graphs.specs.Numbered.{graph_of};
 ghost use Rattle.solver.specs.Ending.{IsRoundEnd};
 ghost use Rattle.solver.specs.Inside.Tables.{is_open};
-ghost use Rattle.solver.specs.Inside.Stored.{IsSmall};
-ghost use Rattle.solver.specs.Inside.Stage.{with_counts, as_solving, IsFiled, IsKept, IsStriking, IsUnstruck, FilesAll, TakesCounts};
+ghost use Rattle.solver.specs.Inside.Stage.{with_counts, as_solving, IsSmall, IsFiled, IsKept, IsStriking, IsUnstruck, FilesAll, TakesCounts};
 
 use crate::end::RoundEnd;
 use crate::stage::Stage;
@@ -28,10 +26,10 @@ impl<S: ListStore> Stage<S> {
 
     /// Files the open configurations `ranks` at the value, each of which is listed once.
     fn file_all(&mut self, ranks: &[u32])
-        requires small { IsSmall self.old.board self.old.value }
+        requires small { IsSmall (graph_of self.old.game) self.old.value }
         requires filed { IsFiled self.old }
         requires open { (rank : ℕ) → 0 < times rank ranks.now
-            → (rank < configurations self.old.board) × (is_open self.old.values rank ≡ true) }
+            → (rank < (graph_of self.old.game).configurations) × (is_open self.old.values rank ≡ true) }
         requires once { (rank : ℕ) → times rank ranks.now ≤ 1 }
         ensures { FilesAll self.old ranks.now self.new }
     {
@@ -42,18 +40,18 @@ impl<S: ListStore> Stage<S> {
 
     /// Takes over the counts of the finished round `end`.
     fn take_counts<E: RoundEnd>(&mut self, end: &E)
-        requires wide { length (E.counts end.now) ≡ gaps self.old.board }
-        requires counted { length self.old.counts ≡ gaps self.old.board }
+        requires wide { length (E.counts end.now) ≡ (graph_of self.old.game).gaps }
+        requires counted { length self.old.counts ≡ (graph_of self.old.game).gaps }
         ensures { TakesCounts self.old (E.counts end.now) self.new }
     {
-        for gap in 0..self.space().gaps() {
+        for gap in 0..self.graph.gaps() {
             self.set_count(gap, end.count_of(gap));
         }
     }
 
     /// Sets the count of `gap` to `count`.
     fn set_count(&mut self, gap: u32, count: u32)
-        requires { gap < gaps self.old.board }
+        requires { gap < (graph_of self.old.game).gaps }
         ensures { self.new ≡ with_counts self.old (slice_set self.old.counts gap count) }
     {
         self.counts[gap as usize] = count;

@@ -1,17 +1,19 @@
 //! Retrograde analysis: the value of each configuration of a board, found backwards in rounds.
 //!
-//! A round takes the configurations of one value, the smallest first, and strikes each from the answers of the gap
-//! that leads to it. The members of a gap that has no answer left get the next value. Configurations that no round
-//! reaches last for ever.
+//! A round takes the configurations of one value, the smallest first, and strikes each from the
+//! answers of the gap that leads to it. The members of a gap that has no answer left get the next
+//! value. Configurations that no round reaches last for ever.
 #![tactic(auto)]
 
 mod end;
 mod ended_round;
 mod fault;
-mod gap_answers;
+mod laws;
 mod next_value;
 mod opening;
 mod progress;
+mod results;
+mod sizes;
 mod solver;
 mod source_walk;
 mod stage;
@@ -21,7 +23,9 @@ mod word;
 
 pub use end::RoundEnd;
 pub use fault::SolveFault;
+pub use laws::seats_strike_graphs;
 pub use progress::Progress;
+pub use results::Results;
 pub use solver::{Solver, Unfinished};
 pub use source_walk::SourceWalk;
 pub use values::Values;

@@ -1,43 +1,37 @@
 //! A stage before the first round.
 
-ghost use Rattle.std.specs.Prelude.{if◌then◌else◌, ◌==◌, ◌≡◌, ◌+◌, ◌<◌, ◌≤◌, length, IfOk};
-ghost use Rattle.board_text.specs.PlainBoard.{places};
-ghost use Rattle.positions.specs.Ranks.{configurations};
-ghost use Rattle.positions.specs.Gaps.{gaps};
-ghost use Rattle.solver.specs.Inside.Arena.{lasts};
-ghost use Rattle.solver.specs.Inside.BoardArena.{arena_of};
-ghost use Rattle.solver.specs.Inside.Opening.{AreAdjacent, AreZeroed, IsWritten};
+ghost use Rattle.std.specs.Prelude.{◌≡◌, ◌<◌, ◌≤◌, length, IfOk};
+ghost use Rattle.board_text.specs.PlainBoard.{IsBoard};
+ghost use Rattle.graphs.specs.Graph.{live_answers, lasts};
+ghost use Rattle.graphs.specs.Numbered.{graph_of};
 ghost use Rattle.solver.specs.Inside.Tables.{IsCounted, AreFirstWords};
-ghost use Rattle.solver.specs.Inside.Stage.{IsUnlisted, IsOpened};
+ghost use Rattle.solver.specs.Inside.Opening.{AreZeroed, IsUnlisted, IsOpened};
 
-use crate::gap_answers::{dominators, gap_counts};
 use crate::stage::Stage;
 use crate::word::OPEN;
-use board_text::{Board, Memory};
+use board_text::Memory;
+use graphs::Graph;
 use index_lists::ListStore;
-use positions::{Space, TupleAnswers};
+use positions::MAX_CONFIGURATIONS;
 use std::alloc::Global;
 
 impl<S: ListStore + Drop> Stage<S> {
-    /// A stage of `board`, in which the configurations of value 0 are filed, in ascending rank.
-    pub(crate) fn open(alloc: Global, space: Space, board: &Board) -> Result<Stage<S>, Memory>
-        requires { space ≡ board.now }
-        ensures board { IfOk result (λ stage. stage.board ≡ board.now) }
+    /// A stage of `graph`, in which the configurations of value 0 are filed, in ascending order.
+    pub(crate) fn open(alloc: Global, graph: Graph) -> Result<Stage<S>, Memory>
+        ensures game { IfOk result (λ stage. stage.game ≡ graph) }
         ensures opened { IfOk result (λ stage. IsOpened stage) }
+        ensures board { IfOk result (λ _. IsBoard graph.board) }
+        ensures few { IfOk result (λ _. (graph_of graph).configurations ≤ MAX_CONFIGURATIONS) }
     {
-        let size = space.configurations();
-        let answers = TupleAnswers::of(alloc, board)?;
-        let counts = gap_counts(alloc, &space, &answers)?;
-        let dominators = dominators(alloc, &space, &answers)?;
-        let values = first_words(alloc, &space, &counts)?;
+        let size = graph.configurations();
+        let counts = first_counts(alloc, &graph)?;
+        let values = first_words(alloc, &graph, &counts)?;
         let buckets = S::new(alloc, size, size + 1)?;
         let strikes = Vec::with_capacity(alloc, size as usize)?;
         let mut stage = Stage {
-            space,
-            answers,
+            graph,
             value: 0,
             values,
-            dominators,
             counts,
             buckets,
             strikes,
@@ -48,13 +42,13 @@ impl<S: ListStore + Drop> Stage<S> {
 }
 
 impl<S: ListStore> Stage<S> {
-    /// Lists the configurations with the word 0, in ascending rank.
+    /// Lists the configurations with the word 0, in ascending order.
     fn list_zeros(&mut self)
         requires { IsUnlisted self.old }
-        ensures board { self.new.board ≡ self.old.board }
+        ensures game { self.new.game ≡ self.old.game }
         ensures opened { IsOpened self.new }
     {
-        for rank in 0..self.space.configurations() {
+        for rank in 0..self.graph.configurations() {
             if self.values[rank as usize] == 0 {
                 self.list(rank);
             }
@@ -62,63 +56,53 @@ impl<S: ListStore> Stage<S> {
     }
 }
 
-/// The word of each configuration before the first round: 0 if a request has no answer, else
-/// `OPEN`.
-fn first_words(alloc: Global, space: &Space, counts: &[u32]) -> Result<Vec<u32>, Memory>
-    requires { IsCounted (arena_of space.now) (lasts (arena_of space.now) 0) counts.now }
-    ensures { IfOk result (λ words. AreFirstWords (arena_of space.now) words.items) }
+/// The number of answers of each gap.
+fn first_counts(alloc: Global, graph: &Graph) -> Result<Vec<u32>, Memory>
+    ensures { IfOk result (λ counts. IsCounted (graph_of graph.now) (lasts (graph_of graph.now) 0) counts.items) }
 {
-    let mut words = vec![in alloc; OPEN; space.configurations() as usize]?;
-    let gaps = space.gaps();
-    let mut gap = 0;
-    while gap < gaps {
-        let adjacent = space.adjacent_gaps(gap);
-        zero_unanswered(
-            &mut words,
-            space,
-            gap,
-            &counts[gap as usize..(gap + adjacent) as usize],
-        );
-        gap += adjacent;
+    let gaps = graph.gaps();
+    let mut counts = Vec::with_capacity(alloc, gaps as usize)?;
+    for gap in 0..gaps {
+        counts.push_reserved(count_answers(graph, gap));
+    }
+    Ok(counts)
+}
+
+/// The number of answers of `gap`.
+fn count_answers(graph: &Graph, gap: u32) -> u32
+    requires { gap < (graph_of graph.now).gaps }
+    ensures { result ≡ live_answers (graph_of graph.now) (lasts (graph_of graph.now) 0) gap }
+{
+    let mut count = 0;
+    for place in 0..graph.places() {
+        if graph.is_answer(gap, place) {
+            count += 1;
+        }
+    }
+    count
+}
+
+/// The word of each configuration before the first round: 0 if a request has no answer, else `OPEN`.
+fn first_words(alloc: Global, graph: &Graph, counts: &[u32]) -> Result<Vec<u32>, Memory>
+    requires { IsCounted (graph_of graph.now) (lasts (graph_of graph.now) 0) counts.now }
+    ensures { IfOk result (λ words. AreFirstWords (graph_of graph.now) words.items) }
+{
+    let mut words = vec![in alloc; OPEN; graph.configurations() as usize]?;
+    for gap in 0..graph.gaps() {
+        if counts[gap as usize] == 0 {
+            zero_members(&mut words, graph, gap);
+        }
     }
     Ok(words)
 }
 
-/// Writes 0 as the word of each member of the gaps, from `gap` on, that have the count 0 in
-/// `counts`.
-fn zero_unanswered(words: &mut [u32], space: &Space, gap: u32, counts: &[u32])
-    requires gap { gap < gaps space.now }
-    requires adjacent { AreAdjacent (arena_of space.now) gap (length counts.now) }
-    requires words { length words.old ≡ configurations space.now }
-    ensures { AreZeroed (arena_of space.now) gap counts.now (places space.now) words.old words.new }
+/// Writes 0 as the word of each member of `gap`.
+fn zero_members(words: &mut [u32], graph: &Graph, gap: u32)
+    requires gap { gap < (graph_of graph.now).gaps }
+    requires words { length words.old ≡ (graph_of graph.now).configurations }
+    ensures { AreZeroed (graph_of graph.now) gap (graph_of graph.now).places words.old words.new }
 {
-    if !counts.contains(&0) {
-        return;
+    for place in 0..graph.places() {
+        words[graph.member(gap, place) as usize] = 0;
     }
-    let members = space.members(gap);
-    for place in 0..space.places() {
-        zero_words(words, members.rank(place) as usize, counts);
-    }
-}
-
-/// Writes 0 in `words`, from `first` on, at each index whose count is 0.
-fn zero_words(words: &mut [u32], first: usize, counts: &[u32])
-    requires { first + length counts.now ≤ length words.old }
-    ensures { IsWritten first counts.now (length counts.now) words.old words.new }
-{
-    // The gaps of the last pebble are runs of one gap each: for those there is no loop.
-    if counts.len() == 1 {
-        words[first] = zeroed_word(counts[0], words[first]);
-        return;
-    }
-    for index in 0..counts.len() {
-        words[first + index] = zeroed_word(counts[index], words[first + index]);
-    }
-}
-
-/// 0 if the gap has no answers, else the word unchanged.
-fn zeroed_word(count: u32, word: u32) -> u32
-    ensures { result ≡ (if count == 0 then 0 else word) }
-{
-    if count == 0 { 0 } else { word }
 }

@@ -5,64 +5,100 @@
 ghost use Rattle.std.specs.Prelude.{◌≡◌, ℕ, ◌+◌, ◌<◌, ◌≤◌, ◌↔◌, true, false, length, map, slice_get, IfOk, IfErr, Err, Some, None};
 ghost use Rattle.positions.specs.declared.value.Value.TheVariants.{Finite};
 ghost use Rattle.positions.specs.Value.{HasValue};
-ghost use Rattle.positions.specs.Ranks.{configurations, configuration_at};
-ghost use Rattle.positions.specs.Gaps.{gaps, IsDominator};
+ghost use Rattle.positions.specs.Ranks.{configurations};
+ghost use Rattle.positions.specs.Gaps.{IsDominator};
+ghost use Rattle.graphs.specs.Numbered.{numbered, graph_of, configuration_of};
 ghost use Rattle.positions.specs.Counts.{HasSize, IsSmallest};
 ghost use Rattle.solver.specs.Words.{value_of_word, AreFirstCounts, AreFirstValues};
 ghost use Rattle.solver.specs.Ending.{IsRoundEnd};
-ghost use Rattle.solver.specs.Solving.{IsSolving, HasFiled, HasFoundNone, bucket, source, AnswerLasts, AnswerForever, AreToStrike};
+ghost use Rattle.solver.specs.Solving.{IsSolving, HasFiled, HasFoundNone, bucket, source, AnswerLasts, AnswerForever, to_strike};
 
 use crate::end::RoundEnd;
 use crate::fault::SolveFault;
 use crate::next_value::{ByStrikes, FromEnd, NextValue};
 use crate::progress::Progress;
+use crate::sizes::add_weights;
 use crate::source_walk::SourceWalk;
 use crate::stage::Stage;
 use crate::values::Values;
 use crate::word::value_of;
 use board_text::{Board, Memory};
+use graphs::{Graph, Numbering};
 use index_lists::ListStore;
-use positions::{MAX_CONFIGURATIONS, Space, TooLarge};
+use positions::{MAX_CONFIGURATIONS, Space, TooLarge, TupleAnswers};
 use std::alloc::Global;
 use std::marker::Model;
 
 /// A board whose values are found round by round.
 ///
-/// It holds no board: contracts see it as the board that it was opened for, with the configurations
-/// that are filed and those that aren't. No call but `open` and `to_strike` takes memory.
+/// It holds no board: contracts see it as the board that it was opened for and what the numbers of
+/// its configurations stand for, with the configurations that are filed and those that aren't. No
+/// call but `open`, `of_classes` and `to_strike` takes memory.
 #[derive(Drop)]
 pub struct Solver<S: ListStore> {
     stage: Stage<S>,
-    /// How many configurations are filed at each value of at most the number of rounds.
+    space: Space,
+    answers: TupleAnswers,
+    /// How many configurations have each number.
+    weights: Vec<u32>,
+    /// Zeros, and room for the number of configurations of each finite value.
     sizes: Vec<u32>,
     done: bool,
 }
 
 impl<S: ListStore> Model for Solver<S> {
-    ghost use Rattle.std.specs.Prelude.{◌-◌, vec_capacity};
+    ghost use Rattle.std.specs.Prelude.{◌≡◌, ◌-◌};
     ghost use Rattle.solver.specs.Solving.{Solving};
-    ghost use Rattle.solver.specs.Inside.Sizes.{AreSizes};
-    ghost use Rattle.solver.specs.Inside.Stage.{IsState, as_solving};
+    ghost use Rattle.solver.specs.Inside.Stage.{IsState, IsEquipped, as_solving};
 
     ghost Value = { Solving };
 
     ghost view = { λ s. as_solving s.stage s.done };
 
     ghost invariant = { λ s. IsState s.stage (s.stage.value - 1) s.done
-        × AreSizes s.stage (s.stage.value - 1) (vec_capacity s.sizes) s.sizes.items };
+        × IsEquipped s.stage.game s.space s.answers s.weights.items s.sizes.items };
 }
 
 impl<S: ListStore + Drop> Solver<S> {
-    /// A solver of `board`, which has filed the configurations of value 0, in ascending rank.
+    /// A solver of `board` whose numbers are the ranks of configurations. It has filed the
+    /// configurations of value 0, in ascending rank.
     pub fn open(alloc: Global, board: &Board) -> Result<Solver<S>, SolveFault>
-        ensures board { IfOk result (λ solver. solver.board ≡ board.now) }
+        ensures game { IfOk result (λ solver. solver.game ≡ numbered board.now Numbering.Ordered) }
+        ensures start { IfOk result (λ solver. (solver.rounds ≡ 0) × (solver.is_done ≡ false)) }
+        ensures kept { IfOk result (λ solver. IsSolving solver) }
+        ensures too_large { (result ≡ Err SolveFault.TooLarge) ↔ (MAX_CONFIGURATIONS < configurations board.now) }
+        ensures no_worker { result ≡ Err SolveFault.Worker → ⊥ }
+    {
+        Solver::opened(alloc, board, Numbering::Ordered)
+    }
+
+    /// A solver of `board` whose numbers are those of classes of configurations, whichever pebble
+    /// holds which label. It has filed the classes of value 0, in ascending order.
+    pub fn of_classes(alloc: Global, board: &Board) -> Result<Solver<S>, SolveFault>
+        ensures game { IfOk result (λ solver. solver.game ≡ numbered board.now Numbering.Classes) }
+        ensures start { IfOk result (λ solver. (solver.rounds ≡ 0) × (solver.is_done ≡ false)) }
+        ensures kept { IfOk result (λ solver. IsSolving solver) }
+        ensures too_large { (result ≡ Err SolveFault.TooLarge) ↔ (MAX_CONFIGURATIONS < configurations board.now) }
+        ensures no_worker { result ≡ Err SolveFault.Worker → ⊥ }
+    {
+        Solver::opened(alloc, board, Numbering::Classes)
+    }
+
+    /// A solver of `board` by `numbering`, which has filed the configurations of value 0, in
+    /// ascending order.
+    fn opened(
+        alloc: Global,
+        board: &Board,
+        numbering: Numbering,
+    ) -> Result<Solver<S>, SolveFault>
+        ensures game { IfOk result (λ solver. solver.game ≡ numbered board.now numbering) }
         ensures start { IfOk result (λ solver. (solver.rounds ≡ 0) × (solver.is_done ≡ false)) }
         ensures kept { IfOk result (λ solver. IsSolving solver) }
         ensures too_large { (result ≡ Err SolveFault.TooLarge) ↔ (MAX_CONFIGURATIONS < configurations board.now) }
         ensures no_worker { result ≡ Err SolveFault.Worker → ⊥ }
     {
         match Space::of(board) {
-            Ok(space) => match Solver::start(alloc, space, board) {
+            Ok(space) => match Solver::start(alloc, space, board, numbering) {
                 Ok(solver) => Ok(solver),
                 Err(Memory) => Err(SolveFault::Memory),
             },
@@ -70,19 +106,30 @@ impl<S: ListStore + Drop> Solver<S> {
         }
     }
 
-    /// A solver of `board`, whose space is `space`.
-    fn start(alloc: Global, space: Space, board: &Board) -> Result<Solver<S>, Memory>
+    /// A solver of `board`, whose space is `space`, by `numbering`.
+    fn start(
+        alloc: Global,
+        space: Space,
+        board: &Board,
+        numbering: Numbering,
+    ) -> Result<Solver<S>, Memory>
         requires { space ≡ board.now }
-        ensures board { IfOk result (λ solver. solver.board ≡ board.now) }
+        ensures game { IfOk result (λ solver. solver.game ≡ numbered board.now numbering) }
         ensures start { IfOk result (λ solver. (solver.rounds ≡ 0) × (solver.is_done ≡ false)) }
         ensures kept { IfOk result (λ solver. IsSolving solver) }
     {
-        let mut sizes = Vec::with_capacity(alloc, space.configurations() as usize)?;
-        let mut stage = Stage::<S>::open(alloc, space, board)?;
-        sizes.push_reserved(stage.filed());
+        let _ = space.configurations();
+        let answers = TupleAnswers::of(alloc, board)?;
+        let graph = Graph::of(alloc, board, numbering)?;
+        let weights = graph.weights(alloc)?;
+        let sizes = vec![in alloc; 0; graph.configurations() as usize]?;
+        let mut stage = Stage::<S>::open(alloc, graph)?;
         stage.begin_next_value();
         Ok(Solver {
             stage,
+            space,
+            answers,
+            weights,
             sizes,
             done: false,
         })
@@ -92,7 +139,7 @@ impl<S: ListStore + Drop> Solver<S> {
 impl<S: ListStore> Solver<S> {
     /// Files all configurations of the next value, or finds that none has it.
     pub fn round(&mut self) -> Progress
-        ensures board { self.new.board ≡ self.old.board }
+        ensures game { self.new.game ≡ self.old.game }
         ensures after_done { self.old.is_done ≡ true → (result ≡ Progress.Done) × (self.new ≡ self.old) }
         ensures filed { (n : ℕ) → result ≡ Progress.Filed n → HasFiled self.old self.new n }
         ensures none { result ≡ Progress.Done → HasFoundNone self.old self.new }
@@ -106,7 +153,7 @@ impl<S: ListStore> Solver<S> {
     /// `Done` if it won none.
     pub fn file_round<E: RoundEnd>(&mut self, end: &E) -> Progress
         requires { IsRoundEnd self.old (E.won_list end.now) (E.counts end.now) }
-        ensures board { self.new.board ≡ self.old.board }
+        ensures game { self.new.game ≡ self.old.game }
         ensures after_done { self.old.is_done ≡ true → (result ≡ Progress.Done) × (self.new ≡ self.old) }
         ensures filed { (n : ℕ) → result ≡ Progress.Filed n → HasFiled self.old self.new n }
         ensures none { result ≡ Progress.Done → HasFoundNone self.old self.new }
@@ -119,7 +166,7 @@ impl<S: ListStore> Solver<S> {
     /// Files all configurations of the next value in the way `by`, or finds that none has it.
     fn file_next<N: NextValue>(&mut self, by: &N) -> Progress
         requires { self.old.is_done ≡ false → N.serves by.now self.old }
-        ensures board { self.new.board ≡ self.old.board }
+        ensures game { self.new.game ≡ self.old.game }
         ensures after_done { self.old.is_done ≡ true → (result ≡ Progress.Done) × (self.new ≡ self.old) }
         ensures filed { (n : ℕ) → result ≡ Progress.Filed n → HasFiled self.old self.new n }
         ensures none { result ≡ Progress.Done → HasFoundNone self.old self.new }
@@ -136,7 +183,6 @@ impl<S: ListStore> Solver<S> {
             return Progress::Done;
         }
         self.stage.begin_next_value();
-        self.sizes.push_reserved(filed);
         Progress::Filed(filed)
     }
 
@@ -150,33 +196,44 @@ impl<S: ListStore> Solver<S> {
     /// The number of rounds that have filed something: each value of at most this number is filed.
     pub fn round_number(&self) -> u32
         ensures value { result ≡ self.now.rounds }
-        ensures below { result < configurations self.now.board }
+        ensures below { result < (graph_of self.now.game).configurations }
         ensures kept { IsSolving self.now }
     {
         self.stage.value() - 1
     }
 
+    /// The graph of the numbers of the board's configurations and gaps.
+    pub fn graph(&self) -> &Graph
+        ensures { result.now ≡ self.now.game }
+    {
+        self.stage.graph()
+    }
+
     /// The space of the board.
     pub fn space(&self) -> &Space
-        ensures { result.now ≡ self.now.board }
+        ensures { result.now ≡ self.now.game.board }
     {
-        self.stage.space()
+        &self.space
     }
 
     /// The smallest pebble that dominates all others at the configuration of `rank`, if one does. A
-    /// lone pebble does if it holds a label.
+    /// lone pebble does if it holds a label. The numbers of the solver are ranks.
     pub fn dominator(&self, rank: u32) -> Option<u8>
-        requires { rank < configurations self.now.board }
-        ensures { IsSmallest (IsDominator self.now.board (configuration_at self.now.board rank)) result }
+        requires ordered { self.now.game.numbering ≡ Numbering.Ordered }
+        requires rank { rank < (graph_of self.now.game).configurations }
+        ensures { IsSmallest (IsDominator self.now.game.board (configuration_of self.now.game rank)) result }
     {
-        self.stage.dominator(rank)
+        match self.stage.graph().struck(rank) {
+            Some(gap) => Some(self.space.gap_pebble(gap)),
+            None => None,
+        }
     }
 
-    /// The value of the configuration of `rank`, if it is at most the number of rounds.
+    /// The value of the configuration with the number `rank`, if it is at most the number of rounds.
     pub fn value_at(&self, rank: u32) -> Option<u32>
-        requires { rank < configurations self.now.board }
+        requires { rank < (graph_of self.now.game).configurations }
         ensures { (value : ℕ) → (result ≡ Some value)
-            ↔ ((value ≤ self.now.rounds) × HasValue self.now.board (configuration_at self.now.board rank) (Finite value)) }
+            ↔ ((value ≤ self.now.rounds) × HasValue self.now.game.board (configuration_of self.now.game rank) (Finite value)) }
     {
         value_of(self.stage.word(rank))
     }
@@ -184,9 +241,9 @@ impl<S: ListStore> Solver<S> {
     /// The number of answers of `gap` that lead to a value of at least the number of rounds; once
     /// the rounds are done, to the value Forever.
     pub fn count_of(&self, gap: u32) -> u32
-        requires { gap < gaps self.now.board }
-        ensures before { self.now.is_done ≡ false → HasSize (AnswerLasts self.now.board gap self.now.rounds) result }
-        ensures after { self.now.is_done ≡ true → HasSize (AnswerForever self.now.board gap) result }
+        requires { gap < (graph_of self.now.game).gaps }
+        ensures before { self.now.is_done ≡ false → HasSize (AnswerLasts self.now.game gap self.now.rounds) result }
+        ensures after { self.now.is_done ≡ true → HasSize (AnswerForever self.now.game gap) result }
     {
         self.stage.count(gap)
     }
@@ -194,7 +251,7 @@ impl<S: ListStore> Solver<S> {
     /// The counts of all gaps, in their order, with which a round begins.
     pub fn counts(&self) -> &[u32]
         requires { self.now.is_done ≡ false }
-        ensures size { length result.now ≡ gaps self.now.board }
+        ensures size { length result.now ≡ (graph_of self.now.game).gaps }
         ensures counts { AreFirstCounts self.now result.now }
     {
         self.stage.counts()
@@ -203,7 +260,7 @@ impl<S: ListStore> Solver<S> {
     /// The words of all configurations, by rank, with which a round begins. `value_of` reads the
     /// value of each.
     pub fn words(&self) -> &[u32]
-        ensures size { length result.now ≡ configurations self.now.board }
+        ensures size { length result.now ≡ (graph_of self.now.game).configurations }
         ensures values { AreFirstValues self.now (map value_of_word result.now) }
     {
         self.stage.words()
@@ -220,7 +277,7 @@ impl<S: ListStore> Solver<S> {
     /// The configuration after that of `rank`, among those filed at the same value. One that isn't
     /// filed has none.
     pub fn next_filed(&self, rank: u32) -> Option<u32>
-        requires { rank < configurations self.now.board }
+        requires { rank < (graph_of self.now.game).configurations }
         ensures behind { (value : ℕ) → (index : ℕ) → slice_get (bucket self.now value) index ≡ Some rank
             → result ≡ slice_get (bucket self.now value) (index + 1) }
         ensures not_filed { ((value : ℕ) → (index : ℕ) → slice_get (bucket self.now value) index ≡ Some rank → ⊥) → result ≡ None }
@@ -228,10 +285,10 @@ impl<S: ListStore> Solver<S> {
         self.stage.next_filed(rank)
     }
 
-    /// The configurations that a round at the solver's value strikes: those of that value that have
-    /// a dominator, in order of filing.
+    /// The configurations that a round at the solver's value strikes: those of that value that are
+    /// answers in a gap, in order of filing.
     pub fn to_strike(&self, alloc: Global) -> Result<Vec<u32>, Memory>
-        ensures ranks { IfOk result (λ ranks. AreToStrike self.now ranks.items) }
+        ensures ranks { IfOk result (λ ranks. ranks.items ≡ to_strike self.now) }
         ensures kept { IsSolving self.now }
     {
         self.stage.due(alloc)
@@ -240,7 +297,7 @@ impl<S: ListStore> Solver<S> {
     /// The members of `gap` that have no value of at most the number of rounds, one after the
     /// other.
     pub fn sources(&self, gap: u32) -> SourceWalk<'_>
-        requires { gap < gaps self.now.board }
+        requires { gap < (graph_of self.now.game).gaps }
         ensures { result ≡ source self.now gap }
     {
         self.stage.sources(gap)
@@ -248,7 +305,7 @@ impl<S: ListStore> Solver<S> {
 
     /// The first member of `gap` that has no value of at most the number of rounds.
     pub fn first_source(&self, gap: u32) -> Option<u32>
-        requires { gap < gaps self.now.board }
+        requires { gap < (graph_of self.now.game).gaps }
         ensures first { result ≡ slice_get (source self.now gap) 0 }
     {
         let mut members = self.sources(gap);
@@ -258,8 +315,8 @@ impl<S: ListStore> Solver<S> {
     /// The member of `gap` after that of `rank`, among those that have no value of at most the
     /// number of rounds. A configuration that isn't one of these has none.
     pub fn next_source(&self, gap: u32, rank: u32) -> Option<u32>
-        requires gap { gap < gaps self.now.board }
-        requires rank { rank < configurations self.now.board }
+        requires gap { gap < (graph_of self.now.game).gaps }
+        requires rank { rank < (graph_of self.now.game).configurations }
         ensures behind { (index : ℕ) → slice_get (source self.now gap) index ≡ Some rank
             → result ≡ slice_get (source self.now gap) (index + 1) }
         ensures not_listed { ((index : ℕ) → slice_get (source self.now gap) index ≡ Some rank → ⊥) → result ≡ None }
@@ -284,26 +341,34 @@ pub struct Unfinished<S: ListStore> {
 impl<S: ListStore + Drop> Solver<S> {
     /// The values of the board, once a round has found that no configuration has the next one.
     pub fn finish(self) -> Result<Values, Unfinished<S>>
-        ensures values { IfOk result (λ values. (self.is_done ≡ true) × (values ≡ self.board)) }
+        ensures values { IfOk result (λ values. (self.is_done ≡ true) × (values ≡ self.game.board)) }
         ensures unfinished { IfErr result (λ unfinished. (self.is_done ≡ false) × (unfinished.solver ≡ self)) }
     {
         if !self.done {
             return Err(Unfinished { solver: self });
         }
-        let Solver { stage, sizes, .. } = self;
-        let Stage {
+        let Solver {
+            stage,
             space,
             answers,
+            weights,
+            mut sizes,
+            done: _,
+        } = self;
+        let Stage {
+            graph,
+            value,
             values,
-            dominators,
             ..
         } = stage;
-        Ok(Values::new(space, answers, values, dominators, sizes))
+        let forever = add_weights(&mut sizes, &values, &weights);
+        sizes.truncate(value as usize);
+        Ok(Values::new(graph, space, answers, values, sizes, forever))
     }
 
     /// The values of the board, after all rounds that it takes.
     pub fn solve(self) -> Values
-        ensures { result ≡ self.board }
+        ensures { result ≡ self.game.board }
     {
         let mut solver = self;
         loop {

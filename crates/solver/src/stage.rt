@@ -1,63 +1,51 @@
-//! A board's words and lists, and the changes that a round makes to them.
+//! A solver's words and lists, and the changes that a round makes to them.
 
-ghost use Rattle.std.specs.Prelude.{◌≡◌, ℕ, ◌+◌, ◌-◌, ◌<◌, true, List, [], ◌∷◌, length, filter};
+ghost use Rattle.std.specs.Prelude.{◌≡◌, ℕ, ◌+◌, ◌-◌, ◌<◌, true, List, [], ◌∷◌, length, filter, slice_index};
 ghost use Rattle.index_lists.specs.Lists.{times};
-ghost use Rattle.board_text.specs.PlainBoard.{places};
-ghost use Rattle.positions.specs.Ranks.{configurations};
-ghost use Rattle.positions.specs.Gaps.{gaps};
-ghost use Rattle.solver.specs.Inside.Arena.{is_dominated};
-ghost use Rattle.solver.specs.Inside.BoardArena.{arena_of};
+ghost use Rattle.graphs.specs.Graph.{is_struck};
+ghost use Rattle.graphs.specs.Numbered.{graph_of};
 ghost use Rattle.solver.specs.Inside.Tables.{is_open};
 ghost use Rattle.solver.specs.Inside.Stage.{PlainStage, filed_at, due_strikes, rank_listed, rank_filed, at_next_value, strikes_copied, IsFiled, IsKept, Closes, IsStriking};
 
 use crate::word::OPEN;
+use graphs::Graph;
 use index_lists::ListStore;
-use positions::{Space, TupleAnswers};
 use std::marker::Model;
 
-/// The byte of a configuration at which no pebble dominates all others.
-pub(crate) const NO_PEBBLE: u8 = u8::MAX;
-
-/// A word for each configuration and each gap, and the ranks that are filed at each value, while configurations are filed at one value
-/// after the other.
+/// A word for each configuration and each gap, and the configurations that are filed at each value, while configurations are filed at one
+/// value after the other.
 #[derive(Drop)]
 pub(crate) struct Stage<S: ListStore> {
-    pub(crate) space: Space,
-    /// The answers of all gaps.
-    pub(crate) answers: TupleAnswers,
+    pub(crate) graph: Graph,
     /// The value that configurations are filed at now.
     pub(crate) value: u32,
     /// The value of each configuration that has one, else `OPEN`.
     pub(crate) values: Vec<u32>,
-    /// The pebble that dominates all others at each configuration, else `NO_PEBBLE`.
-    pub(crate) dominators: Vec<u8>,
-    /// For each gap the number of live answers: those whose result is not struck.
+    /// For each gap the number of live answers: those that are not struck.
     pub(crate) counts: Vec<u32>,
-    /// For each value the ranks that are filed at it.
+    /// For each value the configurations that are filed at it.
     pub(crate) buckets: S,
-    /// Room for the ranks that a round copies from the store. Between two rounds nobody reads it.
+    /// Room for the configurations that a round copies from the store. Between two rounds nobody reads it.
     pub(crate) strikes: Vec<u32>,
 }
 
 impl<S: ListStore> Model for Stage<S> {
     ghost use Rattle.std.specs.Prelude.{◌≡◌, ◌≤◌, vec_capacity};
-    ghost use Rattle.positions.specs.Ranks.{configurations};
-    ghost use Rattle.solver.specs.Inside.Stage.{PlainStage, stage_of};
-    ghost use Rattle.solver.specs.Inside.Stored.{IsSmall, AreWide, AreDominators, AreStored};
+    ghost use Rattle.graphs.specs.Numbered.{graph_of};
+    ghost use Rattle.solver.specs.Inside.Stage.{PlainStage, stage_of, IsSmall, AreWide, AreStored};
 
     ghost Value = { PlainStage };
 
-    ghost view = { λ s. stage_of s.space s.value s.values.items s.counts.items (S.state s.buckets) s.strikes.items };
+    ghost view = { λ s. stage_of s.graph s.value s.values.items s.counts.items (S.state s.buckets) s.strikes.items };
 
-    ghost invariant = { λ s. IsSmall s.space s.value × AreWide s.space s.values.items s.counts.items
-        × AreDominators s.space s.dominators.items × AreStored s.space (S.state s.buckets)
-        × (configurations s.space ≤ vec_capacity s.strikes) × (s.answers ≡ s.space) };
+    ghost invariant = { λ s. IsSmall (graph_of s.graph) s.value × AreWide (graph_of s.graph) s.values.items s.counts.items
+        × AreStored (graph_of s.graph) (S.state s.buckets) × ((graph_of s.graph).configurations ≤ vec_capacity s.strikes) };
 }
 
 impl<S: ListStore> Stage<S> {
     /// Appends `rank`, which is in no list, to the list of the value.
     pub(crate) fn list(&mut self, rank: u32)
-        requires rank_in { rank < configurations self.old.board }
+        requires rank_in { rank < (graph_of self.old.game).configurations }
         requires free { (v : ℕ) → times rank (filed_at self.old v) ≡ 0 }
         ensures { self.new ≡ rank_listed self.old rank }
     {
@@ -66,7 +54,7 @@ impl<S: ListStore> Stage<S> {
 
     /// Files the open configuration `rank` at the value.
     pub(crate) fn file(&mut self, rank: u32)
-        requires rank_in { rank < configurations self.old.board }
+        requires rank_in { rank < (graph_of self.old.game).configurations }
         requires filed { IsFiled self.old }
         requires was_open { is_open self.old.values rank ≡ true }
         ensures { self.new ≡ rank_filed self.old rank }
@@ -77,29 +65,26 @@ impl<S: ListStore> Stage<S> {
 
     /// Files the open members of `gap` at the value.
     fn close_gap(&mut self, gap: u32)
-        requires gap_in { gap < gaps self.old.board }
+        requires gap_in { gap < (graph_of self.old.game).gaps }
         requires filed { IsFiled self.old }
         ensures { Closes self.old gap self.new }
     {
-        let places = self.space.places();
-        let members = self.space.members(gap);
-        for place in 0..places {
-            let rank = members.rank(place);
+        for place in 0..self.graph.places() {
+            let rank = self.graph.member(gap, place);
             if self.values[rank as usize] == OPEN {
                 self.file(rank);
             }
         }
     }
 
-    /// Strikes the configuration `rank`: its dominator's gap loses an answer, and the open members
-    /// of that gap are filed if none is left.
-    fn strike(&mut self, rank: u32)
-        requires { (rest : List ℕ) × IsStriking self.old (rank ∷ rest) }
+    /// Strikes an answer of `gap`, `rank`: the gap loses an answer, and its open members are filed if none is left.
+    fn strike(&mut self, rank: u32, gap: u32)
+        requires striking { (rest : List ℕ) × IsStriking self.old (rank ∷ rest) }
+        requires gap { gap ≡ (graph_of self.old.game).struck rank }
         ensures struck { (rest : List ℕ) → IsStriking self.old (rank ∷ rest) → IsStriking self.new rest }
         ensures kept { IsKept self.old self.new }
         ensures strikes { self.new.strikes ≡ self.old.strikes }
     {
-        let gap = self.space.gap(rank, self.dominators[rank as usize]);
         let left = self.counts[gap as usize] - 1;
         self.counts[gap as usize] = left;
         if left == 0 {
@@ -107,7 +92,7 @@ impl<S: ListStore> Stage<S> {
         }
     }
 
-    /// Strikes the configurations that are filed at the value before and have a dominator.
+    /// Strikes the configurations that are filed at the value before and are answers.
     pub(crate) fn strike_all(&mut self)
         requires round { 0 < self.old.value }
         requires striking { IsStriking self.old (due_strikes self.old) }
@@ -118,7 +103,7 @@ impl<S: ListStore> Stage<S> {
         self.strike_taken();
     }
 
-    /// Copies the ranks that are filed at the value before into `strikes`.
+    /// Copies the configurations that are filed at the value before into `strikes`.
     fn take_bucket(&mut self)
         requires { 0 < self.old.value }
         ensures { self.new ≡ strikes_copied self.old }
@@ -127,17 +112,17 @@ impl<S: ListStore> Stage<S> {
         self.buckets.append_list(self.value - 1, &mut self.strikes);
     }
 
-    /// Strikes those of the ranks in `strikes` that have a dominator.
+    /// Strikes those of the configurations in `strikes` that are answers.
     fn strike_taken(&mut self)
-        requires ranks { (rank : ℕ) → 0 < times rank self.old.strikes → rank < configurations self.old.board }
-        requires striking { IsStriking self.old (filter (is_dominated (arena_of self.old.board)) self.old.strikes) }
+        requires ranks { (rank : ℕ) → 0 < times rank self.old.strikes → rank < (graph_of self.old.game).configurations }
+        requires striking { IsStriking self.old (filter (is_struck (graph_of self.old.game)) self.old.strikes) }
         ensures struck { IsStriking self.new [] }
         ensures kept { IsKept self.old self.new }
     {
         for index in 0..self.strikes.len() {
             let rank = self.strikes[index];
-            if self.dominators[rank as usize] != NO_PEBBLE {
-                self.strike(rank);
+            if let Some(gap) = self.graph.struck(rank) {
+                self.strike(rank, gap);
             }
         }
     }
@@ -151,7 +136,7 @@ impl<S: ListStore> Stage<S> {
 
     /// Goes on to the next value.
     pub(crate) fn begin_next_value(&mut self)
-        requires { self.old.value < configurations self.old.board }
+        requires { self.old.value < (graph_of self.old.game).configurations }
         ensures { self.new ≡ at_next_value self.old }
     {
         self.value += 1;

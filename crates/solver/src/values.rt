@@ -1,22 +1,20 @@
 //! The values of a board.
 
-ghost use Rattle.std.specs.Prelude.{◌≡◌, ◌^◌, ◌<◌, ◌≤◌, sum};
+ghost use Rattle.std.specs.Prelude.{◌≡◌, ◌<◌, ◌≤◌};
 ghost use Rattle.board_text.specs.PlainBoard.{IsBoard};
 ghost use Rattle.positions.specs.declared.space.TheConstants.{MAX_CONFIGURATIONS};
-ghost use Rattle.positions.specs.Value.{HasValue};
-ghost use Rattle.positions.specs.Ranks.{configurations, configuration_at};
-ghost use Rattle.positions.specs.Gaps.{gaps};
-ghost use Rattle.positions.specs.Counts.{IsSmallest};
-ghost use Rattle.solver.specs.Solving.{AnswerForever};
 ghost use Rattle.positions.specs.declared.value.Value.TheVariants.{Finite};
+ghost use Rattle.positions.specs.Counts.{IsSmallest};
+ghost use Rattle.positions.specs.Gaps.{gaps};
 ghost use Rattle.positions.specs.Laws.{Occurs};
+ghost use Rattle.positions.specs.Ranks.{configurations, configuration_at};
+ghost use Rattle.positions.specs.Value.{HasValue};
+ghost use Rattle.solver.specs.SafeAnswers.{IsSafeAnswer, results_of};
 ghost use Rattle.solver.specs.Sizes.{HasCount, IsGreatest};
-ghost use Rattle.solver.specs.Inside.Sizes.{AreValueSizes};
-ghost use Rattle.solver.specs.Inside.Arena.{count_below};
-ghost use Rattle.solver.specs.Inside.Stored.{AreDominators};
-ghost use Rattle.solver.specs.Inside.Tables.{is_open, AreValues};
+ghost use Rattle.solver.specs.Inside.Values.{AreValuesOf};
 
-use crate::word::OPEN;
+use crate::results::{Results, value_with};
+use graphs::Graph;
 use positions::{Space, TupleAnswers, Value};
 use std::marker::Model;
 
@@ -25,12 +23,11 @@ use std::marker::Model;
 /// It holds no board: contracts see it as the board.
 #[derive(Drop)]
 pub struct Values {
+    graph: Graph,
     space: Space,
     answers: TupleAnswers,
-    /// The value of each configuration, or `OPEN` for Forever.
-    values: Vec<u32>,
-    /// The pebble that dominates all others at each configuration, else `NO_PEBBLE`.
-    dominators: Vec<u8>,
+    /// The value of the configurations of each number, or `OPEN` for Forever.
+    words: Vec<u32>,
     /// How many configurations have each finite value, 0 and up to the greatest that there is.
     sizes: Vec<u32>,
     /// How many configurations have the value Forever.
@@ -39,38 +36,34 @@ pub struct Values {
 
 impl Model for Values {
     ghost use Rattle.board_text.specs.PlainBoard.{PlainBoard};
-    ghost use Rattle.solver.specs.Inside.Sizes.{AreValuesOf};
+    ghost use Rattle.solver.specs.Inside.Values.{AreValuesOf};
 
     ghost Value = { PlainBoard };
 
-    ghost view = { λ s. s.space };
+    ghost view = { λ s. s.graph.board };
 
-    ghost invariant = { λ s. AreValuesOf s.space s.answers s.values.items s.dominators.items s.sizes.items s.forever };
+    ghost invariant = { λ s. AreValuesOf s.graph s.space s.answers s.words.items s.sizes.items s.forever };
 }
 
 impl Values {
-    /// The values in the words `values`, with the number of configurations of each finite value in
-    /// `sizes`, and the `answers` of all gaps.
+    /// The values in the words `words` of the numbers of `graph`, with the number of configurations
+    /// of each finite value in `sizes`, and the `answers` of all gaps.
     pub(crate) fn new(
+        graph: Graph,
         space: Space,
         answers: TupleAnswers,
-        values: Vec<u32>,
-        dominators: Vec<u8>,
+        words: Vec<u32>,
         sizes: Vec<u32>,
+        forever: u32,
     ) -> Values
-        requires answers { answers ≡ space }
-        requires values { AreValues space values.items }
-        requires dominators { AreDominators space dominators.items }
-        requires counts { AreValueSizes (configurations space) values.items sizes.items
-            (count_below (configurations space) (is_open values.items)) }
-        ensures { result ≡ space }
+        requires { AreValuesOf graph space answers words.items sizes.items forever }
+        ensures { result ≡ graph.board }
     {
-        let forever = space.configurations() - total(&sizes);
         Values {
+            graph,
             space,
             answers,
-            values,
-            dominators,
+            words,
             sizes,
             forever,
         }
@@ -81,11 +74,7 @@ impl Values {
         requires { rank < configurations self.now }
         ensures { HasValue self.now (configuration_at self.now rank) result }
     {
-        let value = self.values[rank as usize];
-        if value == OPEN {
-            return Value::Forever;
-        }
-        Value::Finite(value)
+        value_with(self.words[self.graph.number(&self.space, rank) as usize])
     }
 
     /// The number of configurations that have the value `value`.
@@ -119,16 +108,32 @@ impl Values {
         }
     }
 
+    /// The results of the answers of `gap`, for a caller that goes through several of them.
+    pub fn results(&self, gap: u32) -> Results<'_>
+        requires { gap < gaps self.now }
+        ensures results { result ≡ results_of self.now gap }
+        ensures is_board { IsBoard self.now }
+    {
+        let pebble = self.space.gap_pebble(gap);
+        let rank = self.space.member(gap, 0);
+        let number = self.graph.gap_number(&self.space, rank, pebble);
+        Results {
+            space: &self.space,
+            gap,
+            words: &self.words,
+            members: self.graph.members(number),
+        }
+    }
+
     /// The smallest answer of `gap` after which a labeller lasts forever, if there is one.
     pub fn safe_answer(&self, gap: u32) -> Option<u16>
         requires { gap < gaps self.now }
-        ensures { IsSmallest (AnswerForever self.now gap) result }
+        ensures { IsSmallest (IsSafeAnswer self.now gap) result }
     {
-        let pebble = self.space.gap_pebble(gap);
-        let members = self.space.members(gap);
+        let results = self.results(gap);
+        let answers = self.answers.answers(self.space.gap_tuple(gap));
         for label in 0..self.space.labels() {
-            let rank = members.rank(label) as usize;
-            if self.dominators[rank] == pebble && self.values[rank] == OPEN {
+            if answers.contains(label) && results.lasts_forever(label) {
                 return Some(label);
             }
         }
@@ -150,12 +155,4 @@ impl Values {
     {
         &self.answers
     }
-}
-
-/// The sum of `numbers`.
-fn total(numbers: &[u32]) -> u32
-    requires { sum numbers.now < 2 ^ 32 }
-    ensures { result ≡ sum numbers.now }
-{
-    numbers.iter().sum()
 }

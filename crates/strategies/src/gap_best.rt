@@ -36,11 +36,11 @@ pub(crate) fn best_of_gap(values: &Values, gap: u32) -> Option<Best>
     requires { gap < gaps values.now }
     ensures { IsGapBest values.now gap result }
 {
-    let members = values.space().members(gap);
+    let results = values.results(gap);
     let mut labels = answers_of_gap(values, gap).walk();
     let mut best = None;
     while let Some(label) = labels.take_next() {
-        let value = values.of(members.rank(label));
+        let value = results.value(label);
         let found = better(best, Best { label, value });
         // Nothing beats Forever, and later labels lose ties.
         if let Value::Forever = found.value {

@@ -1,8 +1,7 @@
 -- The fields of a shared round, and its view in clauses.
 use Rattle.std.specs.Prelude.{◌≡◌, ◌+◌, ◌^◌, ◌<◌}
+use Rattle.graphs.specs.Numbered.{graph_of}
 use Rattle.atomic_table.specs.Seated.{TableId}
-use Rattle.positions.specs.Ranks.{configurations}
-use Rattle.positions.specs.Gaps.{gaps}
 use Rattle.solver.specs.Solving.{IsSolving}
 use Rattle.claim_round.specs.Shared.{Key, RoundId}
 
@@ -10,7 +9,7 @@ use Rattle.claim_round.specs.Shared.{Key, RoundId}
 -- configuration
 pub record IsRound (given key : Key) (table : TableId) : Type 0 where
   pub key_is : key ≡ given
-  pub words : table.words ≡ gaps key.solving.board + configurations key.solving.board
+  pub words : table.words ≡ (graph_of key.solving.game).gaps + (graph_of key.solving.game).configurations
   pub slots : table.slots ≡ 0
   pub narrow : key.width < 2 ^ 32
   pub sound : IsSolving key.solving

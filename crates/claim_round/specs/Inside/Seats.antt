@@ -7,9 +7,9 @@ use Rattle.retro_core.specs.Round.{IsDue}
 use Rattle.claim_round.specs.Rule.{most_members, size}
 use Rattle.claim_round.specs.declared.seat.RoundSeat.TheInside.{Inside}
 
--- it has the round's value and a dominating pebble
+-- it has the round's value and is an answer in some gap
 abbrev pub IsDueIn : Key → ℕ → Type 0
-IsDueIn k rank = IsDue k.solving.board rank k.solving.rounds
+IsDueIn k rank = IsDue k.solving.game rank k.solving.rounds
 
 abbrev pub seat_id_of : Inside → SeatId
 seat_id_of s = record { table = s.seat.table_id; view = s.seat.me.0 }

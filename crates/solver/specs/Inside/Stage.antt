@@ -2,21 +2,22 @@
 use Rattle.std.specs.Prelude.{◌≡◌, ◌≢◌, ℕ, suc, ◌+◌, ◌-◌, ◌<◌, ◌≤◌, ◌==◌, Bool, true, false, cond}
 use Rattle.std.specs.Prelude.{List, [], ◌∷◌, ◌++◌, length, map, filter, AllPairs, slice_index, slice_index_or, slice_set}
 use Rattle.std.specs.List.{range_with_len}
-use Rattle.index_lists.specs.Lists.{Lists, times}
+use Rattle.index_lists.specs.Lists.{Lists, AreLists, times}
 use Rattle.board_text.specs.PlainBoard.{PlainBoard, IsBoard}
 use Rattle.positions.specs.Ranks.{configurations}
-use Rattle.positions.specs.Gaps.{gaps}
+use Rattle.graphs.specs.Numbered.{Numbered, graph_of}
+use Rattle.graphs.specs.NumberedRanks.{AreNumberWeights}
+use Rattle.solver.specs.Inside.Values.{AreZeros}
 use Rattle.positions.specs.declared.space.TheConstants.{MAX_CONFIGURATIONS}
-use Rattle.solver.specs.Inside.Arena.{Arena, count_below, lasts, IsLast, is_dominated}
-use Rattle.solver.specs.Inside.BoardArena.{arena_of}
+use Rattle.graphs.specs.Graph.{PlainGraph, IsGraph, count_below, lasts, is_struck}
 use Rattle.solver.specs.Solving.{Solving}
-use Rattle.solver.specs.Inside.Stored.{IsSmall}
-use Rattle.solver.specs.Inside.Tables.{is_unstruck, struck_rounds, open_members, IsCounted, AreWords, AreFirstWords, GapIsClosed}
+use Rattle.solver.specs.Inside.Tables.{IsLast, is_unstruck, struck_rounds, open_members, IsCounted, AreWords, GapIsClosed}
 
--- a board, the value that configurations are filed at, a word for each configuration, a count for
--- each gap, the configurations filed at each value, and those that a round copied from the store
+-- a board and what its numbers stand for, the value that configurations are filed at, a word for
+-- each configuration, a count for each gap, the configurations filed at each value, and those that
+-- a round copied from the store
 pub record PlainStage : Type 0 where
-  pub board : PlainBoard
+  pub game : Numbered
   pub value : ℕ
   pub values : List ℕ
   pub counts : List ℕ
@@ -28,15 +29,32 @@ abbrev pub first_lists : ℕ → (ℕ → List ℕ) → List (List ℕ)
 first_lists count list = map list (range_with_len 0 count)
 
 -- the stage of these parts, of which the buckets stand in a store
-abbrev pub stage_of : PlainBoard → ℕ → List ℕ → List ℕ → Lists → List ℕ → PlainStage
-stage_of board value values counts stored strikes = record {
-  board = board;
+abbrev pub stage_of : Numbered → ℕ → List ℕ → List ℕ → Lists → List ℕ → PlainStage
+stage_of game value values counts stored strikes = record {
+  game = game;
   value = value;
   values = values;
   counts = counts;
   buckets = first_lists stored.lists stored.list;
   strikes = strikes;
 }
+
+-- a graph with few configurations, and a value that one of them may have
+pub record IsSmall (a : PlainGraph) (value : ℕ) : Type 0 where
+  pub is_graph : IsGraph a
+  pub few : a.configurations ≤ MAX_CONFIGURATIONS
+  pub low : value ≤ a.configurations
+
+-- a word for each configuration and for each gap
+pub record AreWide (a : PlainGraph) (values counts : List ℕ) : Type 0 where
+  pub values_length : length values ≡ a.configurations
+  pub counts_length : length counts ≡ a.gaps
+
+-- a store of a list for each value, of configurations
+pub record AreStored (a : PlainGraph) (s : Lists) : Type 0 where
+  pub nodes_is : s.nodes ≡ a.configurations
+  pub lists_is : s.lists ≡ a.configurations + 1
+  pub are_lists : AreLists s
 
 -- the configurations filed at a value, in order of filing
 abbrev pub filed_at : PlainStage → ℕ → List ℕ
@@ -59,9 +77,9 @@ with_counts s counts = record s { counts = counts }
 abbrev pub at_next_value : PlainStage → PlainStage
 at_next_value s = record s { value = s.value + 1 }
 
--- the configurations that a round strikes: those filed at the value before that have a dominator
+-- the configurations that a round strikes: those filed at the value before that are answers
 abbrev pub due_strikes : PlainStage → List ℕ
-due_strikes s = filter (is_dominated (arena_of s.board)) (filed_at s (s.value - 1))
+due_strikes s = filter (is_struck (graph_of s.game)) (filed_at s (s.value - 1))
 
 -- the stage that has copied the configurations filed at the value before from the store
 abbrev pub strikes_copied : PlainStage → PlainStage
@@ -69,21 +87,21 @@ strikes_copied s = record s { strikes = filed_at s (s.value - 1) }
 
 -- the list of each value has the configurations of that word, each once
 pub record IsFiled (s : PlainStage) : Type 0 where
-  pub values_length : length s.values ≡ configurations s.board
-  pub lists_length : length s.buckets ≡ configurations s.board + 1
-  pub below : (v x : ℕ) → 0 < times x (filed_at s v) → x < configurations s.board
-  pub once : (v x : ℕ) → v ≤ configurations s.board → x < configurations s.board
+  pub values_length : length s.values ≡ (graph_of s.game).configurations
+  pub lists_length : length s.buckets ≡ (graph_of s.game).configurations + 1
+  pub below : (v x : ℕ) → 0 < times x (filed_at s v) → x < (graph_of s.game).configurations
+  pub once : (v x : ℕ) → v ≤ (graph_of s.game).configurations → x < (graph_of s.game).configurations
       → times x (filed_at s v) ≡ cond (slice_index s.values x == v) 1 0
 
 -- words and lists together, if the test holds of the configurations that are not struck yet
 pub record IsStage (test : ℕ → Bool) (s : PlainStage) : Type 0 where
-  pub counts_are : IsCounted (arena_of s.board) test s.counts
-  pub words_are : AreWords (arena_of s.board) test s.values
+  pub counts_are : IsCounted (graph_of s.game) test s.counts
+  pub words_are : AreWords (graph_of s.game) test s.values
   pub filed_are : IsFiled s
 
 -- nothing is filed but at the value
 pub record IsKept (s s' : PlainStage) : Type 0 where
-  pub board_is : s'.board ≡ s.board
+  pub game_is : s'.game ≡ s.game
   pub value_is : s'.value ≡ s.value
   pub others : (v : ℕ) → v ≢ s.value → filed_at s' v ≡ filed_at s v
 
@@ -92,30 +110,31 @@ pub record Closes (s : PlainStage) (gap : ℕ) (s' : PlainStage) : Type 0 where
   pub kept : IsKept s s'
   pub strikes_is : s'.strikes ≡ s.strikes
   pub counts_is : s'.counts ≡ s.counts
-  pub words : GapIsClosed (arena_of s.board) gap s.value s.values s'.values
+  pub words : GapIsClosed (graph_of s.game) gap s.value s.values s'.values
   pub filed_are : IsFiled s'
 
--- the configuration lasts r requests and no more, and a pebble dominates there
-pub record IsStruckAt (a : Arena) (r x : ℕ) : Type 0 where
+-- the configuration lasts r requests and no more, and is an answer
+pub record IsStruckAt (a : PlainGraph) (r x : ℕ) : Type 0 where
   pub is_rank : x < a.configurations
   pub lasting : lasts a r x ≡ true
   pub stopping : lasts a (suc r) x ≡ false
-  pub has_dominator : is_dominated a x ≡ true
+  pub has_gap : a.struck x < a.gaps
 
 -- in a round before the value, these are left to be struck
 pub record IsStriking (s : PlainStage) (todo : List ℕ) : Type 0 where
   pub round : ℕ
   pub value_is : s.value ≡ suc round
-  pub stage : IsStage (is_unstruck (arena_of s.board) round todo) s
-  pub due : (x : ℕ) → 0 < times x todo → IsStruckAt (arena_of s.board) round x
+  pub stage : IsStage (is_unstruck (graph_of s.game) round todo) s
+  pub due : (x : ℕ) → 0 < times x todo → IsStruckAt (graph_of s.game) round x
   pub once : (x : ℕ) → times x todo ≤ 1
 
 -- nothing of the value before is struck yet
 pub record IsUnstruck (s : PlainStage) : Type 0 where
+  pub is_board : IsBoard s.game.board
   pub round : ℕ
   pub value_is : s.value ≡ suc round
-  pub small : IsSmall s.board s.value
-  pub stage : IsStage (lasts (arena_of s.board) round) s
+  pub small : IsSmall (graph_of s.game) s.value
+  pub stage : IsStage (lasts (graph_of s.game) round) s
 
 -- these configurations have the value too and are filed at it, and nothing else changes
 pub record FilesAll (s : PlainStage) (ranks : List ℕ) (s' : PlainStage) : Type 0 where
@@ -129,41 +148,38 @@ pub record FilesAll (s : PlainStage) (ranks : List ℕ) (s' : PlainStage) : Type
 pub record TakesCounts (s : PlainStage) (counts : List ℕ) (s' : PlainStage) : Type 0 where
   pub rest : s' ≡ with_counts s s'.counts
   pub counts_length : length s'.counts ≡ length s.counts
-  pub each : (gap : ℕ) → gap < gaps s.board → slice_index s'.counts gap ≡ slice_index counts gap
-
--- each configuration has its first word, and none is filed
-pub record IsUnlisted (s : PlainStage) : Type 0 where
-  pub value_is : s.value ≡ 0
-  pub counts_are : IsCounted (arena_of s.board) (lasts (arena_of s.board) 0) s.counts
-  pub words_are : AreFirstWords (arena_of s.board) s.values
-  pub lists_length : length s.buckets ≡ configurations s.board + 1
-  pub lists_are : (v : ℕ) → filed_at s v ≡ []
-
--- a stage that is opened: the configurations of value 0 are filed, in ascending rank
-pub record IsOpened (s : PlainStage) : Type 0 where
-  pub value_is : s.value ≡ 0
-  pub stage : IsStage (lasts (arena_of s.board) 0) s
-  pub ascending : AllPairs (λ first second. first < second) (filed_at s 0)
-  pub none_later : (v : ℕ) → 0 < v → filed_at s v ≡ []
+  pub each : (gap : ℕ) → gap < (graph_of s.game).gaps → slice_index s'.counts gap ≡ slice_index counts gap
 
 -- a solver between its calls
 pub record IsState (s : PlainStage) (round : ℕ) (is_done : Bool) : Type 0 where
-  pub is_board : IsBoard s.board
-  pub few : configurations s.board ≤ MAX_CONFIGURATIONS
+  pub is_board : IsBoard s.game.board
+  pub is_graph : IsGraph (graph_of s.game)
+  pub few : (graph_of s.game).configurations ≤ MAX_CONFIGURATIONS
   pub value_is : s.value ≡ suc round
-  pub stage : IsStage (lasts (arena_of s.board) (struck_rounds is_done round)) s
-  pub some : 0 < count_below (configurations s.board) (lasts (arena_of s.board) round)
-  pub bound : count_below (configurations s.board) (lasts (arena_of s.board) round) + round ≤ configurations s.board
-  pub last : is_done ≡ true → IsLast (arena_of s.board) (suc round)
+  pub stage : IsStage (lasts (graph_of s.game) (struck_rounds is_done round)) s
+  pub some : 0 < count_below (graph_of s.game).configurations (lasts (graph_of s.game) round)
+  pub bound : count_below (graph_of s.game).configurations (lasts (graph_of s.game) round) + round ≤ (graph_of s.game).configurations
+  pub last : is_done ≡ true → IsLast (graph_of s.game) (suc round)
   pub ascending : AllPairs (λ first second. first < second) (filed_at s 0)
+  pub last_filed : 0 < round → 0 < length (filed_at s round)
+
+-- the space and the answers are those of the board, which is small, each number has its weight, and
+-- there is a zero for each number
+pub record IsEquipped (n : Numbered) (space answered : PlainBoard) (weights zeros : List ℕ) : Type 0 where
+  pub same_space : space ≡ n.board
+  pub same_answers : answered ≡ n.board
+  pub weighed : AreNumberWeights n weights
+  pub zeros_length : length zeros ≡ (graph_of n).configurations
+  pub zeros_are : AreZeros zeros
+  pub few : configurations n.board ≤ MAX_CONFIGURATIONS
 
 -- a solver, as its callers see it
 abbrev pub as_solving : PlainStage → Bool → Solving
 as_solving s is_done = record {
-  board = s.board;
+  game = s.game;
   rounds = s.value - 1;
   is_done = is_done;
   buckets = s.buckets;
-  sources = first_lists (gaps s.board) (open_members (arena_of s.board) s.values);
+  sources = first_lists (graph_of s.game).gaps (open_members (graph_of s.game) s.values);
   due = due_strikes s;
 }

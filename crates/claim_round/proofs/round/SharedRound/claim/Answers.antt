@@ -12,7 +12,7 @@ compare_exchange-found-requires g c =
     let k : Key = c.self.inside.table.shared.key in
     let r = c.self.invariant in
     let next = claims_next _ k _ _ _ c.seat.inside _ _ c.gaps.result c.in-Some.config _ c.self.view_is c.seat.view_is r c.seat.invariant c.requires.mine c.requires.owed
-    c.in-Some.ensures.items c.space.ensures c.gaps.ensures.value in
+    c.in-Some.ensures.items c.graph.ensures c.gaps.ensures in
     let n = c.from-next.ensures in
     let number = c.round_number.ensures.value in
     let round = ap (λ (q : Key). q.solving.rounds) r.key_is in

@@ -1,7 +1,7 @@
 use Rattle.std.proofs.Common.{◌≡◌, ℕ, ◌^◌, ◌<◌, ◌+◌, ◌-◌, List, [], map, length, take, drop, sym, ap, ◌∙◌, subst, arith, get_or-take, get_or-drop, length-drop}
+use Rattle.graphs.specs.Numbered.{Numbered, graph_of}
 use Rattle.std.specs.Prelude.{slice_index}
 use Rattle.std.specs.Slots.{slots_items, slots_len, slots_counts}
-use Rattle.positions.specs.Gaps.{gaps}
 use Rattle.solver.specs.Solving.{Solving}
 use Rattle.claim_round.specs.Shared.{Key, View, RoundId, SeatId, Ended, Finishes}
 use Rattle.claim_round.specs.History.{HasHistory, LostWereWon, TellsClosedGaps}
@@ -29,10 +29,10 @@ module _ (g : Over) (c : After-close_with g) where
   view : v ≡ c.args.seat.view
   view = ap (λ (p : SeatId). p.view) c.seat.view_is
 
-  gaps_are : gaps k.solving.board ≡ c.gaps.result
+  gaps_are : (graph_of k.solving.game).gaps ≡ c.gaps.result
   gaps_are =
       let given : k.solving ≡ c.self.inside.solver.now = ap (λ (q : Key). q.solving) c.self.invariant.key_is in
-      sym (c.gaps.ensures.value ∙ ap gaps c.space.ensures ∙ ap (λ (s : Solving). gaps s.board) (sym given))
+      sym (c.gaps.ensures ∙ ap (λ (n : Numbered). (graph_of n).gaps) c.graph.ensures ∙ ap (λ (s : Solving). (graph_of s.game).gaps) (sym given))
 
   closed : IsClosed k words v × (v.has.todo ≡ []) × (v.has.owed ≡ [])
   closed =
@@ -90,7 +90,7 @@ invariant_of-result g c =
     let end = closed g b in
     let solving : Solving = (k g b).solving in
     let all : List ℕ = words g b in
-    let G : ℕ = gaps solving.board in
+    let G : ℕ = (graph_of solving.game).gaps in
     let gaps_same : G ≡ c.gaps.result = gaps_are g b in
     let size_is = end.0.long in
     let counts = c.close_with.ensures.counts in

@@ -1,8 +1,7 @@
 use Rattle.std.proofs.Common.{◌≡◌, ℕ, ◌≤◌, ◌-◌, ◌*◌, ◌/◌, inl, inr, ⊎_elim, length, take, drop, refl, sym, ap, ◌∙◌, subst, arith, rules}
+use Rattle.graphs.specs.Numbered.{Numbered, graph_of}
 use Rattle.std.specs.Prelude.{vec_capacity}
 use Rattle.std.specs.VecDeque.{deque_capacity}
-use Rattle.board_text.specs.PlainBoard.{places}
-use Rattle.positions.specs.Ranks.{configurations}
 use Rattle.solver.specs.Solving.{Solving}
 use Rattle.claim_round.specs.Shared.{Key, View, SeatId}
 use Rattle.claim_round.specs.Rule.{most_members, size}
@@ -40,9 +39,9 @@ invariant_of-new g c =
     let r = c.self.invariant in
     let mine = of_round _ k _ c.seat.inside _ c.self.view_is c.seat.view_is c.requires.mine in
     let given : v.key.solving ≡ c.self.inside.solver.now = ap (λ (q : Key). q.solving) (mine.1 ∙ r.key_is) in
-    let board = c.space.ensures in
-    let most_is : c.places-most.result ≡ most_members v.key = c.places-most.ensures.value ∙ ap places board ∙ ap (λ (s : Solving). places s.board) (sym given) in
-    let size_is : configurations c.self.inside.solver.now.board ≡ size v.key = ap (λ (s : Solving). configurations s.board) (sym given) in
+    let board = c.graph.ensures in
+    let most_is : c.places-most.result ≡ most_members v.key = c.places-most.ensures ∙ ap (λ (n : Numbered). (graph_of n).places) board ∙ ap (λ (s : Solving). (graph_of s.game).places) (sym given) in
+    let size_is : (graph_of c.self.inside.solver.now.game).configurations ≡ size v.key = ap (λ (s : Solving). (graph_of s.game).configurations) (sym given) in
     let e = c.split_seat-other.ensures in
     let l = c.len.ensures in
     let h = c.len-moved.ensures in

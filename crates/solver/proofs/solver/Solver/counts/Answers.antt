@@ -1,12 +1,12 @@
 use Rattle.std.proofs.Common.{◌≡◌, false, ap, ◌∙◌, subst, length}
-use Rattle.positions.specs.Gaps.{gaps}
+use Rattle.graphs.specs.Numbered.{graph_of}
 use Rattle.solver.specs.Words.{AreFirstCounts}
 use Rattle.solver.specs.Solving.{Solving}
 use Rattle.solver.proofs.States.{first-counts}
 use Rattle.solver.proofs.solver.Solver.counts.Goals as goal
 
 pub returns-clause-size : goal.returns-clause-size
-returns-clause-size g c = subst (λ (v : Solving). length c.counts.result.now ≡ gaps v.board) c.self.view_is
+returns-clause-size g c = subst (λ (v : Solving). length c.counts.result.now ≡ (graph_of v.game).gaps) c.self.view_is
     (ap length c.counts.ensures ∙ c.self.invariant.0.stage.counts_are.counts_length)
 
 pub returns-clause-counts : goal.returns-clause-counts

@@ -1,9 +1,8 @@
-use Rattle.std.proofs.Common.{◌≡◌, ◌≢◌, ◌-◌, ◌∙◌, ℕ, suc, length, true, false, refl, sym, ap, subst, arith, vec_capacity}
-use Rattle.solver.specs.Inside.Sizes.{AreSizes}
+use Rattle.std.proofs.Common.{◌≡◌, ◌≢◌, ◌-◌, ◌∙◌, ℕ, suc, length, true, false, refl, sym, ap, subst, arith}
+use Rattle.graphs.specs.Numbered.{Numbered}
 use Rattle.solver.specs.Solving.{HasFoundNone, IsSolving, NoneHas, Solving}
-use Rattle.solver.specs.Inside.Stage.{PlainStage, at_next_value, filed_at, IsState}
-use Rattle.solver.proofs.States.{solving_of, unstruck-of, none-has, to-begin, last-state, next-below, size-below, further-state}
-use Rattle.solver.proofs.ValueSizes.{sizes-kept, sizes-more, sizes-room}
+use Rattle.solver.specs.Inside.Stage.{PlainStage, at_next_value, filed_at, IsEquipped, IsState}
+use Rattle.solver.proofs.States.{solving_of, unstruck-of, none-has, to-begin, last-state, next-below, further-state}
 use Rattle.solver.proofs.solver.Solver.file_next.Given
 use Rattle.solver.proofs.solver.Solver.file_next.Goals as goal
 use Rattle.solver.proofs.solver.Solver.file_next.Goals.{Then-filed-eq0, Else-filed-eq0}
@@ -34,28 +33,26 @@ module _ (g : Given.Over) (c : Then-filed-eq0 g) where
   same : c.self.inside.stage.value - 1 ≡ ended.value - 1
   same = ap (λ n. n - 1) (sym c.file.ensures.kept.value_is)
 
+  state : IsState ended (ended.value - 1) true
+  state = subst (λ n. IsState ended n true) same last
+
+  equipped : IsEquipped ended.game c.self.inside.space c.self.inside.answers c.self.inside.weights.items c.self.inside.sizes.items
+  equipped = subst (λ (n : Numbered). IsEquipped n c.self.inside.space c.self.inside.answers c.self.inside.weights.items c.self.inside.sizes.items)
+      (sym c.file.ensures.kept.game_is) c.self.invariant.1
+
 pub invariant_of-self : goal.invariant_of-self
-invariant_of-self g c =
-    let s : PlainStage = c.self.inside.stage in
-    let now : PlainStage = c.file.new.stage in
-    let at = (goal.at.invariant_of-self g c).Then-filed-eq0 in (
-      subst (λ n. IsState now n true) (same g at) (last g at),
-      subst (λ n. AreSizes now n (vec_capacity c.self.inside.sizes) c.self.inside.sizes.items) (same g at)
-          (sizes-kept s now (s.value - 1) _ _ c.self.invariant.0.value_is c.file.ensures.kept c.self.invariant.1),
-    )
+invariant_of-self g c = let at = (goal.at.invariant_of-self g c).Then-filed-eq0 in (state g at, equipped g at)
 
 pub returns-then-filed-eq0-clause-none : goal.returns-then-filed-eq0-clause-none
 returns-then-filed-eq0-clause-none g c = λ _.
     let now : PlainStage = c.file.new.stage in
     let at = (goal.at.returns-then-filed-eq0-clause-none g c).Then-filed-eq0 in
-    subst (λ (v : Solving). NoneHas v.board (suc v.rounds) × (now.value - 1 ≡ v.rounds) × (true ≡ true)) c.self.view_is
-    (subst (λ p. NoneHas p (suc (c.self.inside.stage.value - 1))) c.file.ensures.kept.board_is (none-has now _ true (last g at) refl), sym (same g at), refl)
+    subst (λ (v : Solving). NoneHas v.game.board (suc v.rounds) × (now.value - 1 ≡ v.rounds) × (true ≡ true)) c.self.view_is
+    (subst (λ (t : Numbered). NoneHas t.board (suc (c.self.inside.stage.value - 1))) c.file.ensures.kept.game_is (none-has now _ true (last g at) refl), sym (same g at), refl)
 
 pub returns-then-filed-eq0-clause-kept : goal.returns-then-filed-eq0-clause-kept
 returns-then-filed-eq0-clause-kept g c =
-    let now : PlainStage = c.file.new.stage in
-    let at = (goal.at.returns-then-filed-eq0-clause-kept g c).Then-filed-eq0 in
-    solving_of now (now.value - 1) true (subst (λ n. IsState now n true) (same g at) (last g at))
+    solving_of c.file.new.stage _ true (state g (goal.at.returns-then-filed-eq0-clause-kept g c).Then-filed-eq0)
 
 -- the number of filed configurations isn't 0
 some : (n : ℕ) (k : ℕ) → k ≡ n → k ≢ 0 → n ≢ 0
@@ -76,37 +73,25 @@ module _ (g : Given.Over) (c : Else-filed-eq0 g) where
   next : suc (c.self.inside.stage.value - 1) ≡ (at_next_value more).value - 1
   next = next-round c.self.inside.stage more _ c.self.invariant.0.value_is c.file.ensures.kept.value_is
 
-  state : IsState (at_next_value more) ((at_next_value more).value - 1) false
-  state = subst (λ n. IsState (at_next_value more) n false) next
+  state-next : IsState (at_next_value more) ((at_next_value more).value - 1) false
+  state-next = subst (λ n. IsState (at_next_value more) n false) next
       (further-state c.self.inside.stage _ c.self.inside.done c.self.invariant.0 more c.file.ensures.struck c.file.ensures.kept c.if-self.false filed)
+
+  equipped-next : IsEquipped more.game c.self.inside.space c.self.inside.answers c.self.inside.weights.items c.self.inside.sizes.items
+  equipped-next = subst (λ (n : Numbered). IsEquipped n c.self.inside.space c.self.inside.answers c.self.inside.weights.items c.self.inside.sizes.items)
+      (sym c.file.ensures.kept.game_is) c.self.invariant.1
 
 pub begin_next_value-requires : goal.begin_next_value-requires
 begin_next_value-requires g c =
     let at = (goal.at.begin_next_value-requires g c).Else-filed-eq0 in
     next-below c.self.inside.stage _ c.self.inside.done c.self.invariant.0 c.file.new.stage c.file.ensures.struck c.file.ensures.kept (filed g at)
 
-pub push_reserved-requires : goal.push_reserved-requires
-push_reserved-requires g c =
-    let filed = filed g (goal.at.push_reserved-requires g c).Else-filed-eq0 in
-    let size = size-below c.self.inside.stage _ c.self.inside.done c.self.invariant.0 c.file.new.stage c.file.ensures.struck c.file.ensures.kept filed in
-    let room = sizes-room c.self.inside.stage _ _ _ c.self.invariant.1 size in
-    omega (arith, room)
-
 pub invariant_of-self-2 : goal.invariant_of-self-2
 invariant_of-self-2 g c =
-    let s : PlainStage = c.self.inside.stage in
-    let now : PlainStage = c.file.new.stage in
     let at = (goal.at.invariant_of-self-2 g c).Else-filed-eq0 in
-    let filed = filed g at in
-    rw (c.begin_next_value.ensures, c.if-self.false) (
-      state g at,
-      subst (λ n. AreSizes (at_next_value now) n (vec_capacity c.push_reserved.new.self) c.push_reserved.new.self.items) (next g at)
-          (sizes-more s now (s.value - 1) (vec_capacity c.self.inside.sizes) (vec_capacity c.push_reserved.new.self) c.filed-filed.result
-          c.self.inside.sizes.items c.push_reserved.new.self.items c.self.invariant.0.value_is c.file.ensures.kept c.push_reserved.ensures.items
-          c.filed-filed.ensures (λ z. filed (sym c.filed-filed.ensures ∙ z)) c.push_reserved.ensures.capacity c.self.invariant.1),
-    )
+    rw (c.begin_next_value.ensures, c.if-self.false) (state-next g at, equipped-next g at)
 
 pub returns-clause-kept : goal.returns-clause-kept
 returns-clause-kept g c =
     let at = (goal.at.returns-clause-kept g c).Else-filed-eq0 in
-    rw (c.begin_next_value.ensures, c.if-self.false) (solving_of (at_next_value c.file.new.stage) _ false (state g at))
+    rw (c.begin_next_value.ensures, c.if-self.false) (solving_of (at_next_value c.file.new.stage) _ false (state-next g at))

@@ -1,5 +1,5 @@
 use Rattle.std.proofs.Common.{◌≡◌, ◌<◌, ◌∙◌, ◌∷◌, subst, sym}
-use Rattle.positions.specs.Gaps.{gaps}
+use Rattle.graphs.specs.Numbered.{graph_of}
 use Rattle.solver.specs.Solving.{Solving, IsSolving, source}
 use Rattle.solver.proofs.SourceSearches.{IsSearched, search-begins, search-more, search-there, search-found, search-over}
 use Rattle.solver.proofs.States.{solving_of, source-shown}
@@ -7,7 +7,7 @@ use Rattle.solver.proofs.solver.Solver.next_source.Goals as goal
 
 pub loop-member-init : goal.loop-member-init
 loop-member-init g c =
-    let i : c.args.gap < gaps c.self.inside.stage.board = rw (← c.self.view_is) at c.requires.gap in
+    let i : c.args.gap < (graph_of c.self.inside.stage.game).gaps = rw (← c.self.view_is) at c.requires.gap in
     let here : c.sources-members.result ≡ source c.args.self.now c.args.gap =
     subst (λ (v : Solving). c.sources-members.result ≡ source v c.args.gap) c.self.view_is
     (c.sources-members.ensures ∙ sym (source-shown c.self.inside.stage _ c.self.inside.done c.self.invariant.0 c.args.gap i)) in

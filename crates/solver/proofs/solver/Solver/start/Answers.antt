@@ -1,63 +1,51 @@
-use Rattle.std.proofs.Common.{◌≡◌, ◌+◌, ◌-◌, ◌<◌, ◌≤◌, ℕ, List, [], ◌∷◌, ◌++◌, ◌∙◌, false, length, vec_capacity, sym, ap, subst, arith}
-use Rattle.std.proofs.Math.Nat.{one-le-pow}
-use Rattle.board_text.specs.PlainBoard.{PlainBoard, IsBoard, places}
-use Rattle.board_text.proofs.Cited.{some_places}
+use Rattle.std.proofs.Common.{◌≡◌, ◌-◌, ◌≤◌, ◌∙◌, ℕ, List, length, replicate, slice_index, false, ap, sym, subst, arith}
+use Rattle.std.proofs.lemmas.List.{length-replicate, get_or-replicate}
 use Rattle.positions.specs.Ranks.{configurations}
+use Rattle.graphs.specs.NumberedRanks.{AreNumberWeights}
+use Rattle.board_text.specs.PlainBoard.{PlainBoard, IsBoard}
 use Rattle.positions.specs.declared.space.TheConstants.{MAX_CONFIGURATIONS}
-use Rattle.solver.specs.Inside.Sizes.{AreSizes}
-use Rattle.solver.specs.Inside.Stage.{PlainStage, at_next_value, IsOpened, IsState}
+use Rattle.graphs.specs.Numbered.{Numbered, graph_of}
+use Rattle.solver.specs.Inside.Stage.{PlainStage, at_next_value, IsEquipped, IsState}
+use Rattle.solver.specs.Inside.Opening.{IsOpened}
+use Rattle.graphs.proofs.Cited.{some-configurations}
 use Rattle.solver.proofs.States.{start-state, solving_of}
-use Rattle.solver.proofs.ValueSizes.{sizes-start}
 use Rattle.solver.proofs.solver.Solver.start.Goals as goal
 
-some-configurations : (b : PlainBoard) → IsBoard b → 0 < configurations b
-some-configurations b is = one-le-pow b.pebbles (places b) (some_places b is)
-
-first-round : (s : PlainStage) → s.value ≡ 0 → 0 ≡ s.value + 1 - 1
-first-round s is = omega arith
-
--- an opened stage of a board that isn't too large has the state of the first round
-opened-state : (s : PlainStage) (b : PlainBoard) → s.board ≡ b → IsBoard b → configurations b ≤ MAX_CONFIGURATIONS
-    → IsOpened s
+opened-state : (s : PlainStage) (n : Numbered) → s.game ≡ n → IsBoard n.board → (graph_of n).configurations ≤ MAX_CONFIGURATIONS → IsOpened s
     → IsState (at_next_value s) ((at_next_value s).value - 1) false
-opened-state s b same is few opened =
-    let is_board : IsBoard s.board = subst IsBoard (sym same) is in
-    subst (λ n. IsState (at_next_value s) n false) (first-round s opened.value_is)
-    (start-state s is_board (subst (λ p. configurations p ≤ MAX_CONFIGURATIONS) (sym same) few)
-    (some-configurations s.board is_board) opened)
+opened-state s n same board few opened =
+    start-state s (subst (λ (m : Numbered). IsBoard m.board) (sym same) board) (subst (λ (m : Numbered). (graph_of m).configurations ≤ MAX_CONFIGURATIONS) (sym same) few) opened
+
+equipped : (n : Numbered) (board answered : PlainBoard) (weights : List ℕ) (count : ℕ) (zeros : List ℕ) (space : PlainBoard) → n.board ≡ board → space ≡ board → answered ≡ board
+    → AreNumberWeights n weights → count ≡ (graph_of n).configurations → zeros ≡ replicate count 0 → configurations space ≤ MAX_CONFIGURATIONS
+    → IsEquipped n space answered weights zeros
+equipped n board answered weights count zeros space own space_is answered_is weighed count_is zeros_are few = record {
+  same_space = space_is ∙ sym own;
+  same_answers = answered_is ∙ sym own;
+  weighed = weighed;
+  zeros_length = ap length zeros_are ∙ length-replicate count 0 ∙ count_is;
+  zeros_are = λ k low. ap (λ (l : List ℕ). slice_index l k) zeros_are ∙ get_or-replicate count k 0 0 (let long = ap length zeros_are ∙ length-replicate count 0 in omega arith);
+  few = subst (λ (b : PlainBoard). configurations b ≤ MAX_CONFIGURATIONS) (space_is ∙ sym own) few;
+}
 
 pub begin_next_value-requires : goal.begin_next_value-requires
 begin_next_value-requires g c =
     let e = c.in_ok-stage.ensures in
-    let some = some-configurations c.args.space c.configurations.ensures.is_board in
-    let size = ap configurations (e.board ∙ sym c.requires) in
-    omega (arith, some, size, e.opened.value_is)
-
-pub push_reserved-requires : goal.push_reserved-requires
-push_reserved-requires g c =
-    let some = some-configurations c.args.space c.configurations.ensures.is_board in
-    let w = c.in_ok-sizes.ensures in
-    let none = ap length w.items in
-    omega (arith, some, none, w.capacity, c.configurations.ensures.value)
+    let s : PlainStage = c.in_ok-stage.stage in
+    let some = some-configurations s.game (subst (λ (m : Numbered). IsBoard m.board) (sym e.game) e.board) in
+    omega (arith, some, e.opened.value_is)
 
 pub invariant_of-result : goal.invariant_of-result
 invariant_of-result g c =
-    let s : PlainStage = c.in_ok-stage.stage in
     let e = c.in_ok-stage.ensures in
-    let w = c.in_ok-sizes.ensures in
-    let size = ap configurations (e.board ∙ sym c.requires) in
-    let next = first-round s e.opened.value_is in
     rw c.begin_next_value.ensures (
-      opened-state s c.args.space (e.board ∙ sym c.requires) c.configurations.ensures.is_board c.configurations.ensures.few e.opened,
-      subst (λ n. AreSizes (at_next_value s) n (vec_capacity c.push_reserved.new.self) c.push_reserved.new.self.items)
-          next
-          (sizes-start s (vec_capacity c.push_reserved.new.self) c.filed.result c.push_reserved.new.self.items (c.push_reserved.ensures.items ∙ ap (λ (l : List ℕ). l ++ c.filed.result ∷ []) w.items) e.opened.value_is c.filed.ensures (omega (arith, size, w.capacity, c.push_reserved.ensures.capacity, c.configurations.ensures.value))),
+      opened-state c.in_ok-stage.stage c.in_ok-graph.graph e.game e.board e.few e.opened,
+      subst (λ (n : Numbered). IsEquipped n c.args.space c.in_ok-answers.answers c.in_ok-weights.weights.items c.in_ok-sizes.sizes.items) (sym e.game)
+          (equipped c.in_ok-graph.graph c.args.board.now _ _ _ c.in_ok-sizes.sizes.items c.args.space (ap (λ (n : Numbered). n.board) c.in_ok-graph.ensures) c.requires
+          c.in_ok-answers.ensures c.in_ok-weights.ensures c.configurations-2.ensures.value (c.in_ok-sizes.ensures.items_if_clones_equal (λ y e. e)) c.configurations.ensures.few),
     )
 
 pub returns-clause-kept : goal.returns-clause-kept
 returns-clause-kept g c =
-    let s : PlainStage = c.in_ok-stage.stage in
     let e = c.in_ok-stage.ensures in
-    rw c.begin_next_value.ensures (solving_of (at_next_value s) _ false
-    (opened-state s c.args.space
-    (e.board ∙ sym c.requires) c.configurations.ensures.is_board c.configurations.ensures.few e.opened))
+    rw c.begin_next_value.ensures (solving_of (at_next_value c.in_ok-stage.stage) _ false (opened-state c.in_ok-stage.stage c.in_ok-graph.graph e.game e.board e.few e.opened))

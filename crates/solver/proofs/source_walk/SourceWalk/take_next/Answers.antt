@@ -1,20 +1,12 @@
-use Rattle.std.proofs.Common.{◌<◌, ◌∙◌, arith}
-use Rattle.solver.proofs.OpenMembers.{walk-skip, walk-take}
+use Rattle.std.proofs.Common.{arith}
 use Rattle.solver.proofs.source_walk.SourceWalk.take_next.Goals as goal
 
-pub returns-then-self-rank : goal.returns-then-self-rank
-returns-then-self-rank c =
-    let s = c.loop-place.self-inside in
-    c.loop-place.invariant.left ∙ walk-take s.values.now s.members.first s.members.step c.loop-place.place s.places c.rank-rank.result
-    (omega (arith, c.loop-place-test.true, c.loop-place.invariant.end)) c.rank-rank.ensures c.if-self-rank.true
+pub bounds-self-inside-member : goal.bounds-self-inside-member
+bounds-self-inside-member c =
+    c.loop-index.invariant.have.each c.loop-index.index (omega (arith, c.loop-index-test.true, c.loop-index.invariant.end))
 
-pub loop-place-preserved : goal.loop-place-preserved
-loop-place-preserved c =
-    let s = c.loop-place.self-inside in
-    let m = c.loop-place.invariant.members in
-    let low : c.loop-place.place < s.places = omega (arith, c.loop-place-test.true, c.loop-place.invariant.end) in
-    record {
-      end = c.loop-place.invariant.end;
-      left = c.loop-place.invariant.left ∙ walk-skip s.values.now s.members.first s.members.step c.loop-place.place s.places c.rank-rank.result low c.rank-rank.ensures c.if-self-rank.false;
-      members = record { place_in = omega arith; few = m.few; each = m.each };
-    }
+pub invariant_of-self : goal.invariant_of-self
+invariant_of-self c = c.loop-index.invariant.have
+
+pub invariant_of-self-2 : goal.invariant_of-self-2
+invariant_of-self-2 c = c.loop-index.invariant.have

@@ -1,10 +1,10 @@
-use Rattle.std.proofs.Common.{◌≡◌, ◌-◌}
-use Rattle.solver.specs.Inside.SourceWalk.{open_from, HasMembers}
+use Rattle.std.proofs.Common.{◌≡◌, length, drop}
+use Rattle.solver.specs.Inside.SourceWalk.{open_among, HaveWords}
 use Rattle.solver.proofs.source_walk.SourceWalk.take_next.Given as goal
 
-abbrev pub invariant-loop-place : goal.invariant-loop-place
-invariant-loop-place l = record {
-  end : l.place-end ≡ l.self-inside.places;
-  left : l.fn.self ≡ open_from l.self-inside.values.now l.self-inside.members.first l.self-inside.members.step l.place (l.self-inside.places - l.place);
-  members : HasMembers l.self-inside.values.now l.self-inside.members.first l.self-inside.members.step l.place l.self-inside.places;
+abbrev pub invariant-loop-index : goal.invariant-loop-index
+invariant-loop-index l = record {
+  end : l.index-end ≡ length l.self-inside.members.now;
+  left : l.fn.self ≡ open_among l.self-inside.words.now (drop l.index l.self-inside.members.now);
+  have : HaveWords l.self-inside.words.now l.self-inside.members.now;
 }

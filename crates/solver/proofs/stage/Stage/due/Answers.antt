@@ -2,9 +2,8 @@ use Rattle.std.proofs.Common.{◌≡◌, ◌-◌, ◌<◌, ◌∙◌, ◌++◌, 
 use Rattle.std.specs.List.{filter}
 use Rattle.std.proofs.lemmas.Result.{IfOk-weaker}
 use Rattle.index_lists.specs.Lists.{times}
-use Rattle.positions.specs.Ranks.{configurations}
-use Rattle.solver.specs.Inside.Arena.{is_dominated}
-use Rattle.solver.specs.Inside.BoardArena.{arena_of}
+use Rattle.graphs.specs.Graph.{is_struck}
+use Rattle.graphs.specs.Numbered.{graph_of}
 use Rattle.solver.specs.Inside.Stage.{PlainStage, filed_at}
 use Rattle.solver.proofs.FiledRanks.{filed-shown}
 use Rattle.solver.proofs.stage.Stage.due.Given
@@ -21,18 +20,18 @@ copied : (g : Given.Over) (c : After-deref g) → c.deref.result.now ≡ (g.S.Li
 copied g c = c.deref.ensures.value ∙ c.append_list.ensures.appended
     ∙ ap (λ (xs : List ℕ). xs ++ (g.S.ListStore.state c.self.inside.buckets).list (c.self.inside.value - 1)) c.in_ok-filed.ensures.items
 
-pub with_dominator-requires : goal.with_dominator-requires
-with_dominator-requires g c = λ rank some.
-    let stored = c.self.invariant.3 in
+pub answers_among-requires : goal.answers_among-requires
+answers_among-requires g c = λ rank some.
+    let stored = c.self.invariant.2 in
     let low = stored.are_lists.below (c.self.inside.value - 1) rank
-    (subst (λ (xs : List ℕ). 0 < times rank xs) (copied g (goal.at.with_dominator-requires g c).After-deref) some) in
-    let size = ap (λ (v : PlainStage). configurations v.board) c.self.view_is in
+    (subst (λ (xs : List ℕ). 0 < times rank xs) (copied g (goal.at.answers_among-requires g c).After-deref) some) in
+    let size = ap (λ (v : PlainStage). (graph_of v.game).configurations) c.self.view_is in
     omega (arith, low, stored.nodes_is, size)
 
 pub returns : goal.returns
 returns g c =
-    let test = is_dominated (arena_of c.args.self.now.board) in
-    let shown = filed-shown _ _ _ _ _ _ _ c.self.view_is c.self.invariant.3.are_lists (c.self.inside.value - 1) in
+    let test = is_struck (graph_of c.args.self.now.game) in
+    let shown = filed-shown _ _ _ _ _ _ _ c.self.view_is c.self.invariant.2.are_lists (c.self.inside.value - 1) in
     let bucket : c.deref.result.now ≡ filed_at c.args.self.now (c.args.self.now.value - 1) =
     copied g (goal.at.returns g c).After-deref ∙ sym shown ∙ ap (λ (v : PlainStage). filed_at c.args.self.now (v.value - 1)) c.self.view_is in
-    IfOk-weaker c.with_dominator.result _ _ (λ found is. is ∙ ap (filter test) bucket) c.with_dominator.ensures
+    IfOk-weaker c.answers_among.result _ _ (λ found is. is ∙ ap (filter test) bucket) c.answers_among.ensures

@@ -1,5 +1,5 @@
 use Rattle.std.proofs.Common.{ℕ, sym, ap, ◌∙◌, subst, arith, List, [], ◌∷◌, ◌++◌, take, get_or}
-use Rattle.positions.specs.Ranks.{configurations}
+use Rattle.graphs.specs.Numbered.{Numbered, graph_of}
 use Rattle.solver.specs.Inside.Stage.{FilesAll}
 use Rattle.solver.proofs.StruckTables.{same-open}
 use Rattle.solver.proofs.FiledRounds.{files-more, is-next}
@@ -8,7 +8,7 @@ use Rattle.solver.proofs.stage.Stage.file_all.Goals as goal
 pub file-requires-clause-rank_in : goal.file-requires-clause-rank_in
 file-requires-clause-rank_in g c =
     let next = is-next c.args.ranks.now c.loop-rank.rank-index c.loop-rank-test.true c.requires.once in
-    let same = ap configurations c.loop-rank.invariant.kept.board_is in
+    let same = ap (λ (n : Numbered). (graph_of n).configurations) c.loop-rank.invariant.kept.game_is in
     let low = (c.requires.open (get_or c.args.ranks.now c.loop-rank.rank-index 0) next.there).0 in
     omega arith
 

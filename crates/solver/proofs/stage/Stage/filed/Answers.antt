@@ -4,10 +4,10 @@ use Rattle.solver.proofs.FiledRanks.{filed-shown}
 use Rattle.solver.proofs.stage.Stage.filed.Goals as goal
 
 pub len-requires : goal.len-requires
-len-requires g c = omega (arith, c.self.invariant.0.low, c.self.invariant.3.lists_is)
+len-requires g c = omega (arith, c.self.invariant.0.low, c.self.invariant.2.lists_is)
 
 pub returns : goal.returns
 returns g c =
     rw (← ap (λ (v : PlainStage). v.value) c.self.view_is)
     (c.len.ensures.len
-    ∙ sym (ap length (filed-shown _ _ _ _ _ _ _ c.self.view_is c.self.invariant.3.are_lists c.self.inside.value)))
+    ∙ sym (ap length (filed-shown _ _ _ _ _ _ _ c.self.view_is c.self.invariant.2.are_lists c.self.inside.value)))

@@ -1,7 +1,6 @@
-use Rattle.std.proofs.Common.{◌≡◌, ◌-◌, List, ℕ, ap, ◌∙◌, subst, arith}
-use Rattle.board_text.specs.PlainBoard.{places}
-use Rattle.solver.specs.Inside.BoardArena.{arena_of}
-use Rattle.solver.specs.Inside.SourceWalk.{open_from}
+use Rattle.std.proofs.Common.{◌≡◌, List, ℕ, ap, ◌∙◌, subst}
+use Rattle.graphs.specs.Numbered.{graph_of}
+use Rattle.solver.specs.Inside.SourceWalk.{open_among}
 use Rattle.solver.specs.Inside.Stage.{PlainStage}
 use Rattle.solver.specs.Inside.Tables.{open_members}
 use Rattle.solver.proofs.OpenMembers.{walk-all}
@@ -10,8 +9,6 @@ use Rattle.solver.proofs.stage.Stage.sources.Goals as goal
 pub returns : goal.returns
 returns g c =
     let s = c.self.inside in
-    let m = c.members.result in
-    let all : c.places.result - 0 ≡ places s.space = omega (arith, c.places.ensures.value) in
-    subst (λ (v : PlainStage). open_from c.deref.result.now m.first m.step 0 (c.places.result - 0) ≡ open_members (arena_of v.board) v.values c.args.gap) c.self.view_is
-    (ap (λ (xs : List ℕ). open_from xs m.first m.step 0 (c.places.result - 0)) c.deref.ensures.value ∙ ap (open_from s.values.items m.first m.step 0) all
-    ∙ walk-all s.space s.values.items c.args.gap m.first m.step c.members.ensures.ranks 0 (places s.space) (omega arith))
+    subst (λ (v : PlainStage). open_among c.deref.result.now c.members.result.now ≡ open_members (graph_of v.game) v.values c.args.gap) c.self.view_is
+    (ap (λ (xs : List ℕ). open_among xs c.members.result.now) c.deref.ensures.value
+    ∙ walk-all (graph_of s.graph) s.values.items c.members.result.now c.args.gap c.members.ensures.size c.members.ensures.each)

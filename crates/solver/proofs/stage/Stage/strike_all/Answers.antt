@@ -1,9 +1,8 @@
 use Rattle.std.proofs.Common.{◌<◌, ◌-◌, ℕ, sym, subst}
 use Rattle.std.specs.List.{filter}
 use Rattle.index_lists.specs.Lists.{times}
-use Rattle.positions.specs.Ranks.{configurations}
-use Rattle.solver.specs.Inside.Arena.{is_dominated}
-use Rattle.solver.specs.Inside.BoardArena.{arena_of}
+use Rattle.graphs.specs.Numbered.{graph_of}
+use Rattle.graphs.specs.Graph.{is_struck}
 use Rattle.solver.specs.Inside.Stage.{PlainStage, due_strikes, IsKept, IsStriking}
 use Rattle.solver.proofs.StageStrikes.{striking-taken, kept-taken}
 use Rattle.solver.proofs.stage.Stage.strike_all.Goals as goal
@@ -11,13 +10,13 @@ use Rattle.solver.proofs.stage.Stage.strike_all.Goals as goal
 pub strike_taken-requires-clause-ranks : goal.strike_taken-requires-clause-ranks
 strike_taken-requires-clause-ranks g c =
     let s : PlainStage = c.args.self.now in
-    subst (λ (v : PlainStage). (rank : ℕ) → 0 < times rank v.strikes → rank < configurations v.board) (sym c.take_bucket.ensures)
+    subst (λ (v : PlainStage). (rank : ℕ) → 0 < times rank v.strikes → rank < (graph_of v.game).configurations) (sym c.take_bucket.ensures)
     (c.requires.striking.stage.filed_are.below (s.value - 1))
 
 pub strike_taken-requires-clause-striking : goal.strike_taken-requires-clause-striking
 strike_taken-requires-clause-striking g c =
     let s : PlainStage = c.args.self.now in
-    subst (λ (v : PlainStage). IsStriking v (filter (is_dominated (arena_of v.board)) v.strikes)) (sym c.take_bucket.ensures)
+    subst (λ (v : PlainStage). IsStriking v (filter (is_struck (graph_of v.game)) v.strikes)) (sym c.take_bucket.ensures)
     (striking-taken s (due_strikes s) c.requires.striking)
 
 pub returns-clause-kept : goal.returns-clause-kept

@@ -1,19 +1,17 @@
-use Rattle.std.proofs.Common.{◌≡◌, ◌<◌, ◌∙◌, ℕ, Bool, true, false, List, ◌∷◌, cond, drop, length, suc, sym, ap, subst, arith, slice_index, get_or, add-one}
+use Rattle.std.proofs.Common.{◌≡◌, ◌<◌, ◌≤◌, ◌∙◌, ℕ, Bool, true, false, List, ◌∷◌, cond, drop, length, suc, sym, ap, subst, arith, slice_index, add-one}
 use Rattle.std.specs.List.{filter}
 use Rattle.std.proofs.Math.Seq.{drop-cons}
+use Rattle.std.proofs.lemmas.Bool.{le-ltb}
 use Rattle.std.proofs.lemmas.List.{get_or_read}
 use Rattle.index_lists.specs.Lists.{times}
-use Rattle.positions.specs.Ranks.{configurations}
-use Rattle.solver.specs.Inside.Arena.{is_dominated}
-use Rattle.solver.specs.Inside.BoardArena.{arena_of}
+use Rattle.graphs.specs.Numbered.{Numbered, graph_of}
+use Rattle.graphs.specs.Graph.{is_struck}
 use Rattle.solver.specs.Inside.Stage.{PlainStage, IsStriking}
-use Rattle.solver.proofs.DominatedRanks.{read-dominated, read-alone}
+use Rattle.solver.proofs.StruckRanks.{struck-is, in_list}
 use Rattle.solver.proofs.StageStrikes.{kept-on}
-use Rattle.solver.proofs.FirstLists.{in_list}
-use Rattle.solver.specs.declared.stage.TheConstants.{NO_PEBBLE}
 use Rattle.solver.proofs.stage.Stage.strike_taken.Given
 use Rattle.solver.proofs.stage.Stage.strike_taken.Goals as goal
-use Rattle.solver.proofs.stage.Stage.strike_taken.Goals.{then-index, else-index, After-index-rank}
+use Rattle.solver.proofs.stage.Stage.strike_taken.Goals.{in-Some, in_default, After-index-rank}
 
 -- a list from a place on is the element there and the rest
 from-index : (xs now : List ℕ) (place rank : ℕ) → now ≡ xs → place < length xs → rank ≡ slice_index now place → drop place xs ≡ rank ∷ drop (suc place) xs
@@ -33,6 +31,9 @@ module _ (g : Given.Over) (c : After-index-rank g) where
   abbrev rank : ℕ
   rank = c.index-rank.result.now
 
+  abbrev test : ℕ → Bool
+  test = is_struck (graph_of s.game)
+
   now : c.self-in-loop-index.inside.strikes.items ≡ s.strikes
   now = ap (λ (v : PlainStage). v.strikes) c.self-in-loop-index.view_is ∙ c.loop-index.invariant.strikes
 
@@ -47,60 +48,62 @@ module _ (g : Given.Over) (c : After-index-rank g) where
   front : drop c.loop-index.index s.strikes ≡ rank ∷ drop (suc c.loop-index.index) s.strikes
   front = from-index s.strikes _ c.loop-index.index rank now inside read
 
-  low : rank < configurations s.board
+  low : rank < (graph_of s.game).configurations
   low = c.requires.ranks rank (subst (λ n. 0 < times n s.strikes) (sym (read ∙ ap (λ (ys : List ℕ). slice_index ys c.loop-index.index) now))
       (in_list s.strikes c.loop-index.index 0 inside))
 
-  board : c.self-in-loop-index.inside.space ≡ s.board
-  board = ap (λ (v : PlainStage). v.board) c.self-in-loop-index.view_is ∙ c.loop-index.invariant.kept.board_is
+  tables : c.self-in-loop-index.inside.graph ≡ s.game
+  tables = ap (λ (v : PlainStage). v.game) c.self-in-loop-index.view_is ∙ c.loop-index.invariant.kept.game_is
 
-  byte-in : rank < length c.self-in-loop-index.inside.dominators.items
-  byte-in = let size = ap configurations board in let i = low in omega (arith, i, size, c.self-in-loop-index.invariant.2.dominators_length)
+  passes : test rank ≡ true → filter test (drop c.loop-index.index s.strikes) ≡ rank ∷ filter test (drop (suc c.loop-index.index) s.strikes)
+  passes holds = front-passes test _ _ rank front holds
 
-  module _ (byte : ℕ) (is : byte ≡ get_or c.self-in-loop-index.inside.dominators.items rank byte) where
-    byte-is : byte ≡ slice_index c.self-in-loop-index.inside.dominators.items rank
-    byte-is = get_or_read c.self-in-loop-index.inside.dominators.items rank byte byte-in is 0
+  fails : test rank ≡ false → filter test (drop c.loop-index.index s.strikes) ≡ filter test (drop (suc c.loop-index.index) s.strikes)
+  fails none = front-fails test _ _ rank front none
 
-    passes : (byte ≡ NO_PEBBLE → ⊥) → filter (is_dominated (arena_of s.board)) (drop c.loop-index.index s.strikes)
-        ≡ rank ∷ filter (is_dominated (arena_of s.board)) (drop (suc c.loop-index.index) s.strikes)
-    passes some = front-passes (is_dominated (arena_of s.board)) _ _ rank front
-        (read-dominated _ s.board _ rank byte c.self-in-loop-index.invariant.2 board low byte-is some)
+  -- the table read says whether the configuration is an answer
+  module _ (t : Numbered) (same : t ≡ s.game) where
+    holds : (gap : ℕ) → gap ≡ (graph_of t).struck rank → gap < (graph_of t).gaps → test rank ≡ true
+    holds gap is in_gaps = subst (λ (u : Numbered). is_struck (graph_of u) rank ≡ true) same (struck-is (graph_of t) rank (omega arith))
 
-    fails : byte ≡ NO_PEBBLE → filter (is_dominated (arena_of s.board)) (drop c.loop-index.index s.strikes)
-        ≡ filter (is_dominated (arena_of s.board)) (drop (suc c.loop-index.index) s.strikes)
-    fails none = front-fails (is_dominated (arena_of s.board)) _ _ rank front
-        (read-alone _ s.board _ rank byte c.self-in-loop-index.invariant.2 board low byte-is none)
+    nothing : (graph_of t).gaps ≤ (graph_of t).struck rank → test rank ≡ false
+    nothing high = subst (λ (u : Numbered). is_struck (graph_of u) rank ≡ false) same (le-ltb ((graph_of t).struck rank) (graph_of t).gaps high)
 
-pub index-requires : goal.index-requires
-index-requires g c =
-    let b = (goal.at.index-requires g c).After-index-rank in
-    let i = byte-in g b in
-    omega (arith, i, c.self-in-loop-index.inside.dominators.ok.0)
+pub struck-requires : goal.struck-requires
+struck-requires g c =
+    let b = (goal.at.struck-requires g c).After-index-rank in
+    let i = low g b in
+    let size = ap (λ (t : Numbered). (graph_of t).configurations) (tables g b) in
+    omega (arith, i, size)
 
-pub strike-requires : goal.strike-requires
-strike-requires g c =
-    let b = (goal.at.strike-requires g c).After-index-rank in (
-      filter (is_dominated (arena_of c.args.self.now.board)) (drop (suc c.loop-index.index) c.args.self.now.strikes),
-      subst (IsStriking c.loop-index.self) (passes g b c.index.result.now c.index.ensures c.if-index.true) c.loop-index.invariant.striking,
+pub strike-requires-clause-striking : goal.strike-requires-clause-striking
+strike-requires-clause-striking g c =
+    let b = (goal.at.strike-requires-clause-striking g c).After-index-rank in (
+      filter (test g b) (drop (suc c.loop-index.index) c.args.self.now.strikes),
+      subst (IsStriking c.loop-index.self) (passes g b (holds g b _ (tables g b) c.in-Some.gap c.in-Some.ensures.0 c.in-Some.ensures.1)) c.loop-index.invariant.striking,
     )
+
+pub strike-requires-clause-gap : goal.strike-requires-clause-gap
+strike-requires-clause-gap g c =
+    c.in-Some.ensures.0 ∙ ap (λ (v : PlainStage). (graph_of v.game).struck c.index-rank.result.now) c.self-in-loop-index.view_is
 
 pub loop-index-preserved : goal.loop-index-preserved
 loop-index-preserved g c =
     let b = (goal.at.loop-index-preserved g c).After-index-rank in
     let s : PlainStage = c.args.self.now in
-    let test : ℕ → Bool = is_dominated (arena_of s.board) in
+    let test : ℕ → Bool = test g b in
     let rest : List ℕ = filter test (drop (suc c.loop-index.index) s.strikes) in
-    elim c.if-index.branch [
-      | then-index w ↦ rw w.self-is (record {
+    elim c.match-struck.branch [
+      | in-Some w ↦ rw w.self-is (record {
         striking = subst (λ n. IsStriking w.strike.new.self (filter test (drop n s.strikes))) (sym (add-one c.loop-index.index))
             (w.strike.ensures.struck rest
-            (subst (IsStriking c.loop-index.self) (passes g b c.index.result.now c.index.ensures w.if-index.true) c.loop-index.invariant.striking));
+            (subst (IsStriking c.loop-index.self) (passes g b (holds g b _ (tables g b) w.in-Some.gap w.in-Some.ensures.0 w.in-Some.ensures.1)) c.loop-index.invariant.striking));
         kept = kept-on s c.loop-index.self w.strike.new.self c.loop-index.invariant.kept w.strike.ensures.kept;
         strikes = w.strike.ensures.strikes ∙ c.loop-index.invariant.strikes;
       })
-      | else-index w ↦ rw w.self-is (record {
+      | in_default w ↦ rw w.self-is (record {
         striking = subst (λ n. IsStriking c.loop-index.self (filter test (drop n s.strikes))) (sym (add-one c.loop-index.index))
-            (subst (IsStriking c.loop-index.self) (fails g b c.index.result.now c.index.ensures w.if-index.false) c.loop-index.invariant.striking);
+            (subst (IsStriking c.loop-index.self) (fails g b (nothing g b _ (tables g b) w.in_default.ensures)) c.loop-index.invariant.striking);
         kept = c.loop-index.invariant.kept;
         strikes = c.loop-index.invariant.strikes;
       })

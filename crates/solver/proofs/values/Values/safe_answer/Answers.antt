@@ -1,92 +1,81 @@
-use Rattle.std.proofs.Common.{◌≡◌, ◌<◌, ◌∙◌, inl, inr, sym, ap, subst, slice_index, arith}
+use Rattle.std.proofs.Common.{◌≡◌, ◌<◌, ◌≤◌, ◌↔◌, ℕ, true, sym, ◌∙◌, subst, inl, inr, arith}
 use Rattle.std.proofs.lemmas.Bool.{cases_lt}
-use Rattle.std.proofs.lemmas.List.{get_or_read}
-use Rattle.board_text.specs.PlainBoard.{PlainBoard}
+use Rattle.board_text.specs.Domination.{has_bit}
+use Rattle.board_text.specs.PlainBoard.{PlainBoard, places}
+use Rattle.board_text.specs.declared.board.TheConstants.{MAX_LABELS}
 use Rattle.board_text.proofs.Cited.{label_is_place}
-use Rattle.positions.specs.Ranks.{configurations}
-use Rattle.positions.specs.Gaps.{gaps}
-use Rattle.solver.specs.Solving.{AnswerForever}
-use Rattle.solver.specs.Inside.BoardArena.{arena_of}
-use Rattle.solver.specs.declared.word.TheConstants.{OPEN}
-use Rattle.solver.proofs.LastingRanks.{same_is, differ_is, true_not_false}
-use Rattle.solver.proofs.SafeAnswers.{safe-here, safe-dominator, safe-open}
+use Rattle.positions.specs.declared.value.Value.TheVariants.{Forever}
+use Rattle.positions.specs.Gaps.{gaps, member_of, IsAnswer}
+use Rattle.positions.specs.Tuples.{tuple_of}
+use Rattle.positions.specs.Value.{HasValue}
+use Rattle.graphs.proofs.Cited.{true_not_false}
+use Rattle.solver.specs.SafeAnswers.{PlainResults, IsSafeAnswer}
 use Rattle.solver.proofs.values.Values.safe_answer.Goals as goal
-use Rattle.solver.proofs.values.Values.safe_answer.Goals.{After-rank-rank, else-index-pebble-via-then-index-pebble+else-index, else-index-pebble-via-else-index-pebble}
+use Rattle.solver.proofs.values.Values.safe_answer.Goals.{After-labels-label-end}
+use Rattle.solver.proofs.values.Values.safe_answer.Goals.{else-contains-via-then-contains+else-lasts_forever, else-contains-via-else-contains}
 
-pub rank-rank-requires : goal.rank-rank-requires
-rank-rank-requires c =
-    let low = label_is_place c.self.inside.space c.loop-label.label (omega (arith, c.loop-label-test.true, c.labels-label-end.ensures.value)) in
-    omega (arith, c.members-members.ensures.below c.loop-label.label low, c.members-members.ensures.few)
-
--- the label is one of the board, and the rank is that of its member
-module _ (c : After-rank-rank) where
+module _ (c : After-labels-label-end) where
   abbrev b : PlainBoard
-  b = c.self.inside.space
+  b = c.args.self.now
 
-  in_gaps : c.args.gap < gaps b
-  in_gaps = rw (← c.self.view_is) at c.requires
+  space-is : c.self.inside.space ≡ b
+  space-is = c.self.invariant.same_space ∙ c.self.view_is
 
-  is_label : c.loop-label.label < b.labels
-  is_label = omega (arith, c.loop-label-test.true, c.labels-label-end.ensures.value)
+  few-labels : b.labels ≤ MAX_LABELS
+  few-labels = subst (λ (x : PlainBoard). x.labels ≤ MAX_LABELS) space-is c.labels-label-end.ensures.is_board.labels.1
 
-  rank_is : c.rank-rank.result ≡ (arena_of b).member c.args.gap c.loop-label.label
-  rank_is = c.rank-rank.ensures ∙ c.members-members.ensures.ranks c.loop-label.label (label_is_place b c.loop-label.label is_label)
+  end-is : c.labels-label-end.result ≡ b.labels
+  end-is = subst (λ (x : PlainBoard). c.labels-label-end.result ≡ x.labels) space-is c.labels-label-end.ensures.value
 
-  inside : c.rank-rank.result < configurations b
-  inside = let below = c.members-members.ensures.below c.loop-label.label (label_is_place b c.loop-label.label is_label) in
-      omega (arith, below, c.rank-rank.ensures)
+  -- the answers that were read are those of the gap
+  answers-are : (label : ℕ) → label < MAX_LABELS → (has_bit c.answers-answers.result label ≡ true) ↔ IsAnswer b c.args.gap label
+  answers-are =
+      subst (λ (x : PlainBoard). (gap : ℕ) → gap < gaps x → tuple_of x gap ≡ c.gap_tuple.result
+      → (label : ℕ) → label < MAX_LABELS → (has_bit c.answers-answers.result label ≡ true) ↔ IsAnswer x gap label)
+      (c.self.invariant.same_answers ∙ c.self.view_is) c.answers-answers.ensures c.args.gap c.requires
+      (sym (subst (λ (x : PlainBoard). c.gap_tuple.result ≡ tuple_of x c.args.gap) space-is c.gap_tuple.ensures.tuple))
 
-pub index-requires : goal.index-requires
-index-requires c =
-    let low = inside (goal.at.index-requires c).After-rank-rank in
-    omega (arith, low, c.self.invariant.dominated.dominators_length)
+pub lasts_forever-requires : goal.lasts_forever-requires
+lasts_forever-requires c =
+    let at = (goal.at.lasts_forever-requires c).After-labels-label-end in
+    let place = label_is_place (b at) c.loop-label.label (omega (arith, end-is at, c.loop-label-test.true)) in
+    subst (λ (v : PlainResults). c.loop-label.label < places v.board) (sym c.results-results.ensures.results) place
 
-pub index-requires-then-index-pebble : goal.index-requires-then-index-pebble
-index-requires-then-index-pebble c =
-    let low = inside (goal.at.index-requires-then-index-pebble c).After-rank-rank in
-    omega (arith, low, c.self.invariant.valued.values_length)
-
-pub returns-then-index : goal.returns-then-index
-returns-then-index c =
-    let s = c.self.inside in
-    let at = (goal.at.returns-then-index c).After-rank-rank in
-    let low = inside at in
-    let byte = get_or_read s.dominators.items c.rank-rank.result c.index.result.now (omega (arith, low, c.self.invariant.dominated.dominators_length)) c.index.ensures 0 in
-    let word = get_or_read s.values.items c.rank-rank.result c.index-then-index-pebble.result.now (omega (arith, low, c.self.invariant.valued.values_length)) c.index-then-index-pebble.ensures 0 in (
-      subst (λ (p : PlainBoard). AnswerForever p c.args.gap c.loop-label.label) c.self.view_is
-          (safe-here s.space c.labels-label-end.ensures.is_board s.values.items s.dominators.items c.self.invariant.valued c.self.invariant.dominated
-          c.args.gap c.loop-label.label c.rank-rank.result (in_gaps at) (is_label at) (rank_is at) (sym byte ∙ c.if-index-pebble.true ∙ c.gap_pebble-pebble.ensures.pebble)
-          (same_is (slice_index s.values.items c.rank-rank.result) OPEN (sym word ∙ c.if-index.true))),
-      λ other is. elim (cases_lt other c.loop-label.label) [
-        | inl before ↦ absurd (c.loop-label.invariant other before is)
-        | inr behind ↦ behind
+pub returns-then-lasts_forever : goal.returns-then-lasts_forever
+returns-then-lasts_forever c =
+    let at = (goal.at.returns-then-lasts_forever c).After-labels-label-end in
+    let label : ℕ = c.loop-label.label in
+    let low : label < MAX_LABELS = omega (arith, few-labels at, end-is at, c.loop-label-test.true) in
+    let answer = (answers-are at label low).0 (sym c.contains.ensures ∙ c.if-contains.true) in
+    let lasts = subst (λ (v : PlainResults). HasValue v.board (member_of v.board v.gap label) Forever) c.results-results.ensures.results (c.lasts_forever.ensures.0 c.if-lasts_forever.true) in
+    (
+      (answer, lasts),
+      λ other safe. elim (cases_lt other label) [
+        | inl less ↦ absurd (c.loop-label.invariant other less safe)
+        | inr more ↦ more
       ],
     )
 
 pub loop-label-preserved : goal.loop-label-preserved
-loop-label-preserved c = λ other less is. elim (cases_lt other c.loop-label.label) [
-  | inl before ↦ c.loop-label.invariant other before is
-  | inr last ↦
-      let s = c.self.inside in
-      let at = (goal.at.loop-label-preserved c).After-rank-rank in
-      let low = inside at in
-      let here : other ≡ c.loop-label.label = omega arith in
-      let answer : AnswerForever s.space c.args.gap c.loop-label.label = subst (λ (p : PlainBoard). AnswerForever p c.args.gap c.loop-label.label) (sym c.self.view_is) (subst (AnswerForever c.args.self.now c.args.gap) here is) in
-      let byte = get_or_read s.dominators.items c.rank-rank.result c.index.result.now (omega (arith, low, c.self.invariant.dominated.dominators_length)) c.index.ensures 0 in
-      elim c.else-index-pebble.branch [
-        | else-index-pebble-via-then-index-pebble+else-index w ↦
-            let word = get_or_read s.values.items c.rank-rank.result w.index-then-index-pebble.result.now (omega (arith, low, c.self.invariant.valued.values_length)) w.index-then-index-pebble.ensures 0 in
-            let still = safe-open s.space c.labels-label-end.ensures.is_board s.values.items s.dominators.items c.self.invariant.valued c.self.invariant.dominated
-            c.args.gap c.loop-label.label c.rank-rank.result (in_gaps at) (is_label at) (rank_is at) answer in
-            true_not_false _ still (differ_is (slice_index s.values.items c.rank-rank.result) OPEN (λ e. w.if-index.false (word ∙ e)))
-        | else-index-pebble-via-else-index-pebble w ↦ w.if-index-pebble.false
-            (byte ∙ safe-dominator s.space c.labels-label-end.ensures.is_board s.values.items s.dominators.items c.self.invariant.valued c.self.invariant.dominated
-            c.args.gap c.loop-label.label c.rank-rank.result (in_gaps at) (is_label at) (rank_is at) answer ∙ sym c.gap_pebble-pebble.ensures.pebble)
-      ]
-]
+loop-label-preserved c = λ smaller less safe.
+    let at = (goal.at.loop-label-preserved c).After-labels-label-end in
+    let label : ℕ = c.loop-label.label in
+    let low : label < MAX_LABELS = omega (arith, few-labels at, end-is at, c.loop-label-test.true) in
+    elim (cases_lt smaller label) [
+      | inl before ↦ c.loop-label.invariant smaller before safe
+      | inr now ↦
+          let same : smaller ≡ label = omega arith in
+          let here : IsSafeAnswer (b at) c.args.gap label = subst (IsSafeAnswer (b at) c.args.gap) same safe in
+          elim c.else-contains.branch [
+            | else-contains-via-then-contains+else-lasts_forever w ↦
+                true_not_false _ (w.lasts_forever.ensures.1 (subst (λ (v : PlainResults). HasValue v.board (member_of v.board v.gap label) Forever) (sym c.results-results.ensures.results) here.1)) w.if-lasts_forever.false
+            | else-contains-via-else-contains w ↦
+                true_not_false _ (c.contains.ensures ∙ (answers-are at label low).1 here.0) w.if-contains.false
+          ]
+    ]
 
 pub returns : goal.returns
-returns c = λ other is.
-    let labels = ap (λ (p : PlainBoard). p.labels) c.self.view_is in
-    let low = is.0.is_label in
-    c.loop-label.invariant other (omega (arith, low, labels, c.loop-label-test.false, c.labels-label-end.ensures.value)) is
+returns c = λ other safe.
+    let at = (goal.at.returns c).After-labels-label-end in
+    let low : other < c.loop-label.label = (let label = safe.0.is_label in omega (arith, label, end-is at, c.loop-label-test.false)) in
+    c.loop-label.invariant other low safe

@@ -1,0 +1,213 @@
+//! The calls of classes, by classes that are written out on paper.
+//!
+//! A run of the tests may refuse one growth of memory, whichever. So a call that was refused one is
+//! made once more.
+
+ghost use Rattle.std.specs.Prelude.{◌≡◌, ◌-◌, ◌<◌, ◌≤◌, IfSome, length};
+ghost use Rattle.board_text.specs.PlainBoard.{places};
+ghost use Rattle.classes.specs.Lists.{AreClassLists};
+
+use crate::assertions::{assert_same, board_of};
+use crate::classes_of_boards::classes_of;
+use classes::{ClassPlaces, Classes};
+use fakes::boards::THREE_PEBBLES;
+use positions::Space;
+use std::alloc::Global;
+use std::process::Abort;
+
+/// The classes of three pebbles on three labels.
+const CLASSES: [[u16; 3]; 10] = [
+    [0, 0, 0],
+    [1, 0, 0],
+    [1, 1, 0],
+    [1, 1, 1],
+    [2, 0, 0],
+    [2, 1, 0],
+    [2, 1, 1],
+    [2, 2, 0],
+    [2, 2, 1],
+    [2, 2, 2],
+];
+
+/// The gaps, those of two pebbles.
+const GAPS: [[u16; 2]; 6] = [[0, 0], [1, 0], [1, 1], [2, 0], [2, 1], [2, 2]];
+
+/// The members of each gap with the places 0, 1 and 2.
+const MEMBERS: [[u32; 3]; 6] = [
+    [0, 1, 4],
+    [1, 2, 5],
+    [2, 3, 6],
+    [4, 5, 7],
+    [5, 6, 8],
+    [7, 8, 9],
+];
+
+/// The gaps at the places of each class.
+const GAPS_OF_CLASSES: [[u32; 3]; 10] = [
+    [0, 0, 0],
+    [0, 1, 1],
+    [1, 1, 2],
+    [2, 2, 2],
+    [0, 3, 3],
+    [1, 3, 4],
+    [2, 4, 4],
+    [3, 3, 5],
+    [4, 4, 5],
+    [5, 5, 5],
+];
+
+/// The classes of some pebbles, if the board has as many.
+fn lists_of(alloc: Global, classes: &Classes, pebbles: u8) -> Option<Vec<ClassPlaces>>
+    ensures lists { IfSome result
+        (λ lists. AreClassLists (places classes.now) pebbles lists.items) }
+    ensures few { IfSome result (λ _. pebbles ≤ classes.now.pebbles) }
+{
+    if pebbles > classes.pebbles() {
+        return None;
+    }
+    match classes.lists(alloc, pebbles) {
+        Ok(lists) => Some(lists),
+        Err(_) => classes.lists(alloc, pebbles).ok(),
+    }
+}
+
+/// The number of a listed class, and the gaps at its first three places.
+fn numbers_of(classes: &Classes, lists: &[ClassPlaces], class: usize) -> (u32, [u32; 3])
+    requires lists { AreClassLists (places classes.now) classes.now.pebbles lists.now }
+    requires class { class < length lists.now }
+{
+    let places = lists[class].as_slice();
+    let gaps = classes.gaps_of(places);
+    (classes.number(places), [gaps[0], gaps[1], gaps[2]])
+}
+
+/// The members of a listed gap with the places 0, 1 and 2, by a walk.
+fn walked(classes: &Classes, lists: &[ClassPlaces], gap: usize) -> [Option<u32>; 3]
+    requires lists { AreClassLists (places classes.now) (classes.now.pebbles - 1) lists.now }
+    requires gap { gap < length lists.now }
+{
+    let _ = classes.pebbles();
+    let mut walk = classes.members(lists[gap].as_slice());
+    [walk.take_next(), walk.take_next(), walk.take_next()]
+}
+
+/// The member of a listed gap with a place.
+fn member_of(classes: &Classes, lists: &[ClassPlaces], gap: usize, place: u16) -> u32
+    requires lists { AreClassLists (places classes.now) (classes.now.pebbles - 1) lists.now }
+    requires gap { gap < length lists.now }
+    requires place { place < places classes.now }
+{
+    let _ = classes.pebbles();
+    classes.member(lists[gap].as_slice(), place)
+}
+
+/// Asserts the number of each class, and its gaps.
+fn assert_classes(rt: &impl Abort, classes: &Classes, lists: &[ClassPlaces])
+    requires { AreClassLists (places classes.now) classes.now.pebbles lists.now }
+{
+    assert_same(rt, "classes", lists.len(), CLASSES.len());
+    for class in 0..lists.len() {
+        let (number, gaps) = numbers_of(classes, lists, class);
+        assert_same(rt, ("class", class), number as usize, class);
+        assert_same(
+            rt,
+            ("gaps of", class),
+            Some(&gaps),
+            GAPS_OF_CLASSES.get(class),
+        );
+        let places = CLASSES.get(class).map(|places| &places[..]);
+        assert_same(
+            rt,
+            ("places of", class),
+            Some(lists[class].as_slice()),
+            places,
+        );
+    }
+}
+
+/// Asserts the places of each gap, and its members.
+fn assert_gaps(rt: &impl Abort, classes: &Classes, lists: &[ClassPlaces])
+    requires { AreClassLists (places classes.now) (classes.now.pebbles - 1) lists.now }
+{
+    assert_same(rt, "gaps", lists.len(), GAPS.len());
+    for gap in 0..lists.len() {
+        let held = GAPS.get(gap).map(|places| &places[..]);
+        assert_same(rt, ("places of", gap), Some(lists[gap].as_slice()), held);
+        let wanted = MEMBERS.get(gap).copied().unwrap_or_default();
+        let found = walked(classes, lists, gap);
+        assert_same(
+            rt,
+            ("members of", gap),
+            found,
+            [Some(wanted[0]), Some(wanted[1]), Some(wanted[2])],
+        );
+        for place in 0..classes.places() {
+            let member = member_of(classes, lists, gap, place);
+            assert_same(rt, (gap, place), Some(&member), wanted.get(place as usize));
+        }
+    }
+}
+
+/// The numbers of classes of fewer pebbles on fewer places, if there are as many.
+fn ways_of(classes: &Classes, pebbles: u8, bound: u16) -> Option<u32> {
+    if pebbles <= classes.pebbles() && bound <= classes.places() {
+        Some(classes.ways(pebbles, bound))
+    } else {
+        None
+    }
+}
+
+/// The number of the class of a rank's configuration, if there is one.
+fn number_at(classes: &Classes, space: &Space, rank: u32) -> Option<u32>
+    requires { classes.now ≡ space.now }
+{
+    if rank < space.configurations() {
+        Some(classes.number_at(space, rank))
+    } else {
+        None
+    }
+}
+
+#[test]
+fn counts_of_classes(rt: HostRuntime) {
+    let board = board_of(&rt, rt.alloc(), THREE_PEBBLES);
+    let classes = classes_of(rt.alloc(), &board).expect(&rt, "classes");
+    assert_same(&rt, "pebbles", classes.pebbles(), 3);
+    assert_same(&rt, "places", classes.places(), 3);
+    assert_same(&rt, "classes", classes.count(), 10);
+    assert_same(&rt, "gaps", classes.gaps(), 6);
+    assert_same(&rt, "on two places", ways_of(&classes, 3, 2), Some(4));
+    // The configuration 0 2 1.
+    let number = number_at(&classes, &Space::new(&board), 7);
+    assert_same(&rt, "rank 7", number, Some(5));
+}
+
+#[test]
+fn numbers_of_classes(rt: HostRuntime) {
+    let board = board_of(&rt, rt.alloc(), THREE_PEBBLES);
+    let classes = classes_of(rt.alloc(), &board).expect(&rt, "classes");
+    let pebbles = classes.pebbles();
+    let lists = lists_of(rt.alloc(), &classes, pebbles).expect(&rt, "classes");
+    assert_classes(&rt, &classes, &lists);
+}
+
+#[test]
+fn members_of_gaps(rt: HostRuntime) {
+    let board = board_of(&rt, rt.alloc(), THREE_PEBBLES);
+    let classes = classes_of(rt.alloc(), &board).expect(&rt, "classes");
+    let others = classes.pebbles() - 1;
+    let lists = lists_of(rt.alloc(), &classes, others).expect(&rt, "gaps");
+    assert_gaps(&rt, &classes, &lists);
+}
+
+#[test]
+fn places_of_classes(rt: HostRuntime) {
+    let class = ClassPlaces::of(&[0, 2, 1]);
+    assert_same(&rt, "class", class.as_slice(), &[2, 1, 0][..]);
+    assert_same(&rt, "index of 1", class.index_of(1), 1);
+    let more = class.with_place(1);
+    assert_same(&rt, "with 1", more.as_slice(), &[2, 1, 1, 0][..]);
+    let most = more.with_greatest(2);
+    assert_same(&rt, "with 2", most.as_slice(), &[2, 2, 1, 1, 0][..]);
+    assert_same(&rt, "none", ClassPlaces::none().as_slice(), &[][..]);
+}

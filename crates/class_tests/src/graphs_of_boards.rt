@@ -1,0 +1,363 @@
+//! Graphs of small boards, by either numbering, beside what the definitions give on paper.
+//!
+//! A run of the tests may refuse one growth of memory, whichever. So a call that was refused one is
+//! made once more.
+
+ghost use Rattle.std.specs.Prelude.{◌≡◌, ◌≤◌, IfSome};
+ghost use Rattle.positions.specs.Ranks.{configurations};
+ghost use Rattle.graphs.specs.Numbered.{numbered};
+
+use crate::assertions::{assert_same, board_of};
+use board_text::Board;
+use fakes::boards::{CYCLE_WITHOUT_LABELS, THREE_CYCLE};
+use graphs::{Graph, Numbering};
+use positions::{MAX_CONFIGURATIONS, Space, is_small};
+use std::alloc::Global;
+use std::process::Abort;
+
+/// A board of two pebbles with its graph by a numbering.
+struct Worked {
+    text: &'static str,
+    numbering: Numbering,
+    /// The members of each gap, by place.
+    members: &'static [&'static [u32]],
+    /// The gap in which each configuration is an answer.
+    struck: &'static [Option<u32>],
+    /// The number of each rank's configuration, and the gaps of its pebbles.
+    ranks: &'static [(u32, u32, u32)],
+    weights: &'static [u32],
+}
+
+/// The three-cycle, in which 1 dominates 0, 2 dominates 1, and 0 dominates 2.
+const CYCLE_BY_RANKS: Worked = Worked {
+    text: THREE_CYCLE,
+    numbering: Numbering::Ordered,
+    // pebble 0 beside 0, 1, 2, then pebble 1
+    members: &[
+        &[0, 3, 6],
+        &[1, 4, 7],
+        &[2, 5, 8],
+        &[0, 1, 2],
+        &[3, 4, 5],
+        &[6, 7, 8],
+    ],
+    // 00, 01, 02, 10, 11, 12, 20, 21, 22
+    struck: &[
+        None,
+        Some(3),
+        Some(2),
+        Some(0),
+        None,
+        Some(4),
+        Some(5),
+        Some(1),
+        None,
+    ],
+    ranks: &[
+        (0, 0, 3),
+        (1, 1, 3),
+        (2, 2, 3),
+        (3, 0, 4),
+        (4, 1, 4),
+        (5, 2, 4),
+        (6, 0, 5),
+        (7, 1, 5),
+        (8, 2, 5),
+    ],
+    weights: &[1, 1, 1, 1, 1, 1, 1, 1, 1],
+};
+
+/// The same, of which 0 0, 1 0, 1 1, 2 0, 2 1, 2 2 are the classes.
+const CYCLE_BY_CLASSES: Worked = Worked {
+    text: THREE_CYCLE,
+    numbering: Numbering::Classes,
+    members: &[&[0, 1, 3], &[1, 2, 4], &[3, 4, 5]],
+    struck: &[None, Some(0), None, Some(2), Some(1), None],
+    ranks: &[
+        (0, 0, 0),
+        (1, 1, 0),
+        (3, 2, 0),
+        (1, 0, 1),
+        (2, 1, 1),
+        (4, 2, 1),
+        (3, 0, 2),
+        (4, 1, 2),
+        (5, 2, 2),
+    ],
+    weights: &[1, 2, 1, 2, 2, 1],
+};
+
+/// The three-cycle with pebbles that may hold no label, the place 3, which any label dominates.
+/// The classes are 0 0, 1 0, 1 1, 2 0, 2 1, 2 2, 3 0, 3 1, 3 2, 3 3.
+const BLANKS_BY_CLASSES: Worked = Worked {
+    text: CYCLE_WITHOUT_LABELS,
+    numbering: Numbering::Classes,
+    members: &[&[0, 1, 3, 6], &[1, 2, 4, 7], &[3, 4, 5, 8], &[6, 7, 8, 9]],
+    struck: &[
+        None,
+        Some(0),
+        None,
+        Some(2),
+        Some(1),
+        None,
+        Some(3),
+        Some(3),
+        Some(3),
+        None,
+    ],
+    ranks: &[
+        (0, 0, 0),
+        (1, 1, 0),
+        (3, 2, 0),
+        (6, 3, 0),
+        (1, 0, 1),
+        (2, 1, 1),
+        (4, 2, 1),
+        (7, 3, 1),
+        (3, 0, 2),
+        (4, 1, 2),
+        (5, 2, 2),
+        (8, 3, 2),
+        (6, 0, 3),
+        (7, 1, 3),
+        (8, 2, 3),
+        (9, 3, 3),
+    ],
+    weights: &[1, 2, 1, 2, 2, 1, 2, 2, 2, 1],
+};
+
+/// The same by ranks. Beside a pebble without a label each label of the other is an answer.
+const BLANKS_BY_RANKS: Worked = Worked {
+    text: CYCLE_WITHOUT_LABELS,
+    numbering: Numbering::Ordered,
+    members: &[
+        &[0, 4, 8, 12],
+        &[1, 5, 9, 13],
+        &[2, 6, 10, 14],
+        &[3, 7, 11, 15],
+        &[0, 1, 2, 3],
+        &[4, 5, 6, 7],
+        &[8, 9, 10, 11],
+        &[12, 13, 14, 15],
+    ],
+    struck: &[
+        None,
+        Some(4),
+        Some(2),
+        Some(3),
+        Some(0),
+        None,
+        Some(5),
+        Some(3),
+        Some(6),
+        Some(1),
+        None,
+        Some(3),
+        Some(7),
+        Some(7),
+        Some(7),
+        None,
+    ],
+    ranks: &[
+        (0, 0, 4),
+        (1, 1, 4),
+        (2, 2, 4),
+        (3, 3, 4),
+        (4, 0, 5),
+        (5, 1, 5),
+        (6, 2, 5),
+        (7, 3, 5),
+        (8, 0, 6),
+        (9, 1, 6),
+        (10, 2, 6),
+        (11, 3, 6),
+        (12, 0, 7),
+        (13, 1, 7),
+        (14, 2, 7),
+        (15, 3, 7),
+    ],
+    weights: &[1, 1, 1, 1, 1, 1, 1, 1, 1, 1, 1, 1, 1, 1, 1, 1],
+};
+
+/// The graph of a board that isn't too large.
+fn graph_of(alloc: Global, board: &Board, numbering: Numbering) -> Option<Graph>
+    ensures graph { IfSome result (λ graph. graph ≡ numbered board.now numbering) }
+    ensures few { IfSome result (λ _. configurations board.now ≤ MAX_CONFIGURATIONS) }
+{
+    if !is_small(board) {
+        return None;
+    }
+    match Graph::of(alloc, board, numbering) {
+        Ok(graph) => Some(graph),
+        Err(_) => Graph::of(alloc, board, numbering).ok(),
+    }
+}
+
+/// The member of a gap with a place, and whether it is an answer, if they are a gap and a place.
+fn member_of(graph: &Graph, gap: u32, place: u32) -> Option<(u32, bool)> {
+    if gap < graph.gaps() && place < graph.places() {
+        Some((graph.member(gap, place), graph.is_answer(gap, place)))
+    } else {
+        None
+    }
+}
+
+/// The number of a rank's configuration, if it has one.
+fn number_of(graph: &Graph, space: &Space, rank: u32) -> Option<u32>
+    requires { space.now ≡ graph.now.board }
+{
+    if rank < space.configurations() {
+        Some(graph.number(space, rank))
+    } else {
+        None
+    }
+}
+
+/// The gap of a pebble at the configuration of a rank, if there are such.
+fn gap_of(graph: &Graph, space: &Space, rank: u32, pebble: u8) -> Option<u32>
+    requires { space.now ≡ graph.now.board }
+{
+    if rank < space.configurations() && pebble < space.pebbles() {
+        Some(graph.gap_number(space, rank, pebble))
+    } else {
+        None
+    }
+}
+
+/// The gaps of the first two pebbles at the configuration of a rank, if there is one.
+fn gaps_of(graph: &Graph, space: &Space, rank: u32) -> Option<(u32, u32)>
+    requires { space.now ≡ graph.now.board }
+{
+    if rank < space.configurations() {
+        let gaps = graph.gap_numbers(space, rank);
+        Some((gaps[0], gaps[1]))
+    } else {
+        None
+    }
+}
+
+/// The weights of a graph's numbers.
+fn weights_of(alloc: Global, graph: &Graph) -> Option<Vec<u32>> {
+    match graph.weights(alloc) {
+        Ok(weights) => Some(weights),
+        Err(_) => graph.weights(alloc).ok(),
+    }
+}
+
+/// Asserts the members of a graph's gaps, and which are answers.
+fn assert_members(rt: &impl Abort, graph: &Graph, worked: &Worked) {
+    assert_same(rt, "gaps", graph.gaps() as usize, worked.members.len());
+    for (gap, row) in worked.members.iter().enumerate() {
+        assert_same(rt, gap, graph.places() as usize, row.len());
+        for (place, member) in row.iter().enumerate() {
+            let struck = worked.struck.get(*member as usize);
+            let wanted = Some((*member, struck == Some(&Some(gap as u32))));
+            assert_same(
+                rt,
+                (gap, place),
+                member_of(graph, gap as u32, place as u32),
+                wanted,
+            );
+        }
+    }
+}
+
+/// Asserts the members of each gap as one row.
+fn assert_rows(rt: &impl Abort, graph: &Graph, worked: &Worked) {
+    for gap in 0..graph.gaps() {
+        let row = worked.members.get(gap as usize).copied();
+        assert_same(rt, gap, Some(graph.members(gap)), row);
+    }
+}
+
+/// Asserts the gap in which each configuration is an answer.
+fn assert_struck(rt: &impl Abort, graph: &Graph, worked: &Worked) {
+    assert_same(
+        rt,
+        "configurations",
+        graph.configurations() as usize,
+        worked.struck.len(),
+    );
+    for configuration in 0..graph.configurations() {
+        let wanted = worked.struck.get(configuration as usize).copied();
+        assert_same(rt, configuration, Some(graph.struck(configuration)), wanted);
+    }
+}
+
+/// Asserts the numbers of configurations and of their gaps.
+fn assert_ranks(rt: &impl Abort, graph: &Graph, space: &Space, worked: &Worked)
+    requires { space.now ≡ graph.now.board }
+{
+    for (index, (number, first, second)) in worked.ranks.iter().enumerate() {
+        let rank = index as u32;
+        assert_same(
+            rt,
+            ("number of", rank),
+            number_of(graph, space, rank),
+            Some(*number),
+        );
+        assert_same(
+            rt,
+            ("gap of", rank, 0),
+            gap_of(graph, space, rank, 0),
+            Some(*first),
+        );
+        assert_same(
+            rt,
+            ("gap of", rank, 1),
+            gap_of(graph, space, rank, 1),
+            Some(*second),
+        );
+        assert_same(
+            rt,
+            ("gaps of", rank, 2),
+            gaps_of(graph, space, rank),
+            Some((*first, *second)),
+        );
+    }
+}
+
+/// Asserts the weight of each number.
+fn assert_weights(rt: &impl Abort, alloc: Global, graph: &Graph, worked: &Worked) {
+    let weights = weights_of(alloc, graph).expect(rt, "weights");
+    assert_same(rt, "weights", weights.len(), worked.weights.len());
+    for (number, weight) in weights.iter().enumerate() {
+        assert_same(
+            rt,
+            ("weight of", number),
+            Some(weight),
+            worked.weights.get(number),
+        );
+    }
+}
+
+/// Asserts that a board has the graph that was worked out.
+fn assert_graph(rt: &impl Abort, alloc: Global, worked: &Worked) {
+    let board = board_of(rt, alloc, worked.text);
+    let graph = graph_of(alloc, &board, worked.numbering).expect(rt, "a graph");
+    assert_members(rt, &graph, worked);
+    assert_rows(rt, &graph, worked);
+    assert_struck(rt, &graph, worked);
+    assert_ranks(rt, &graph, &Space::new(&board), worked);
+    assert_weights(rt, alloc, &graph, worked);
+}
+
+#[test]
+fn a_cycle_by_ranks(rt: HostRuntime) {
+    assert_graph(&rt, rt.alloc(), &CYCLE_BY_RANKS);
+}
+
+#[test]
+fn a_cycle_by_classes(rt: HostRuntime) {
+    assert_graph(&rt, rt.alloc(), &CYCLE_BY_CLASSES);
+}
+
+#[test]
+fn pebbles_without_labels_by_ranks(rt: HostRuntime) {
+    assert_graph(&rt, rt.alloc(), &BLANKS_BY_RANKS);
+}
+
+#[test]
+fn pebbles_without_labels_by_classes(rt: HostRuntime) {
+    assert_graph(&rt, rt.alloc(), &BLANKS_BY_CLASSES);
+}

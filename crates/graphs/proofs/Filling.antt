@@ -1,0 +1,127 @@
+-- The tables of a graph are filled.
+use Rattle.std.proofs.Common.{◌≡◌, ℕ, ◌+◌, ◌*◌, ◌<◌, ◌≤◌, inl, inr, refl, arith, sym, ap, ◌∙◌, subst, List, [], ◌∷◌}
+use Rattle.std.proofs.Common.{◌++◌, length, slice_index, slice_set, get_or, get_or-set_other, get_or-set_same}
+use Rattle.std.proofs.Common.{mul-le-mul_left}
+use Rattle.std.proofs.Math.ListN.{length-set}
+use Rattle.std.proofs.lemmas.Bool.{cases_lt}
+use Rattle.std.proofs.lemmas.List.{length_push, get_or_append_left, get_or_push}
+use Rattle.graphs.specs.Graph.{PlainGraph, IsGraph}
+use Rattle.graphs.specs.Inside.Filling.{IsAnswerIn, AreMemberRows, IsRowPushed, IsGapNoted, AreStruck}
+use Rattle.graphs.proofs.LastingRanks.{same_or_not}
+
+-- ---- members
+
+pub pushed-none : (a : PlainGraph) (gap : ℕ) (members : List ℕ) → IsRowPushed a gap 0 members members
+pushed-none a gap members = record { size = omega arith; kept = λ k low. refl; each = λ v low. absurd (omega arith) }
+
+pub pushed-more : (a : PlainGraph) (gap place : ℕ) (old now : List ℕ) → IsRowPushed a gap place old now
+    → IsRowPushed a gap (place + 1) old (now ++ a.member gap place ∷ [])
+pushed-more a gap place old now p =
+    let size = p.size in record {
+      size = length_push now (a.member gap place) ∙ (omega arith);
+      kept = λ k low. get_or_append_left now (a.member gap place ∷ []) 0 k (omega arith) ∙ p.kept k low;
+      each = λ v low. elim (cases_lt v place) [
+        | inl less ↦ get_or_append_left now (a.member gap place ∷ []) 0 (length old + v) (omega arith) ∙ p.each v less
+        | inr last ↦
+            let at : length old + v ≡ length now = omega arith in
+            let is : place ≡ v = omega arith in
+            get_or_push now (a.member gap place) 0 (length old + v) (sym at) ∙ ap (a.member gap) is
+      ];
+    }
+
+pub rows-more : (a : PlainGraph) (gap : ℕ) (old now : List ℕ) → AreMemberRows a gap old
+    → IsRowPushed a gap a.places old now → AreMemberRows a (gap + 1) now
+rows-more a gap old now rows p = record {
+  size = (let one = rows.size in let two = p.size in omega arith);
+  each = λ g v low inside. elim (cases_lt g gap) [
+    | inl before ↦
+        let most : a.places * (g + 1) ≤ a.places * gap =
+        mul-le-mul_left a.places (let h : g + 1 ≤ gap = omega arith in h) in
+        p.kept (g * a.places + v) (let size = rows.size in omega arith) ∙ rows.each g v before inside
+    | inr last ↦
+        let here : gap ≡ g = omega arith in
+        let size : length old ≡ g * a.places = rows.size ∙ ap (λ h. h * a.places) here in
+        ap (λ k. get_or now (k + v) 0) (sym size) ∙ p.each v inside ∙ ap (λ h. a.member h v) here
+  ];
+}
+
+-- ---- answers
+
+pub noted-none : (a : PlainGraph) (gap : ℕ) (struck : List ℕ) → IsGapNoted a gap 0 struck struck
+noted-none a gap struck = record { same_length = refl; noted = λ v low. absurd (omega arith); others = λ x. inl refl }
+
+-- the places up to the next answer, and those after the last one, have nothing to note
+pub noted-to : (a : PlainGraph) (gap low high : ℕ) (old now : List ℕ) → IsGapNoted a gap low old now
+    → ((v : ℕ) → low ≤ v → v < high → IsAnswerIn a gap v → ⊥) → IsGapNoted a gap high old now
+noted-to a gap low high old now n none = record {
+  same_length = n.same_length;
+  noted = λ v below is. elim (cases_lt v low) [
+    | inl less ↦ n.noted v less is
+    | inr most ↦ absurd (none v most below is)
+  ];
+  others = n.others;
+}
+
+-- the gap is noted at an answer
+pub noted-more : (a : PlainGraph) (gap label rank : ℕ) (old now : List ℕ) → rank ≡ a.member gap label
+    → IsAnswerIn a gap label
+    → rank < length now → IsGapNoted a gap label old now → IsGapNoted a gap (label + 1) old (slice_set now rank gap)
+noted-more a gap label rank old now is answer low n = record {
+  same_length = length-set now rank gap ∙ n.same_length;
+  noted = λ v less here. elim (same_or_not (a.member gap v) rank) [
+    | inl same ↦ ap (slice_index (slice_set now rank gap)) same ∙ get_or-set_same now rank gap 0 low
+    | inr other ↦ get_or-set_other now rank (a.member gap v) gap 0 other ∙ elim (cases_lt v label) [
+      | inl before ↦ n.noted v before here
+      | inr last ↦ absurd (other (ap (a.member gap) (let same : v ≡ label = omega arith in same) ∙ sym is))
+    ]
+  ];
+  others = λ x. elim (same_or_not x rank) [
+    | inl here ↦ inr (
+      ap (slice_index (slice_set now rank gap)) here ∙ get_or-set_same now rank gap 0 low,
+      ap a.struck (here ∙ is) ∙ answer.1,
+    )
+    | inr other ↦
+        let same = get_or-set_other now rank x gap 0 other in
+        elim (n.others x) [ inl kept ↦ inl (same ∙ kept) | inr there ↦ inr (same ∙ there.0, there.1) ]
+  ];
+}
+
+pub struck-none : (a : PlainGraph) (struck : List ℕ) → length struck ≡ a.configurations
+    → ((x : ℕ) → x < a.configurations → slice_index struck x ≡ a.gaps) → AreStruck a 0 struck
+struck-none a struck size all = record {
+  size = size;
+  settled = λ g v low. absurd (omega arith);
+  sound = λ x i. inl (all x i);
+}
+
+pub struck-more : (a : PlainGraph) → (gap : ℕ) (old now : List ℕ) → IsGapNoted a gap a.places old now
+    → AreStruck a gap old
+    → AreStruck a (gap + 1) now
+struck-more a gap old now n s = record {
+  size = n.same_length ∙ s.size;
+  settled = λ g v low is. elim (cases_lt g gap) [
+    | inl before ↦ elim (n.others (a.member g v)) [
+      | inl kept ↦ kept ∙ s.settled g v before is
+      | inr there ↦ there.0 ∙ sym there.1 ∙ is.1
+    ]
+    | inr last ↦
+        let here : g ≡ gap = omega arith in
+        ap (λ h. slice_index now (a.member h v)) here ∙ n.noted v is.0 (subst (λ h. IsAnswerIn a h v) here is)
+        ∙ sym here
+  ];
+  sound = λ x i. elim (n.others x) [
+    | inr there ↦ inr (there.0 ∙ sym there.1)
+    | inl kept ↦ elim (s.sound x i) [ inl none ↦ inl (kept ∙ none) | inr same ↦ inr (kept ∙ same) ]
+  ];
+}
+
+pub struck-all : (a : PlainGraph) → IsGraph a → (struck : List ℕ) → AreStruck a a.gaps struck
+    → (x : ℕ) → x < a.configurations → slice_index struck x ≡ a.struck x
+struck-all a is struck s x i = elim (cases_lt (a.struck x) a.gaps) [
+  | inl low ↦
+      let w = is.struck_in x i low in
+      ap (slice_index struck) (sym w.2) ∙ s.settled (a.struck x) w.0 low (w.1, ap a.struck w.2)
+  | inr high ↦
+      let none : a.struck x ≡ a.gaps = (let most = is.struck_most x i in omega arith) in
+      elim (s.sound x i) [ inl gone ↦ gone ∙ sym none | inr same ↦ same ]
+]

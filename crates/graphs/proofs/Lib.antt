@@ -1,0 +1,16 @@
+pub mod Counts
+pub mod Graphs
+pub mod LastingRanks
+pub mod Shown
+pub mod DominatingPebbles
+pub mod OrderedGraphs
+pub mod ClassGraphs
+pub mod NumberedGraphs
+pub mod ConfigurationNumbers
+pub mod NumberWeights
+pub mod Filling
+pub mod RankTables
+pub mod ClassTables
+pub mod NumberedValues
+pub mod Dominators
+pub mod Cited

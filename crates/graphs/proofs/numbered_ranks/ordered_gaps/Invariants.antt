@@ -1,0 +1,11 @@
+use Rattle.std.proofs.Common.{◌≡◌, ◌<◌, ℕ, length, slice_index}
+use Rattle.positions.specs.Gaps.{gap_of}
+use Rattle.positions.specs.Ranks.{configuration_at}
+use Rattle.graphs.proofs.numbered_ranks.ordered_gaps.Given as goal
+
+abbrev pub invariant-loop-pebble : goal.invariant-loop-pebble
+invariant-loop-pebble l = record {
+  size : length l.gaps ≡ 6;
+  each : (pebble : ℕ) → pebble < l.pebble
+      → slice_index l.gaps pebble ≡ gap_of l.space (configuration_at l.space l.rank) pebble;
+}

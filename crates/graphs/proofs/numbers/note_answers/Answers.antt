@@ -1,0 +1,67 @@
+use Rattle.std.proofs.Common.{◌≡◌, ◌+◌, ◌*◌, ◌<◌, ◌≤◌, ◌∙◌, ℕ, length, get_or, ap, sym, subst, arith, slice_set}
+use Rattle.positions.proofs.Cited.{next_of, after_step}
+use Rattle.graphs.specs.Graph.{PlainGraph}
+use Rattle.graphs.specs.Inside.Filling.{IsAnswerIn, IsGapNoted}
+use Rattle.graphs.specs.Numbered.{Numbered, graph_of}
+use Rattle.graphs.proofs.Filling.{noted-to, noted-more}
+use Rattle.graphs.proofs.NumberedGraphs.{numbered-is}
+use Rattle.graphs.proofs.numbers.note_answers.Goals as goal
+use Rattle.graphs.proofs.numbers.note_answers.Goals.{In-Some}
+
+-- the label is an answer, and no answer comes between the walk's bound and it
+record IsNext (a : PlainGraph) (gap : ℕ) (from label : ℕ) : Type 0 where
+  answer : IsAnswerIn a gap label
+  from_most : from ≤ label
+  none : (v : ℕ) → from ≤ v → v < label → IsAnswerIn a gap v → ⊥
+
+next : (g : _) (c : In-Some g)
+    → IsNext (graph_of (g.N.Numbers.game c.args.numbers.now)) c.args.gap c.loop-label.labels.from c.in-Some.label
+next g c =
+    let a : PlainGraph = graph_of (g.N.Numbers.game c.args.numbers.now) in
+    let smallest = next_of (IsAnswerIn a c.args.gap) c.answers.ensures.few c.loop-label.labels
+    c.loop-label.invariant.left
+    c.take_next.new.self c.in-Some.label c.in-Some.ensures in record {
+      answer = smallest.0.1;
+      from_most = smallest.0.0;
+      none = λ v most below is. let least = smallest.1 v (most, is) in omega (arith, below, least);
+    }
+
+member : (g : _) (c : In-Some g) → get_or c.args.members.now (c.args.gap * c.places.result + c.in-Some.label) 0
+    ≡ (graph_of (g.N.Numbers.game c.args.numbers.now)).member c.args.gap c.in-Some.label
+member g c =
+    ap (λ n. get_or c.args.members.now (c.args.gap * n + c.in-Some.label) 0) c.places.ensures
+    ∙ c.requires.rows.each c.args.gap c.in-Some.label c.requires.gap (next g c).answer.0
+
+pub bounds-struck-members : goal.bounds-struck-members
+bounds-struck-members g c =
+    let at = (goal.at.bounds-struck-members g c).In-Some in
+    let n : Numbered = g.N.Numbers.game c.args.numbers.now in
+    let inside = (numbered-is n c.configurations.ensures.is_board).member_in c.args.gap c.in-Some.label c.requires.gap
+    (next g at).answer.0 in
+    omega (arith, inside, member g at, c.loop-label.invariant.noted.same_length, c.requires.size)
+
+pub loop-label-preserved : goal.loop-label-preserved
+loop-label-preserved g c =
+    let n : Numbered = g.N.Numbers.game c.args.numbers.now in
+    let a : PlainGraph = graph_of n in
+    let at = (goal.at.loop-label-preserved g c).In-Some in
+    let is = next g at in
+    let label : ℕ = c.in-Some.label in
+    let rank : ℕ = get_or c.args.members.now (c.args.gap * c.places.result + label) 0 in
+    let small = c.answers.ensures.few label is.answer in
+    let before = noted-to a c.args.gap c.loop-label.labels.from label c.args.struck.now c.loop-label.struck
+    c.loop-label.invariant.noted is.none in
+    let inside = (numbered-is n c.configurations.ensures.is_board).member_in c.args.gap label c.requires.gap
+    is.answer.0 in
+    let low : rank < length c.loop-label.struck =
+    omega (arith, inside, member g at, before.same_length, c.requires.size) in
+    let more = noted-more a c.args.gap label rank c.args.struck.now c.loop-label.struck (member g at) is.answer low
+    before in
+    record {
+      most = omega (arith, small, c.in-Some.ensures.from);
+      left = after_step (IsAnswerIn a c.args.gap) c.answers.ensures.few c.loop-label.labels c.loop-label.invariant.left
+          c.take_next.new.self label c.in-Some.ensures;
+      noted = subst
+          (λ m. IsGapNoted a c.args.gap m c.args.struck.now (slice_set c.loop-label.struck rank c.args.gap))
+          (sym c.in-Some.ensures.from) more;
+    }

@@ -1,0 +1,9 @@
+pub mod Graph
+pub mod Lasting
+pub mod Shows
+pub mod Struck
+pub mod Ordered
+pub mod ClassGraph
+pub mod Numbered
+pub mod NumberedRanks
+pub mod Inside

@@ -1,0 +1,173 @@
+//! A game as two tables of numbers.
+
+ghost use Rattle.std.specs.Prelude.{◌≡◌, ℕ, ◌<◌, ◌≤◌, length, slice_index, MatchOption, IsTrue};
+ghost use Rattle.std.specs.Prelude.{◌↔◌, IfOk};
+ghost use Rattle.board_text.specs.PlainBoard.{IsBoard};
+ghost use Rattle.positions.specs.Ranks.{configurations};
+ghost use Rattle.graphs.specs.Graph.{IsGraph};
+ghost use Rattle.graphs.specs.Numbered.{numbered, graph_of};
+ghost use Rattle.graphs.specs.declared.graph.Numbering.TheVariants.{Ordered};
+ghost use Rattle.graphs.specs.declared.graph.Numbering.TheVariants.{Classes as ClassesData};
+
+use crate::class_numbers::ClassNumbers;
+use crate::numbers::Tables;
+use crate::ordered_numbers::OrderedNumbers;
+use board_text::{Board, Memory};
+use classes::Classes;
+use positions::MAX_CONFIGURATIONS;
+use std::alloc::Global;
+use std::marker::Model;
+use std::snapshot::Snapshot;
+
+/// What the numbers of configurations and gaps stand for.
+#[derive(Clone, Copy, Debug, Drop, PartialEq, Eq)]
+pub enum Numbering {
+    /// A configuration, by its rank, and a pebble with the places of the others.
+    Ordered,
+    /// A class of configurations: the places of all pebbles, or of all but one, whichever pebble
+    /// holds which.
+    Classes,
+}
+
+/// A game as two tables of numbers: the members of each gap, and the gap in which each
+/// configuration is an answer.
+///
+/// Configurations and gaps are numbers from 0 on. A gap has one member for each place of its
+/// pebble. Contracts see the board and the numbering.
+#[derive(Drop)]
+pub struct Graph {
+    /// The board, for contracts alone: it takes no memory.
+    pub(crate) board: Snapshot<Board>,
+    /// The classes, if numbers stand for them.
+    pub(crate) classes: Option<Classes>,
+    pub(crate) tables: Tables,
+}
+
+impl Model for Graph {
+    ghost use Rattle.std.specs.Prelude.{◌≡◌, IfSome};
+    ghost use Rattle.graphs.specs.Numbered.{Numbered, numbered};
+    ghost use Rattle.graphs.specs.Inside.Tables.{AreTables, numbering_with};
+
+    ghost Value = { Numbered };
+
+    ghost view = { λ s. numbered s.board.value (numbering_with s.classes) };
+
+    ghost invariant = { λ s. IfSome s.classes (λ classes. classes ≡ s.board.value)
+        × AreTables (numbered s.board.value (numbering_with s.classes)) s.tables.configurations
+        s.tables.gaps
+        s.tables.places s.tables.members.items s.tables.struck.items };
+}
+
+impl Graph {
+    /// The graph of `board` by this numbering.
+    pub fn of(alloc: Global, board: &Board, numbering: Numbering) -> Result<Graph, Memory>
+        requires { configurations board.now ≤ MAX_CONFIGURATIONS }
+        ensures { IfOk result (λ graph. graph ≡ numbered board.now numbering) }
+    {
+        match numbering {
+            Numbering::Ordered => Graph::of_ranks(alloc, board),
+            Numbering::Classes => Graph::of_classes(alloc, board),
+        }
+    }
+
+    /// The graph of the configurations of `board`.
+    fn of_ranks(alloc: Global, board: &Board) -> Result<Graph, Memory>
+        requires { configurations board.now ≤ MAX_CONFIGURATIONS }
+        ensures { IfOk result (λ graph. graph ≡ numbered board.now Ordered) }
+    {
+        let numbers = OrderedNumbers::of(alloc, board)?;
+        let tables = Tables::of(alloc, &numbers)?;
+        Ok(Graph {
+            board: Snapshot::of(board),
+            classes: None,
+            tables,
+        })
+    }
+
+    /// The graph of the classes of `board`.
+    fn of_classes(alloc: Global, board: &Board) -> Result<Graph, Memory>
+        requires { configurations board.now ≤ MAX_CONFIGURATIONS }
+        ensures { IfOk result (λ graph. graph ≡ numbered board.now ClassesData) }
+    {
+        let classes = Classes::of(alloc, board)?;
+        let tables = Tables::of(alloc, &ClassNumbers::of(alloc, board, &classes)?)?;
+        Ok(Graph {
+            board: Snapshot::of(board),
+            classes: Some(classes),
+            tables,
+        })
+    }
+
+    /// The number of configurations, each a number below it.
+    pub fn configurations(&self) -> u32
+        ensures value { result ≡ (graph_of self.now).configurations }
+        ensures few { result ≤ MAX_CONFIGURATIONS }
+        ensures graph { IsGraph (graph_of self.now) }
+        ensures board { IsBoard self.now.board }
+    {
+        self.tables.configurations
+    }
+
+    /// The number of gaps, each a number below it.
+    pub fn gaps(&self) -> u32
+        ensures { result ≡ (graph_of self.now).gaps }
+    {
+        self.tables.gaps
+    }
+
+    /// The number of members of each gap: the places that its pebble can have.
+    pub fn places(&self) -> u32
+        ensures { result ≡ (graph_of self.now).places }
+    {
+        self.tables.places
+    }
+
+    /// The member of `gap` with `place` for its pebble.
+    pub fn member(&self, gap: u32, place: u32) -> u32
+        requires gap { gap < (graph_of self.now).gaps }
+        requires place { place < (graph_of self.now).places }
+        ensures member { result ≡ (graph_of self.now).member gap place }
+        ensures below { result < (graph_of self.now).configurations }
+        ensures graph { IsGraph (graph_of self.now) }
+    {
+        self.members(gap)[place as usize]
+    }
+
+    /// The members of `gap`, by place, which is in ascending order.
+    pub fn members(&self, gap: u32) -> &[u32]
+        requires { gap < (graph_of self.now).gaps }
+        ensures size { length result.now ≡ (graph_of self.now).places }
+        ensures each { (place : ℕ) → place < (graph_of self.now).places
+            → slice_index result.now place ≡ (graph_of self.now).member gap place }
+        ensures graph { IsGraph (graph_of self.now) }
+    {
+        let first = gap as usize * self.tables.places as usize;
+        &self.tables.members[first..first + self.tables.places as usize]
+    }
+
+    /// Whether the member of `gap` with `place` is an answer of the gap.
+    pub fn is_answer(&self, gap: u32, place: u32) -> bool
+        requires gap { gap < (graph_of self.now).gaps }
+        requires place { place < (graph_of self.now).places }
+        ensures { IsTrue result
+            ↔ ((graph_of self.now).struck ((graph_of self.now).member gap place) ≡ gap) }
+    {
+        self.tables.struck[self.member(gap, place) as usize] == gap
+    }
+
+    /// The gap in which `configuration` is an answer, if there is one.
+    pub fn struck(&self, configuration: u32) -> Option<u32>
+        requires { configuration < (graph_of self.now).configurations }
+        ensures { MatchOption result
+            ((graph_of self.now).gaps ≤ (graph_of self.now).struck configuration)
+            (λ gap. (gap ≡ (graph_of self.now).struck configuration)
+            × (gap < (graph_of self.now).gaps)) }
+    {
+        let gap = self.tables.struck[configuration as usize];
+        if gap < self.tables.gaps {
+            Some(gap)
+        } else {
+            None
+        }
+    }
+}

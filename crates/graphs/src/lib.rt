@@ -1,0 +1,16 @@
+//! A game as two tables of numbers: the members of each gap, and the gap in which each
+//! configuration is an answer.
+#![tactic(auto)]
+
+mod class_numbers;
+mod graph;
+mod laws;
+mod numbered_ranks;
+mod numbers;
+mod ordered_numbers;
+
+pub use graph::{Graph, Numbering};
+pub use laws::{
+    configurations_have_numbers, gaps_answer_requests, graphs_have_the_values_of_boards,
+    numbered_graphs_show_their_boards, weights_count_configurations,
+};
