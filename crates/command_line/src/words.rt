@@ -6,8 +6,10 @@ ghost use Rattle.clap.specs.Words.{fault_of, first_of, found_of, kind_of, rows_o
 ghost use Rattle.clap.specs.Walk.{texts};
 ghost use Rattle.command_line.specs.Commands as commands;
 ghost use Rattle.command_line.specs.Reading.{HasNumber, IsInRange, IsReadAs, Shows, ShowsKind};
-ghost use Rattle.command_line.specs.Reading.{AsksForHelpBy, Names, NamesCommands, asks_for_help, has_topic, is_topic, side_word};
-ghost use Rattle.command_line.specs.Inside.Reading.{MisusesBy, Reads, ShowsHelp, has_number, has_side, is_read};
+ghost use Rattle.command_line.specs.Reading.{AsksForHelpBy, Names, NamesCommands};
+ghost use Rattle.command_line.specs.Reading.{asks_for_help, has_topic, is_topic, side_word};
+ghost use Rattle.command_line.specs.Inside.Reading.{MisusesBy, Reads, ShowsHelp};
+ghost use Rattle.command_line.specs.Inside.Reading.{has_number, has_side, is_read};
 
 use crate::asked::{Job, JobFault, MAX_WORKERS};
 use crate::commands::{VERSION, program};

@@ -65,5 +65,5 @@ fn values_of(alloc: Global, board: &Board) -> Result<Values, SolveFault>
         ↔ (MAX_CONFIGURATIONS < configurations board.now) }
     ensures no_worker { result ≡ Err SolveFault.Worker → ⊥ }
 {
-    Ok(Solver::<PlainLists>::open(alloc, board)?.solve())
+    Ok(Solver::<PlainLists>::of_classes(alloc, board)?.solve())
 }

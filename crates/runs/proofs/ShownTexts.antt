@@ -54,7 +54,8 @@ module _ (bytes : List ℕ) (at : ℕ) (inside : at < length bytes)
   one_more plain =
       let more : take (at + 1) bytes ≡ take at bytes ++ (get_or bytes at 0 ∷ []) =
       rw one_up (take-suc bytes at 0 inside) in
-      let same : shown_byte (get_or bytes at 0) ≡ get_or bytes at 0 = ap (λ (b : Bool). cond b 63 (get_or bytes at 0)) plain in
+      let same : shown_byte (get_or bytes at 0) ≡ get_or bytes at 0
+      = ap (λ (b : Bool). cond b 63 (get_or bytes at 0)) plain in
       rw more (map-append shown_byte (take at bytes) (get_or bytes at 0 ∷ [])
       ∙ ap (λ (l : List ℕ). l ++ (shown_byte (get_or bytes at 0) ∷ [])) so_far
       ∙ ap (λ (b : ℕ). take at bytes ++ (b ∷ [])) same)

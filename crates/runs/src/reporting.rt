@@ -90,8 +90,8 @@ pub fn report_text_alone(alloc: Global, text: &[u8]) -> Result<String, RunFault>
     Ok(report_of(alloc, &BestMoves::new(&board, &values))?)
 }
 
-/// The same as `report_text_alone`, by this number of `workers`, 1 to `MAX_WORKERS`. It may wait for
-/// them.
+/// The same as `report_text_alone`, by this number of `workers`, 1 to `MAX_WORKERS`. It may wait
+/// for them.
 pub fn report_text(
     rt: &(impl Threads + Wait + Sync),
     alloc: Global,

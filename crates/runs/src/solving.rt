@@ -17,7 +17,7 @@ use board_text::{Board, Memory, Sink, Source};
 use index_lists::PlainLists;
 use positions::{MAX_CONFIGURATIONS, Value};
 use proof_text::print;
-use round_workers::{MAX_WORKERS, NoGate, solve_values};
+use round_workers::{MAX_WORKERS, NoGate, solve_classes};
 use solver::{Solver, Values};
 use std::alloc::Global;
 use std::sync::Wait;
@@ -98,8 +98,8 @@ pub fn solve_text_alone(alloc: Global, text: &[u8]) -> Result<Solved, RunFault>
     Ok(solution(alloc, &BestMoves::new(&board, &values))?)
 }
 
-/// The same as `solve_text_alone`, found by this number of `workers`, 1 to `MAX_WORKERS`. It may wait for
-/// them.
+/// The same as `solve_text_alone`, found by this number of `workers`, 1 to `MAX_WORKERS`. It may
+/// wait for them.
 pub fn solve_text(
     rt: &(impl Threads + Wait + Sync),
     alloc: Global,
@@ -140,7 +140,7 @@ pub(crate) fn values_by(
     if workers == 1 {
         return values_of(alloc, board);
     }
-    Ok(solve_values(rt, alloc, board, workers as u32, &NoGate)?)
+    Ok(solve_classes(rt, alloc, board, workers as u32, &NoGate)?)
 }
 
 /// The values of a small board, by as many rounds as it takes.
@@ -149,5 +149,5 @@ pub(crate) fn values_of(alloc: Global, board: &Board) -> Result<Values, RunFault
     ensures values { IfOk result (λ values. values ≡ board.now) }
     ensures memory { IfErr result IsMemory }
 {
-    Ok(Solver::<PlainLists>::open(alloc, board)?.solve())
+    Ok(Solver::<PlainLists>::of_classes(alloc, board)?.solve())
 }

@@ -18,7 +18,8 @@ returns-then-workers-eq1-clause-done g c =
 pub returns-then-workers-eq1-clause-unread : goal.returns-then-workers-eq1-clause-unread
 returns-then-workers-eq1-clause-unread g c broke =
     c.in-Ok.ensures.sound _ ((told_as outcome_of_run broken_run c.run_report_alone.result c.on_board.result.outcome
-    (c.on_board.ensures ∙ c.of_run-outcome.ensures) Read refl _ c.run_report_alone.ensures.streams.failures.read).1 broke)
+    (c.on_board.ensures ∙ c.of_run-outcome.ensures) Read refl _
+    c.run_report_alone.ensures.streams.failures.read).1 broke)
 
 pub returns-clause-unread : goal.returns-clause-unread
 returns-clause-unread g c broke =
