@@ -4,7 +4,8 @@ use Rattle.class_tests.proofs.ListedClasses.{IsListedClass, listed}
 use Rattle.class_tests.proofs.calls_of_classes.walked.Goals as goal
 use Rattle.class_tests.proofs.calls_of_classes.walked.Goals.{After-as_slice}
 
-held : (c : After-as_slice) → IsListedClass (places c.args.classes.now) (c.args.classes.now.pebbles - 1) c.as_slice.result.now
+held : (c : After-as_slice)
+    → IsListedClass (places c.args.classes.now) (c.args.classes.now.pebbles - 1) c.as_slice.result.now
 held c =
     listed (places c.args.classes.now) (c.args.classes.now.pebbles - 1) c.args.gap c.args.lists.now
     c.index-lists-gap.result c.as_slice.result.now c.requires.lists c.requires.gap c.index-lists-gap.is
