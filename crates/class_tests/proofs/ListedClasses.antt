@@ -10,14 +10,14 @@ pub record IsListedClass (bound count : ℕ) (held : List ℕ) : Type 0 where
   pub size : length held ≡ count
   pub is_class : IsClass bound (length held) held
 
-pub listed : (bound count class : ℕ) (lists : List (List ℕ)) (listed held : List ℕ) → AreClassLists bound count lists
-    → class < length lists → listed ≡ get_or lists class listed → held ≡ listed → IsListedClass bound count held
-listed bound count class lists listed held are inside at same =
+pub listed : (bound count class : ℕ) (lists : List (List ℕ)) (own held : List ℕ) → AreClassLists bound count lists
+    → class < length lists → own ≡ get_or lists class own → held ≡ own → IsListedClass bound count held
+listed bound count class lists own held are inside at same =
     let low = subst (λ n. class < n) are.size inside in
-    let own = (with-is bound count class low).is in
-    let is : held ≡ class_with bound count class = same ∙ at ∙ are.each class listed low in
-    let size = ap length is ∙ own.size in record {
+    let with = (with-is bound count class low).is in
+    let is : held ≡ class_with bound count class = same ∙ at ∙ are.each class own low in
+    let size = ap length is ∙ with.size in record {
       size = size;
       is_class = subst (λ (l : List ℕ). IsClass bound (length l) l) (sym is)
-          (subst (λ n. IsClass bound n (class_with bound count class)) (sym own.size) own);
+          (subst (λ n. IsClass bound n (class_with bound count class)) (sym with.size) with);
     }

@@ -9,6 +9,7 @@ ghost use Rattle.classes.specs.Lists.{AreClassLists};
 
 use crate::assertions::{assert_same, board_of};
 use crate::classes_of_boards::classes_of;
+use board_text::MAX_PEBBLES;
 use classes::{ClassPlaces, Classes};
 use fakes::boards::THREE_PEBBLES;
 use positions::Space;
@@ -200,14 +201,32 @@ fn members_of_gaps(rt: HostRuntime) {
     assert_gaps(&rt, &classes, &lists);
 }
 
+/// The places with one put among them, if there is room.
+fn with_place(class: &ClassPlaces, place: u16) -> Option<ClassPlaces> {
+    if class.as_slice().len() < MAX_PEBBLES {
+        Some(class.with_place(place))
+    } else {
+        None
+    }
+}
+
+/// The places with a greatest one before them, if there is room.
+fn with_greatest(class: &ClassPlaces, place: u16) -> Option<ClassPlaces> {
+    if class.as_slice().len() < MAX_PEBBLES {
+        Some(class.with_greatest(place))
+    } else {
+        None
+    }
+}
+
 #[test]
 fn places_of_classes(rt: HostRuntime) {
     let class = ClassPlaces::of(&[0, 2, 1]);
     assert_same(&rt, "class", class.as_slice(), &[2, 1, 0][..]);
     assert_same(&rt, "index of 1", class.index_of(1), 1);
-    let more = class.with_place(1);
+    let more = with_place(&class, 1).expect(&rt, "room");
     assert_same(&rt, "with 1", more.as_slice(), &[2, 1, 1, 0][..]);
-    let most = more.with_greatest(2);
+    let most = with_greatest(&more, 2).expect(&rt, "room");
     assert_same(&rt, "with 2", most.as_slice(), &[2, 2, 1, 1, 0][..]);
     assert_same(&rt, "none", ClassPlaces::none().as_slice(), &[][..]);
 }

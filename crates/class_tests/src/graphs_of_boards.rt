@@ -193,44 +193,34 @@ fn graph_of(alloc: Global, board: &Board, numbering: Numbering) -> Option<Graph>
     }
 }
 
-/// The member of a gap with a place, and whether it is an answer, if they are a gap and a place.
-fn member_of(graph: &Graph, gap: u32, place: u32) -> Option<(u32, bool)> {
-    if gap < graph.gaps() && place < graph.places() {
-        Some((graph.member(gap, place), graph.is_answer(gap, place)))
-    } else {
-        None
-    }
+/// The member that is wanted of a gap with a place, and whether it is an answer.
+fn wanted_member(worked: &Worked, gap: u32, place: u32) -> Option<(u32, bool)> {
+    let row = worked.members.get(gap as usize)?;
+    let member = *row.get(place as usize)?;
+    let struck = worked.struck.get(member as usize)?;
+    Some((member, *struck == Some(gap)))
 }
 
-/// The number of a rank's configuration, if it has one.
-fn number_of(graph: &Graph, space: &Space, rank: u32) -> Option<u32>
+/// The number of a rank's configuration and the gaps of its first two pebbles, if it has them.
+fn numbers_of(graph: &Graph, space: &Space, rank: u32) -> Option<(u32, u32, u32)>
     requires { space.now ≡ graph.now.board }
 {
-    if rank < space.configurations() {
-        Some(graph.number(space, rank))
+    if rank < space.configurations() && space.pebbles() >= 2 {
+        let first = graph.gap_number(space, rank, 0);
+        let second = graph.gap_number(space, rank, 1);
+        Some((graph.number(space, rank), first, second))
     } else {
         None
     }
 }
 
-/// The gap of a pebble at the configuration of a rank, if there are such.
-fn gap_of(graph: &Graph, space: &Space, rank: u32, pebble: u8) -> Option<u32>
-    requires { space.now ≡ graph.now.board }
-{
-    if rank < space.configurations() && pebble < space.pebbles() {
-        Some(graph.gap_number(space, rank, pebble))
-    } else {
-        None
-    }
-}
-
-/// The gaps of the first two pebbles at the configuration of a rank, if there is one.
-fn gaps_of(graph: &Graph, space: &Space, rank: u32) -> Option<(u32, u32)>
+/// The same, with the gaps by one call.
+fn numbers_at_once(graph: &Graph, space: &Space, rank: u32) -> Option<(u32, u32, u32)>
     requires { space.now ≡ graph.now.board }
 {
     if rank < space.configurations() {
         let gaps = graph.gap_numbers(space, rank);
-        Some((gaps[0], gaps[1]))
+        Some((graph.number(space, rank), gaps[0], gaps[1]))
     } else {
         None
     }
@@ -247,16 +237,14 @@ fn weights_of(alloc: Global, graph: &Graph) -> Option<Vec<u32>> {
 /// Asserts the members of a graph's gaps, and which are answers.
 fn assert_members(rt: &impl Abort, graph: &Graph, worked: &Worked) {
     assert_same(rt, "gaps", graph.gaps() as usize, worked.members.len());
-    for (gap, row) in worked.members.iter().enumerate() {
-        assert_same(rt, gap, graph.places() as usize, row.len());
-        for (place, member) in row.iter().enumerate() {
-            let struck = worked.struck.get(*member as usize);
-            let wanted = Some((*member, struck == Some(&Some(gap as u32))));
+    for gap in 0..graph.gaps() {
+        for place in 0..graph.places() {
+            let found = (graph.member(gap, place), graph.is_answer(gap, place));
             assert_same(
                 rt,
                 (gap, place),
-                member_of(graph, gap as u32, place as u32),
-                wanted,
+                Some(found),
+                wanted_member(worked, gap, place),
             );
         }
     }
@@ -288,31 +276,25 @@ fn assert_struck(rt: &impl Abort, graph: &Graph, worked: &Worked) {
 fn assert_ranks(rt: &impl Abort, graph: &Graph, space: &Space, worked: &Worked)
     requires { space.now ≡ graph.now.board }
 {
-    for (index, (number, first, second)) in worked.ranks.iter().enumerate() {
-        let rank = index as u32;
+    assert_same(
+        rt,
+        "ranks",
+        space.configurations() as usize,
+        worked.ranks.len(),
+    );
+    for rank in 0..space.configurations() {
+        let wanted = worked.ranks.get(rank as usize).copied();
         assert_same(
             rt,
-            ("number of", rank),
-            number_of(graph, space, rank),
-            Some(*number),
+            ("numbers of", rank),
+            numbers_of(graph, space, rank),
+            wanted,
         );
         assert_same(
             rt,
-            ("gap of", rank, 0),
-            gap_of(graph, space, rank, 0),
-            Some(*first),
-        );
-        assert_same(
-            rt,
-            ("gap of", rank, 1),
-            gap_of(graph, space, rank, 1),
-            Some(*second),
-        );
-        assert_same(
-            rt,
-            ("gaps of", rank, 2),
-            gaps_of(graph, space, rank),
-            Some((*first, *second)),
+            ("at once", rank),
+            numbers_at_once(graph, space, rank),
+            wanted,
         );
     }
 }

@@ -4,8 +4,7 @@ use Rattle.std.specs.Prelude.{◌≡◌, ℕ, ◌+◌, ◌<◌, ◌≤◌, ◌==
 use Rattle.std.specs.Prelude.{zero, suc}
 
 -- numbers of configurations, of gaps and of the members of a gap; the member of a gap at a place,
--- and
--- the gap in which a configuration is an answer, or a number that is no gap
+-- and the gap in which a configuration is an answer, or a number that is no gap
 pub record PlainGraph : Type 0 where
   pub configurations : ℕ
   pub gaps : ℕ

@@ -5,8 +5,7 @@ use Rattle.positions.specs.Game.{Legal, LabellerTree, moved}
 use Rattle.graphs.specs.Graph.{PlainGraph}
 
 -- a request of the pebble at the configuration is answered in the gap: its answers are the legal
--- labels, and a labeller
--- lasts as long at the member with a label as after a move there
+-- labels, and a labeller lasts as long at the member with a label as after a move there
 pub record IsAsked (b : PlainBoard) (a : PlainGraph) (at : ℕ → List ℕ) (configuration : List ℕ)
     (pebble gap : ℕ) : Type 0 where
   pub legal : (label : ℕ) → Legal b configuration pebble label

@@ -59,7 +59,9 @@ impl Model for Graph {
 }
 
 impl Graph {
-    /// The graph of `board` by this numbering.
+    /// The graph of `board` by `numbering`. The error is that memory ran out.
+    ///
+    /// It takes time in the number of members of all gaps, and a word for each of them.
     pub fn of(alloc: Global, board: &Board, numbering: Numbering) -> Result<Graph, Memory>
         requires { configurations board.now ≤ MAX_CONFIGURATIONS }
         ensures { IfOk result (λ graph. graph ≡ numbered board.now numbering) }

@@ -47,8 +47,8 @@ impl Graph {
         }
     }
 
-    /// The numbers of the gaps of all pebbles at the configuration of `rank`, pebble by pebble. This
-    /// is quicker than a call for each. The entries after those of the pebbles say nothing.
+    /// The numbers of the gaps of all pebbles at the configuration of `rank`, pebble by pebble.
+    /// This is quicker than a call for each. The entries after those of the pebbles say nothing.
     ///
     /// The space is that of the graph's board.
     pub fn gap_numbers(&self, space: &Space, rank: u32) -> [u32; MAX_PEBBLES]
@@ -67,6 +67,7 @@ impl Graph {
     }
 
     /// The weight of each number: how many configurations have it. All are 1 if numbers are ranks.
+    /// The error is that memory ran out.
     pub fn weights(&self, alloc: Global) -> Result<Vec<u32>, Memory>
         ensures { IfOk result (λ weights. AreNumberWeights self.now weights.items) }
     {

@@ -13,8 +13,7 @@ numbering_with None = Ordered
 numbering_with (Some classes) = Classes
 
 -- these are the sizes of the graph, its members gap by gap, and the gap in which each configuration
--- is
--- an answer
+-- is an answer
 pub record AreTables (n : Numbered) (configurations gaps places : ℕ)
     (members struck : List ℕ) : Type 0 where
   pub is_board : IsBoard n.board
