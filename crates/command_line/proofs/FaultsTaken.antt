@@ -63,7 +63,7 @@ values_none : (a : Rule) (ts : List Text) → none (values_fault a ts) ≡ value
 values_none a [] = refl
 values_none a (t ∷ ts) =
     none_else _ (values_fault a ts) (value_passes a t) (values_pass a ts) (value_none a (value_passes a t))
-        (values_none a ts)
+    (values_none a ts)
 
 count_none : (a : Rule) (values : List Text) (rows : List Row)
     → none (count_fault a values rows) ≡ count_passes a values rows
@@ -79,7 +79,7 @@ set_none : (again : Bool) (a : Rule) (values : List Text) (rows : List Row)
     → none (set_fault again a values rows) ≡ set_passes again a values rows
 set_none again a values rows =
     none_else _ (values_fault a values) (not (has_row a.id rows) || again) (values_pass a values)
-        (repeat_none (has_row a.id rows) again) (values_none a values)
+    (repeat_none (has_row a.id rows) again) (values_none a values)
 
 action_none : (x : ArgAction) (again : Bool) (a : Rule) (values : List Text) (rows : List Row)
     → none (action_fault x again a values rows) ≡ action_passes x again a values rows
@@ -106,7 +106,7 @@ use_none again a values rows =
     let least = (unwrap_or_range a.range).start_inclusive in
     let action = action_passes (action_of a) again a (values_or_missing a values) rows in
     none_else (range_kinds least (most_values a) (length values)) _ _ action
-        (range_none least (most_values a) (length values))
+    (range_none least (most_values a) (length values))
     (action_none (action_of a) again a (values_or_missing a values) rows)
     ∙ and_then (nat_le least (length values)) (nat_le (length values) (most_values a)) action
 
@@ -114,7 +114,7 @@ use_none again a values rows =
 
 used_none : (again : Bool) (o : Option Rule) (values : List Text) (rows : List Row)
     → none (option_map_or (λ a. use_fault again a values rows) o [])
-        ≡ option_map_or (λ a. use_passes again a values rows) o true
+    ≡ option_map_or (λ a. use_passes again a values rows) o true
 used_none again None values rows = refl
 used_none again (Some a) values rows = use_none again a values rows
 
@@ -131,7 +131,7 @@ react_none : (c : List Rule) (again : Bool) (a : Rule) (values : List Text) (h :
     → none (react_fault c again a values h) ≡ react_passes c again a values h
 react_none c again a values h =
     none_else (settle_fault c again h) _ (settle_passes c again h) (use_passes again a values (settled c h).rows)
-        (settle_none c again h)
+    (settle_none c again h)
     (use_none again a values (settled c h).rows)
 
 option_none : (c : List Rule) (again : Bool) (a : Rule) (v : Option Text) (h : Held)
@@ -141,7 +141,7 @@ option_none c again a None h = settle_none c again h
 
 flag_none : (c : List Rule) (again : Bool) (a : Rule) (v : Option Text) (h : Held)
     → none (cond (is_some v) (kind.TooManyValues ∷ []) (react_fault c again a [] h))
-        ≡ (not (is_some v) && react_passes c again a [] h)
+    ≡ (not (is_some v) && react_passes c again a [] h)
 flag_none c again a (Some v) h = refl
 flag_none c again a None h = react_none c again a [] h
 
@@ -160,7 +160,7 @@ long_none c again (Some a) v h = go (takes_values a)
 short_none : (c : List Rule) (again : Bool) (o : Option Rule) (rest : Text) (h : Held) (fault : Held → Kinds)
     (pass : Held → Bool)
     → ((k : Held) → none (fault k) ≡ pass k)
-        → none (short_fault c again o rest h fault) ≡ short_passes c again o rest h pass
+    → none (short_fault c again o rest h fault) ≡ short_passes c again o rest h pass
 short_none c again None rest h fault pass same = refl
 short_none c again (Some a) rest h fault pass same = go (takes_values a)
   where
@@ -169,11 +169,11 @@ short_none c again (Some a) rest h fault pass same = go (takes_values a)
         (cond b (option_fault c again a (attached_value rest) h)
         (or_else (react_fault c again a [] h) (fault (reacted c a [] h))))
         ≡ cond b (option_passes c again a (attached_value rest) h)
-            (react_passes c again a [] h && pass (reacted c a [] h))
+        (react_passes c again a [] h && pass (reacted c a [] h))
     go true = option_none c again a (attached_value rest) h
     go false =
         none_else (react_fault c again a [] h) _ (react_passes c again a [] h) (pass (reacted c a [] h))
-            (react_none c again a [] h) (same (reacted c a [] h))
+        (react_none c again a [] h) (same (reacted c a [] h))
 
 bundle_step_none : (c : List Rule) (again : Bool) (o : Option ℕ) (flags : Text) (skip : ℕ) (h : Held)
     (fault : Text → ℕ → Held → Kinds) (pass : Text → ℕ → Held → Bool)
@@ -191,11 +191,11 @@ unfolding flags_fault flags_pass
 flags_none c again zero flags skip h = refl
 flags_none c again (suc k) flags skip h =
     bundle_step_none c again (slice_get (chars flags) 0) flags skip h (flags_fault c again k) (flags_pass c again k)
-        (λ t s g. flags_none c again k t s g)
+    (λ t s g. flags_none c again k t s g)
 
 short_word_none : (c : List Rule) (again : Bool) (o : Option Text) (h : Held)
     → none (option_map_or (λ flags. bundle_fault c again flags h) o [])
-        ≡ option_map_or (λ flags. bundle_passes c again flags h) o true
+    ≡ option_map_or (λ flags. bundle_passes c again flags h) o true
 short_word_none c again None h = refl
 short_word_none c again (Some flags) h = flags_none c again (length flags) flags h.skip (record h { skip = 0 })
 
@@ -253,7 +253,7 @@ turn_none s names w word =
     let met = word_met s.rules names w.is_trailing w.waiting w.position word w.held in
     dashes_none (is_some w.stopped) _ _
     (none_else (word_fault s names w.is_trailing w.waiting word w.held) _
-        (word_passes s names w.is_trailing w.waiting word w.held) (step_passes s w.position met.0 met.1)
+    (word_passes s names w.is_trailing w.waiting word w.held) (step_passes s w.position met.0 met.1)
     (word_none s names w.is_trailing w.waiting word w.held) (step_none s w.position met.0 met.1))
 
 words_none : (s : Shape) (names : Names) (w : Walk) (words : List Text)
@@ -262,7 +262,7 @@ unfolding walk_fault walk_passes
 words_none s names w [] = refl
 words_none s names w (word ∷ rest) =
     none_else (turn_fault s names w word) _ (turn_passes s names w word)
-        (walk_passes s names (walked s.rules names w word) rest) (turn_none s names w word)
+    (walk_passes s names (walked s.rules names w word) rest) (turn_none s names w word)
     (words_none s names (walked s.rules names w word) rest)
 
 -- ---- after the walk, at a command whose defaults can be read and whose arguments have no rule on one another
@@ -289,7 +289,7 @@ given_default_none a false pass = go (is_empty a.defaults) pass
     go true p = refl
     go false p =
         none_else (request_kinds (action_of a)) (values_fault a a.defaults) _ _ (request_none (action_of a))
-            (values_none a a.defaults) ∙ p
+        (values_none a a.defaults) ∙ p
 
 defaults_none : (rows : List Row) (c : List Rule) → list_all default_passes c ≡ true
     → none (defaults_fault rows c) ≡ true
@@ -298,19 +298,19 @@ defaults_none rows [] pass = refl
 defaults_none rows (a ∷ c) pass =
     let parts = both (default_passes a) (list_all default_passes c) pass in
     none_else (default_fault rows a) (defaults_fault (with_default rows a) c) true true
-        (given_default_none a (has_row a.id rows) parts.0)
+    (given_default_none a (has_row a.id rows) parts.0)
     (defaults_none (with_default rows a) c parts.1)
 
 wanted : (rows : List Row) (c : List Rule)
     → not (list_any (λ a. a.required && not (is_given a.id rows)) c)
-        ≡ list_all (λ a. not a.required || is_given a.id rows) c
+    ≡ list_all (λ a. not a.required || is_given a.id rows) c
 wanted rows [] = refl
 wanted rows (a ∷ c) = go (wanted rows c) a.required (is_given a.id rows)
   where
     go : not (list_any (λ a. a.required && not (is_given a.id rows)) c)
         ≡ list_all (λ a. not a.required || is_given a.id rows) c → (r g : Bool)
         → not ((r && not g) || list_any (λ a. a.required && not (is_given a.id rows)) c)
-            ≡ ((not r || g) && list_all (λ a. not a.required || is_given a.id rows) c)
+        ≡ ((not r || g) && list_all (λ a. not a.required || is_given a.id rows) c)
     go later true true = later
     go later true false = refl
     go later false g = later
@@ -318,8 +318,8 @@ wanted rows (a ∷ c) = go (wanted rows c) a.required (is_given a.id rows)
 -- the last checks, by their tests
 checks_none : (below help some_given subcommand negates missing : Bool)
     → none
-        (check_kinds (not below && (help && not some_given)) (not below && subcommand)
-        (not (negates && below) && missing))
+    (check_kinds (not below && (help && not some_given)) (not below && subcommand)
+    (not (negates && below) && missing))
     ≡ ((not help || (below || some_given)) && ((not subcommand || below) && ((negates && below) || not missing)))
 checks_none true true g true true m = refl
 checks_none true true g true false true = refl
@@ -352,12 +352,12 @@ check_none s rows below free =
     let some_given = list_any (λ r. explicit_source r.source) rows in
     checks_none below s.arg_required_else_help some_given s.subcommand_required s.subcommand_negates_reqs missing
     ∙ ap
-        (λ (b : Bool). (not s.arg_required_else_help || (below || some_given)) &&
-        ((not s.subcommand_required || below) && ((s.subcommand_negates_reqs && below) || b)))
+    (λ (b : Bool). (not s.arg_required_else_help || (below || some_given)) &&
+    ((not s.subcommand_required || below) && ((s.subcommand_negates_reqs && below) || b)))
     (wanted rows s.rules)
     ∙ ap (λ (b : Bool). (not s.arg_required_else_help || (below || some_given)) && ((not s.subcommand_required || below)
     && (b && ((s.subcommand_negates_reqs && below) || list_all (λ a. not a.required || is_given a.id rows) s.rules))))
-        (sym free)
+    (sym free)
 
 -- the defaults of a command can be read, and its arguments have no rule on one another
 abbrev is_sound : Shape → Bool
@@ -379,22 +379,22 @@ level_none s names h words has_subcommand below passes sound same =
     let settles = settle_passes s.rules s.args_override_self end in
     let valid = is_valid s (finished s.rules end) has_subcommand in
     none_else (walk_fault s names (walk_from h) words) _ walked
-        (passes && (settles && (list_all default_passes s.rules && valid)))
+    (passes && (settles && (list_all default_passes s.rules && valid)))
     (words_none s names (walk_from h) words)
     (none_else below _ passes (settles && (list_all default_passes s.rules && valid)) same
     (none_else (settle_fault s.rules s.args_override_self end) _ settles (list_all default_passes s.rules && valid)
-        (settle_none s.rules s.args_override_self end)
+    (settle_none s.rules s.args_override_self end)
     (none_else (defaults_fault (settled s.rules end).rows s.rules) _ (list_all default_passes s.rules) valid
     (defaults_none (settled s.rules end).rows s.rules parts.0 ∙ sym parts.0)
-        (check_none s (finished s.rules end) has_subcommand parts.1))))
+    (check_none s (finished s.rules end) has_subcommand parts.1))))
     ∙ exchanged walked passes (settles && (list_all default_passes s.rules && valid))
 
 named_none : (p : Text × List Text) (shapes : List Shape) → list_all is_sound shapes ≡ true
     → none
-        (option_map_or (λ s. level_fault s [] nothing_held p.1 false [])
-        (find (λ s. answers_to p.0 (label_of s)) shapes) [])
+    (option_map_or (λ s. level_fault s [] nothing_held p.1 false [])
+    (find (λ s. answers_to p.0 (label_of s)) shapes) [])
     ≡ option_map_or (λ s. level_passes s [] nothing_held p.1 false)
-        (find (λ s. answers_to p.0 (label_of s)) shapes) true
+    (find (λ s. answers_to p.0 (label_of s)) shapes) true
 named_none p [] sound = refl
 named_none p (s ∷ shapes) sound =
     go (named_none p shapes (both (is_sound s) (list_all is_sound shapes) sound).1) (answers_to p.0 (label_of s))
@@ -403,12 +403,12 @@ named_none p (s ∷ shapes) sound =
         (option_map_or (λ s. level_fault s [] nothing_held p.1 false [])
         (find (λ s. answers_to p.0 (label_of s)) shapes) [])
         ≡ option_map_or (λ s. level_passes s [] nothing_held p.1 false)
-            (find (λ s. answers_to p.0 (label_of s)) shapes) true → (b : Bool)
+        (find (λ s. answers_to p.0 (label_of s)) shapes) true → (b : Bool)
         → none
-            (option_map_or (λ s. level_fault s [] nothing_held p.1 false [])
-            (cond b (Some s) (find (λ s. answers_to p.0 (label_of s)) shapes)) [])
+        (option_map_or (λ s. level_fault s [] nothing_held p.1 false [])
+        (cond b (Some s) (find (λ s. answers_to p.0 (label_of s)) shapes)) [])
         ≡ option_map_or (λ s. level_passes s [] nothing_held p.1 false)
-            (cond b (Some s) (find (λ s. answers_to p.0 (label_of s)) shapes)) true
+        (cond b (Some s) (find (λ s. answers_to p.0 (label_of s)) shapes)) true
     go later true =
         level_none s [] nothing_held p.1 false [] true (both (is_sound s) (list_all is_sound shapes) sound).0 refl
     go later false = later
@@ -426,7 +426,7 @@ none_is words =
     let top = (built program).top in
     let stop = (walk top.rules (names_of (built program)) nothing_held rest).stopped in
     level_none top (names_of (built program)) nothing_held rest (is_some (entered (built program) stop))
-        (entered_fault (built program) stop)
+    (entered_fault (built program) stop)
     (entered_passes (built program) stop) refl (entered_none stop)
 
 none_there : (found : Kinds) → none found ≡ true → found ≡ []

@@ -6,9 +6,12 @@ use Rattle.clap.specs.Walk.{Text}
 use Rattle.command_line.specs.Reading.{Names, NamesCommands}
 
 pub named : (text : List ℕ) (name : Text) → HasMatch (FindsText name) text → Names text name
-named text name has =
-    (take has.0 text, drop has.1 text, sym (take-append-drop has.0 text)
-        ∙ ap (λ (rest : List ℕ). take has.0 text ++ rest) has.2.1.split)
+named text name has = (
+  take has.0 text,
+  drop has.1 text,
+  sym (take-append-drop has.0 text)
+      ∙ ap (λ (rest : List ℕ). take has.0 text ++ rest) has.2.1.split,
+)
 
 abbrev pub all_names : List ℕ
 all_names = codes "solve, check, report, nested, play, climb\n"

@@ -19,11 +19,11 @@ help_among : (found : Kinds) → found ≡ kinds.DisplayHelp ∷ kinds.InvalidSu
     → IsAmong kinds.DisplayHelp found × IsAmong kinds.InvalidSubcommand found
 help_among found is =
     subst (λ (k : Kinds). IsAmong kinds.DisplayHelp k × IsAmong kinds.InvalidSubcommand k) (sym is)
-        (inl refl, inr (inl refl))
+    (inl refl, inr (inl refl))
 
 pub shown : (words : List Text) (kind : ErrorKind) (fault : JobFault) → (kind ≡ kinds.OutOfMemory → fault ≡ Memory)
     → ShowsKind words kind fault → (kind ≡ kinds.OutOfMemory) ⊎ IsAmong kind (fault_of program words)
-        → Shows words fault
+    → Shows words fault
 shown words kind (Help text) none shows (inl out) = let bad = none out in cc
 shown words kind (Usage text) none shows (inl out) = let bad = none out in cc
 shown words kind Memory none shows has = tt
@@ -33,9 +33,10 @@ shown words kind (Help text) none (inr (is, inl asked)) (inr has) =
     inr (((help_among (fault_of program words) (help_found words asked.0)).0, λ asks. asked.1), is)
 shown words kind (Help text) none (inr (is, inr found)) (inr has) =
     inr ((among (fault_of program words) _ _ found.1 has, λ asks. absurd (true≢false (sym asks ∙ found.0))), is)
-shown words kind (Usage text) none (inl asked) (inr has) =
-    ((kinds.InvalidSubcommand, (help_among (fault_of program words) (help_found words asked.0)).1, (λ e. cc), λ e. cc),
-        λ asks. asked.1)
+shown words kind (Usage text) none (inl asked) (inr has) = (
+  (kinds.InvalidSubcommand, (help_among (fault_of program words) (help_found words asked.0)).1, (λ e. cc), λ e. cc),
+  λ asks. asked.1,
+)
 shown words kind (Usage text) none (inr found) (inr has) =
     ((kind, has, found.1, found.2), λ asks. absurd (true≢false (sym asks ∙ found.0)))
 

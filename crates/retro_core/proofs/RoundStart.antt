@@ -81,8 +81,7 @@ base-is n board_is round rank value i =
         | inl more ↦ absurd (none_some value (sym (base-open a round rank more) ∙ e))
         | inr stop ↦ (
             let found = stops-at a round rank stop in
-            let same : found.value ≡ value = some_same found.value value (sym (base-value a is round rank found.value i found.most found.lasting found.stopping) ∙ e) in
-            (
+            let same : found.value ≡ value = some_same found.value value (sym (base-value a is round rank found.value i found.most found.lasting found.stopping) ∙ e) in (
               subst (λ v. v ≤ round) same found.most,
               subst (λ v. HasValue n.board (configuration_of n rank) (Finite v)) same (value_of_lasts n board_is found.value rank i found.lasting found.stopping),
             ))

@@ -28,8 +28,10 @@ count-one test = by (test 0) refl
     by true e = same_size P (count_to test 1) 1 size (record {
       members = 0 ∷ [];
       ascending = λ i j d less inside. absurd (omega arith);
-      each = λ k. (λ among. (let same = only_zero k among in omega arith, ap test (sym (only_zero k among)) ∙ e),
-          λ holds. (0, omega arith, let low : k < 1 = holds.0 in omega arith));
+      each = λ k. (
+        λ among. (let same = only_zero k among in omega arith, ap test (sym (only_zero k among)) ∙ e),
+        λ holds. (0, omega arith, let low : k < 1 = holds.0 in omega arith),
+      );
       so_many = refl;
     })
     by false e = same_size P (count_to test 1) 0 size
@@ -54,9 +56,11 @@ live-size a g above P means =
     let test : ℕ → Bool = λ v. a.struck (a.member g v) == g && above (a.member g v) in
     subst (HasSize (λ v. IsAnswerAt a g v × P v)) (count-same test a.places)
     (size_of (λ v. IsAnswerAt a g v × P v) test a.places (λ v. (
-      λ holds. let low : v < a.places = holds.0.is_place in
-          (low, and_true (a.struck (a.member g v) == g) (above (a.member g v)) (same_is (a.struck (a.member g v)) g holds.0.struck)
-          ((means v low).1 holds.1)),
+      λ holds. let low : v < a.places = holds.0.is_place in (
+        low,
+        and_true (a.struck (a.member g v) == g) (above (a.member g v)) (same_is (a.struck (a.member g v)) g holds.0.struck)
+            ((means v low).1 holds.1),
+      ),
       λ passes. let both = both_true (a.struck (a.member g v) == g) (above (a.member g v)) passes.1 in
           (record { is_place = passes.0; struck = test_same (a.struck (a.member g v)) g both.0 }, (means v passes.0).0 both.1),
     )))

@@ -86,11 +86,7 @@ impl<S: ListStore + Drop> Solver<S> {
 
     /// A solver of `board` by `numbering`, which has filed the configurations of value 0, in
     /// ascending order.
-    fn opened(
-        alloc: Global,
-        board: &Board,
-        numbering: Numbering,
-    ) -> Result<Solver<S>, SolveFault>
+    fn opened(alloc: Global, board: &Board, numbering: Numbering) -> Result<Solver<S>, SolveFault>
         ensures game { IfOk result (λ solver. solver.game ≡ numbered board.now numbering) }
         ensures start { IfOk result (λ solver. (solver.rounds ≡ 0) × (solver.is_done ≡ false)) }
         ensures kept { IfOk result (λ solver. IsSolving solver) }

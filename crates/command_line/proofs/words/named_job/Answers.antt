@@ -30,5 +30,5 @@ returns-clause-shows c =
     let found = c.in-Ok.ensures.ok.2 c.in_ok-command.ensures.simple in
     let read = found.1 ∙ c.in_ok-command.ensures.reads words in
     absurd
-        (true≢false
-        (sym (taken words ((faults_or_taken words).0 none)) ∙ (ap is_read (sym read) ∙ c.in-None.ensures.none refl)))
+    (true≢false
+    (sym (taken words ((faults_or_taken words).0 none)) ∙ (ap is_read (sym read) ∙ c.in-None.ensures.none refl)))

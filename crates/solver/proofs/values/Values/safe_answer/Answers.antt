@@ -47,8 +47,7 @@ returns-then-lasts_forever c =
     let label : ℕ = c.loop-label.label in
     let low : label < MAX_LABELS = omega (arith, few-labels at, end-is at, c.loop-label-test.true) in
     let answer = (answers-are at label low).0 (sym c.contains.ensures ∙ c.if-contains.true) in
-    let lasts = subst (λ (v : PlainResults). HasValue v.board (member_of v.board v.gap label) Forever) c.results-results.ensures.results (c.lasts_forever.ensures.0 c.if-lasts_forever.true) in
-    (
+    let lasts = subst (λ (v : PlainResults). HasValue v.board (member_of v.board v.gap label) Forever) c.results-results.ensures.results (c.lasts_forever.ensures.0 c.if-lasts_forever.true) in (
       (answer, lasts),
       λ other safe. elim (cases_lt other label) [
         | inl less ↦ absurd (c.loop-label.invariant other less safe)
