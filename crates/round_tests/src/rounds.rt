@@ -4,7 +4,8 @@
 //! made once more.
 
 ghost use Rattle.std.specs.Prelude.{◌≡◌, ◌<◌, ◌^◌, false};
-ghost use Rattle.retro_core.specs.Round.{board_of};
+ghost use Rattle.graphs.specs.Numbered.{graph_of};
+ghost use Rattle.retro_core.specs.Round.{round_graph};
 
 use crate::assertions::{assert_same, board_of};
 use board_text::Board;
@@ -35,7 +36,7 @@ fn round_of<'a>(
 ) -> RoundState<'a, PlainLists>
     requires going { solver.now.is_done ≡ false }
     requires width { 0 < width }
-    ensures { board_of result ≡ solver.now.board }
+    ensures { round_graph result ≡ graph_of solver.now.game }
 {
     match RoundState::open(alloc, solver, width) {
         Ok(round) => round,
@@ -209,8 +210,8 @@ fn values_of_an_opened_round(rt: HostRuntime) {
     let board = board_of(&rt, rt.alloc(), CHAIN_OF_THREE);
     let solver = opened(&rt, rt.alloc(), &board);
     let round = round_of(&rt, rt.alloc(), &solver, 1);
-    assert_same(&rt, "configurations", solver.space().configurations(), 9);
-    for rank in 0..solver.space().configurations() {
+    assert_same(&rt, "configurations", solver.graph().configurations(), 9);
+    for rank in 0..solver.graph().configurations() {
         let wanted = ZEROS.get(rank as usize).copied();
         assert_same(&rt, rank, Some(round.value_at(rank)), wanted);
     }

@@ -299,8 +299,8 @@ fn values_of_a_closed_round(rt: HostRuntime) {
     let board = board_of(&rt, rt.alloc(), CHAIN_OF_THREE);
     let solver = opened(&rt, rt.alloc(), &board);
     let closed = closed_round(&rt, rt.alloc(), &solver);
-    assert_same(&rt, "configurations", solver.space().configurations(), 9);
-    for rank in 0..solver.space().configurations() {
+    assert_same(&rt, "configurations", solver.graph().configurations(), 9);
+    for rank in 0..solver.graph().configurations() {
         let wanted = ZEROS_AND_ONES.get(rank as usize).copied();
         assert_same(&rt, rank, Some(closed.value_at(rank)), wanted);
     }

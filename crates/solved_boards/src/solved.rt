@@ -1,8 +1,10 @@
 //! Solvers of boards and their values.
 
-ghost use Rattle.std.specs.Prelude.{◌≡◌, ◌≤◌, IfOk, IfSome, MatchOption};
+ghost use Rattle.std.specs.Prelude.{◌≡◌, ◌≤◌, false, IfOk, IfSome, MatchOption};
 ghost use Rattle.positions.specs.Ranks.{configurations, configuration_at};
 ghost use Rattle.positions.specs.Value.{HasValue};
+ghost use Rattle.graphs.specs.declared.graph.Numbering.TheVariants.{Ordered, Classes};
+ghost use Rattle.graphs.specs.Numbered.{numbered};
 ghost use Rattle.solver.specs.Solving.{IsSolving};
 
 use board_text::Board;
@@ -13,11 +15,27 @@ use std::alloc::Global;
 
 /// The answer of `Solver::open`, which is asked once more if it was refused memory.
 pub fn solver_of<S: ListStore + Drop>(alloc: Global, board: &Board) -> Result<Solver<S>, SolveFault>
-    ensures board { IfOk result (λ solver. solver.board ≡ board.now) }
+    ensures game { IfOk result (λ solver. solver.game ≡ numbered board.now Ordered) }
+    ensures start { IfOk result (λ solver. (solver.rounds ≡ 0) × (solver.is_done ≡ false)) }
     ensures kept { IfOk result (λ solver. IsSolving solver) }
 {
     match Solver::open(alloc, board) {
         Err(SolveFault::Memory) => Solver::open(alloc, board),
+        opened => opened,
+    }
+}
+
+/// The answer of `Solver::of_classes`, which is asked once more if it was refused memory.
+pub fn class_solver_of<S: ListStore + Drop>(
+    alloc: Global,
+    board: &Board,
+) -> Result<Solver<S>, SolveFault>
+    ensures game { IfOk result (λ solver. solver.game ≡ numbered board.now Classes) }
+    ensures start { IfOk result (λ solver. (solver.rounds ≡ 0) × (solver.is_done ≡ false)) }
+    ensures kept { IfOk result (λ solver. IsSolving solver) }
+{
+    match Solver::of_classes(alloc, board) {
+        Err(SolveFault::Memory) => Solver::of_classes(alloc, board),
         opened => opened,
     }
 }

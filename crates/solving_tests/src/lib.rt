@@ -12,4 +12,6 @@ mod solving;
 #[cfg(test)]
 mod solving_calls;
 #[cfg(test)]
+mod solving_classes;
+#[cfg(test)]
 mod solving_shapes;

@@ -3,7 +3,11 @@
 //! A run of the tests may refuse one growth of memory, whichever. So a call that was refused one is
 //! made once more.
 
+ghost use Rattle.std.specs.Prelude.{◌≡◌};
+ghost use Rattle.graphs.specs.declared.graph.Numbering.TheVariants.{Ordered};
+
 use crate::assertions::{assert_same, board_of};
+use crate::solving_classes::assert_same_values;
 use board_text::Board;
 use fakes::boards::{
     CHAIN_OF_THREE, CYCLE_WITHOUT_LABELS, LONE_LABEL, LONE_WITHOUT_LABEL, ONE_PAIR,
@@ -12,24 +16,44 @@ use fakes::boards::{
 use fakes::value_at;
 use index_lists::{LinkLists, ListStore, PlainLists};
 use positions::{Space, Value};
-use solved_boards::{solver_of, value};
+use solved_boards::{class_solver_of, solver_of, value};
 use solver::{Progress, Solver, Values};
 use std::alloc::Global;
 use std::process::Abort;
 
 /// The solver of a board.
-pub(crate) fn open<S: ListStore + Drop>(
+pub(crate) fn open<S: ListStore + Drop>(rt: &impl Abort, alloc: Global, board: &Board) -> Solver<S>
+    ensures { result.game.numbering ≡ Ordered }
+{
+    solver_of(alloc, board).expect(rt, "a solver")
+}
+
+/// The solver of a board by classes.
+pub(crate) fn open_classes<S: ListStore + Drop>(
     rt: &impl Abort,
     alloc: Global,
     board: &Board,
 ) -> Solver<S> {
-    solver_of(alloc, board).expect(rt, "a solver")
+    class_solver_of(alloc, board).expect(rt, "a solver by classes")
 }
 
 /// The values of a board, found round by round.
 pub(crate) fn solve<S: ListStore + Drop>(rt: &impl Abort, alloc: Global, board: &Board) -> Values {
-    let mut solver: Solver<S> = open(rt, alloc, board);
-    for _ in 0..=solver.space().configurations() {
+    finished(rt, open::<S>(rt, alloc, board))
+}
+
+/// The values of a board, found round by round by classes.
+pub(crate) fn solve_classes<S: ListStore + Drop>(
+    rt: &impl Abort,
+    alloc: Global,
+    board: &Board,
+) -> Values {
+    finished(rt, open_classes::<S>(rt, alloc, board))
+}
+
+/// The values of a solver's board, after all its rounds.
+fn finished<S: ListStore + Drop>(rt: &impl Abort, mut solver: Solver<S>) -> Values {
+    for _ in 0..=solver.graph().configurations() {
         if solver.round() == Progress::Done {
             break;
         }
@@ -37,9 +61,9 @@ pub(crate) fn solve<S: ListStore + Drop>(rt: &impl Abort, alloc: Global, board: 
     solver.finish().ok().expect(rt, "values")
 }
 
-/// The value that a solver has for a rank, if it is one.
+/// The value that a solver has for a number, if it is that of a configuration.
 fn known<S: ListStore>(solver: &Solver<S>, rank: u32) -> Option<u32> {
-    if rank < solver.space().configurations() {
+    if rank < solver.graph().configurations() {
         solver.value_at(rank)
     } else {
         None
@@ -47,7 +71,7 @@ fn known<S: ListStore>(solver: &Solver<S>, rank: u32) -> Option<u32> {
 }
 
 /// The safe answer of a gap, if it is one.
-fn safe(values: &Values, gap: u32) -> Option<u16> {
+pub(crate) fn safe(values: &Values, gap: u32) -> Option<u16> {
     if gap < values.space().gaps() {
         values.safe_answer(gap)
     } else {
@@ -68,10 +92,12 @@ pub(crate) fn slow_value(board: &Board, space: &Space, rank: u32) -> Option<Valu
     value_at(board, labels.get_mut(..pebbles as usize)?)
 }
 
-/// Asserts the values that a solver has for the ranks from 0 on.
-fn assert_known<S: ListStore>(rt: &impl Abort, solver: &Solver<S>, wanted: [u32; 9]) {
-    for rank in 0..9 {
-        assert_same(rt, rank, known(solver, rank), Some(wanted[rank as usize]));
+/// Asserts the values that a solver has for the numbers from 0 on.
+pub(crate) fn assert_known<S: ListStore>(rt: &impl Abort, solver: &Solver<S>, wanted: &[u32]) {
+    let mut number: u32 = 0;
+    for value in wanted {
+        assert_same(rt, number, known(solver, number), Some(*value));
+        number = number.saturating_add(1);
     }
 }
 
@@ -96,7 +122,7 @@ fn chain<S: ListStore + Drop>(rt: &impl Abort, alloc: Global) {
     assert_two_rounds(rt, &mut solver, filed, false);
     assert_two_rounds(rt, &mut solver, [Progress::Done, Progress::Done], true);
     assert_same(rt, "the last round", solver.round_number(), 2);
-    assert_known(rt, &solver, [2, 1, 0, 1, 1, 0, 0, 0, 0]);
+    assert_known(rt, &solver, &[2, 1, 0, 1, 1, 0, 0, 0, 0]);
 }
 
 #[test]
@@ -187,7 +213,8 @@ fn one_label(rt: HostRuntime) {
     assert_same(&rt, SHARED_LABEL, shared, (Some(Value::Finite(0)), None));
 }
 
-/// Asserts that each configuration has the value of the slow program, with both stores.
+/// Asserts that each configuration has the value of the slow program, with both stores, and that
+/// the values by classes are the same.
 pub(crate) fn assert_solved(rt: &impl Abort, alloc: Global, board: &Board) {
     let linked = solve::<LinkLists>(rt, alloc, board);
     let plain = solve::<PlainLists>(rt, alloc, board);
@@ -196,6 +223,8 @@ pub(crate) fn assert_solved(rt: &impl Abort, alloc: Global, board: &Board) {
         assert_same(rt, ("linked", rank), value(&linked, rank), expected);
         assert_same(rt, ("plain", rank), value(&plain, rank), expected);
     }
+    let classes = solve_classes::<PlainLists>(rt, alloc, board);
+    assert_same_values(rt, &classes, &plain);
 }
 
 #[test]

@@ -2,8 +2,11 @@
 //!
 //! A run of the tests may refuse one growth of memory, whichever.
 
+ghost use Rattle.std.specs.Prelude.{◌≡◌};
+ghost use Rattle.graphs.specs.declared.graph.Numbering.TheVariants.{Ordered};
+
 use crate::assertions::{assert_same, board_of};
-use crate::solving::{open, solve};
+use crate::solving::{open, solve, solve_classes};
 use board_text::Board;
 use fakes::boards::{CHAIN_OF_THREE, CYCLE_WITH_A_WAY_IN, NO_PAIRS, THREE_PEBBLES};
 use fakes::make_nested;
@@ -20,7 +23,7 @@ fn filed<S: ListStore>(solver: &Solver<S>, value: u32) -> [Option<u32>; 6] {
     for place in 0..6 {
         found[place] = at;
         at = match at {
-            Some(rank) if rank < solver.space().configurations() => solver.next_filed(rank),
+            Some(rank) if rank < solver.graph().configurations() => solver.next_filed(rank),
             _ => None,
         };
     }
@@ -29,7 +32,7 @@ fn filed<S: ListStore>(solver: &Solver<S>, value: u32) -> [Option<u32>; 6] {
 
 /// The first member of a gap without a value, if it is a gap.
 fn first_source<S: ListStore>(solver: &Solver<S>, gap: u32) -> Option<u32> {
-    if gap < solver.space().gaps() {
+    if gap < solver.graph().gaps() {
         solver.first_source(gap)
     } else {
         None
@@ -39,7 +42,7 @@ fn first_source<S: ListStore>(solver: &Solver<S>, gap: u32) -> Option<u32> {
 /// The members of a gap without a value, if it is a gap, as far as there is room.
 fn sources<S: ListStore>(solver: &Solver<S>, gap: u32) -> [Option<u32>; 3] {
     let mut found = [None; 3];
-    if gap < solver.space().gaps() {
+    if gap < solver.graph().gaps() {
         let mut walk = solver.sources(gap);
         found = [walk.take_next(), walk.take_next(), walk.take_next()];
     }
@@ -48,7 +51,7 @@ fn sources<S: ListStore>(solver: &Solver<S>, gap: u32) -> [Option<u32>; 3] {
 
 /// The next member of a gap without a value after this one, if they are a gap and a rank.
 fn next_source<S: ListStore>(solver: &Solver<S>, gap: u32, rank: u32) -> Option<u32> {
-    if gap < solver.space().gaps() && rank < solver.space().configurations() {
+    if gap < solver.graph().gaps() && rank < solver.graph().configurations() {
         solver.next_source(gap, rank)
     } else {
         None
@@ -57,7 +60,7 @@ fn next_source<S: ListStore>(solver: &Solver<S>, gap: u32, rank: u32) -> Option<
 
 /// The count of a gap, if it is one.
 fn count_of<S: ListStore>(solver: &Solver<S>, gap: u32) -> Option<u32> {
-    if gap < solver.space().gaps() {
+    if gap < solver.graph().gaps() {
         Some(solver.count_of(gap))
     } else {
         None
@@ -65,8 +68,10 @@ fn count_of<S: ListStore>(solver: &Solver<S>, gap: u32) -> Option<u32> {
 }
 
 /// The dominator of a configuration, if it is one and has one.
-fn dominator<S: ListStore>(solver: &Solver<S>, rank: u32) -> Option<u8> {
-    if rank < solver.space().configurations() {
+fn dominator<S: ListStore>(solver: &Solver<S>, rank: u32) -> Option<u8>
+    requires { solver.now.game.numbering ≡ Ordered }
+{
+    if rank < solver.graph().configurations() {
         solver.dominator(rank)
     } else {
         None
@@ -74,7 +79,7 @@ fn dominator<S: ListStore>(solver: &Solver<S>, rank: u32) -> Option<u8> {
 }
 
 /// Asserts the first configurations that are filed at values.
-fn assert_filed<S: ListStore>(
+pub(crate) fn assert_filed<S: ListStore>(
     rt: &impl Abort,
     solver: &Solver<S>,
     wanted: &[(u32, [Option<u32>; 6])],
@@ -129,7 +134,9 @@ fn assert_counts_of_gaps<S: ListStore>(rt: &impl Abort, solver: &Solver<S>, want
 const STUCK: [Option<u32>; 6] = [Some(2), Some(5), Some(6), Some(7), Some(8), None];
 
 /// Asserts the lists of a chain of three labels before its first round.
-fn assert_lists_before<S: ListStore>(rt: &impl Abort, solver: &Solver<S>) {
+fn assert_lists_before<S: ListStore>(rt: &impl Abort, solver: &Solver<S>)
+    requires { solver.now.game.numbering ≡ Ordered }
+{
     assert_same(rt, ("dominator of", 5), dominator(solver, 5), Some(1));
     assert_same(rt, ("dominator of", 8), dominator(solver, 8), None);
     assert_filed(rt, solver, &[(0, STUCK), (1, [None; 6])]);
@@ -182,13 +189,33 @@ fn first_rounds<S: ListStore + Drop>(
     Ok([solver.round(), solver.round(), solver.round()])
 }
 
-/// Opens a solver three times. At most one growth of memory is refused: that call says so, and the
-/// others give a solver.
-fn open_in_turn<S: ListStore + Drop>(rt: &impl Abort, alloc: Global, board: &Board) {
-    let wanted = [Progress::Filed(3), Progress::Filed(1), Progress::Done];
+/// The answers of the first rounds of a solver by classes.
+fn first_rounds_of_classes<S: ListStore + Drop>(
+    alloc: Global,
+    board: &Board,
+) -> Result<[Progress; 3], SolveFault> {
+    let mut solver: Solver<S> = Solver::of_classes(alloc, board)?;
+    Ok([solver.round(), solver.round(), solver.round()])
+}
+
+/// Opens a solver three times, by ranks or by classes. At most one growth of memory is refused: that
+/// call says so, and the others give a solver.
+fn open_in_turn<S: ListStore + Drop>(
+    rt: &impl Abort,
+    alloc: Global,
+    board: &Board,
+    by_classes: bool,
+) {
+    let first = if by_classes { 2 } else { 3 };
+    let wanted = [Progress::Filed(first), Progress::Filed(1), Progress::Done];
     let mut was_refused = false;
     for _ in 0..3 {
-        match first_rounds::<S>(alloc, board) {
+        let found = if by_classes {
+            first_rounds_of_classes::<S>(alloc, board)
+        } else {
+            first_rounds::<S>(alloc, board)
+        };
+        match found {
             Ok(rounds) => assert_same(rt, "rounds", rounds, wanted),
             Err(fault) => {
                 assert_same(
@@ -206,8 +233,10 @@ fn open_in_turn<S: ListStore + Drop>(rt: &impl Abort, alloc: Global, board: &Boa
 #[test]
 fn a_growth_is_refused(rt: HostRuntime) {
     let board = board_of(&rt, rt.alloc(), CHAIN_OF_THREE);
-    open_in_turn::<PlainLists>(&rt, rt.alloc(), &board);
-    open_in_turn::<LinkLists>(&rt, rt.alloc(), &board);
+    for by_classes in [false, true] {
+        open_in_turn::<PlainLists>(&rt, rt.alloc(), &board, by_classes);
+        open_in_turn::<LinkLists>(&rt, rt.alloc(), &board, by_classes);
+    }
 }
 
 /// Asserts the number of configurations of each of the finite values and of the value Forever, and
@@ -236,6 +265,8 @@ fn counts(rt: HostRuntime) {
         let board = board_of(&rt, rt.alloc(), text);
         let values = solve::<LinkLists>(&rt, rt.alloc(), &board);
         assert_counts(&rt, &values, finite, forever);
+        let classes = solve_classes::<PlainLists>(&rt, rt.alloc(), &board);
+        assert_counts(&rt, &classes, finite, forever);
     }
 }
 
