@@ -11,7 +11,7 @@ use Rattle.positions.specs.Counts.{HasSize}
 use Rattle.positions.specs.Ranks.{configurations, configuration_at}
 use Rattle.positions.specs.Value.{HasValue}
 use Rattle.positions.proofs.Cited.{size_of, some_value, configuration_at_is, same_size, same_value}
-use Rattle.solver.specs.Inside.Arena.{count_below}
+use Rattle.graphs.specs.Graph.{count_below}
 use Rattle.solver.proofs.Cited.{count-same}
 use Rattle.solver.specs.Sizes.{HasCount}
 use Rattle.runs.specs.Report.{Report, IsReport}

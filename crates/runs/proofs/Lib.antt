@@ -13,3 +13,4 @@ pub mod Endings
 pub mod Served
 pub mod MoreTexts
 pub mod ShownTexts
+pub mod PlayFaults

@@ -1,4 +1,6 @@
-use Rattle.std.proofs.Common.{inr, refl}
+use Rattle.std.proofs.Common.{inl, inr, refl, sym, ap, ◌∙◌}
+use Rattle.std.specs.Prelude.{Err}
+use Rattle.runs.proofs.PlayFaults.{lines-told, ok_or_err, same_run_fault, writer-told}
 use Rattle.std.proofs.lemmas.Result.{err_from_is_err_and}
 use Rattle.runs.proofs.playing.run_play.Goals as goal
 
@@ -17,3 +19,22 @@ returns-in_err-play-clause-fault g c =
       c.in_ok-board.ensures.found,
       (_, rw c.new-moves.ensures at c.in_err-play.ensures.fault, refl),
     ))
+
+pub returns-in_err-play-clause-streams : goal.returns-in_err-play-clause-streams
+returns-in_err-play-clause-streams g c =
+    let p = err_from_is_err_and c.from_residual-in_err-play.result c.from_residual-in_err-play.ensures.1 in
+    let told = c.in_err-play.ensures.streams in
+    let is = p.1 ∙ ap Err p.2 in
+    record {
+      read = (
+        λ failed. elim failed [
+          | inl board ↦ absurd (ok_or_err _ _ _ c.in_ok-board.was (c.read_board.ensures.read.0 board))
+          | inr lines ↦ is ∙ ap Err ((lines-told _ _ _ told _ refl).0 lines)
+        ],
+        λ fault. inr ((lines-told _ _ _ told _ refl).1 (same_run_fault _ _ (sym is ∙ fault))),
+      );
+      write = (
+        λ failed. is ∙ ap Err ((writer-told _ _ _ told _ refl).0 failed),
+        λ fault. (writer-told _ _ _ told _ refl).1 (same_run_fault _ _ (sym is ∙ fault)),
+      );
+    }
