@@ -28,7 +28,8 @@ write-fault play_faults.Memory same = cc
 write-fault play_faults.Limit same = cc
 
 -- a play that broke off tells its streams by the fault of the run
-module _ (lines writer : Bool) (result : Result PlayEnd PlayFault) (told : TellsStreams result lines writer) (e : PlayFault) (is : result ≡ Err e) where
+module _ (lines writer : Bool) (result : Result PlayEnd PlayFault) (told : TellsStreams result lines writer)
+    (e : PlayFault) (is : result ≡ Err e) where
   pub lines-told : (lines ≡ true) ↔ (fault_of_play e ≡ Read)
   lines-told = (
     λ failed. ap fault_of_play (same_fault e play_faults.Read (sym is ∙ told.read.0 failed)),

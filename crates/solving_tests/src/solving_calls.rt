@@ -198,8 +198,8 @@ fn first_rounds_of_classes<S: ListStore + Drop>(
     Ok([solver.round(), solver.round(), solver.round()])
 }
 
-/// Opens a solver three times, by ranks or by classes. At most one growth of memory is refused: that
-/// call says so, and the others give a solver.
+/// Opens a solver three times, by ranks or by classes. At most one growth of memory is refused:
+/// that call says so, and the others give a solver.
 fn open_in_turn<S: ListStore + Drop>(
     rt: &impl Abort,
     alloc: Global,
