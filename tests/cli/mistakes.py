@@ -196,7 +196,7 @@ def of_streams(work):
     yield Mistake('a board on standard input that is too large', [], fault(1, 'board too large'), before, '1185921 configurations',
                   given=empty(33))
     large = written(work, 'mistake-memory.board', empty(32))
-    little = ['sh', '-c', 'ulimit -v 5120; exec "$0" "$@"']
+    little = ['sh', '-c', 'ulimit -v 4096; exec "$0" "$@"']
     yield Mistake('too little memory', ['solve', large], fault(4, 'out of memory'), 'memory', 'smaller board', before=little)
     full = ['sh', '-c', 'exec "$0" "$@" > /dev/full']
     yield Mistake('a full disk', ['solve', CHAIN], fault(5, 'write fault'), 'standard output', 'full', before=full)
