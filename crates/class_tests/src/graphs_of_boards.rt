@@ -205,22 +205,20 @@ fn wanted_member(worked: &Worked, gap: u32, place: u32) -> Option<(u32, bool)> {
 fn numbers_of(graph: &Graph, space: &Space, rank: u32) -> Option<(u32, u32, u32)>
     requires { space.now ≡ graph.now.board }
 {
-    if rank < space.configurations() && space.pebbles() >= 2 {
-        let first = graph.gap_number(space, rank, 0);
-        let second = graph.gap_number(space, rank, 1);
-        Some((graph.number(space, rank), first, second))
+    if rank < space.configurations() {
+        let standing = graph.standing(space, rank);
+        Some((standing.number, standing.gaps[0], standing.gaps[1]))
     } else {
         None
     }
 }
 
-/// The same, with the gaps by one call.
-fn numbers_at_once(graph: &Graph, space: &Space, rank: u32) -> Option<(u32, u32, u32)>
+/// The number alone.
+fn number_of(graph: &Graph, space: &Space, rank: u32) -> Option<u32>
     requires { space.now ≡ graph.now.board }
 {
     if rank < space.configurations() {
-        let gaps = graph.gap_numbers(space, rank);
-        Some((graph.number(space, rank), gaps[0], gaps[1]))
+        Some(graph.number(space, rank))
     } else {
         None
     }
@@ -292,9 +290,9 @@ fn assert_ranks(rt: &impl Abort, graph: &Graph, space: &Space, worked: &Worked)
         );
         assert_same(
             rt,
-            ("at once", rank),
-            numbers_at_once(graph, space, rank),
-            wanted,
+            ("number of", rank),
+            number_of(graph, space, rank),
+            wanted.map(|(number, _, _)| number),
         );
     }
 }

@@ -9,5 +9,5 @@ pub use Rattle.graphs.proofs.NumberedGraphs.{numbered-is, numbered-shows, some-c
 pub use Rattle.graphs.proofs.Shown.{tree-of-lasts, lasts-of-tree, worth-is, forever-is}
 pub use Rattle.graphs.proofs.NumberedValues.{tree_of_lasts, lasts_of_tree, value_of_lasts, lasts_of_value, forever_of_lasts, lasts_of_forever, places_are}
 pub use Rattle.graphs.proofs.Dominators.{ordered-gaps, dominator-some, dominator-none}
-pub use Rattle.graphs.proofs.ConfigurationNumbers.{configuration-is, gap-in-moved, number-below, number-value, number_at-below}
+pub use Rattle.graphs.proofs.ConfigurationNumbers.{configuration-is, gap-in-below, gap-in-legal, gap-in-moved, number-below, number-value, number_at-below}
 pub use Rattle.graphs.proofs.NumberWeights.{counted-numbers, counted-values}

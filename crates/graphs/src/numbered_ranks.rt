@@ -9,6 +9,7 @@ ghost use Rattle.graphs.specs.NumberedRanks.{number_at, gap_in, AreNumberWeights
 
 use crate::graph::Graph;
 use board_text::{MAX_PEBBLES, Memory};
+use classes::Standing;
 use positions::Space;
 use std::alloc::Global;
 
@@ -28,41 +29,27 @@ impl Graph {
         }
     }
 
-    /// The number of the gap of `pebble` at the configuration of `rank`.
+    /// The number of the configuration of `rank`, and those of the gaps of all pebbles there. This
+    /// takes one sort of the places.
     ///
     /// The space is that of the graph's board.
-    pub fn gap_number(&self, space: &Space, rank: u32, pebble: u8) -> u32
+    pub fn standing(&self, space: &Space, rank: u32) -> Standing
         requires space { space.now ≡ self.now.board }
         requires rank { rank < configurations self.now.board }
-        requires pebble { pebble < self.now.board.pebbles }
-        ensures gap { result ≡ gap_in self.now (configuration_at self.now.board rank) pebble }
-        ensures below { result < (graph_of self.now).gaps }
-    {
-        match &self.classes {
-            None => space.gap(rank, pebble),
-            Some(classes) => {
-                let _ = classes.pebbles();
-                classes.at_rank(space, rank).gaps[pebble as usize]
-            }
-        }
-    }
-
-    /// The numbers of the gaps of all pebbles at the configuration of `rank`, pebble by pebble.
-    /// This is quicker than a call for each. The entries after those of the pebbles say nothing.
-    ///
-    /// The space is that of the graph's board.
-    pub fn gap_numbers(&self, space: &Space, rank: u32) -> [u32; MAX_PEBBLES]
-        requires space { space.now ≡ self.now.board }
-        requires rank { rank < configurations self.now.board }
+        ensures number { result.number ≡ number_at self.now rank }
+        ensures below { result.number < (graph_of self.now).configurations }
         ensures gaps { (pebble : ℕ) → pebble < self.now.board.pebbles
-            → slice_index result pebble
+            → slice_index result.gaps pebble
             ≡ gap_in self.now (configuration_at self.now.board rank) pebble }
-        ensures below { (pebble : ℕ) → pebble < self.now.board.pebbles
-            → slice_index result pebble < (graph_of self.now).gaps }
+        ensures gaps_below { (pebble : ℕ) → pebble < self.now.board.pebbles
+            → slice_index result.gaps pebble < (graph_of self.now).gaps }
     {
         match &self.classes {
-            None => ordered_gaps(space, rank),
-            Some(classes) => classes.at_rank(space, rank).gaps,
+            None => Standing {
+                number: rank,
+                gaps: ordered_gaps(space, rank),
+            },
+            Some(classes) => classes.at_rank(space, rank),
         }
     }
 

@@ -110,6 +110,7 @@ fn all_struck<N: Numbers>(alloc: Global, numbers: &N, members: &[u32]) -> Result
 
 /// Notes `gap` at each of its answers.
 fn note_answers<N: Numbers>(struck: &mut [u32], numbers: &N, members: &[u32], gap: u32)
+    requires is_board { IsBoard (N.game numbers.now).board }
     requires gap { gap < (graph_of (N.game numbers.now)).gaps }
     requires size { length struck.old ≡ (graph_of (N.game numbers.now)).configurations }
     requires rows { AreMemberRows (graph_of (N.game numbers.now))
@@ -118,7 +119,6 @@ fn note_answers<N: Numbers>(struck: &mut [u32], numbers: &N, members: &[u32], ga
     ensures { IsGapNoted (graph_of (N.game numbers.now)) gap (graph_of (N.game numbers.now)).places
         struck.old struck.new }
 {
-    let _ = numbers.configurations();
     let first = gap as usize * numbers.places() as usize;
     let mut labels = numbers.answers(gap).walk();
     while let Some(label) = labels.take_next() {

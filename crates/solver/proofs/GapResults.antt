@@ -1,20 +1,24 @@
--- The members of a graph's gap have the words of the results in a gap of the board.
-use Rattle.std.proofs.Common.{◌≡◌, ℕ, ◌<◌, Bool, cond, inl, inr, sym, ap, ◌∙◌, subst, List, length, slice_index}
-use Rattle.board_text.specs.PlainBoard.{PlainBoard, IsBoard, IsConfiguration}
+-- The answers of a graph's gap, and the words of its members, are those of the requests in it.
+use Rattle.std.proofs.Common.{◌≡◌, ℕ, ◌<◌, ◌==◌, ◌↔◌, Bool, true, cond, inl, inr, sym, ap, ◌∙◌, subst, List, slice_index}
+use Rattle.board_text.specs.PlainBoard.{PlainBoard, IsBoard, IsConfiguration, places}
 use Rattle.positions.specs.declared.value.Value.{Value}
 use Rattle.positions.specs.declared.value.Value.TheVariants.{Finite, Forever}
-use Rattle.positions.specs.Game.{moved}
-use Rattle.positions.specs.Gaps.{gaps, pebble_of, member_of}
+use Rattle.positions.specs.Game.{Legal, moved}
+use Rattle.positions.specs.Gaps.{gaps, gap_of, pebble_of, member_of, IsAnswer}
 use Rattle.positions.specs.Ranks.{rank_of, configuration_at}
 use Rattle.positions.specs.Value.{HasValue}
-use Rattle.positions.proofs.Cited.{configuration_at-rank_of, gap_of-member_of, member_is, member_of-gap_of, pebble_below}
+use Rattle.positions.proofs.Cited.{configuration_at-rank_of, gap_below, gap_of-member_of, legal_is_answer, member_is, member_of-gap_of}
+use Rattle.positions.proofs.Cited.{pebble_below, same_value}
 use Rattle.board_text.proofs.Cited.{some_places}
 use Rattle.graphs.specs.Numbered.{Numbered, graph_of}
 use Rattle.graphs.specs.NumberedRanks.{gap_in, number_in}
-use Rattle.graphs.proofs.Cited.{gap-in-moved, number-below, number-value, places_are, true_or_false}
+use Rattle.graphs.proofs.Cited.{gap-in-legal, gap-in-moved, number-below, number-value, places_are}
+use Rattle.graphs.proofs.Cited.{true_or_false}
+use Rattle.solver.specs.GapRequests.{NumberedGap, IsRequestIn, numbered_gap}
 use Rattle.solver.specs.Words.{value_with_word}
 use Rattle.solver.specs.Inside.Tables.{is_open}
-use Rattle.solver.specs.Inside.Values.{IsWordOf, AreValues, AreResults}
+use Rattle.solver.specs.Inside.Values.{IsWordOf, AreValues}
+use Rattle.solver.specs.declared.word.TheConstants.{OPEN}
 
 -- the word of a configuration's number is the configuration's
 pub word-of-number : (n : Numbered) → IsBoard n.board → (words : List ℕ) → AreValues n words → (c : List ℕ) → IsConfiguration n.board c → IsWordOf n.board c words (number_in n c)
@@ -25,28 +29,87 @@ word-of-number n is words are c ok =
       forever = λ still. (number-value n is c ok Forever).1 (word.forever still);
     }
 
-pub results-are : (n : Numbered) → IsBoard n.board → (words members : List ℕ) (gap rank : ℕ) → AreValues n words → gap < gaps n.board
-    → rank ≡ rank_of n.board (member_of n.board gap 0) → length members ≡ (graph_of n).places
-    → ((place : ℕ) → place < (graph_of n).places
-    → slice_index members place ≡ (graph_of n).member (gap_in n (configuration_at n.board rank) (pebble_of n.board gap)) place)
-    → AreResults n.board gap words members
-results-are n is words members gap rank are in_gaps rank_is long each = record {
-  size = long ∙ places_are n;
-  each = λ place low.
-      let b = n.board in
-      let p : ℕ = pebble_of b gap in
-      let first : List ℕ = member_of b gap 0 in
-      let ok = member_is b gap 0 in_gaps (some_places b is) in
-      let pebble = pebble_below b gap in_gaps in
-      let here : configuration_at b rank ≡ first = ap (configuration_at b) rank_is ∙ configuration_at-rank_of b first ok in
-      let after : moved first p place ≡ member_of b gap place =
-      sym (member_of-gap_of b first p place ok pebble) ∙ ap (λ g. member_of b g place) (gap_of-member_of b gap 0 in_gaps) in
-      let number : slice_index members place ≡ number_in n (member_of b gap place) =
-      each place (subst (λ m. place < m) (sym (places_are n)) low)
-      ∙ ap (λ (c : List ℕ). (graph_of n).member (gap_in n c p) place) here
-      ∙ gap-in-moved n is first p ok pebble place ∙ ap (number_in n) after in
-      subst (IsWordOf b (member_of b gap place) words) (sym number) (word-of-number n is words are (member_of b gap place) (member_is b gap place in_gaps low));
-}
+-- a move to any place leads from a configuration to a configuration
+place-moved : (board : PlainBoard) (c : List ℕ) (p place : ℕ) → IsConfiguration board c → p < board.pebbles → place < places board
+    → IsConfiguration board (moved c p place)
+place-moved board c p place is low inside =
+    subst (IsConfiguration board) (member_of-gap_of board c p place is low)
+    (member_is board (gap_of board c p) place (gap_below board c p is low) inside)
+
+-- a request in a gap: its pebble may be answered by the gap's answers, and the member with a place has
+-- the word of the configuration after it
+module _ (n : Numbered) (is : IsBoard n.board) (gap : ℕ) (c : List ℕ) (p : ℕ) (request : IsRequestIn (numbered_gap n gap) c p) where
+  pub legal-there : (place : ℕ) → place < (graph_of n).places
+      → ((graph_of n).struck ((graph_of n).member gap place) ≡ gap) ↔ Legal n.board c p place
+  legal-there place low =
+      let legal = subst (λ g. Legal n.board c p place ↔ ((place < (graph_of n).places) × ((graph_of n).struck ((graph_of n).member g place) ≡ g)))
+      request.its_gap (gap-in-legal n is c p request.is_configuration request.is_pebble place) in (
+        λ struck. legal.1 (low, struck),
+        λ allowed. (legal.0 allowed).1,
+      )
+
+  pub word-there : (words : List ℕ) → AreValues n words → (place : ℕ) → place < places n.board
+      → IsWordOf n.board (moved c p place) words ((graph_of n).member gap place)
+  word-there words are place low =
+      let number : (graph_of n).member gap place ≡ number_in n (moved c p place) =
+      subst (λ g. (graph_of n).member g place ≡ number_in n (moved c p place)) request.its_gap
+      (gap-in-moved n is c p request.is_configuration request.is_pebble place) in
+      subst (IsWordOf n.board (moved c p place) words) (sym number)
+      (word-of-number n is words are (moved c p place) (place-moved n.board c p place request.is_configuration request.is_pebble low))
+
+-- a place is one of the graph's
+pub inside-graph : (n : Numbered) (place : ℕ) → place < places n.board → place < (graph_of n).places
+inside-graph n place low = subst (λ m. place < m) (sym (places_are n)) low
+
+-- a request of the pebble of an ordered gap at its first member, by that member's rank
+pub first-request : (n : Numbered) → IsBoard n.board → (gap rank pebble number : ℕ) → gap < gaps n.board
+    → rank ≡ rank_of n.board (member_of n.board gap 0) → pebble ≡ pebble_of n.board gap
+    → number ≡ gap_in n (configuration_at n.board rank) pebble
+    → IsRequestIn (numbered_gap n number) (member_of n.board gap 0) (pebble_of n.board gap)
+first-request n is gap rank pebble number below rank_is pebble_is number_is =
+    let ok = member_is n.board gap 0 below (some_places n.board is) in
+    let here : configuration_at n.board rank ≡ member_of n.board gap 0 =
+    ap (configuration_at n.board) rank_is ∙ configuration_at-rank_of n.board (member_of n.board gap 0) ok in
+    record {
+      is_configuration = ok;
+      is_pebble = pebble_below n.board gap below;
+      its_gap = sym (number_is ∙ ap (λ (c : List ℕ). gap_in n c pebble) here ∙ ap (gap_in n (member_of n.board gap 0)) pebble_is);
+    }
+
+module _ (board : PlainBoard) (is : IsBoard board) (gap : ℕ) (below : gap < gaps board) where
+  -- what is legal at an ordered gap's first member are the gap's answers
+  pub first-answer : (label : ℕ) → Legal board (member_of board gap 0) (pebble_of board gap) label ↔ IsAnswer board gap label
+  first-answer label =
+      subst (λ g. Legal board (member_of board gap 0) (pebble_of board gap) label ↔ IsAnswer board g label)
+      (gap_of-member_of board gap 0 below)
+      (legal_is_answer board (member_of board gap 0) (pebble_of board gap) label (member_is board gap 0 below (some_places board is))
+      (pebble_below board gap below))
+
+  -- and a move there leads to the member with the label
+  pub first-result : (label : ℕ) → moved (member_of board gap 0) (pebble_of board gap) label ≡ member_of board gap label
+  first-result label =
+      sym (member_of-gap_of board (member_of board gap 0) (pebble_of board gap) label (member_is board gap 0 below (some_places board is))
+      (pebble_below board gap below))
+      ∙ ap (λ g. member_of board g label) (gap_of-member_of board gap 0 below)
+
+-- so what the results of the gap's number tell of a place is so of the gap's member there
+module _ (board : PlainBoard) (is : IsBoard board) (gap : ℕ) (below : gap < gaps board) (r : NumberedGap) (same : r.game.board ≡ board)
+    (request : IsRequestIn r (member_of board gap 0) (pebble_of board gap)) (place : ℕ) (told : Bool) where
+  pub told-answer : ((c : List ℕ) (p : ℕ) → IsRequestIn r c p → (told ≡ true) ↔ Legal r.game.board c p place)
+      → (told ≡ true) ↔ IsAnswer board gap place
+  told-answer tells =
+      let here = subst (λ (b : PlainBoard). (told ≡ true) ↔ Legal b (member_of board gap 0) (pebble_of board gap) place) same (tells _ _ request) in
+      let first = first-answer board is gap below place in (
+        λ yes. first.0 (here.0 yes),
+        λ answer. here.1 (first.1 answer),
+      )
+
+  pub told-forever : ((c : List ℕ) (p : ℕ) → IsRequestIn r c p → (told ≡ true) ↔ HasValue r.game.board (moved c p place) Forever)
+      → (told ≡ true) ↔ HasValue board (member_of board gap place) Forever
+  told-forever tells =
+      subst (λ (c : List ℕ). (told ≡ true) ↔ HasValue board c Forever) (first-result board is gap below place)
+      (subst (λ (b : PlainBoard). (told ≡ true) ↔ HasValue b (moved (member_of board gap 0) (pebble_of board gap) place) Forever) same
+      (tells _ _ request))
 
 -- the value that a word stands for is the configuration's
 pub value-with : (board : PlainBoard) (configuration words : List ℕ) (x : ℕ) (value : Value) → IsWordOf board configuration words x
@@ -55,3 +118,20 @@ value-with board configuration words x value word is = elim (true_or_false (is_o
   | inl still ↦ subst (HasValue board configuration) (sym (is ∙ ap (λ (t : Bool). cond t Forever (Finite (slice_index words x))) still)) (word.forever still)
   | inr shut ↦ subst (HasValue board configuration) (sym (is ∙ ap (λ (t : Bool). cond t Forever (Finite (slice_index words x))) shut)) (word.finite shut)
 ]
+
+finite_not_forever : (number : ℕ) → Finite number ≡ Forever → ⊥
+finite_not_forever number e = cc
+
+-- a word is that of Forever exactly if the configuration lasts forever
+pub open-exactly : (board : PlainBoard) (configuration : List ℕ) (word : ℕ) → HasValue board configuration (value_with_word word)
+    → (word == OPEN ≡ true) ↔ HasValue board configuration Forever
+open-exactly board configuration word has = (
+  λ still. subst (HasValue board configuration) (ap (λ (t : Bool). cond t Forever (Finite word)) still) has,
+  λ forever. elim (true_or_false (word == OPEN)) [
+    | inl still ↦ still
+    | inr shut ↦
+        let finite : HasValue board configuration (Finite word) =
+        subst (HasValue board configuration) (ap (λ (t : Bool). cond t Forever (Finite word)) shut) has in
+        absurd (finite_not_forever word (same_value board configuration (Finite word) Forever finite forever))
+  ],
+)

@@ -5,7 +5,6 @@ use denote.Param.Send.{IsSync, struct_sync, view_sync, recorded_sync, sendable}
 use Rattle.std.proofs.Crossing.{crosses}
 use Rattle.index_lists.specs.declared.store.ListStore.{Ghosts}
 use Rattle.positions.specs.contracts.space.Space as space
-use Rattle.positions.specs.contracts.tuple_answers.TupleAnswers as tuples
 use Rattle.graphs.specs.contracts.graph.Graph as graph
 use Rattle.solver.specs.contracts.solver.Solver as solver
 use Rattle.solver.specs.contracts.solver.Solver.TheInside as inside
@@ -14,9 +13,6 @@ use Rattle.solver.specs.contracts.stage.Stage.TheInside as parts
 
 space_sync : IsSync space.the_row
 space_sync = search (sendable, crosses) depth 30
-
-tuples_sync : IsSync tuples.the_row
-tuples_sync = search (sendable, crosses) depth 30
 
 graph_sync : IsSync graph.the_row
 graph_sync = search (sendable, crosses) depth 30
@@ -45,11 +41,8 @@ solver_sync T g lent = view_sync (inside.the_row T g) _ _ _ _ (recorded_sync (in
   (
     search (sendable, crosses, space_sync) depth 30,
     (
-      search (sendable, crosses, tuples_sync) depth 30,
-      (
-        search (sendable, crosses) depth 30,
-        (search (sendable, crosses) depth 30, (search sendable, tt)),
-      ),
+      search (sendable, crosses) depth 30,
+      (search (sendable, crosses) depth 30, (search sendable, tt)),
     ),
   ),
 )))

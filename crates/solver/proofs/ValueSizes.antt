@@ -155,8 +155,8 @@ some-counted P count size some = found size.members refl
     found [] e = absurd (let many = size.so_many in let none = ap length e in omega arith)
     found (k ∷ rest) e = (k, (size.each k).0 (subst (λ (l : List ℕ). Contains l k) e (0, omega arith, refl)))
 
-module _ (s : PlainStage) (round : ℕ) (st : IsState s round true) (space answered : PlainBoard) (weights zeros : List ℕ)
-    (equipped : IsEquipped s.game space answered weights zeros) where
+module _ (s : PlainStage) (round : ℕ) (st : IsState s round true) (space : PlainBoard) (weights zeros : List ℕ)
+    (equipped : IsEquipped s.game space weights zeros) where
   abbrev n : Numbered
   n = s.game
 
@@ -238,13 +238,14 @@ module _ (s : PlainStage) (round : ℕ) (st : IsState s round true) (space answe
       )));
     }
 
-    pub values-of : AreValuesOf n space answered s.values sizes forever
+    pub values-of : AreValuesOf n space s.values sizes forever
     values-of = record {
-      is_board = st.is_board;
-      few = equipped.few;
-      same_space = equipped.same_space;
-      same_answers = equipped.same_answers;
-      valued = values-are;
+      numbered = record {
+        is_board = st.is_board;
+        few = equipped.few;
+        same_space = equipped.same_space;
+        valued = values-are;
+      };
       sized = sized;
     }
 

@@ -8,11 +8,3 @@ use Rattle.positions.specs.Value.{HasValue}
 -- the label is an answer of the gap, and a labeller lasts forever after it
 abbrev pub IsSafeAnswer : PlainBoard → ℕ → ℕ → Type 0
 IsSafeAnswer board gap label = IsAnswer board gap label × HasValue board (member_of board gap label) Forever
-
--- the results of the answers of a gap of a board
-pub record PlainResults : Type 0 where
-  pub board : PlainBoard
-  pub gap : ℕ
-
-abbrev pub results_of : PlainBoard → ℕ → PlainResults
-results_of board gap = record { board = board; gap = gap }

@@ -1,62 +1,86 @@
 //! The results of the answers of a gap.
 
-ghost use Rattle.std.specs.Prelude.{◌≡◌, ◌<◌, ◌↔◌, IsTrue};
-ghost use Rattle.board_text.specs.PlainBoard.{places};
+ghost use Rattle.std.specs.Prelude.{◌≡◌, ◌<◌, ◌↔◌, ℕ, List, IsTrue};
+ghost use Rattle.board_text.specs.PlainBoard.{IsBoard, places};
 ghost use Rattle.positions.specs.declared.value.Value.TheVariants.{Forever};
-ghost use Rattle.positions.specs.Gaps.{member_of};
+ghost use Rattle.positions.specs.Game.{Legal, moved};
 ghost use Rattle.positions.specs.Value.{HasValue};
+ghost use Rattle.solver.specs.GapRequests.{IsRequestIn};
 ghost use Rattle.solver.specs.Words.{value_with_word};
 
-use crate::word::OPEN;
-use positions::{Space, Value};
+use crate::word::{OPEN, value_with};
+use graphs::Graph;
+use positions::Value;
 use std::marker::Model;
 
-/// The values of the configurations after the answers of a gap. Contracts see the board and the gap.
+/// The answers of a gap, and the values after them. Contracts see the board, what numbers stand
+/// for, and the gap.
 #[derive(Drop)]
 pub struct Results<'a> {
-    pub(crate) space: &'a Space,
+    pub(crate) graph: &'a Graph,
     pub(crate) gap: u32,
     pub(crate) words: &'a [u32],
-    /// The number of the gap's member with each place.
-    pub(crate) members: &'a [u32],
 }
 
 impl<'a> Model for Results<'a> {
-    ghost use Rattle.solver.specs.SafeAnswers.{PlainResults, results_of};
+    ghost use Rattle.solver.specs.GapRequests.{NumberedGap, numbered_gap};
     ghost use Rattle.solver.specs.Inside.Values.{AreResults};
 
-    ghost Value = { PlainResults };
+    ghost Value = { NumberedGap };
 
-    ghost view = { λ s. results_of s.space.now s.gap };
+    ghost view = { λ s. numbered_gap s.graph.now s.gap };
 
-    ghost invariant = { λ s. AreResults s.space.now s.gap s.words.now s.members.now };
+    ghost invariant = { λ s. AreResults s.graph.now s.gap s.words.now };
 }
 
 impl<'a> Results<'a> {
-    /// The value of the gap's member with `place` for its pebble.
+    /// The number of places that a pebble can have.
+    pub fn places(&self) -> u16
+        ensures value { result ≡ places self.now.game.board }
+        ensures is_board { IsBoard self.now.game.board }
+    {
+        self.graph.places() as u16
+    }
+
+    /// Whether `place` is an answer to each request in the gap.
+    pub fn is_answer(&self, place: u16) -> bool
+        requires { place < places self.now.game.board }
+        ensures { (configuration : List ℕ) → (pebble : ℕ)
+            → IsRequestIn self.now configuration pebble
+            → IsTrue result ↔ Legal self.now.game.board configuration pebble place }
+    {
+        self.graph.is_answer(self.gap, place as u32)
+    }
+
+    /// The value of the configuration after each request in the gap, if its pebble gets `place`.
     pub fn value(&self, place: u16) -> Value
-        requires { place < places self.now.board }
-        ensures { HasValue self.now.board (member_of self.now.board self.now.gap place) result }
+        requires { place < places self.now.game.board }
+        ensures { (configuration : List ℕ) → (pebble : ℕ)
+            → IsRequestIn self.now configuration pebble
+            → HasValue self.now.game.board (moved configuration pebble place) result }
     {
-        value_with(self.words[self.members[place as usize] as usize])
+        value_with(self.word(place))
     }
 
-    /// Whether a labeller lasts forever at the gap's member with `place` for its pebble.
+    /// Whether a labeller lasts forever at that configuration.
     pub(crate) fn lasts_forever(&self, place: u16) -> bool
-        requires { place < places self.now.board }
-        ensures { IsTrue result ↔ HasValue self.now.board (member_of self.now.board self.now.gap place) Forever }
+        requires { place < places self.now.game.board }
+        ensures { (configuration : List ℕ) → (pebble : ℕ)
+            → IsRequestIn self.now configuration pebble
+            → IsTrue result
+            ↔ HasValue self.now.game.board (moved configuration pebble place) Forever }
     {
-        self.words[self.members[place as usize] as usize] == OPEN
+        self.word(place) == OPEN
     }
-}
 
-/// The value that `word` stands for, of a board that is solved.
-pub(crate) fn value_with(word: u32) -> Value
-    ensures { result ≡ value_with_word word }
-{
-    if word == OPEN {
-        Value::Forever
-    } else {
-        Value::Finite(word)
+    /// The word of the gap's member with `place`.
+    fn word(&self, place: u16) -> u32
+        requires { place < places self.now.game.board }
+        ensures { (configuration : List ℕ) → (pebble : ℕ)
+            → IsRequestIn self.now configuration pebble
+            → HasValue self.now.game.board (moved configuration pebble place)
+            (value_with_word result) }
+    {
+        self.words[self.graph.member(self.gap, place as u32) as usize]
     }
 }

@@ -25,7 +25,7 @@ use crate::word::value_of;
 use board_text::{Board, Memory};
 use graphs::{Graph, Numbering};
 use index_lists::ListStore;
-use positions::{MAX_CONFIGURATIONS, Space, TooLarge, TupleAnswers};
+use positions::{MAX_CONFIGURATIONS, Space, TooLarge};
 use std::alloc::Global;
 use std::marker::Model;
 
@@ -38,7 +38,6 @@ use std::marker::Model;
 pub struct Solver<S: ListStore> {
     stage: Stage<S>,
     space: Space,
-    answers: TupleAnswers,
     /// How many configurations have each number.
     weights: Vec<u32>,
     /// Zeros, and room for the number of configurations of each finite value.
@@ -56,7 +55,7 @@ impl<S: ListStore> Model for Solver<S> {
     ghost view = { λ s. as_solving s.stage s.done };
 
     ghost invariant = { λ s. IsState s.stage (s.stage.value - 1) s.done
-        × IsEquipped s.stage.game s.space s.answers s.weights.items s.sizes.items };
+        × IsEquipped s.stage.game s.space s.weights.items s.sizes.items };
 }
 
 impl<S: ListStore + Drop> Solver<S> {
@@ -115,7 +114,6 @@ impl<S: ListStore + Drop> Solver<S> {
         ensures kept { IfOk result (λ solver. IsSolving solver) }
     {
         let _ = space.configurations();
-        let answers = TupleAnswers::of(alloc, board)?;
         let graph = Graph::of(alloc, board, numbering)?;
         let weights = graph.weights(alloc)?;
         let sizes = vec![in alloc; 0; graph.configurations() as usize]?;
@@ -124,7 +122,6 @@ impl<S: ListStore + Drop> Solver<S> {
         Ok(Solver {
             stage,
             space,
-            answers,
             weights,
             sizes,
             done: false,
@@ -346,7 +343,6 @@ impl<S: ListStore + Drop> Solver<S> {
         let Solver {
             stage,
             space,
-            answers,
             weights,
             mut sizes,
             done: _,
@@ -359,7 +355,7 @@ impl<S: ListStore + Drop> Solver<S> {
         } = stage;
         let forever = add_weights(&mut sizes, &values, &weights);
         sizes.truncate(value as usize);
-        Ok(Values::new(graph, space, answers, values, sizes, forever))
+        Ok(Values::new(graph, space, values, sizes, forever))
     }
 
     /// The values of the board, after all rounds that it takes.

@@ -5,17 +5,20 @@ ghost use Rattle.board_text.specs.PlainBoard.{IsBoard};
 ghost use Rattle.positions.specs.declared.space.TheConstants.{MAX_CONFIGURATIONS};
 ghost use Rattle.positions.specs.declared.value.Value.TheVariants.{Finite};
 ghost use Rattle.positions.specs.Counts.{IsSmallest};
-ghost use Rattle.positions.specs.Gaps.{gaps};
+ghost use Rattle.positions.specs.Gaps.{gaps, member_of, pebble_of};
 ghost use Rattle.positions.specs.Laws.{Occurs};
 ghost use Rattle.positions.specs.Ranks.{configurations, configuration_at};
 ghost use Rattle.positions.specs.Value.{HasValue};
-ghost use Rattle.solver.specs.SafeAnswers.{IsSafeAnswer, results_of};
+ghost use Rattle.solver.specs.GapRequests.{IsRequestIn};
+ghost use Rattle.solver.specs.SafeAnswers.{IsSafeAnswer};
 ghost use Rattle.solver.specs.Sizes.{HasCount, IsGreatest};
 ghost use Rattle.solver.specs.Inside.Values.{AreValuesOf};
 
-use crate::results::{Results, value_with};
+use crate::numbered_values::NumberedValues;
+use crate::results::Results;
+use crate::word::value_with;
 use graphs::Graph;
-use positions::{Space, TupleAnswers, Value};
+use positions::{Space, Value};
 use std::marker::Model;
 
 /// The value of each configuration of a board.
@@ -25,7 +28,6 @@ use std::marker::Model;
 pub struct Values {
     graph: Graph,
     space: Space,
-    answers: TupleAnswers,
     /// The value of the configurations of each number, or `OPEN` for Forever.
     words: Vec<u32>,
     /// How many configurations have each finite value, 0 and up to the greatest that there is.
@@ -42,27 +44,25 @@ impl Model for Values {
 
     ghost view = { λ s. s.graph.board };
 
-    ghost invariant = { λ s. AreValuesOf s.graph s.space s.answers s.words.items s.sizes.items s.forever };
+    ghost invariant = { λ s. AreValuesOf s.graph s.space s.words.items s.sizes.items s.forever };
 }
 
 impl Values {
     /// The values in the words `words` of the numbers of `graph`, with the number of configurations
-    /// of each finite value in `sizes`, and the `answers` of all gaps.
+    /// of each finite value in `sizes`.
     pub(crate) fn new(
         graph: Graph,
         space: Space,
-        answers: TupleAnswers,
         words: Vec<u32>,
         sizes: Vec<u32>,
         forever: u32,
     ) -> Values
-        requires { AreValuesOf graph space answers words.items sizes.items forever }
+        requires { AreValuesOf graph space words.items sizes.items forever }
         ensures { result ≡ graph.board }
     {
         Values {
             graph,
             space,
-            answers,
             words,
             sizes,
             forever,
@@ -108,21 +108,11 @@ impl Values {
         }
     }
 
-    /// The results of the answers of `gap`, for a caller that goes through several of them.
-    pub fn results(&self, gap: u32) -> Results<'_>
-        requires { gap < gaps self.now }
-        ensures results { result ≡ results_of self.now gap }
-        ensures is_board { IsBoard self.now }
+    /// The same values by the numbers of the graph that they were found over.
+    pub fn numbered(&self) -> NumberedValues<'_>
+        ensures { result.board ≡ self.now }
     {
-        let pebble = self.space.gap_pebble(gap);
-        let rank = self.space.member(gap, 0);
-        let number = self.graph.gap_number(&self.space, rank, pebble);
-        Results {
-            space: &self.space,
-            gap,
-            words: &self.words,
-            members: self.graph.members(number),
-        }
+        NumberedValues::new(&self.graph, &self.space, &self.words)
     }
 
     /// The smallest answer of `gap` after which a labeller lasts forever, if there is one.
@@ -131,13 +121,24 @@ impl Values {
         ensures { IsSmallest (IsSafeAnswer self.now gap) result }
     {
         let results = self.results(gap);
-        let answers = self.answers.answers(self.space.gap_tuple(gap));
-        for label in 0..self.space.labels() {
-            if answers.contains(label) && results.lasts_forever(label) {
-                return Some(label);
+        for place in 0..results.places() {
+            if results.is_answer(place) && results.lasts_forever(place) {
+                return Some(place);
             }
         }
         None
+    }
+
+    /// The results of the answers of `gap`.
+    fn results(&self, gap: u32) -> Results<'_>
+        requires { gap < gaps self.now }
+        ensures board { result.game.board ≡ self.now }
+        ensures requests { IsRequestIn result (member_of self.now gap 0) (pebble_of self.now gap) }
+    {
+        let pebble = self.space.gap_pebble(gap);
+        let numbered = self.numbered();
+        let standing = numbered.standing(self.space.member(gap, 0));
+        numbered.results(standing.gaps[pebble as usize])
     }
 
     /// The space of the board.
@@ -147,12 +148,5 @@ impl Values {
         ensures few { configurations self.now ≤ MAX_CONFIGURATIONS }
     {
         &self.space
-    }
-
-    /// The answers of all gaps of the board, as the opening found them.
-    pub fn answers(&self) -> &TupleAnswers
-        ensures { result.now ≡ self.now }
-    {
-        &self.answers
     }
 }

@@ -1,7 +1,7 @@
 -- The ranks added at a step: the result of a best answer, or those of all answers of a gap.
 use Rattle.std.proofs.Common.{◌≡◌, ℕ, ◌+◌, ◌<◌, ◌≤◌, ◌↔◌, inl, inr, Bool, true, false, List, Some, None, slice_index_or, slice_set, sym, ap, ◌∙◌, subst, arith}
 use Rattle.std.proofs.Math.ListN.{replicate, length-set, length-replicate}
-use Rattle.std.proofs.lemmas.Bool.{both_ways, cases_lt, cases_eq}
+use Rattle.std.proofs.lemmas.Bool.{both_ways, cases_eq}
 use Rattle.std.proofs.lemmas.List.{get_or-replicate, get_or-set_other}
 use Rattle.board_text.specs.PlainBoard.{PlainBoard}
 use Rattle.positions.specs.declared.value.Value.TheVariants.{Finite}
@@ -54,22 +54,25 @@ module _ (board : PlainBoard) (rank pebble : ℕ) (ranks : List ℕ) where
 -- ---- all answers of a gap
 
 module _ (board : PlainBoard) (gap : ℕ) where
-  pub member_added : (from label to : ℕ) (ranks some more : List ℕ) → IsSmallest (λ l. (from ≤ l) × IsAnswer board gap l) (Some label)
-      → to ≡ rank_of board (member_of board gap label) → IsWithAll ranks (Below (IsAnswerAt board gap) from) some → IsWith some to more
+  pub member_added : (label to : ℕ) (ranks some more : List ℕ) → IsAnswer board gap label
+      → to ≡ rank_of board (member_of board gap label) → IsWithAll ranks (Below (IsAnswerAt board gap) label) some → IsWith some to more
       → IsWithAll ranks (Below (IsAnswerAt board gap) (label + 1)) more
-  member_added from label to ranks some more next to_is before with =
-      added_more ranks some more (IsAnswerAt board gap) label
-      (added_same ranks some (Below (IsAnswerAt board gap) from) (Below (IsAnswerAt board gap) label)
-      (λ rank. below_same (IsAnswerAt board gap) from label rank next.0.0
-      (λ number late early is. let least : label ≤ number = next.1 number (late, is.0) in omega arith)) before)
-      (added_one some more to (IsAnswerAt board gap label) with (next.0.1, to_is) (λ other is. is.1 ∙ sym to_is))
+  member_added label to ranks some more answer to_is before with =
+      added_more ranks some more (IsAnswerAt board gap) label before
+      (added_one some more to (IsAnswerAt board gap label) with (answer, to_is) (λ other is. is.1 ∙ sym to_is))
 
-  pub members_added : (from : ℕ) (ranks more : List ℕ) → IsSmallest (λ l. (from ≤ l) × IsAnswer board gap l) None
-      → IsWithAll ranks (Below (IsAnswerAt board gap) from) more → IsWithAll ranks (IsAnswerOf board gap) more
-  members_added from ranks more none before =
-      added_same ranks more (Below (IsAnswerAt board gap) from) (IsAnswerOf board gap)
-      (λ rank. below_all (IsAnswerAt board gap) from rank (λ number is. elim (cases_lt number from) [ inl early ↦ early | inr late ↦ absurd (none number (late, is.0)) ]))
-      before
+  pub no_member_added : (label : ℕ) (ranks some : List ℕ) → ¬ IsAnswer board gap label
+      → IsWithAll ranks (Below (IsAnswerAt board gap) label) some → IsWithAll ranks (Below (IsAnswerAt board gap) (label + 1)) some
+  no_member_added label ranks some none before =
+      added_same ranks some (Below (IsAnswerAt board gap) label) (Below (IsAnswerAt board gap) (label + 1))
+      (λ rank. below_same (IsAnswerAt board gap) label (label + 1) rank (omega arith)
+      (λ number late early is. let same : number ≡ label = omega arith in none (subst (IsAnswer board gap) same is.0))) before
+
+  pub members_added : (bound : ℕ) (ranks more : List ℕ) → board.labels ≤ bound
+      → IsWithAll ranks (Below (IsAnswerAt board gap) bound) more → IsWithAll ranks (IsAnswerOf board gap) more
+  members_added bound ranks more all before =
+      added_same ranks more (Below (IsAnswerAt board gap) bound) (IsAnswerOf board gap)
+      (λ rank. below_all (IsAnswerAt board gap) bound rank (λ number is. let low = is.0.is_label in omega arith)) before
 
 -- ---- the best request
 

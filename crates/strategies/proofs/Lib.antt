@@ -18,7 +18,7 @@ pub mod BitMarks
 pub mod AddedRanks
 pub mod ReachedMarks
 pub mod GapAnswers
-pub mod TupleBest
+pub mod Standings
 pub mod LoweringRequests
 pub mod SpreadRanks
 pub mod AddedSteps

@@ -1,20 +1,19 @@
 //! The best answers to requests and the best requests of a board.
 
-ghost use Rattle.std.specs.Prelude.{◌≡◌, ℕ, ◌<◌, ◌≤◌, ◌↔◌, true, None, IsTrue};
-ghost use Rattle.board_text.specs.Domination.{has_bit};
+ghost use Rattle.std.specs.Prelude.{◌≡◌, ℕ, ◌<◌, ◌≤◌, ◌↔◌, None, IsTrue};
 ghost use Rattle.board_text.specs.PlainBoard.{IsBoard};
 ghost use Rattle.positions.specs.Counts.{IsSmallest};
 ghost use Rattle.positions.specs.Game.{Legal};
-ghost use Rattle.positions.specs.Gaps.{gaps, IsAnswer};
 ghost use Rattle.positions.specs.Ranks.{configurations, rank_of, configuration_at};
 ghost use Rattle.positions.specs.Value.{HasValue};
 ghost use Rattle.positions.specs.declared.value.Value.TheVariants.{Forever};
 ghost use Rattle.strategies.specs.Best.{HasGreatestResult, LowersValue};
-ghost use Rattle.strategies.specs.Inside.GapBest.{IsBestFor, IsGapBest, AreTuplesBest, LeadsBelow};
+ghost use Rattle.strategies.specs.Inside.MovesAt.{position};
 
-use crate::gap_best::{Best, answers_of_gap, best_of_gap};
-use board_text::{Board, MAX_LABELS};
-use positions::{LabelSet, MAX_CONFIGURATIONS, Space, Value};
+use crate::gap_best::GapBest;
+use crate::moves_at::MovesAt;
+use board_text::Board;
+use positions::{MAX_CONFIGURATIONS, Space, Value};
 use solver::Values;
 use std::marker::Model;
 
@@ -25,21 +24,18 @@ use std::marker::Model;
 pub struct BestMoves<'a> {
     board: &'a Board,
     values: &'a Values,
-    /// The best answer of each tuple, or `None` if it is found whenever it is asked for.
-    listed: Option<&'a [Option<Best>]>,
+    best: GapBest<'a>,
 }
 
 impl<'a> Model for BestMoves<'a> {
-    ghost use Rattle.std.specs.Prelude.{◌≡◌, MatchOption};
+    ghost use Rattle.std.specs.Prelude.{◌≡◌};
     ghost use Rattle.board_text.specs.PlainBoard.{PlainBoard};
-    ghost use Rattle.strategies.specs.Inside.GapBest.{AreTuplesBest};
 
     ghost Value = { PlainBoard };
 
     ghost view = { λ m. m.board.now };
 
-    ghost invariant = { λ m. (m.values.now ≡ m.board.now)
-        × MatchOption m.listed (Unit {0}) (λ listed. AreTuplesBest m.board.now listed.now) };
+    ghost invariant = { λ m. (m.values.now ≡ m.board.now) × (m.best.board ≡ m.board.now) };
 }
 
 impl<'a> BestMoves<'a> {
@@ -48,22 +44,19 @@ impl<'a> BestMoves<'a> {
         requires same_board { values.now ≡ board.now }
         ensures { result ≡ board.now }
     {
+        BestMoves::by(board, values, GapBest::new(values.numbered()))
+    }
+
+    /// The best moves on `board`, whose values are `values`, by the best answers `best` of gaps.
+    pub(crate) fn by(board: &'a Board, values: &'a Values, best: GapBest<'a>) -> BestMoves<'a>
+        requires same_board { values.now ≡ board.now }
+        requires best { best.board ≡ board.now }
+        ensures { result ≡ board.now }
+    {
         BestMoves {
             board,
             values,
-            listed: None,
-        }
-    }
-
-    /// The same moves, with the best answers of all tuples in `listed`.
-    pub(crate) fn with_listed(self, listed: &'a [Option<Best>]) -> BestMoves<'a>
-        requires { AreTuplesBest self listed.now }
-        ensures { result ≡ self.entry }
-    {
-        BestMoves {
-            board: self.board,
-            values: self.values,
-            listed: Some(listed),
+            best,
         }
     }
 
@@ -115,7 +108,7 @@ impl<'a> BestMoves<'a> {
         requires label { label < self.now.labels }
         ensures { IsTrue result ↔ Legal self.now (configuration_at self.now rank) pebble label }
     {
-        self.answers(self.space().gap(rank, pebble)).contains(label)
+        self.at(rank).is_legal(pebble, label)
     }
 
     /// The best answer to a request of `pebble` at the configuration of `rank`, if a label is
@@ -126,40 +119,8 @@ impl<'a> BestMoves<'a> {
         ensures best { IsSmallest (HasGreatestResult self.now (configuration_at self.now rank) pebble) result }
         ensures none { (result ≡ None) ↔ ((label : ℕ) → Legal self.now (configuration_at self.now rank) pebble label → ⊥) }
     {
-        let best = self.valued_answer(rank, pebble)?;
+        let best = self.at(rank).answer(pebble)?;
         Some(best.label)
-    }
-
-    /// The best answer to a request of `pebble` at the configuration of `rank`, with the value of
-    /// its result, if a label is legal.
-    pub(crate) fn valued_answer(&self, rank: u32, pebble: u8) -> Option<Best>
-        requires rank { rank < configurations self.now }
-        requires pebble { pebble < self.now.pebbles }
-        ensures { IsBestFor self.now (configuration_at self.now rank) pebble result }
-    {
-        self.answer_of_gap(self.space().gap(rank, pebble))
-    }
-
-    /// The best answer of `gap`, if it has an answer.
-    fn answer_of_gap(&self, gap: u32) -> Option<Best>
-        requires { gap < gaps self.now }
-        ensures { IsGapBest self.now gap result }
-    {
-        match self.listed {
-            Some(listed) => {
-                let tuple = self.space().gap_tuple(gap);
-                listed[tuple as usize]
-            }
-            None => best_of_gap(self.values, gap),
-        }
-    }
-
-    /// The answers of `gap`.
-    pub(crate) fn answers(&self, gap: u32) -> LabelSet
-        requires { gap < gaps self.now }
-        ensures { (label : ℕ) → label < MAX_LABELS → (has_bit result label ≡ true) ↔ IsAnswer self.now gap label }
-    {
-        answers_of_gap(self.values, gap)
     }
 
     /// The best request at the configuration of `rank`, if its value is finite: the smallest pebble
@@ -169,13 +130,15 @@ impl<'a> BestMoves<'a> {
         ensures best { IsSmallest (LowersValue self.now (configuration_at self.now rank)) result }
         ensures none { (result ≡ None) ↔ HasValue self.now (configuration_at self.now rank) Forever }
     {
-        let value = self.value(rank);
-        for pebble in 0..self.space().pebbles() {
-            if leads_below(self.valued_answer(rank, pebble), value) {
-                return Some(pebble);
-            }
-        }
-        None
+        self.at(rank).request()
+    }
+
+    /// The best moves at the configuration of `rank`.
+    pub(crate) fn at(&self, rank: u32) -> MovesAt<'_>
+        requires { rank < configurations self.now }
+        ensures { result ≡ position self.now rank }
+    {
+        MovesAt::new(self.space(), &self.best, rank)
     }
 }
 
@@ -204,14 +167,4 @@ pub fn best_request(board: &Board, values: &Values, rank: u32) -> Option<u8>
     ensures none { (result ≡ None) ↔ HasValue board.now (configuration_at board.now rank) Forever }
 {
     BestMoves::new(board, values).request(rank)
-}
-
-/// Whether a request with the best answer `best` leads below `value`, whatever the answer.
-fn leads_below(best: Option<Best>, value: Value) -> bool
-    ensures { IsTrue result ↔ LeadsBelow best value }
-{
-    match best {
-        Some(best) => best.value < value,
-        None => true,
-    }
 }

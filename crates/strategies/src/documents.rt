@@ -7,7 +7,7 @@ ghost use Rattle.proof_text.specs.Rules.{BreaksNoRule};
 ghost use Rattle.strategies.specs.Document.{IsDocumentOf};
 
 use crate::best_moves::BestMoves;
-use crate::gap_best::best_of_tuples;
+use crate::gap_best::GapBest;
 use board_text::{Board, Memory};
 use positions::{Claim, Value};
 use proof_text::Proof;
@@ -24,8 +24,9 @@ impl BestMoves<'_> {
         ensures shows { IfOk result (λ proof. Shows self.now (answer_rows self.now proof.labeller.items)
             (request_rows self.now proof.adversary.items) proof.claim) }
     {
-        let listed = best_of_tuples(alloc, self.values())?;
-        let moves = BestMoves::new(self.board(), self.values()).with_listed(&listed);
+        let best = GapBest::new(self.values().numbered());
+        let listed = best.list(alloc)?;
+        let moves = BestMoves::by(self.board(), self.values(), best.with_listed(&listed));
         let value = moves.value(moves.start());
         let labeller = moves.section(alloc, value)?;
         // A start that lasts forever has no rows for the adversary.

@@ -1,14 +1,15 @@
-//! The best answer of a gap, which is that of each of its members.
+//! The best answer of a gap, which is that of each request in it.
 
-ghost use Rattle.std.specs.Prelude.{◌≡◌, ℕ, ◌<◌, ◌↔◌, true, IfOk};
-ghost use Rattle.board_text.specs.Domination.{has_bit};
-ghost use Rattle.positions.specs.Gaps.{gaps, IsAnswer};
-ghost use Rattle.strategies.specs.Inside.GapBest.{IsBetter, IsGapBest, AreTuplesBest};
+ghost use Rattle.std.specs.Prelude.{◌≡◌, ◌<◌, IfOk};
+ghost use Rattle.graphs.specs.Numbered.{graph_of};
+ghost use Rattle.solver.specs.GapRequests.{numbered_gap};
+ghost use Rattle.strategies.specs.Inside.GapBest.{IsBetter, IsGapBest, AreGapsBest};
 
-use board_text::{MAX_LABELS, Memory};
-use positions::{LabelSet, Value};
-use solver::Values;
+use board_text::Memory;
+use positions::Value;
+use solver::{NumberedValues, Results};
 use std::alloc::Global;
+use std::marker::Model;
 
 /// The best answer to a request, and the value of the configuration after it.
 #[derive(Clone, Copy)]
@@ -17,36 +18,97 @@ pub(crate) struct Best {
     pub(crate) value: Value,
 }
 
-/// The best answer of each tuple, by `values`. It is that of all gaps of the tuple, whichever their
-/// pebbles are.
-pub(crate) fn best_of_tuples(alloc: Global, values: &Values) -> Result<Vec<Option<Best>>, Memory>
-    ensures { IfOk result (λ answers. AreTuplesBest values.now answers.items) }
-{
-    let tuples = values.space().gaps_each();
-    let mut best = Vec::with_capacity(alloc, tuples as usize)?;
-    // The first gaps are those of pebble 0, one for each tuple in their order.
-    for gap in 0..tuples {
-        best.push_reserved(best_of_gap(values, gap));
-    }
-    Ok(best)
+/// The best answers of gaps, by their numbers.
+///
+/// Contracts see the board and what the numbers stand for.
+#[derive(Drop)]
+pub(crate) struct GapBest<'a> {
+    values: NumberedValues<'a>,
+    /// The best answer of each gap, or `None` if it is found whenever it is asked for.
+    listed: Option<&'a [Option<Best>]>,
 }
 
-/// The best answer of `gap`, if it has an answer, by `values`.
-pub(crate) fn best_of_gap(values: &Values, gap: u32) -> Option<Best>
-    requires { gap < gaps values.now }
-    ensures { IsGapBest values.now gap result }
-{
-    let results = values.results(gap);
-    let mut labels = answers_of_gap(values, gap).walk();
-    let mut best = None;
-    while let Some(label) = labels.take_next() {
-        let value = results.value(label);
-        let found = better(best, Best { label, value });
-        // Nothing beats Forever, and later labels lose ties.
-        if let Value::Forever = found.value {
-            return Some(found);
+impl<'a> Model for GapBest<'a> {
+    ghost use Rattle.std.specs.Prelude.{MatchOption};
+    ghost use Rattle.graphs.specs.Numbered.{Numbered};
+    ghost use Rattle.strategies.specs.Inside.GapBest.{AreGapsBest};
+
+    ghost Value = { Numbered };
+
+    ghost view = { λ s. s.values };
+
+    ghost invariant = { λ s. MatchOption s.listed (Unit {0})
+        (λ listed. AreGapsBest s.values listed.now) };
+}
+
+impl<'a> GapBest<'a> {
+    /// The best answers by `values`, each found whenever it is asked for.
+    pub(crate) fn new(values: NumberedValues<'a>) -> GapBest<'a>
+        ensures { result ≡ values.entry }
+    {
+        GapBest {
+            values,
+            listed: None,
         }
-        best = Some(found);
+    }
+
+    /// The same, as `listed` has them.
+    pub(crate) fn with_listed(self, listed: &'a [Option<Best>]) -> GapBest<'a>
+        requires { AreGapsBest self listed.now }
+        ensures { result ≡ self.entry }
+    {
+        GapBest {
+            values: self.values,
+            listed: Some(listed),
+        }
+    }
+
+    /// The values by the numbers of gaps.
+    pub(crate) fn values(&self) -> &NumberedValues<'a>
+        ensures { result.now ≡ self.now }
+    {
+        &self.values
+    }
+
+    /// The best answer of each gap.
+    pub(crate) fn list(&self, alloc: Global) -> Result<Vec<Option<Best>>, Memory>
+        ensures { IfOk result (λ answers. AreGapsBest self.now answers.items) }
+    {
+        let gaps = self.values.gaps();
+        let mut best = Vec::with_capacity(alloc, gaps as usize)?;
+        for gap in 0..gaps {
+            best.push_reserved(best_of(&self.values.results(gap)));
+        }
+        Ok(best)
+    }
+
+    /// The best answer of `gap`, if it has an answer.
+    pub(crate) fn of(&self, gap: u32) -> Option<Best>
+        requires { gap < (graph_of self.now).gaps }
+        ensures { IsGapBest (numbered_gap self.now gap) result }
+    {
+        match self.listed {
+            Some(listed) => listed[gap as usize],
+            None => best_of(&self.values.results(gap)),
+        }
+    }
+}
+
+/// The best answer of the gap whose results are `results`, if it has an answer.
+fn best_of(results: &Results<'_>) -> Option<Best>
+    ensures { IsGapBest results.now result }
+{
+    let mut best = None;
+    for label in 0..results.places() {
+        if results.is_answer(label) {
+            let value = results.value(label);
+            let found = better(best, Best { label, value });
+            // Nothing beats Forever, and later labels lose ties.
+            if let Value::Forever = found.value {
+                return Some(found);
+            }
+            best = Some(found);
+        }
     }
     best
 }
@@ -59,13 +121,4 @@ fn better(best: Option<Best>, later: Best) -> Best
         Some(first) if first.value >= later.value => first,
         _ => later,
     }
-}
-
-/// The answers of `gap`, as `values` have them.
-pub(crate) fn answers_of_gap(values: &Values, gap: u32) -> LabelSet
-    requires { gap < gaps values.now }
-    ensures { (label : ℕ) → label < MAX_LABELS → (has_bit result label ≡ true) ↔ IsAnswer values.now gap label }
-{
-    let tuple = values.space().gap_tuple(gap);
-    values.answers().answers(tuple)
 }

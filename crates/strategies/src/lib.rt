@@ -7,6 +7,7 @@ mod gap_best;
 mod laws;
 mod laws_of_documents;
 mod marks;
+mod moves_at;
 mod reached;
 mod reached_ranks;
 mod sections;

@@ -45,22 +45,23 @@ impl SectionRow for LabellerRow {
         }
         let mut index = 0;
         while let Some(rank) = reached.at(index) {
-            moves.add_answers(&mut reached, rank)?;
+            moves.at(rank).add_answers(&mut reached)?;
             index += 1;
         }
         Ok(reached)
     }
 
     fn at(moves: &BestMoves<'_>, start: Value, rank: u32) -> Option<LabellerRow> {
+        let here = moves.at(rank);
         let mut take = [0; MAX_PEBBLES];
-        for pebble in 0..moves.space().pebbles() {
-            if let Some(best) = moves.valued_answer(rank, pebble) {
+        for pebble in 0..here.space().pebbles() {
+            if let Some(best) = here.answer(pebble) {
                 take[pebble as usize] = best.label;
             }
         }
         Some(LabellerRow {
             at: rank,
-            turns: turns(start, moves.value(rank)),
+            turns: turns(start, here.value()),
             take,
         })
     }
@@ -77,17 +78,18 @@ impl SectionRow for AdversaryRow {
         reached.add(moves.start())?;
         let mut index = 0;
         while let Some(rank) = reached.at(index) {
-            moves.add_results(&mut reached, &mut expanded, rank)?;
+            moves.at(rank).add_results(&mut reached, &mut expanded)?;
             index += 1;
         }
         Ok(reached)
     }
 
     fn at(moves: &BestMoves<'_>, _start: Value, rank: u32) -> Option<AdversaryRow> {
-        let Value::Finite(left) = moves.value(rank) else {
+        let here = moves.at(rank);
+        let Value::Finite(left) = here.value() else {
             return None;
         };
-        let ask = moves.request(rank)?;
+        let ask = here.request()?;
         Some(AdversaryRow {
             at: rank,
             left,

@@ -163,11 +163,10 @@ pub record IsState (s : PlainStage) (round : ℕ) (is_done : Bool) : Type 0 wher
   pub ascending : AllPairs (λ first second. first < second) (filed_at s 0)
   pub last_filed : 0 < round → 0 < length (filed_at s round)
 
--- the space and the answers are those of the board, which is small, each number has its weight, and
--- there is a zero for each number
-pub record IsEquipped (n : Numbered) (space answered : PlainBoard) (weights zeros : List ℕ) : Type 0 where
+-- the space is that of the board, which is small, each number has its weight, and there is a zero
+-- for each number
+pub record IsEquipped (n : Numbered) (space : PlainBoard) (weights zeros : List ℕ) : Type 0 where
   pub same_space : space ≡ n.board
-  pub same_answers : answered ≡ n.board
   pub weighed : AreNumberWeights n weights
   pub zeros_length : length zeros ≡ (graph_of n).configurations
   pub zeros_are : AreZeros zeros

@@ -1,9 +1,8 @@
 -- The words and the sizes of values.
 use Rattle.std.specs.Prelude.{◌≡◌, ℕ, ◌-◌, ◌<◌, ◌≤◌, ◌==◌, Bool, true, false, cond, List, length, slice_index}
-use Rattle.board_text.specs.PlainBoard.{PlainBoard, IsBoard, places}
+use Rattle.board_text.specs.PlainBoard.{PlainBoard, IsBoard}
 use Rattle.positions.specs.declared.space.TheConstants.{MAX_CONFIGURATIONS}
 use Rattle.positions.specs.declared.value.Value.TheVariants.{Finite, Forever}
-use Rattle.positions.specs.Gaps.{member_of}
 use Rattle.positions.specs.Laws.{Occurs}
 use Rattle.positions.specs.Ranks.{configurations}
 use Rattle.positions.specs.Value.{HasValue}
@@ -44,16 +43,20 @@ pub record AreSizes (board : PlainBoard) (sizes : List ℕ) (forever : ℕ) : Ty
   pub last : 0 < slice_index sizes 0 → Occurs board (length sizes - 1)
   pub unending : HasCount board Forever forever
 
--- the space and the answers are those of the board, each number has its word, and each value its size
-pub record AreValuesOf (n : Numbered) (space answered : PlainBoard) (words sizes : List ℕ) (forever : ℕ) : Type 0 where
+-- the space is that of the board, and each number has its word
+pub record AreNumbered (n : Numbered) (space : PlainBoard) (words : List ℕ) : Type 0 where
   pub is_board : IsBoard n.board
   pub few : configurations n.board ≤ MAX_CONFIGURATIONS
   pub same_space : space ≡ n.board
-  pub same_answers : answered ≡ n.board
   pub valued : AreValues n words
+
+-- each number has its word, and each value its size
+pub record AreValuesOf (n : Numbered) (space : PlainBoard) (words sizes : List ℕ) (forever : ℕ) : Type 0 where
+  pub numbered : AreNumbered n space words
   pub sized : AreSizes n.board sizes forever
 
--- each member has the word of the gap's member with its place
-pub record AreResults (board : PlainBoard) (gap : ℕ) (words members : List ℕ) : Type 0 where
-  pub size : length members ≡ places board
-  pub each : (place : ℕ) → place < places board → IsWordOf board (member_of board gap place) words (slice_index members place)
+-- the number is that of a gap, and each configuration's number has its word
+pub record AreResults (n : Numbered) (gap : ℕ) (words : List ℕ) : Type 0 where
+  pub is_board : IsBoard n.board
+  pub is_gap : gap < (graph_of n).gaps
+  pub valued : AreValues n words

@@ -1,11 +1,11 @@
 -- The best answers of gaps, with the values that they lead to.
 use Rattle.std.specs.Prelude.{◌≡◌, ℕ, ◌<◌, List, length, Option, None, Some, slice_index_or}
-use Rattle.board_text.specs.PlainBoard.{PlainBoard, IsConfiguration}
+use Rattle.board_text.specs.PlainBoard.{PlainBoard}
+use Rattle.graphs.specs.Numbered.{Numbered, graph_of}
 use Rattle.positions.specs.declared.value.Value.{Value}
 use Rattle.positions.specs.Game.{Legal, moved}
 use Rattle.positions.specs.Value.{HasValue}
-use Rattle.positions.specs.Gaps.{gaps, gaps_each, gap_of}
-use Rattle.positions.specs.Tuples.{tuple_of}
+use Rattle.solver.specs.GapRequests.{NumberedGap, IsRequestIn, numbered_gap}
 use Rattle.strategies.specs.declared.gap_best.Best.{Best}
 use Rattle.strategies.specs.Best.{IsLess, IsBestAnswer}
 
@@ -20,16 +20,16 @@ abbrev pub IsBetter : Option Best → Best → Best → Type 0
 IsBetter (Some first) later better = (IsLess first.value later.value → better ≡ later) × (¬ IsLess first.value later.value → better ≡ first)
 IsBetter None later better = better ≡ later
 
--- it is the best answer at each member of the gap
-abbrev pub IsGapBest : PlainBoard → ℕ → Option Best → Type 0
-IsGapBest board gap best = (configuration : List ℕ) → (pebble : ℕ) → IsConfiguration board configuration → pebble < board.pebbles
-    → gap_of board configuration pebble ≡ gap → IsBestFor board configuration pebble best
+-- it is the best answer to each request in the gap
+abbrev pub IsGapBest : NumberedGap → Option Best → Type 0
+IsGapBest g best = (configuration : List ℕ) → (pebble : ℕ) → IsRequestIn g configuration pebble
+    → IsBestFor g.game.board configuration pebble best
 
--- the best answers of all tuples: each is that of every gap of its tuple
-pub record AreTuplesBest (board : PlainBoard) (answers : List (Option Best)) : Type 0 where
-  pub one_each : length answers ≡ gaps_each board
-  pub best : (gap : ℕ) → gap < gaps board
-      → IsGapBest board gap (slice_index_or answers (tuple_of board gap) None)
+-- the best answers of all gaps, by number
+pub record AreGapsBest (n : Numbered) (answers : List (Option Best)) : Type 0 where
+  pub one_each : length answers ≡ (graph_of n).gaps
+  pub best : (gap : ℕ) → gap < (graph_of n).gaps
+      → IsGapBest (numbered_gap n gap) (slice_index_or answers gap None)
 
 -- the best answer leads to a smaller value than this one, or there is none
 abbrev pub LeadsBelow : Option Best → Value → Type 0

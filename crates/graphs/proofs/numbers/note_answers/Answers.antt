@@ -36,7 +36,7 @@ pub bounds-struck-members : goal.bounds-struck-members
 bounds-struck-members g c =
     let at = (goal.at.bounds-struck-members g c).In-Some in
     let n : Numbered = g.N.Numbers.game c.args.numbers.now in
-    let inside = (numbered-is n c.configurations.ensures.is_board).member_in c.args.gap c.in-Some.label c.requires.gap
+    let inside = (numbered-is n c.requires.is_board).member_in c.args.gap c.in-Some.label c.requires.gap
     (next g at).answer.0 in
     omega (arith, inside, member g at, c.loop-label.invariant.noted.same_length, c.requires.size)
 
@@ -51,7 +51,7 @@ loop-label-preserved g c =
     let small = c.answers.ensures.few label is.answer in
     let before = noted-to a c.args.gap c.loop-label.labels.from label c.args.struck.now c.loop-label.struck
     c.loop-label.invariant.noted is.none in
-    let inside = (numbered-is n c.configurations.ensures.is_board).member_in c.args.gap label c.requires.gap
+    let inside = (numbered-is n c.requires.is_board).member_in c.args.gap label c.requires.gap
     is.answer.0 in
     let low : rank < length c.loop-label.struck =
     omega (arith, inside, member g at, before.same_length, c.requires.size) in

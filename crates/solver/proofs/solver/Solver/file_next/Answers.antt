@@ -36,8 +36,8 @@ module _ (g : Given.Over) (c : Then-filed-eq0 g) where
   state : IsState ended (ended.value - 1) true
   state = subst (λ n. IsState ended n true) same last
 
-  equipped : IsEquipped ended.game c.self.inside.space c.self.inside.answers c.self.inside.weights.items c.self.inside.sizes.items
-  equipped = subst (λ (n : Numbered). IsEquipped n c.self.inside.space c.self.inside.answers c.self.inside.weights.items c.self.inside.sizes.items)
+  equipped : IsEquipped ended.game c.self.inside.space c.self.inside.weights.items c.self.inside.sizes.items
+  equipped = subst (λ (n : Numbered). IsEquipped n c.self.inside.space c.self.inside.weights.items c.self.inside.sizes.items)
       (sym c.file.ensures.kept.game_is) c.self.invariant.1
 
 pub invariant_of-self : goal.invariant_of-self
@@ -77,8 +77,8 @@ module _ (g : Given.Over) (c : Else-filed-eq0 g) where
   state-next = subst (λ n. IsState (at_next_value more) n false) next
       (further-state c.self.inside.stage _ c.self.inside.done c.self.invariant.0 more c.file.ensures.struck c.file.ensures.kept c.if-self.false filed)
 
-  equipped-next : IsEquipped more.game c.self.inside.space c.self.inside.answers c.self.inside.weights.items c.self.inside.sizes.items
-  equipped-next = subst (λ (n : Numbered). IsEquipped n c.self.inside.space c.self.inside.answers c.self.inside.weights.items c.self.inside.sizes.items)
+  equipped-next : IsEquipped more.game c.self.inside.space c.self.inside.weights.items c.self.inside.sizes.items
+  equipped-next = subst (λ (n : Numbered). IsEquipped n c.self.inside.space c.self.inside.weights.items c.self.inside.sizes.items)
       (sym c.file.ensures.kept.game_is) c.self.invariant.1
 
 pub begin_next_value-requires : goal.begin_next_value-requires

@@ -28,7 +28,7 @@ add_weights-forever-requires-clause-inside g c =
     let at = (goal.at.add_weights-forever-requires-clause-inside g c).After-deref-2 in
     subst (λ (l : List ℕ). (x : ℕ) → x < length l → is_open l x ≡ Bool.false → slice_index l x < length c.deref_mut.result.now) (sym (words-are g at))
     (subst (λ (z : List ℕ). (x : ℕ) → x < length (s g at).values → is_open (s g at).values x ≡ Bool.false → slice_index (s g at).values x < length z) (sym c.deref_mut.ensures.value)
-    (words-inside (s g at) _ (state g at) _ _ _ _ c.self.invariant.1))
+    (words-inside (s g at) _ (state g at) _ _ _ c.self.invariant.1))
 
 pub add_weights-forever-requires-clause-few : goal.add_weights-forever-requires-clause-few
 add_weights-forever-requires-clause-few g c =
@@ -57,5 +57,5 @@ new-requires g c =
     c.truncate.ensures.items ∙ ap (take c.stage.inside.value) (take_at sums _ c.self.inside.sizes.len (e.size ∙ c.deref_mut.ensures.len)) in
     let cut : c.truncate.new.self.items ≡ take (suc (now.value - 1)) sums =
     taken ∙ ap (λ v. take v sums) (ap (λ (v : PlainStage). v.value) c.stage.view_is ∙ value_is) in
-    let all = values-of now _ (state g at) _ _ weights _ c.self.invariant.1 sums c.truncate.new.self.items c.add_weights-forever.result added wide cut forever in
-    subst (λ (v : PlainStage). AreValuesOf v.game c.self.inside.space c.self.inside.answers v.values c.truncate.new.self.items c.add_weights-forever.result) (sym c.stage.view_is) all
+    let all = values-of now _ (state g at) _ weights _ c.self.invariant.1 sums c.truncate.new.self.items c.add_weights-forever.result added wide cut forever in
+    subst (λ (v : PlainStage). AreValuesOf v.game c.self.inside.space v.values c.truncate.new.self.items c.add_weights-forever.result) (sym c.stage.view_is) all

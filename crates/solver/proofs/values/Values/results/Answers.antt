@@ -1,30 +1,49 @@
-use Rattle.std.proofs.Common.{◌≡◌, ◌<◌, ℕ, List, sym, ap, ◌∙◌, subst}
+use Rattle.std.proofs.Common.{◌≡◌, ◌<◌, ℕ, ◌∙◌, sym, subst}
 use Rattle.board_text.specs.PlainBoard.{PlainBoard, IsBoard}
 use Rattle.positions.specs.Gaps.{gaps, pebble_of, member_of}
-use Rattle.positions.specs.Ranks.{rank_of, configuration_at}
-use Rattle.graphs.specs.Numbered.{Numbered, graph_of}
-use Rattle.graphs.specs.NumberedRanks.{gap_in}
-use Rattle.solver.specs.Inside.Values.{AreResults}
-use Rattle.solver.proofs.GapResults.{results-are}
+use Rattle.positions.specs.Ranks.{rank_of}
+use Rattle.positions.proofs.Cited.{pebble_below}
+use Rattle.graphs.specs.Numbered.{Numbered}
+use Rattle.solver.specs.GapRequests.{NumberedGap, IsRequestIn}
+use Rattle.solver.proofs.GapResults.{first-request}
 use Rattle.solver.proofs.values.Values.results.Goals as goal
+use Rattle.solver.proofs.values.Values.results.Goals.{After-standing-standing}
 
-pub invariant_of-result : goal.invariant_of-result
-invariant_of-result c =
-    let n : Numbered = c.self.inside.graph in
+module _ (c : After-standing-standing) where
+  abbrev b : PlainBoard
+  b = c.args.self.now
+
+  abbrev n : Numbered
+  n = c.numbered-numbered.result
+
+  is : IsBoard n.board
+  is = subst IsBoard (c.self.view_is ∙ sym c.numbered-numbered.ensures) c.self.invariant.numbered.is_board
+
+  space-is : c.self.inside.space ≡ n.board
+  space-is = c.self.invariant.numbered.same_space ∙ c.self.view_is ∙ sym c.numbered-numbered.ensures
+
+  in_gaps : c.args.gap < gaps n.board
+  in_gaps = subst (λ (x : PlainBoard). c.args.gap < gaps x) (sym c.numbered-numbered.ensures) c.requires
+
+  pebble-is : c.gap_pebble-pebble.result ≡ pebble_of n.board c.args.gap
+  pebble-is = subst (λ (x : PlainBoard). c.gap_pebble-pebble.result ≡ pebble_of x c.args.gap) space-is c.gap_pebble-pebble.ensures.pebble
+
+  pebble-low : c.gap_pebble-pebble.result < n.board.pebbles
+  pebble-low = subst (λ p. p < n.board.pebbles) (sym pebble-is) (pebble_below n.board c.args.gap in_gaps)
+
+  rank-is : c.member.result ≡ rank_of n.board (member_of n.board c.args.gap 0)
+  rank-is = subst (λ (x : PlainBoard). c.member.result ≡ rank_of x (member_of x c.args.gap 0)) space-is c.member.ensures.rank
+
+pub results-requires : goal.results-requires
+results-requires c =
+    let at = (goal.at.results-requires c).After-standing-standing in
+    c.standing-standing.ensures.gaps_below c.gap_pebble-pebble.result (pebble-low at)
+
+pub returns-clause-requests : goal.returns-clause-requests
+returns-clause-requests c =
+    let at = (goal.at.returns-clause-requests c).After-standing-standing in
     let gap : ℕ = c.args.gap in
-    let rank : ℕ = c.member-rank.result in
-    let space = c.self.invariant.same_space in
-    let in_gaps : gap < gaps n.board = rw (← c.self.view_is) at c.requires in
-    let rank_is : rank ≡ rank_of n.board (member_of n.board gap 0) =
-    subst (λ (b : PlainBoard). rank ≡ rank_of b (member_of b gap 0)) space c.member-rank.ensures.rank in
-    let pebble_is : c.gap_pebble-pebble.result ≡ pebble_of n.board gap =
-    subst (λ (b : PlainBoard). c.gap_pebble-pebble.result ≡ pebble_of b gap) space c.gap_pebble-pebble.ensures.pebble in
-    let number : c.gap_number-number.result ≡ gap_in n (configuration_at n.board rank) (pebble_of n.board gap) =
-    c.gap_number-number.ensures.gap ∙ ap (gap_in n (configuration_at n.board rank)) pebble_is in
-    subst (λ (b : PlainBoard). AreResults b gap c.deref.result.now c.members.result.now) (sym space)
-    (subst (λ (l : List ℕ). AreResults n.board gap l c.members.result.now) (sym c.deref.ensures.value)
-    (results-are n c.self.invariant.is_board c.self.inside.words.items c.members.result.now gap rank c.self.invariant.valued in_gaps rank_is c.members.ensures.size
-    (λ place low. c.members.ensures.each place low ∙ ap (λ g. (graph_of n).member g place) number)))
-
-pub returns-clause-is_board : goal.returns-clause-is_board
-returns-clause-is_board c = subst IsBoard c.self.view_is c.self.invariant.is_board
+    let number = c.standing-standing.ensures.gaps c.gap_pebble-pebble.result (pebble-low at) in
+    subst (λ (x : PlainBoard). IsRequestIn c.results.result (member_of x gap 0) (pebble_of x gap)) c.numbered-numbered.ensures
+    (subst (λ (v : NumberedGap). IsRequestIn v (member_of (n at).board gap 0) (pebble_of (n at).board gap)) (sym c.results.ensures.results)
+    (first-request (n at) (is at) gap c.member.result c.gap_pebble-pebble.result _ (in_gaps at) (rank-is at) (pebble-is at) number))

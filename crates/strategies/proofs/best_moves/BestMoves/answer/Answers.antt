@@ -6,7 +6,7 @@ use Rattle.strategies.proofs.best_moves.BestMoves.answer.Goals as goal
 pub returns-in_err-best : goal.returns-in_err-best
 returns-in_err-best c =
     let b = c.args.self.now in
-    let is = c.in_err-best.ensures in
+    let is = rw c.at.ensures at c.in_err-best.ensures in
     rw c.from_residual.ensures (record {
       best = λ other greatest. is other greatest.legal;
       none = best_is_none b (configuration_at b c.args.rank) c.args.pebble None is;
@@ -15,5 +15,5 @@ returns-in_err-best c =
 pub returns : goal.returns
 returns c =
     let b = c.args.self.now in
-    let is = c.in_ok-best.ensures in
+    let is = rw c.at.ensures at c.in_ok-best.ensures in
     record { best = is.0; none = best_is_none b (configuration_at b c.args.rank) c.args.pebble (Some c.in_ok-best.best) is }
