@@ -278,6 +278,14 @@ impl<S: ListStore> Solver<S> {
         self.stage.next_filed(rank)
     }
 
+    /// The number of configurations that were filed last: those of the solver's value, which is the
+    /// number of rounds. A round strikes no others.
+    pub fn last_filed(&self) -> u32
+        ensures { result ≡ length (bucket self.now self.now.rounds) }
+    {
+        self.stage.filed_before()
+    }
+
     /// The configurations that a round at the solver's value strikes: those of that value that are
     /// answers in a gap, in order of filing.
     pub fn to_strike(&self, alloc: Global) -> Result<Vec<u32>, Memory>

@@ -1,6 +1,6 @@
 //! Reading a stage.
 
-ghost use Rattle.std.specs.Prelude.{◌≡◌, ℕ, ◌+◌, ◌-◌, ◌<◌, Some, None, slice_index, slice_get, filter, IfOk};
+ghost use Rattle.std.specs.Prelude.{◌≡◌, ℕ, ◌+◌, ◌-◌, ◌<◌, Some, None, length, slice_index, slice_get, filter, IfOk};
 ghost use Rattle.index_lists.specs.Lists.{times};
 ghost use Rattle.graphs.specs.Graph.{is_struck};
 ghost use Rattle.graphs.specs.Numbered.{graph_of};
@@ -57,6 +57,14 @@ impl<S: ListStore> Stage<S> {
         ensures { result ≡ slice_index self.now.counts gap }
     {
         self.counts[gap as usize]
+    }
+
+    /// The number of configurations that are filed at the value before.
+    pub(crate) fn filed_before(&self) -> u32
+        requires { 0 < self.now.value }
+        ensures { result ≡ length (filed_at self.now (self.now.value - 1)) }
+    {
+        self.buckets.len(self.value - 1)
     }
 
     /// The configurations that a round strikes: those filed at the value before that are
