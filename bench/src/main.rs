@@ -1,24 +1,31 @@
-//! A plain mirror of `pebbles`: the same answers by arrays alone, for `solve`, `report` and `check` of boards whose places all
-//! hold labels. It trusts its input: a wrong text makes it panic. README.md says what it is for.
+//! Two plain mirrors of `pebbles`: the same answers by arrays alone, for `solve`, `report` and
+//! `check` of boards whose places all hold labels. One numbers configurations by ranks, the other
+//! by classes. A wrong text makes them panic. README.md says what they are for.
 
 mod board;
 mod check;
+mod classes;
 mod document;
+mod lists;
 mod measure;
+mod numbering;
+mod ranks;
+mod report;
 mod space;
 mod values;
 
 use board::Board;
+use classes::Classes;
+use numbering::Numbering;
+use ranks::Ranks;
 use space::Space;
-use std::fmt::Write as _;
 use std::io::Write as _;
-use values::{FOREVER, Values};
 
 /// Reads an element without a bound test, as proved code does.
 #[inline(always)]
 fn at<T: Copy>(items: &[T], place: u32) -> T {
     debug_assert!((place as usize) < items.len());
-    // Safety: places are ranks, gaps and labels of one space, for which the tables were made.
+    // Safety: places are numbers, gaps and labels of one board, for which the tables were made.
     unsafe { *items.get_unchecked(place as usize) }
 }
 
@@ -30,38 +37,27 @@ fn at_mut<T>(items: &mut [T], place: u32) -> &mut T {
     unsafe { items.get_unchecked_mut(place as usize) }
 }
 
-fn report(board: &Board, space: &Space) -> Vec<u8> {
-    let values = Values::of(board, space);
-    let start = values.at(space.rank(&board.start));
-    let mut text = format!(
-        "report 1\nlabels {}\npebbles {}\nconfigurations {}\n",
-        space.labels, space.pebbles, space.configurations
-    );
-    match start {
-        FOREVER => text.push_str("start forever\n"),
-        value => _ = writeln!(text, "start value {value}"),
+/// The output of a command by one numbering.
+fn output<N: Numbering>(words: &[String]) -> Vec<u8> {
+    let board = Board::read(&std::fs::read(&words[1]).unwrap());
+    match words[0].as_str() {
+        "solve" => document::document::<N>(&board),
+        "report" => report::report::<N>(&board),
+        "check" => {
+            let text = std::fs::read(&words[2]).unwrap();
+            check::check(&board, &Space::of(&board), &text).into_bytes()
+        }
+        _ => panic!("solve BOARD, report BOARD or check BOARD PROOF"),
     }
-    for (value, count) in values.sizes.iter().enumerate() {
-        _ = writeln!(text, "value {value}: {count}");
-    }
-    _ = writeln!(text, "forever: {}\nend", values.forever);
-    text.into_bytes()
 }
 
 fn main() {
     let words: Vec<String> = std::env::args().collect();
-    if words[1] == "measure" {
-        print!("{}", measure::measure(&words[2..]));
-        return;
-    }
-    let text = std::fs::read(&words[2]).unwrap();
-    let board = Board::read(&text);
-    let space = Space::of(&board);
     let output = match words[1].as_str() {
-        "solve" => document::document(&board, &space),
-        "report" => report(&board, &space),
-        "check" => check::check(&board, &space, &std::fs::read(&words[3]).unwrap()).into_bytes(),
-        _ => panic!("solve BOARD, report BOARD or check BOARD PROOF"),
+        "ranks" => output::<Ranks>(&words[2..]),
+        "classes" => output::<Classes>(&words[2..]),
+        "measure" => measure::measure(&words[2..]).into_bytes(),
+        _ => panic!("ranks COMMAND, classes COMMAND or measure PROGRAM"),
     };
     std::io::stdout().write_all(&output).unwrap();
     std::process::exit(0);
