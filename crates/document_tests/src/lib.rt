@@ -10,6 +10,10 @@ mod document_texts;
 #[cfg(test)]
 mod documents;
 #[cfg(test)]
+mod drawn_boards;
+#[cfg(test)]
+mod drawn_documents;
+#[cfg(test)]
 mod long_documents;
 #[cfg(test)]
 mod strategy_documents;

@@ -30,7 +30,7 @@ use std::thread::Threads;
 use strategies::{best_answer, best_request, document};
 
 /// The answer of `document`, which is asked once more if it was refused memory.
-fn document_of(alloc: Global, board: &Board, values: &Values) -> Result<Proof, Memory>
+pub(crate) fn document_of(alloc: Global, board: &Board, values: &Values) -> Result<Proof, Memory>
     requires { values.now ≡ board.now }
     ensures { IfOk result (IsDocument board.now) }
 {
