@@ -1,9 +1,11 @@
-//! Solving a board round by round, each round shared by all workers.
+//! Solving a board round by round, each round shared by all workers or made by their caller alone.
 
-ghost use Rattle.std.specs.Prelude.{◌≡◌, ◌<◌, ◌≤◌, ◌↔◌, ◌≢◌, false, Err, IfOk, IfErr};
+ghost use Rattle.std.specs.Prelude.{◌≡◌, ℕ, ◌<◌, ◌≤◌, ◌↔◌, ◌≢◌, false, length, Err, IfOk, IfErr};
 ghost use Rattle.positions.specs.Ranks.{configurations};
+ghost use Rattle.graphs.specs.declared.graph.Numbering.TheVariants.{Classes};
+ghost use Rattle.graphs.specs.Numbered.{numbered, graph_of};
 ghost use Rattle.solver.specs.Ending.{IsRoundEnd};
-ghost use Rattle.solver.specs.Solving.{IsSolving};
+ghost use Rattle.solver.specs.Solving.{IsSolving, HasFiled, HasFoundNone, bucket};
 
 use crate::gate::Gate;
 use crate::tree::share;
@@ -11,13 +13,17 @@ use board_text::Board;
 use claim_round::{Closed, SharedRound};
 use index_lists::{ListStore, PlainLists};
 use positions::MAX_CONFIGURATIONS;
-use solver::{SolveFault, Solver, Values};
+use solver::{Progress, SolveFault, Solver, Values};
 use std::alloc::Global;
 use std::sync::Wait;
 use std::thread::Threads;
 
 /// The largest number of workers that may share a round.
 pub const MAX_WORKERS: u32 = 16;
+
+/// The least number of classes filed last for which `solve_classes` shares a round.
+/// docs/performance.md has the times on both sides of it.
+pub const MIN_SHARED: u32 = 131_072;
 
 /// Works a round of `solver` to its end by `workers` workers, each in a thread of its own. Worker
 /// 0 is this thread.
@@ -64,11 +70,16 @@ pub fn solve_values<G: Gate, R: Threads + Wait + Sync>(
     ensures worker { result ≡ Err SolveFault.Worker → 1 < workers }
 {
     let solver = Solver::<PlainLists>::open(alloc, board)?;
-    solve_rounds(rt, alloc, solver, workers, gate)
+    solve_rounds(rt, alloc, solver, workers, gate, 0)
 }
 
-/// The values of `board`, as `solve_values` finds them, in rounds over classes of configurations:
-/// all that exchanged pebbles give are one.
+/// The values of `board`, found in rounds over classes of configurations: all that exchanged
+/// pebbles give are one.
+///
+/// A round that strikes those of at least `MIN_SHARED` classes is shared by all workers, as each
+/// round of `solve_values` is. A smaller one, and every round of one worker, is made by this thread
+/// alone, with no table and no gate. The values are those of the board, whatever the number of
+/// workers, the gate and the schedule are.
 pub fn solve_classes<G: Gate, R: Threads + Wait + Sync>(
     rt: &R,
     alloc: Global,
@@ -80,24 +91,29 @@ pub fn solve_classes<G: Gate, R: Threads + Wait + Sync>(
     ensures values { IfOk result (λ values. values ≡ board.now) }
     ensures too_large { (result ≡ Err SolveFault.TooLarge) ↔ (MAX_CONFIGURATIONS < configurations board.now) }
     ensures worker { result ≡ Err SolveFault.Worker → 1 < workers }
+    ensures enough { result ≡ Err SolveFault.Worker → MIN_SHARED ≤ (graph_of (numbered board.now Classes)).configurations }
 {
     let solver = Solver::<PlainLists>::of_classes(alloc, board)?;
-    solve_rounds(rt, alloc, solver, workers, gate)
+    let least = if workers == 1 { u32::MAX } else { MIN_SHARED };
+    solve_rounds(rt, alloc, solver, workers, gate, least)
 }
 
-/// The values of the board of `solver`, found in rounds that `workers` workers share.
+/// The values of the board of `solver`, found in rounds of which `workers` workers share those
+/// before which at least `least` configurations were filed.
 fn solve_rounds<G: Gate, R: Threads + Wait + Sync>(
     rt: &R,
     alloc: Global,
     solver: Solver<PlainLists>,
     workers: u32,
     gate: &G,
+    least: u32,
 ) -> Result<Values, SolveFault>
     requires kept { IsSolving solver }
     requires workers { (1 ≤ workers) × (workers ≤ MAX_WORKERS) }
     ensures values { IfOk result (λ values. values ≡ solver.game.board) }
     ensures fault { IfErr result (λ f. f ≢ SolveFault.TooLarge) }
     ensures worker { result ≡ Err SolveFault.Worker → 1 < workers }
+    ensures shared { IfErr result (λ _. least ≤ (graph_of solver.game).configurations) }
 {
     let mut solver = solver;
     loop {
@@ -105,7 +121,33 @@ fn solve_rounds<G: Gate, R: Threads + Wait + Sync>(
             Ok(values) => return Ok(values),
             Err(unfinished) => solver = unfinished.solver,
         }
-        let closed = work_round(rt, alloc, &solver, workers, gate)?;
-        solver.file_round(&closed);
+        file_next(rt, alloc, &mut solver, workers, gate, least)?;
     }
+}
+
+/// Files all configurations of the next value, or finds that none has it: by `workers` workers if
+/// at least `least` configurations were filed last, and else alone, which needs no memory.
+fn file_next<S: ListStore + Sync, G: Gate, R: Threads + Wait + Sync>(
+    rt: &R,
+    alloc: Global,
+    solver: &mut Solver<S>,
+    workers: u32,
+    gate: &G,
+    least: u32,
+) -> Result<Progress, SolveFault>
+    requires going { solver.old.is_done ≡ false }
+    requires workers { (1 ≤ workers) × (workers ≤ MAX_WORKERS) }
+    ensures game { solver.new.game ≡ solver.old.game }
+    ensures kept { IfOk result (λ _. IsSolving solver.new) }
+    ensures filed { IfOk result (λ progress. (n : ℕ) → progress ≡ Progress.Filed n → HasFiled solver.old solver.new n) }
+    ensures none { IfOk result (λ progress. progress ≡ Progress.Done → HasFoundNone solver.old solver.new) }
+    ensures shared { IfErr result (λ _. least ≤ length (bucket solver.old solver.old.rounds)) }
+    ensures fault { IfErr result (λ f. f ≢ SolveFault.TooLarge) }
+    ensures worker { result ≡ Err SolveFault.Worker → 1 < workers }
+{
+    if solver.last_filed() < least {
+        return Ok(solver.round());
+    }
+    let closed = work_round(rt, alloc, solver, workers, gate)?;
+    Ok(solver.file_round(&closed))
 }
