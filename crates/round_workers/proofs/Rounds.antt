@@ -23,8 +23,11 @@ value_few board configuration value is has = elim (cases_lt (configurations boar
 
 -- no more configurations are filed at a value than there are
 pub bucket_few : (s : Solving) (value : ℕ) → IsSolving s → length (bucket s value) ≤ (graph_of s.game).configurations
-bucket_few s value is = distinct-length _ (bucket s value) (λ x. is.buckets.once value x) (λ x far. none x far (cases_lt 0 (times x (bucket s value))))
+bucket_few s value is =
+    distinct-length _ (bucket s value) (λ x. is.buckets.once value x)
+    (λ x far. none x far (cases_lt 0 (times x (bucket s value))))
   where
-    none : (x : ℕ) → (graph_of s.game).configurations ≤ x → (0 < times x (bucket s value)) ⊎ (times x (bucket s value) ≤ 0) → times x (bucket s value) ≡ 0
+    none : (x : ℕ) → (graph_of s.game).configurations ≤ x → (0 < times x (bucket s value)) ⊎ (times x (bucket s value) ≤ 0)
+        → times x (bucket s value) ≡ 0
     none x far (inl some) = absurd (omega (arith, far, is.buckets.ranks value x some))
     none x far (inr few) = omega (arith, few)

@@ -91,7 +91,8 @@ pub fn solve_classes<G: Gate, R: Threads + Wait + Sync>(
     ensures values { IfOk result (λ values. values ≡ board.now) }
     ensures too_large { (result ≡ Err SolveFault.TooLarge) ↔ (MAX_CONFIGURATIONS < configurations board.now) }
     ensures worker { result ≡ Err SolveFault.Worker → 1 < workers }
-    ensures enough { result ≡ Err SolveFault.Worker → MIN_SHARED ≤ (graph_of (numbered board.now Classes)).configurations }
+    ensures enough { result ≡ Err SolveFault.Worker
+        → MIN_SHARED ≤ (graph_of (numbered board.now Classes)).configurations }
 {
     let solver = Solver::<PlainLists>::of_classes(alloc, board)?;
     let least = if workers == 1 { u32::MAX } else { MIN_SHARED };
@@ -139,8 +140,10 @@ fn file_next<S: ListStore + Sync, G: Gate, R: Threads + Wait + Sync>(
     requires workers { (1 ≤ workers) × (workers ≤ MAX_WORKERS) }
     ensures game { solver.new.game ≡ solver.old.game }
     ensures kept { IfOk result (λ _. IsSolving solver.new) }
-    ensures filed { IfOk result (λ progress. (n : ℕ) → progress ≡ Progress.Filed n → HasFiled solver.old solver.new n) }
-    ensures none { IfOk result (λ progress. progress ≡ Progress.Done → HasFoundNone solver.old solver.new) }
+    ensures filed { IfOk result
+        (λ progress. (n : ℕ) → progress ≡ Progress.Filed n → HasFiled solver.old solver.new n) }
+    ensures none { IfOk result
+        (λ progress. progress ≡ Progress.Done → HasFoundNone solver.old solver.new) }
     ensures shared { IfErr result (λ _. least ≤ length (bucket solver.old solver.old.rounds)) }
     ensures fault { IfErr result (λ f. f ≢ SolveFault.TooLarge) }
     ensures worker { result ≡ Err SolveFault.Worker → 1 < workers }
