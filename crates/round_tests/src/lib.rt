@@ -4,6 +4,8 @@
 #[cfg(test)]
 mod assertions;
 #[cfg(test)]
+mod chosen_rounds;
+#[cfg(test)]
 mod rounds;
 #[cfg(test)]
 mod shared_rounds;

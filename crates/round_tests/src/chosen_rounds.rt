@@ -1,0 +1,113 @@
+//! Values by workers that share a round over classes only if enough of them were filed last.
+//!
+//! A run of the tests may refuse one growth of memory, whichever. So a call that was refused one is
+//! made once more.
+
+ghost use Rattle.std.specs.Prelude.{◌≡◌, ◌≤◌, IfOk};
+
+use crate::assertions::assert_same;
+use board_text::Board;
+use claim_round::RoundSeat;
+use fakes::build_board;
+use index_lists::PlainLists;
+use round_workers::{Gate, MIN_SHARED, solve_classes};
+use solved_boards::{class_solver_of, value};
+use solver::{Progress, SolveFault, Values};
+use std::alloc::{AllocError, Global};
+use std::process::Abort;
+use std::sync::Wait;
+use std::sync::atomic::AtomicU64;
+use std::sync::atomic::Ordering::SeqCst;
+use std::thread::Threads;
+
+/// The labels of the board of two layers, and of its upper one.
+const LABELS: u16 = 256;
+
+const UPPER: u16 = 128;
+
+/// A gate that counts how often workers pass in the first round, and in all later ones.
+#[derive(Drop)]
+struct Passes {
+    first: AtomicU64,
+    later: AtomicU64,
+}
+
+impl Passes {
+    fn none() -> Passes {
+        Passes {
+            first: AtomicU64::new(0),
+            later: AtomicU64::new(0),
+        }
+    }
+}
+
+impl Gate for Passes {
+    fn pass(&self, _worker: u32, round: u32, _seat: &RoundSeat) {
+        let passes = if round == 0 { &self.first } else { &self.later };
+        passes.fetch_add(1, SeqCst);
+    }
+
+    fn leave(&self, _worker: u32, _round: u32, _seat: &RoundSeat) {}
+}
+
+/// The pairs of a board of two layers: each label of the upper one dominates each of the lower one.
+fn layered_pairs(alloc: Global) -> Result<Vec<(u16, u16)>, AllocError> {
+    let mut pairs = Vec::new(alloc);
+    for upper in 0..UPPER {
+        for lower in UPPER..LABELS {
+            pairs.push((upper, lower))?;
+        }
+    }
+    Ok(pairs)
+}
+
+/// The board of two layers and three pebbles.
+fn layered(alloc: Global) -> Option<Board> {
+    let pairs = layered_pairs(alloc).or_else(|_| layered_pairs(alloc)).ok()?;
+    build_board(alloc, LABELS, 3, &[0, 0, 0], &pairs).ok()
+}
+
+/// The values that this number of workers find by classes, or that one thread finds if they were
+/// refused memory or a start twice, and the gate that counted them.
+fn counted(
+    rt: &(impl Threads + Wait + Sync),
+    alloc: Global,
+    board: &Board,
+    workers: u32,
+) -> Result<(Values, Passes), SolveFault>
+    requires { (1 ≤ workers) × (workers ≤ 16) }
+    ensures { IfOk result (λ found. found.0 ≡ board.now) }
+{
+    let passes = Passes::none();
+    let values = solve_classes(rt, alloc, board, workers, &passes)?;
+    Ok((values, passes))
+}
+
+/// Asserts that the round which strikes the classes filed at 0 has enough of them to be shared, and
+/// the only later one too few.
+fn assert_on_both_sides(rt: &impl Abort, alloc: Global, board: &Board) {
+    let mut solver = class_solver_of::<PlainLists>(alloc, board).expect(rt, "a solver");
+    assert_same(rt, "at 0", solver.last_filed() >= MIN_SHARED, true);
+    let filed = matches!(solver.round(), Progress::Filed(_));
+    assert_same(rt, "at 1", filed && solver.last_filed() < MIN_SHARED, true);
+    assert_same(rt, "at 2", solver.round(), Progress::Done);
+}
+
+#[test]
+fn one_round_of_two_is_shared(rt: HostRuntime) {
+    let board = layered(rt.alloc()).expect(&rt, "a board");
+    assert_on_both_sides(&rt, rt.alloc(), &board);
+    let wanted = class_solver_of::<PlainLists>(rt.alloc(), &board).expect(&rt, "a solver");
+    let wanted = wanted.solve();
+    for workers in 1..5 {
+        let (found, passes) = counted(&rt, rt.alloc(), &board, workers)
+            .or_else(|_| counted(&rt, rt.alloc(), &board, workers))
+            .expect(&rt, "values");
+        let times = if workers == 1 { 0 } else { u64::from(workers) };
+        assert_same(&rt, workers, passes.first.load(SeqCst), times);
+        assert_same(&rt, workers, passes.later.load(SeqCst), 0);
+        for rank in 0..wanted.space().configurations() {
+            assert_same(&rt, rank, value(&found, rank), value(&wanted, rank));
+        }
+    }
+}
