@@ -18,6 +18,12 @@ def empty(labels):
     return text(1, labels, [0, 0, 0, 0], [])
 
 
+def layers(labels):
+    """Labels of which each of the first half dominates each of the second, with three pebbles: seven eighths of the classes have value 0."""
+    half = labels // 2
+    return text(1, labels, [0, 0, 0], [(x, y) for x in range(half) for y in range(half, labels)])
+
+
 class Numbers:
     """Numbers that are the same everywhere."""
     state = 20

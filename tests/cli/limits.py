@@ -10,6 +10,7 @@ import subprocess
 from dataclasses import dataclass
 from functools import partial
 
+import board_texts
 from program import PROGRAM, Check, Ran, board, differs, fault, fed, letters, run, shown, strategy, text_of, written
 
 KIBIBYTE = 1024
@@ -108,8 +109,9 @@ def readable(work, name, text):
 
 
 def made_jobs(work, program):
-    """Both commands on a small and on a larger board."""
-    boards = {'cycle': text_of(board('three-pebbles-on-the-cycle')), 'nested': run(['nested', '4', '4']).output}
+    """Both commands on a small board, on a larger one, and last on one of which workers share a round."""
+    boards = {'cycle': text_of(board('three-pebbles-on-the-cycle')), 'nested': run(['nested', '4', '4']).output,
+              'layers': board_texts.layers(101)}
     for name, text in boards.items():
         path = readable(work, f'limited-{name}.board', text)
         for command in ('solve', 'report'):
