@@ -78,8 +78,9 @@ fn numbers_of(classes: &Classes, lists: &[ClassPlaces], class: usize) -> (u32, [
     requires class { class < length lists.now }
 {
     let places = lists[class].as_slice();
-    let gaps = classes.gaps_of(places);
-    (classes.number(places), [gaps[0], gaps[1], gaps[2]])
+    let number = classes.number(places);
+    let gaps = classes.gaps_of(places, number);
+    (number, [gaps[0], gaps[1], gaps[2]])
 }
 
 /// The members of a listed gap with the places 0, 1 and 2, by a walk.

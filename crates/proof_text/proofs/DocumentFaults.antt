@@ -144,8 +144,11 @@ module _ {board : PlainBoard} {proof : PlainProof} {text a : List ℕ} (read : F
     n,
   )
 
--- a text that is written part by part
-pub printed : (claim : Claim) (labeller adversary t0 t1 t2 t3 t4 t5 t6 : List ℕ) → t0 ≡ [] → t1 ≡ t0 ++ version_line
-    → t2 ≡ t1 ++ claim_words claim → t3 ≡ t2 ++ 10 ∷ [] → t4 ≡ t3 ++ labeller → t5 ≡ t4 ++ adversary → t6 ≡ t5 ++ end_line
-    → t6 ≡ (first_two_lines claim ++ (labeller ++ adversary)) ++ end_line
-printed claim labeller adversary t0 t1 t2 t3 t4 t5 t6 e0 e1 e2 e3 e4 e5 e6 = rw (e6, e5, e4, e3, e2, e1, e0) (simp append_assoc)
+-- a text that is written part by part: its first two lines, and then the sections
+pub first_printed : (claim : Claim) (t0 t1 t2 t3 : List ℕ) → t0 ≡ [] → t1 ≡ t0 ++ version_line → t2 ≡ t1 ++ claim_words claim
+    → t3 ≡ t2 ++ 10 ∷ [] → t3 ≡ first_two_lines claim
+first_printed claim t0 t1 t2 t3 e0 e1 e2 e3 = rw (e3, e2, e1, e0) (simp append_assoc)
+
+pub printed : (claim : Claim) (labeller adversary t0 t1 t2 t3 : List ℕ) → t0 ≡ first_two_lines claim → t1 ≡ t0 ++ labeller
+    → t2 ≡ t1 ++ adversary → t3 ≡ t2 ++ end_line → t3 ≡ (first_two_lines claim ++ (labeller ++ adversary)) ++ end_line
+printed claim labeller adversary t0 t1 t2 t3 e0 e1 e2 e3 = rw (e3, e2, e1, e0) (simp append_assoc)

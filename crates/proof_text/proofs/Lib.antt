@@ -1,5 +1,6 @@
 pub mod RowWords
 pub mod SpelledRows
+pub mod PartedLines
 pub mod SectionLemmas
 pub mod RowLemmas
 pub mod DocumentFaults

@@ -1,6 +1,8 @@
 //! Reading and writing the sections of a document.
 
-ghost use Rattle.std.specs.Prelude.{◌≡◌, ◌<◌, ◌≤◌, ◌+◌, ◌++◌, true, if◌then◌else◌, All, IfOk, IfErr, OnOk, string_bytes};
+ghost use Rattle.std.specs.Prelude.{◌≡◌, ◌<◌, ◌≤◌, ◌+◌, ◌++◌, true, if◌then◌else◌, All, IfOk, IfErr, OnOk, flat_map, string_bytes};
+ghost use Rattle.board_text.specs.LineForms.{number_line};
+ghost use Rattle.board_text.specs.PlainBoard.{PlainBoard};
 ghost use Rattle.positions.specs.Ranks.{configurations};
 ghost use Rattle.positions.specs.declared.claim.Claim.{Claim as ClaimData};
 ghost use Rattle.proof_text.specs.Inside.RowForm.{PartRead, SectionFault, section_text};
@@ -63,8 +65,32 @@ pub(crate) fn write_part<R: Row>(
     if !R::is_asked(claim) {
         return Ok(());
     }
-    let count = rows.len();
-    write!(text, "{} {count}\n", R::word())?;
+    write_head::<R>(text, claim, rows.len())?;
+    write_rows(text, space, rows)
+}
+
+/// Appends the first line of a section of `count` rows.
+pub(crate) fn write_head<R: Row>(
+    text: &mut String,
+    claim: Claim,
+    count: usize,
+) -> Result<(), AllocError>
+    ensures { OnOk result ((board : PlainBoard)
+        → string_bytes text.new ≡ string_bytes text.old ++ number_line (R.form board claim).word count) }
+{
+    write!(text, "{} {count}\n", R::word())
+}
+
+/// Appends the lines of `rows`.
+pub(crate) fn write_rows<R: Row>(
+    text: &mut String,
+    space: &Space,
+    rows: &[R],
+) -> Result<(), AllocError>
+    requires { (claim : ClaimData) → All (λ row. (R.form space.now claim).rank row < configurations space.now) rows.now }
+    ensures { OnOk result ((claim : ClaimData)
+        → string_bytes text.new ≡ string_bytes text.old ++ flat_map (R.form space.now claim).line rows.now) }
+{
     for row in rows {
         row.write(text, space)?;
     }

@@ -1,6 +1,0 @@
-use Rattle.std.proofs.Common.{◌≡◌, ◌++◌, string_bytes, take}
-use Rattle.std.specs.List.{flat_map}
-use Rattle.proof_text.proofs.sections.write_part.Given as goal
-
-abbrev pub invariant-loop-row : goal.invariant-loop-row
-invariant-loop-row g l = string_bytes l.text ≡ string_bytes l.initial.text ++ flat_map (g.R.Row.form l.space l.fn.claim).line (take l.row-index l.rows)

@@ -1,0 +1,79 @@
+//! The lines of a section's rows, made in parts.
+
+ghost use Rattle.std.specs.Prelude.{◌≡◌, ◌<◌, ◌≤◌, ◌++◌, All, IfOk, OnOk, flat_map, string_bytes};
+ghost use Rattle.positions.specs.Ranks.{configurations};
+ghost use Rattle.positions.specs.declared.claim.Claim.{Claim as ClaimData};
+ghost use Rattle.proof_text.specs.Inside.RowForm.{section_text};
+
+use crate::printing::size_of_lines;
+use crate::rows::Row;
+use crate::sections::{write_head, write_rows};
+use positions::{Claim, Space};
+use rayon::prelude::*;
+use std::alloc::{AllocError, Global};
+use std::thread::Threads;
+
+/// Appends the section of `rows`, if `claim` asks for it, as `write_part` does. The lines are made
+/// in `parts` parts.
+pub(crate) fn write_in_parts<R: Row + Sync>(
+    rt: &(impl Threads + Sync),
+    alloc: Global,
+    text: &mut String,
+    space: &Space,
+    claim: Claim,
+    rows: &[R],
+    parts: u32,
+) -> Result<(), AllocError>
+    requires ranks { (other : ClaimData) → All (λ row. (R.form space.now other).rank row < configurations space.now) rows.now }
+    requires parts { 1 ≤ parts }
+    ensures { OnOk result (string_bytes text.new ≡ string_bytes text.old ++ section_text (R.form space.now claim) rows.now) }
+{
+    if !R::is_asked(claim) {
+        return Ok(());
+    }
+    write_head::<R>(text, claim, rows.len())?;
+    for lines in &lines_in_parts(rt, alloc, space, rows, parts)? {
+        text.push_str(lines.as_str())?;
+    }
+    Ok(())
+}
+
+/// The lines of `rows` in at most `parts` parts of consecutive rows, in their order. A part of more
+/// than 1,024 rows is made on a thread of its own, if one can be started.
+fn lines_in_parts<R: Row + Sync>(
+    rt: &(impl Threads + Sync),
+    alloc: Global,
+    space: &Space,
+    rows: &[R],
+    parts: u32,
+) -> Result<Vec<String>, AllocError>
+    requires ranks { (claim : ClaimData) → All (λ row. (R.form space.now claim).rank row < configurations space.now) rows.now }
+    requires parts { 1 ≤ parts }
+    ensures { IfOk result (λ parts. (claim : ClaimData)
+        → flat_map string_bytes parts.items ≡ flat_map (R.form space.now claim).line rows.now) }
+{
+    let size = rows.len().div_ceil(parts as usize).max(1);
+    let lines: Result<Vec<String>, AllocError> = rows
+        .par_chunks(size)
+        .map(
+            |part: &[R]| -> Result<String, AllocError>
+                requires { (claim : ClaimData) → All (λ row. (R.form space.now claim).rank row < configurations space.now) part.now }
+                ensures { IfOk result (λ lines. (claim : ClaimData)
+                    → string_bytes lines ≡ flat_map (R.form space.entry.now claim).line part.now) }
+            { lines_of(alloc, space, part) },
+        )
+        .collect(rt, alloc)?;
+    lines
+}
+
+/// The lines of `rows`, as a text of their own.
+fn lines_of<R: Row>(alloc: Global, space: &Space, rows: &[R]) -> Result<String, AllocError>
+    requires { (claim : ClaimData) → All (λ row. (R.form space.now claim).rank row < configurations space.now) rows.now }
+    ensures { IfOk result (λ lines. (claim : ClaimData)
+        → string_bytes lines ≡ flat_map (R.form space.now claim).line rows.now) }
+{
+    let size = size_of_lines(space.labels(), space.pebbles(), rows.len());
+    let mut lines = String::with_capacity(alloc, size)?;
+    write_rows(&mut lines, space, rows)?;
+    Ok(lines)
+}
