@@ -45,7 +45,7 @@ use Rattle.command_line.specs.Commands.{program}
 use Rattle.command_line.specs.Reading.{asks_for_help}
 
 -- there are no faults
-abbrev none : Kinds → Bool
+abbrev pub none : Kinds → Bool
 none [] = true
 none (k ∷ ks) = false
 
@@ -247,7 +247,7 @@ step_none s position h (trailing place) = refl
 step_none s position h (subcommand name) = refl
 step_none s position h value = place_none s (arg_by_index s.rules position) h
 
-turn_none : (s : Shape) (names : Names) (w : Walk) (word : Text)
+pub turn_none : (s : Shape) (names : Names) (w : Walk) (word : Text)
     → none (turn_fault s names w word) ≡ turn_passes s names w word
 turn_none s names w word =
     let met = word_met s.rules names w.is_trailing w.waiting w.position word w.held in
@@ -429,7 +429,7 @@ none_is words =
     (entered_fault (built program) stop)
     (entered_passes (built program) stop) refl (entered_none stop)
 
-none_there : (found : Kinds) → none found ≡ true → found ≡ []
+pub none_there : (found : Kinds) → none found ≡ true → found ≡ []
 none_there [] is = refl
 none_there (k ∷ ks) is = absurd (true≢false (sym is))
 

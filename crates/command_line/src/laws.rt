@@ -1,8 +1,9 @@
 //! A law of `clap`'s two tests of words, and the numbers that the help names.
 
-ghost use Rattle.std.specs.Prelude.{◌≡◌, ◌↔◌, List, [], true};
+ghost use Rattle.std.specs.Prelude.{◌≡◌, ◌↔◌, ◌⊎◌, List, [], true};
 ghost use Rattle.clap.specs.Words.{Text, fault_of, takes};
 ghost use Rattle.command_line.specs.Commands as commands;
+ghost use Rattle.command_line.specs.Reading.{AsksForHelp, AsksForVersion, IsWrongUse};
 
 use crate::asked::MAX_WORKERS;
 use board_text::MAX_PEBBLES;
@@ -21,4 +22,11 @@ pub fn limits()
 pub fn faultless_words_are_taken()
     ensures { (words : List Text) → (fault_of commands.program words ≡ [])
         ↔ (takes commands.program words ≡ true) }
+{}
+
+/// No words ask for two of help, the version and being told of wrong use.
+pub fn words_ask_for_one_answer()
+    ensures help { (words : List Text) → AsksForHelp words → AsksForVersion words → ⊥ }
+    ensures misuse { (words : List Text) → AsksForHelp words ⊎ AsksForVersion words
+        → IsWrongUse words → ⊥ }
 {}

@@ -7,5 +7,5 @@ mod laws;
 mod words;
 
 pub use asked::{Job, JobFault, MAX_WORKERS};
-pub use laws::{faultless_words_are_taken, limits};
+pub use laws::{faultless_words_are_taken, limits, words_ask_for_one_answer};
 pub use words::job;
