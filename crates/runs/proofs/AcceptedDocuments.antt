@@ -100,13 +100,16 @@ known_all : (bytes text : List ℕ) (left : Option (List ℕ)) → GaveAll (Some
 known_all bytes text None gave = absurd gave.0
 known_all bytes text (Some rest) gave = gave.0 ∙ ap (λ r. text ++ r) gave.1 ∙ append-nil text
 
-pub runs_agree : (bytes text : List ℕ) (solve_left board_left proof_left : Option (List ℕ)) (written : Bytes) (value : Value) (verdict : Verdict)
-    → Ran IsSolution (record { old = Some bytes; new = solve_left }) (record { old = Some []; new = Some text }) value
-    → RanCheck (record { old = Some bytes; new = board_left }) (record { old = Some text; new = proof_left }) written verdict
+pub runs_agree : (limit board_limit proof_limit : ℕ) (bytes text : List ℕ)
+    (solve_left board_left proof_left : Option (List ℕ)) (written : Bytes) (value : Value) (verdict : Verdict)
+    → Ran IsSolution limit (record { old = Some bytes; new = solve_left })
+    (record { old = Some []; new = Some text }) value
+    → RanCheck board_limit proof_limit (record { old = Some bytes; new = board_left })
+    (record { old = Some text; new = proof_left }) written verdict
     → verdict ≡ Accepted (record { claim = claim_of value })
-runs_agree bytes text solve_left board_left proof_left written value verdict
+runs_agree limit board_limit proof_limit bytes text solve_left board_left proof_left written value verdict
     (read, gave, (printed, solution, wrote)) (board, (other, gave_too, small), (read_proof, gave_proof, (line, checked, wrote_line))) =
-    let same : other ≡ read = sym (known_all bytes other board_left gave_too) ∙ known_all bytes read solve_left gave in
-    let spelled : read_proof ≡ printed = sym (known_all text read_proof proof_left gave_proof) ∙ wrote in
+    let same : other ≡ read = sym (known_all bytes other board_left gave_too.0) ∙ known_all bytes read solve_left gave.0 in
+    let spelled : read_proof ≡ printed = sym (known_all text read_proof proof_left gave_proof.0) ∙ wrote in
     accepts_text read printed value solution board (subst (λ t. IsSmallBoard t board) same small) verdict line
     (subst (λ t. IsChecked board t verdict line) spelled checked)

@@ -88,17 +88,18 @@ module _ {A : Type 0} (P : List ℕ → A → List ℕ → Type 0)
     (more : (text : List ℕ) (fault : RunFault) → Nothing text fault → CannotSolve workers text fault)
     (file : File) (read : Bytes) (opens : Opens file read.old) (output : Stream)
     (r : Result A RunFault) (outcome : Outcome) (is : outcome ≡ outcome_of_run r) where
-  pub opened_board : IfOk r (Ran P read output.bytes)
+  pub opened_board : IfOk r (Ran P MAX_BOARD_BYTES read output.bytes)
       → IfErr r (Fails P Nothing MAX_BOARD_BYTES read output.bytes)
       → IfErr r (λ fault. fault ≢ Write → output.IsKept)
-      → Opening file output.IsKept (λ bytes. EndsAs outcome_of_run (Ran P bytes output.bytes)
+      → Opening file output.IsKept (λ bytes. EndsAs outcome_of_run (Ran P MAX_BOARD_BYTES bytes output.bytes)
       (Fails P (CannotSolve workers) MAX_BOARD_BYTES bytes output.bytes)) outcome
       × WritesWhole output outcome
   opened_board ok fault unwritten = (
     inr (
       read,
       opens,
-      ends outcome_of_run r (Ran P read output.bytes) (Fails P (CannotSolve workers) MAX_BOARD_BYTES read output.bytes)
+      ends outcome_of_run r (Ran P MAX_BOARD_BYTES read output.bytes)
+          (Fails P (CannotSolve workers) MAX_BOARD_BYTES read output.bytes)
           outcome is ok
           (IfErr-weaker r (Fails P Nothing MAX_BOARD_BYTES read output.bytes)
           (Fails P (CannotSolve workers) MAX_BOARD_BYTES read output.bytes)
@@ -109,7 +110,8 @@ module _ {A : Type 0} (P : List ℕ → A → List ℕ → Type 0)
 
 module _ (board proof : File) (b p : Bytes) (opens : Opens board b.old) (opens_too : Opens proof p.old)
     (output : Stream) (r : Result Verdict RunFault) (outcome : Outcome) (is : outcome ≡ outcome_of_check r) where
-  pub opened_both : IfOk r (RanCheck b p output.bytes) → (Untouched : Type 0) → (Untouched → p.new ≡ p.old)
+  pub opened_both : IfOk r (RanCheck MAX_BOARD_BYTES MAX_PROOF_BYTES b p output.bytes) → (Untouched : Type 0)
+      → (Untouched → p.new ≡ p.old)
       → IfErr r (CheckFails MAX_BOARD_BYTES MAX_PROOF_BYTES Untouched b p output.bytes)
       → IfErr r (λ fault. fault ≢ Write → output.IsKept) → Checks board proof output outcome
   opened_both ok Untouched to fault unwritten = (
@@ -118,7 +120,7 @@ module _ (board proof : File) (b p : Bytes) (opens : Opens board b.old) (opens_t
       p,
       opens,
       opens_too,
-      ends outcome_of_check r (RanCheck b p output.bytes)
+      ends outcome_of_check r (RanCheck MAX_BOARD_BYTES MAX_PROOF_BYTES b p output.bytes)
           (CheckFails MAX_BOARD_BYTES MAX_PROOF_BYTES (p.new ≡ p.old) b p output.bytes) outcome is ok
           (IfErr-weaker r (CheckFails MAX_BOARD_BYTES MAX_PROOF_BYTES Untouched b p output.bytes)
           (CheckFails MAX_BOARD_BYTES MAX_PROOF_BYTES (p.new ≡ p.old) b p output.bytes)
@@ -129,12 +131,12 @@ module _ (board proof : File) (b p : Bytes) (opens : Opens board b.old) (opens_t
 
 module _ (side : Side) (file : File) (read : Bytes) (opens : Opens file read.old) (input output : Stream)
     (r : Result PlayEnd RunFault) (outcome : Outcome) (is : outcome ≡ outcome_of_run r) where
-  pub opened_play : IfOk r (RanPlay side read input.bytes output.bytes)
+  pub opened_play : IfOk r (RanPlay side MAX_BOARD_BYTES read input.bytes output.bytes)
       → IfErr r (PlayFails side MAX_BOARD_BYTES (input.IsKept × output.IsKept) read input.bytes output.bytes)
       → Plays side file input output outcome
   opened_play ok fault = inr (
     read,
     opens,
-    ends outcome_of_run r (RanPlay side read input.bytes output.bytes)
+    ends outcome_of_run r (RanPlay side MAX_BOARD_BYTES read input.bytes output.bytes)
         (PlayFails side MAX_BOARD_BYTES (input.IsKept × output.IsKept) read input.bytes output.bytes) outcome is ok fault,
   )

@@ -7,7 +7,7 @@ use Rattle.runs.specs.declared.fault.RunFault.{RunFault}
 use Rattle.runs.specs.declared.fault.RunFault.TheVariants.{Write}
 
 module _ {Answer : Type 0} (Says : List ℕ → Answer → List ℕ → Type 0) (SaysNothing : List ℕ → RunFault → Type 0)
-    (limit : ℕ) (read written : Bytes) (text : List ℕ) (gave : Gave read text) where
+    (limit : ℕ) (read written : Bytes) (text : List ℕ) (gave : Gave limit read text) where
   pub nothing_to_write : (fault : RunFault) → SaysNothing text fault → Fails Says SaysNothing limit read written fault
   nothing_to_write fault says = inr (inl (text, gave, says))
 

@@ -14,3 +14,6 @@ pub mod Served
 pub mod MoreTexts
 pub mod ShownTexts
 pub mod PlayFaults
+pub mod KnownRuns
+pub mod KnownPlays
+pub mod OneServing

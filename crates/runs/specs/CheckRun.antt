@@ -8,8 +8,9 @@ use Rattle.runs.specs.declared.verdicts.Verdict.{Verdict}
 use Rattle.runs.specs.declared.fault.RunFault.{RunFault}
 
 -- the board and the document were read, and the verdict's line was written
-abbrev pub RanCheck : Bytes → Bytes → Bytes → Verdict → Type 0
-RanCheck board proof written verdict = RanOn board (λ b. Ran (IsChecked b) proof written verdict)
+abbrev pub RanCheck : ℕ → ℕ → Bytes → Bytes → Bytes → Verdict → Type 0
+RanCheck board_limit proof_limit board proof written verdict =
+    RanOn board_limit board (λ b. Ran (IsChecked b) proof_limit proof written verdict)
 
 -- the faults of a check without a verdict; if there is no board, the document is untouched
 abbrev pub CheckFails : ℕ → ℕ → Type 0 → Bytes → Bytes → Bytes → RunFault → Type 0

@@ -44,7 +44,7 @@ TellsWrites output outcome = output.HasFailed ↔ (outcome ≡ Broken Write)
 -- a board and a document after it were checked
 abbrev pub ChecksJoined : Stream → Stream → Outcome → Type 0
 ChecksJoined input output outcome =
-    EndsAs outcome_of_check (Ran IsAnswered input.bytes output.bytes)
+    EndsAs outcome_of_check (Ran IsAnswered MAX_JOINED_BYTES input.bytes output.bytes)
     (Fails IsAnswered CannotAnswer MAX_JOINED_BYTES input.bytes output.bytes) outcome
     × WritesWhole output outcome
 
@@ -53,21 +53,23 @@ abbrev pub Checks : File → File → Stream → Outcome → Type 0
 Checks board proof output outcome =
     (((CanFail board ⊎ CanFail proof) × (outcome ≡ Broken Read))
     ⊎ ((b p : Bytes) × Opens board b.old × Opens proof p.old
-    × EndsAs outcome_of_check (RanCheck b p output.bytes)
+    × EndsAs outcome_of_check (RanCheck MAX_BOARD_BYTES MAX_PROOF_BYTES b p output.bytes)
     (CheckFails MAX_BOARD_BYTES MAX_PROOF_BYTES (p.new ≡ p.old) b p output.bytes) outcome))
     × WritesWhole output outcome
 
 -- the board was solved by this number of workers
 abbrev pub Solves : ℕ → File → Stream → Outcome → Type 0
 Solves workers board output outcome =
-    Opening board output.IsKept (λ read. EndsAs outcome_of_run (Ran Solution read output.bytes)
+    Opening board output.IsKept (λ read. EndsAs outcome_of_run
+    (Ran Solution MAX_BOARD_BYTES read output.bytes)
     (Fails Solution (CannotSolve workers) MAX_BOARD_BYTES read output.bytes)) outcome
     × WritesWhole output outcome
 
 -- the values of the board were counted by this number of workers
 abbrev pub Counts : ℕ → File → Stream → Outcome → Type 0
 Counts workers board output outcome =
-    Opening board output.IsKept (λ read. EndsAs outcome_of_run (Ran Reports read output.bytes)
+    Opening board output.IsKept (λ read. EndsAs outcome_of_run
+    (Ran Reports MAX_BOARD_BYTES read output.bytes)
     (Fails Reports (CannotSolve workers) MAX_BOARD_BYTES read output.bytes)) outcome
     × WritesWhole output outcome
 
@@ -75,7 +77,7 @@ Counts workers board output outcome =
 abbrev pub Plays : Side → File → Stream → Stream → Outcome → Type 0
 Plays side board input output outcome =
     Opening board (input.IsKept × output.IsKept) (λ read. EndsAs outcome_of_run
-    (RanPlay side read input.bytes output.bytes)
+    (RanPlay side MAX_BOARD_BYTES read input.bytes output.bytes)
     (PlayFails side MAX_BOARD_BYTES (input.IsKept × output.IsKept)
     read input.bytes output.bytes)) outcome
 

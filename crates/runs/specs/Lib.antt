@@ -17,4 +17,5 @@ pub mod Folders
 pub mod Outcomes
 pub mod Jobs
 pub mod Serving
+pub mod Servings
 pub mod Inside

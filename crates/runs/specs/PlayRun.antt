@@ -28,8 +28,9 @@ IsBrokenOff game lines written fault =
     (why : PlayFault) × BreaksOff (IsPlayed game) lines.old lines.new written.old written.new why × (fault ≡ fault_of_play why)
 
 -- a small board was read, and the play on it is over
-abbrev pub RanPlay : Side → Bytes → Bytes → Bytes → PlayEnd → Type 0
-RanPlay side board lines written end = RanOn board (λ b. IsOver (game_of side b) lines written end)
+abbrev pub RanPlay : Side → ℕ → Bytes → Bytes → Bytes → PlayEnd → Type 0
+RanPlay side limit board lines written end =
+    RanOn limit board (λ b. IsOver (game_of side b) lines written end)
 
 -- the faults of a play: there is no board, or no memory for its values, and nothing else is
 -- touched; or the play was broken off

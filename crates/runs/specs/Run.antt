@@ -43,9 +43,9 @@ pub record TellsStreams {Answer : Type 0}
   pub failures : TellsFailures result ReadingFailed output
   pub unwritten : IfErr result (λ fault. fault ≢ Write → output.IsKept)
 
--- the reader gave this text, which is all that it had left
-abbrev pub Gave : Bytes → List ℕ → Type 0
-Gave read text = GaveAll read.old read.new text
+-- the reader gave this text, which is all that it had left, and no longer than the limit
+abbrev pub Gave : ℕ → Bytes → List ℕ → Type 0
+Gave limit read text = GaveAll read.old read.new text × (length text ≤ limit)
 
 -- the bytes consumed by a read that failed; out of memory may also come after the last of them
 abbrev pub IsUnread : ℕ → Bytes → RunFault → Type 0
@@ -66,13 +66,15 @@ WrotePrefix IsIt written = (text : List ℕ) × IsIt text × AppendsPrefix writt
 
 module _ {Answer : Type 0} (Says : List ℕ → Answer → List ℕ → Type 0) where
   -- all was read, and the bytes that the text asks for, with this answer, were written
-  abbrev pub Ran : Bytes → Bytes → Answer → Type 0
-  Ran read written answer = (text : List ℕ) × Gave read text × Wrote (Says text answer) written
+  abbrev pub Ran : ℕ → Bytes → Bytes → Answer → Type 0
+  Ran limit read written answer =
+      (text : List ℕ) × Gave limit read text × Wrote (Says text answer) written
 
   -- the faults of a run: not all was read; or all was, and the text has this fault; or the writer
   -- failed, and a prefix of the bytes was written
   abbrev pub Fails : (List ℕ → RunFault → Type 0) → ℕ → Bytes → Bytes → RunFault → Type 0
   Fails SaysNothing limit read written fault =
       IsUnread limit read fault
-      ⊎ ((text : List ℕ) × Gave read text × SaysNothing text fault)
-      ⊎ ((text : List ℕ) × (answer : Answer) × Gave read text × WrotePrefix (Says text answer) written × (fault ≡ Write))
+      ⊎ ((text : List ℕ) × Gave limit read text × SaysNothing text fault)
+      ⊎ ((text : List ℕ) × (answer : Answer) × Gave limit read text
+      × WrotePrefix (Says text answer) written × (fault ≡ Write))

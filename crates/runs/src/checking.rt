@@ -34,8 +34,8 @@ pub fn run_joined<R: Source, W: Sink>(
     requires reader_ready { R.has_failed reader.old ≡ false }
     requires reader_unended { R.has_ended reader.old ≡ false }
     requires writer_ready { W.has_failed writer.old ≡ false }
-    ensures ok { IfOk result (Ran IsAnswered (bytes_of R.remaining reader.old reader.new)
-        (bytes_of W.contents writer.old writer.new)) }
+    ensures ok { IfOk result (Ran IsAnswered MAX_JOINED_BYTES
+        (bytes_of R.remaining reader.old reader.new) (bytes_of W.contents writer.old writer.new)) }
     ensures fault { IfErr result (Fails IsAnswered CannotAnswer MAX_JOINED_BYTES
         (bytes_of R.remaining reader.old reader.new) (bytes_of W.contents writer.old writer.new)) }
     ensures streams { TellsStreams result (R.has_failed reader.new ≡ true)
@@ -62,8 +62,8 @@ pub(crate) fn run_keeping_text<R: Source, W: Sink>(
     requires reader_ready { R.has_failed reader.old ≡ false }
     requires reader_unended { R.has_ended reader.old ≡ false }
     requires writer_ready { W.has_failed writer.old ≡ false }
-    ensures ok { IfOk result.result (Ran IsAnswered (bytes_of R.remaining reader.old reader.new)
-        (bytes_of W.contents writer.old writer.new)) }
+    ensures ok { IfOk result.result (Ran IsAnswered MAX_JOINED_BYTES
+        (bytes_of R.remaining reader.old reader.new) (bytes_of W.contents writer.old writer.new)) }
     ensures fault { IfErr result.result (Fails IsAnswered CannotAnswer MAX_JOINED_BYTES
         (bytes_of R.remaining reader.old reader.new) (bytes_of W.contents writer.old writer.new)) }
     ensures streams { TellsStreams result.result (R.has_failed reader.new ≡ true)
@@ -119,8 +119,9 @@ pub fn run_check<B: Source, P: Source, W: Sink>(
     requires proof_ready { P.has_failed proof.old ≡ false }
     requires proof_unended { P.has_ended proof.old ≡ false }
     requires writer_ready { W.has_failed writer.old ≡ false }
-    ensures ok { IfOk result (RanCheck (bytes_of B.remaining board.old board.new)
-        (bytes_of P.remaining proof.old proof.new) (bytes_of W.contents writer.old writer.new)) }
+    ensures ok { IfOk result (RanCheck MAX_BOARD_BYTES MAX_PROOF_BYTES
+        (bytes_of B.remaining board.old board.new) (bytes_of P.remaining proof.old proof.new)
+        (bytes_of W.contents writer.old writer.new)) }
     ensures fault { IfErr result (CheckFails MAX_BOARD_BYTES MAX_PROOF_BYTES (proof.new ≡ proof.old)
         (bytes_of B.remaining board.old board.new) (bytes_of P.remaining proof.old proof.new)
         (bytes_of W.contents writer.old writer.new)) }

@@ -37,8 +37,8 @@ pub fn run_play<B: Source, L: Source, W: Sink>(
     requires lines_ready { L.has_failed lines.old ≡ false }
     requires lines_unended { L.has_ended lines.old ≡ false }
     requires writer_ready { W.has_failed writer.old ≡ false }
-    ensures ok { IfOk result (RanPlay side (bytes_of B.remaining board.old board.new) (bytes_of L.remaining lines.old lines.new)
-        (bytes_of W.contents writer.old writer.new)) }
+    ensures ok { IfOk result (RanPlay side MAX_BOARD_BYTES (bytes_of B.remaining board.old board.new)
+        (bytes_of L.remaining lines.old lines.new) (bytes_of W.contents writer.old writer.new)) }
     ensures fault { IfErr result (PlayFails side MAX_BOARD_BYTES ((lines.new ≡ lines.old) × (writer.new ≡ writer.old))
         (bytes_of B.remaining board.old board.new) (bytes_of L.remaining lines.old lines.new) (bytes_of W.contents writer.old writer.new)) }
     ensures streams { TellsFailures result ((B.has_failed board.new ≡ true) ⊎ (L.has_failed lines.new ≡ true))

@@ -22,7 +22,7 @@ pub(crate) fn read_text<R: Source>(
     requires ready { R.has_failed reader.old ≡ false }
     requires unended { R.has_ended reader.old ≡ false }
     requires countable { limit < usize.MAX }
-    ensures ok { IfOk result (λ text. Gave (bytes_of R.remaining reader.old reader.new) text.items) }
+    ensures ok { IfOk result (λ text. Gave limit (bytes_of R.remaining reader.old reader.new) text.items) }
     ensures fault { IfErr result (IsUnread limit (bytes_of R.remaining reader.old reader.new)) }
     ensures read { (R.has_failed reader.new ≡ true) ↔ (result ≡ Err Read) }
 {
@@ -33,7 +33,8 @@ pub(crate) fn read_text<R: Source>(
 pub(crate) fn read_board<R: Source>(alloc: Global, reader: &mut R) -> Result<Board, RunFault>
     requires ready { R.has_failed reader.old ≡ false }
     requires unended { R.has_ended reader.old ≡ false }
-    ensures found { IfOk result (GaveBoard (bytes_of R.remaining reader.old reader.new)) }
+    ensures found { IfOk result (GaveBoard MAX_BOARD_BYTES
+        (bytes_of R.remaining reader.old reader.new)) }
     ensures fault { IfErr result (GaveNoBoard MAX_BOARD_BYTES (bytes_of R.remaining reader.old reader.new)) }
     ensures read { (R.has_failed reader.new ≡ true) ↔ (result ≡ Err Read) }
     ensures unwritten { result ≢ Err Write }

@@ -41,8 +41,8 @@ pub fn run_report_alone<R: Source, W: Sink>(
     requires reader_ready { R.has_failed reader.old ≡ false }
     requires reader_unended { R.has_ended reader.old ≡ false }
     requires writer_ready { W.has_failed writer.old ≡ false }
-    ensures ok { IfOk result (Ran Reports (bytes_of R.remaining reader.old reader.new)
-        (bytes_of W.contents writer.old writer.new)) }
+    ensures ok { IfOk result (Ran Reports MAX_BOARD_BYTES
+        (bytes_of R.remaining reader.old reader.new) (bytes_of W.contents writer.old writer.new)) }
     ensures fault { IfErr result (Fails Reports HasNoBoard MAX_BOARD_BYTES
         (bytes_of R.remaining reader.old reader.new) (bytes_of W.contents writer.old writer.new)) }
     ensures streams { TellsStreams result (R.has_failed reader.new ≡ true)
@@ -68,8 +68,8 @@ pub fn run_report<R: Source, W: Sink>(
     requires reader_ready { R.has_failed reader.old ≡ false }
     requires reader_unended { R.has_ended reader.old ≡ false }
     requires writer_ready { W.has_failed writer.old ≡ false }
-    ensures ok { IfOk result (Ran Reports (bytes_of R.remaining reader.old reader.new)
-        (bytes_of W.contents writer.old writer.new)) }
+    ensures ok { IfOk result (Ran Reports MAX_BOARD_BYTES
+        (bytes_of R.remaining reader.old reader.new) (bytes_of W.contents writer.old writer.new)) }
     ensures fault { IfErr result (Fails Reports (CannotSolve workers) MAX_BOARD_BYTES
         (bytes_of R.remaining reader.old reader.new) (bytes_of W.contents writer.old writer.new)) }
     ensures streams { TellsStreams result (R.has_failed reader.new ≡ true)

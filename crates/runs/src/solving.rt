@@ -38,8 +38,8 @@ pub fn run_solve_alone<R: Source, W: Sink>(
     requires reader_ready { R.has_failed reader.old ≡ false }
     requires reader_unended { R.has_ended reader.old ≡ false }
     requires writer_ready { W.has_failed writer.old ≡ false }
-    ensures ok { IfOk result (Ran Solution (bytes_of R.remaining reader.old reader.new)
-        (bytes_of W.contents writer.old writer.new)) }
+    ensures ok { IfOk result (Ran Solution MAX_BOARD_BYTES
+        (bytes_of R.remaining reader.old reader.new) (bytes_of W.contents writer.old writer.new)) }
     ensures fault { IfErr result (Fails Solution HasNoBoard MAX_BOARD_BYTES
         (bytes_of R.remaining reader.old reader.new) (bytes_of W.contents writer.old writer.new)) }
     ensures streams { TellsStreams result (R.has_failed reader.new ≡ true)
@@ -67,8 +67,8 @@ pub fn run_solve<R: Source, W: Sink>(
     requires reader_ready { R.has_failed reader.old ≡ false }
     requires reader_unended { R.has_ended reader.old ≡ false }
     requires writer_ready { W.has_failed writer.old ≡ false }
-    ensures ok { IfOk result (Ran Solution (bytes_of R.remaining reader.old reader.new)
-        (bytes_of W.contents writer.old writer.new)) }
+    ensures ok { IfOk result (Ran Solution MAX_BOARD_BYTES
+        (bytes_of R.remaining reader.old reader.new) (bytes_of W.contents writer.old writer.new)) }
     ensures fault { IfErr result (Fails Solution (CannotSolve workers) MAX_BOARD_BYTES
         (bytes_of R.remaining reader.old reader.new) (bytes_of W.contents writer.old writer.new)) }
     ensures streams { TellsStreams result (R.has_failed reader.new ≡ true)
