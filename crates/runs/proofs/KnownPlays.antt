@@ -24,7 +24,7 @@ use Rattle.player.proofs.OneTranscript.{one_transcript}
 
 -- ---- lines that are cut from the same bytes
 
-abbrev Feedless : List ℕ → Type 0
+abbrev pub Feedless : List ℕ → Type 0
 Feedless line = AllByRecursion (λ byte. byte ≢ 10) line
 
 one_line : (line other rest more : List ℕ) → Feedless line → Feedless other

@@ -16,4 +16,5 @@ pub mod ShownTexts
 pub mod PlayFaults
 pub mod KnownRuns
 pub mod KnownPlays
+pub mod BoardEnds
 pub mod OneServing

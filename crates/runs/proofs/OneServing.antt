@@ -12,7 +12,15 @@ use Rattle.clap.specs.Walk.{Row, Text, texts}
 use Rattle.clap.specs.Words.{fault_of, subcommand_of}
 use Rattle.board_text.specs.PlainBoard.{PlainBoard, IsBoard}
 use Rattle.board_text.specs.LineForms.{with_line_feed}
-use Rattle.board_text.proofs.Cited.{one_board}
+use Rattle.board_text.proofs.Cited.{no_fault as faultless_board, one_board, one_fault as one_board_fault}
+use Rattle.board_text.specs.BoardFaults.{HasBoardFault}
+use Rattle.board_text.specs.declared.fault.BoardFault.{BoardFault}
+use Rattle.positions.specs.Ranks.{configurations}
+use Rattle.positions.specs.declared.space.TheConstants.{MAX_CONFIGURATIONS}
+use Rattle.proof_text.specs.ProofFaults.{HasProofFault}
+use Rattle.proof_text.specs.ProofText.{proof_text}
+use Rattle.runs.proofs.EndLines.{one_length}
+use Rattle.std.proofs.Common.{take}
 use Rattle.command_line.specs.Commands.{program}
 use Rattle.command_line.specs.Reading.{AsksFor, AsksForHelp, AsksForVersion, HasNumber, IsReadAs, Shows, side_word}
 use Rattle.command_line.specs.Reading.{version_text}
@@ -46,8 +54,8 @@ use Rattle.runs.specs.CheckRun.{CheckFails, RanCheck}
 use Rattle.runs.specs.Folders.{CanFail, Closed, File, Holds, Opens, Unknown}
 use Rattle.runs.specs.FaultLines.{line_of_fault}
 use Rattle.runs.specs.Headline.{Solution}
-use Rattle.runs.specs.Jobs.{CanBeUnread, Checks, Climbs, Counts, IsDone, Opening, Plays, Solves, WritesNested}
-use Rattle.runs.specs.Jobs.{WritesWhole}
+use Rattle.runs.specs.Jobs.{CanBeUnread, Checks, ChecksJoined, Climbs, Counts, IsDone, Opening, Plays, Solves}
+use Rattle.runs.specs.Jobs.{WritesNested, WritesWhole}
 use Rattle.runs.specs.NestedText.{IsNestedText}
 use Rattle.runs.specs.Outcomes.{EndsAs, outcome_of_check, outcome_of_run, status_of}
 use Rattle.runs.specs.Output.{line_of}
@@ -56,11 +64,11 @@ use Rattle.runs.specs.Run.{Bytes, Fails, Ran, Stream, Wrote, WrotePrefix}
 use Rattle.runs.specs.Serving.{Answers, Asks, EndsWith, HasNoMemory, IsHelped, IsEnding, IsExplained, IsForPerson}
 use Rattle.runs.specs.Serving.{IsGreeting, IsRefusedWith, IsSaid, IsWritten}
 use Rattle.runs.specs.Serving.{Serves, ServesWords, is_typed}
-use Rattle.runs.specs.Servings.{AreKnown, HasCommand, HaveOwnText}
+use Rattle.runs.specs.Servings.{AreKnown, HaveOwnText}
 use Rattle.runs.specs.SolveRun.{CannotSolve}
 use Rattle.runs.specs.Texts.{HasNoBoard, HasNoProof, IsSmallBoard, IsWrongBoard, IsWrongProof}
-use Rattle.runs.specs.Verdicts.{IsChecked, IsVerdict}
-use Rattle.runs.specs.declared.checking.TheConstants.{MAX_PROOF_BYTES}
+use Rattle.runs.specs.Verdicts.{BeginsWithBoard, CannotAnswer, IsAnswered, IsChecked, IsVerdict, IsWrongText}
+use Rattle.runs.specs.declared.checking.TheConstants.{MAX_JOINED_BYTES, MAX_PROOF_BYTES}
 use Rattle.runs.specs.declared.reading.TheConstants.{MAX_BOARD_BYTES}
 use Rattle.runs.specs.declared.fault.RunFault.{RunFault}
 use Rattle.runs.specs.declared.fault.RunFault.TheVariants.{Board, TooLarge, Proof, Memory, Worker, Read, Write, Limit}
@@ -73,6 +81,7 @@ use Rattle.runs.specs.declared.verdicts.Verdict.{Verdict}
 use Rattle.runs.specs.declared.verdicts.Verdict.TheVariants.{Accepted, Refused as RefusedFor}
 use Rattle.runs.proofs.AcceptedDocuments.{not_wrong}
 use Rattle.runs.proofs.KnownRuns.{Ends, Had, IsPlain, ends, gave_all, one_end, stayed, took, unread_is}
+use Rattle.runs.proofs.BoardEnds.{board_is_front, one_front}
 use Rattle.runs.proofs.KnownPlays.{Cuts, HasEndedBy, HasStoppedAt, Leaves, cuts, ended_or_stopped, too_long_is}
 use Rattle.runs.proofs.KnownPlays.{two_ended, two_stopped}
 use Rattle.runs.proofs.OneOutcome.{one_report, one_solution, one_wrong}
@@ -363,6 +372,151 @@ nested levels pebbles output taken outcome had fair ((Err fault, inl memory, sam
     absurd (fair.memory (same ∙ ap Broken memory))
 nested levels pebbles output taken outcome had fair ((Err fault, inr (write, cut), same), _) =
     absurd (fair.write (same ∙ ap Broken write))
+
+-- ---- a check of a joined text
+
+-- a board and a document after it, as a check reads them
+module _ (text : List ℕ) where
+  as_checked : (verdict : Verdict) (line : List ℕ) (is : IsAnswered text verdict line)
+      → IsChecked is.board (proof_text is.board is.proof) verdict line
+  as_checked verdict line is =
+      record {
+        proof = is.proof;
+        is_proof = is.is_proof;
+        text_is = refl;
+        verdict_is = is.verdict_is;
+        line_is =
+            is.line_is;
+      }
+
+  small_front : (verdict : Verdict) (line : List ℕ) (is : IsAnswered text verdict line) → IsSmallBoard
+      (board_text is.board) is.board
+  small_front verdict line is = record { is_board = is.is_board; few = is.few; spelled = refl }
+
+  one_joined : (verdict other : Verdict) (line more : List ℕ) → IsAnswered text verdict line
+      → IsAnswered text other more
+      → (outcome_of_check (Ok verdict) ≡ outcome_of_check (Ok other)) × (line ≡ more)
+  one_joined verdict other line more is also =
+      let same = one_front is.board also.board text (proof_text is.board is.proof)
+      (proof_text also.board also.proof) is.is_board also.is_board
+      is.text_is also.text_is in
+      one_check also.board (proof_text also.board also.proof)
+      (board_text also.board, small_front other more also) verdict other line more
+      (subst (λ t. IsChecked also.board t verdict line) same.1
+      (subst (λ b. IsChecked b (proof_text is.board is.proof) verdict line) same.0 (as_checked verdict line is)))
+      (as_checked other more also)
+
+  wrong_joined : (fault : RunFault) → CannotAnswer text fault → (fault ≡ Memory) ⊎ (fault ≡ Worker)
+      ⊎ IsWrongText text fault
+  wrong_joined Memory h = inl refl
+  wrong_joined (Board fault) h = inr (inr h)
+  wrong_joined TooLarge h = inr (inr h)
+  wrong_joined (Proof fault) h = inr (inr h)
+  wrong_joined Worker h = absurd h
+  wrong_joined Read h = absurd h
+  wrong_joined Write h = absurd h
+  wrong_joined Limit h = absurd h
+
+  -- a text that begins with a board's has no fault of a board's text
+  no_board_fault : (board : PlainBoard) (rest : List ℕ) (fault : BoardFault) → IsBoard board
+      → text ≡ board_text board ++ rest
+      → IsWrongText text (Board fault) → ⊥
+  no_board_fault board rest fault is same (size, long, has, other) =
+      other (faultless_board (take size text) fault.line fault.kind board is
+      (board_is_front board text rest size is same long) has)
+
+  -- the board of a text that begins with two is one
+  one_begin : (board other : PlainBoard) (rest more : List ℕ) → BeginsWithBoard text board rest
+      → BeginsWithBoard text other more
+      → (board ≡ other) × (rest ≡ more)
+  one_begin board other rest more is also =
+      one_front board other text rest more is.is_board also.is_board is.text_is also.text_is
+
+  large_or_small : (board other : PlainBoard) (rest more : List ℕ) → BeginsWithBoard text board rest
+      → BeginsWithBoard text other more
+      → MAX_CONFIGURATIONS < configurations board → configurations other ≤ MAX_CONFIGURATIONS → ⊥
+  large_or_small board other rest more is also large small =
+      let few : configurations board ≤ MAX_CONFIGURATIONS =
+      subst (λ b. configurations b ≤ MAX_CONFIGURATIONS) (sym (one_begin board other rest more is also).0) small in
+      absurd (omega (arith, large, few))
+
+  one_joined_fault : (fault other : RunFault) → IsWrongText text fault → IsWrongText text other → fault ≡ other
+  one_joined_fault (Board fault) (Board other) (size, long, has, not) (size_too, long_too, has_too, not_too) =
+      let sizes : size ≡ size_too = one_length text size size_too long long_too in
+      let same = one_board_fault (take size_too text) fault.line other.line fault.kind other.kind not not_too
+      (subst (λ n. HasBoardFault (take n text) fault.line fault.kind) sizes has) has_too in
+      let told : ◌≡◌ {A = BoardFault} (record { line = fault.line; kind = fault.kind }) other =
+      rw (same.0, same.1) refl in
+      ap Board told
+  one_joined_fault (Board fault) TooLarge wrong (board, rest, begins, large) =
+      absurd (no_board_fault board rest fault begins.is_board begins.text_is wrong)
+  one_joined_fault (Board fault) (Proof other) wrong (board, rest, begins, few, has, not) =
+      absurd (no_board_fault board rest fault begins.is_board begins.text_is wrong)
+  one_joined_fault TooLarge (Board other) (board, rest, begins, large) also =
+      absurd (no_board_fault board rest other begins.is_board begins.text_is also)
+  one_joined_fault TooLarge TooLarge wrong also = refl
+  one_joined_fault TooLarge (Proof other) (board, rest, begins, large) (second, more, begins_too, few, has, not) =
+      absurd (large_or_small board second rest more begins begins_too large few)
+  one_joined_fault (Proof fault) (Board other) (board, rest, begins, few, has, not) also =
+      absurd (no_board_fault board rest other begins.is_board begins.text_is also)
+  one_joined_fault (Proof fault) TooLarge (board, rest, begins, few, has, not) (second, more, begins_too, large) =
+      absurd (large_or_small second board more rest begins_too begins large few)
+  one_joined_fault (Proof fault) (Proof other) (board, rest, begins, few, has, not)
+      (second, more, begins_too, few_too, has_too, not_too) =
+      let same = one_begin board second rest more begins begins_too in
+      let first : HasProofFault second more fault.line fault.kind =
+      subst (λ t. HasProofFault second t fault.line fault.kind) same.1
+      (subst (λ b. HasProofFault b rest fault.line fault.kind) same.0 has) in
+      let both = one_proof_fault second more fault.line other.line fault.kind other.kind begins_too.is_board not
+      not_too first has_too in
+      let told : ◌≡◌ {A = ProofFault} (record { line = fault.line; kind = fault.kind }) other =
+      rw (both.0, both.1) refl in
+      ap Proof told
+  one_joined_fault Memory other wrong also = absurd wrong
+  one_joined_fault Worker other wrong also = absurd wrong
+  one_joined_fault Read other wrong also = absurd wrong
+  one_joined_fault Write other wrong also = absurd wrong
+  one_joined_fault Limit other wrong also = absurd wrong
+  one_joined_fault (Board fault) Memory wrong also = absurd also
+  one_joined_fault (Board fault) Worker wrong also = absurd also
+  one_joined_fault (Board fault) Read wrong also = absurd also
+  one_joined_fault (Board fault) Write wrong also = absurd also
+  one_joined_fault (Board fault) Limit wrong also = absurd also
+  one_joined_fault TooLarge Memory wrong also = absurd also
+  one_joined_fault TooLarge Worker wrong also = absurd also
+  one_joined_fault TooLarge Read wrong also = absurd also
+  one_joined_fault TooLarge Write wrong also = absurd also
+  one_joined_fault TooLarge Limit wrong also = absurd also
+  one_joined_fault (Proof fault) Memory wrong also = absurd also
+  one_joined_fault (Proof fault) Worker wrong also = absurd also
+  one_joined_fault (Proof fault) Read wrong also = absurd also
+  one_joined_fault (Proof fault) Write wrong also = absurd also
+  one_joined_fault (Proof fault) Limit wrong also = absurd also
+
+  answered_begins : (verdict : Verdict) (line : List ℕ) (is : IsAnswered text verdict line)
+      → BeginsWithBoard text is.board (proof_text is.board is.proof)
+  answered_begins verdict line is = record { is_board = is.is_board; text_is = is.text_is }
+
+  joined_apart : (verdict : Verdict) (line : List ℕ) (fault : RunFault) → IsAnswered text verdict line
+      → IsWrongText text fault → ⊥
+  joined_apart verdict line (Board fault) is wrong =
+      no_board_fault is.board (proof_text is.board is.proof) fault is.is_board is.text_is wrong
+  joined_apart verdict line TooLarge is (board, rest, begins, large) =
+      large_or_small board is.board rest (proof_text is.board is.proof) begins
+      (answered_begins verdict line is) large is.few
+  joined_apart verdict line (Proof fault) is (board, rest, begins, few, has, not) =
+      let same = one_begin board is.board rest (proof_text is.board is.proof) begins
+      (answered_begins verdict line is) in
+      let there : HasProofFault is.board (proof_text is.board is.proof) fault.line fault.kind =
+      subst (λ t. HasProofFault is.board t fault.line fault.kind) same.1
+      (subst (λ b. HasProofFault b rest fault.line fault.kind) same.0 has) in
+      not (faultless_document is.board
+      (proof_text is.board is.proof) fault.line fault.kind is.proof is.is_board is.is_proof refl there)
+  joined_apart verdict line Memory is wrong = wrong
+  joined_apart verdict line Worker is wrong = wrong
+  joined_apart verdict line Read is wrong = wrong
+  joined_apart verdict line Write is wrong = wrong
+  joined_apart verdict line Limit is wrong = wrong
 
 -- ---- a play
 
@@ -664,6 +818,22 @@ module _ (at : List ℕ → File) (known : AreKnown at) (input output other_inpu
       (at second) (known second)
       unread_too had_lines_too.sound also)
 
+  two_joined : (outcome ≡ Broken Read → input.HasFailed) → (other ≡ Broken Read → other_input.HasFailed)
+      → ChecksJoined input output outcome → ChecksJoined other_input other_output other
+      → AreAlike outcome other output other_output
+  two_joined unread unread_too is also =
+      alike (Ends outcome_of_check IsAnswered IsWrongText MAX_JOINED_BYTES lines)
+      (one_end outcome_of_check IsAnswered IsWrongText MAX_JOINED_BYTES lines (one_joined lines)
+      (one_joined_fault lines) (joined_apart lines))
+      outcome other output other_output taken
+      (ends outcome_of_check check_breaks IsAnswered CannotAnswer IsWrongText wrong_joined MAX_JOINED_BYTES input.bytes
+      lines had_lines.old output taken
+      had outcome (plain_of outcome fair (λ e. had_lines.sound (unread e))) is.1 is.0)
+      (ends outcome_of_check check_breaks IsAnswered CannotAnswer IsWrongText wrong_joined MAX_JOINED_BYTES
+      other_input.bytes lines had_lines_too.old
+      other_output taken had_too other (plain_of other fair_too
+      (λ e. had_lines_too.sound (unread_too e))) also.1 also.0)
+
   two_climbed : (levels more : ℕ) → levels ≡ more → IsGame (PersonClimbs more)
       → (outcome ≡ Broken Read → input.HasFailed) → (other ≡ Broken Read → other_input.HasFailed)
       → Climbs levels input output outcome → Climbs more other_input other_output other
@@ -914,20 +1084,31 @@ module _ (at : List ℕ → File) (known : AreKnown at) (terminals : Terminals) 
       gives_too.had_input
       outcome next fair fair_too found.0 found.1 job more read read_too is also
 
-  both_jobs : (words : List Text) (job more : Job) (outcome next : Outcome) → 1 < length words → First words job outcome
+  both_jobs : (words : List Text) (job more : Job) (outcome next : Outcome) → First words job outcome
       → Second words more next
       → (status ≡ other) × AreSame
-  both_jobs words job more outcome next some is also = go is.asks also.asks
+  both_jobs words job more outcome next is also = go is.asks also.asks
     where
+      alike_so : AreAlike outcome next output other_output → (status ≡ other) × AreSame
+      alike_so same = (
+        is.status_is ∙ ap status_of same.0 ∙ sym also.status_is,
+        (same.1, is.errors_are ∙ ap (λ o. Some (told ++ ending o)) same.0 ∙ sym also.errors_are),
+      )
+
       go : Asks words job → Asks words more → (status ≡ other) × AreSame
-      go (inl joined) asks = absurd (omega (arith, some, joined.0))
-      go (inr read) (inl joined) = absurd (omega (arith, some, joined.0))
+      go (inl joined) (inl joined_too) =
+          let first : IsDone at input output jobs.Joined outcome =
+          subst (λ j. IsDone at input output j outcome) joined.1 is.done in
+          let second : IsDone at other_input other_output jobs.Joined next =
+          subst (λ j. IsDone at other_input other_output j next) joined_too.1 also.done in
+          alike_so (two_joined at known input output other_input other_output taken lines gives.had gives_too.had
+          gives.had_input gives_too.had_input
+          outcome next is.fair also.fair first.unread second.unread first.does second.does)
+      go (inl joined) (inr read) = absurd (omega (arith, joined.0, read.0))
+      go (inr read) (inl joined) = absurd (omega (arith, joined.0, read.0))
       go (inr read) (inr read_too) =
-          let same = both_read (subcommand_of program words) job more outcome next
-          read.2 read_too.2 is.done also.done is.fair also.fair in (
-            is.status_is ∙ ap status_of same.0 ∙ sym also.status_is,
-            (same.1, is.errors_are ∙ ap (λ o. Some (told ++ ending o)) same.0 ∙ sym also.errors_are),
-          )
+          alike_so (both_read (subcommand_of program words) job more outcome next
+          read.2 read_too.2 is.done also.done is.fair also.fair)
 
   both_faults : (words : List Text) (fault next : JobFault) → Shows words fault → Shows words next
       → Answers at terminals input output errors status fault
@@ -969,28 +1150,28 @@ module _ (at : List ℕ → File) (known : AreKnown at) (terminals : Terminals) 
   job_or_fault words job fault (inl joined) more shows not = absurd (omega (arith, joined.0, more))
   job_or_fault words job fault (inr read) more shows not = not_faultless words fault not read.1 shows
 
-  pub both_served : (words : List Text) → 1 < length words → ServesWords at terminals input output errors status words
+  pub both_served : (words : List Text) → ServesWords at terminals input output errors status words
       → ServesWords at terminals other_input other_output other_errors other words
       → (status ≡ other) × ((length words ≤ 1) ⊎ (fault_of program words ≡ []) ⊎ AsksForVersion words → AreSame)
-  both_served words some (inl (job, asks, greeting, greets, outcome, done, ends))
+  both_served words (inl (job, asks, greeting, greets, outcome, done, ends))
       (inl (more, asks_too, greeting_too, greets_too, next, done_too, ends_too)) =
-      let both = both_jobs words job more outcome next some
+      let both = both_jobs words job more outcome next
       (job_done at terminals off lines taken told input output errors status gives words job greeting outcome asks
       greets done ends)
       (job_done at terminals off lines taken told other_input other_output other_errors other gives_too words more
       greeting_too next asks_too greets_too done_too ends_too) in
       (both.0, λ own. both.1)
-  both_served words some (inl (job, asks, greeting, greets, outcome, done, ends))
+  both_served words (inl (job, asks, greeting, greets, outcome, done, ends))
       (inr (fault, more, shows, takes, answers)) =
       absurd (job_or_fault words job fault asks more shows
       (λ e. no_memory at terminals off lines taken told other_input other_output other_errors other gives_too
       (subst (λ f. Answers at terminals other_input other_output other_errors other f) e answers)))
-  both_served words some (inr (fault, more, shows, takes, answers))
+  both_served words (inr (fault, more, shows, takes, answers))
       (inl (job, asks, greeting, greets, outcome, done, ends)) =
       absurd (job_or_fault words job fault asks more shows
       (λ e. no_memory at terminals off lines taken told input output errors status gives
       (subst (λ f. Answers at terminals input output errors status f) e answers)))
-  both_served words some (inr (fault, more, shows, takes, answers))
+  both_served words (inr (fault, more, shows, takes, answers))
       (inr (next, more_too, shows_too, takes_too, answers_too)) =
       let both = both_faults words fault next shows shows_too answers answers_too in (
         both.0,
@@ -1003,13 +1184,13 @@ module _ (at : List ℕ → File) (known : AreKnown at) (terminals : Terminals) 
         ],
       )
 
-  pub both_given : (words : Words) → HasCommand words → Serves at terminals input output errors status words
+  pub both_given : (words : Words) → Serves at terminals input output errors status words
       → Serves at terminals other_input other_output other_errors other words
       → (status ≡ other) × (HaveOwnText words → AreSame)
-  both_given (Given words) some is also = both_served (texts words.now) some is also
-  both_given OutOfMemory some is also =
+  both_given (Given words) is also = both_served (texts words.now) is also
+  both_given OutOfMemory is also =
       absurd (no_memory at terminals off lines taken told input output errors status gives is)
-  both_given NotText some is also =
+  both_given NotText is also =
       let text = with_line_feed (codes "error: a word on the command line is not text") in
       let one = refused_is at terminals off lines taken told input output errors status gives text is in
       let two = refused_is at terminals off lines taken told other_input other_output other_errors other gives_too text

@@ -1,5 +1,5 @@
 -- Two servings of the same words.
-use Rattle.std.specs.Prelude.{◌≡◌, ◌≢◌, ℕ, ◌<◌, ◌≤◌, ◌⊎◌, false, List, [], Some, length}
+use Rattle.std.specs.Prelude.{◌≡◌, ◌≢◌, ℕ, ◌≤◌, ◌⊎◌, false, List, [], Some, length}
 use Rattle.clap.specs.Walk.{texts}
 use Rattle.clap.specs.Words.{fault_of}
 use Rattle.command_line.specs.Commands.{program}
@@ -19,11 +19,6 @@ AreKnown at = (path : List ℕ) → at path ≢ Unknown
 pub record IsKnown (stream : Stream) (bytes : List ℕ) : Type 0 where
   pub old : stream.bytes.old ≡ Some bytes
   pub sound : stream.HasFailed → ⊥
-
--- a word follows the program's name, if the words are there
-abbrev pub HasCommand : Words → Type 0
-HasCommand (Given words) = 1 < length (texts words.now)
-HasCommand words = Unit {0}
 
 -- no text is written for the words that `clap` makes: they ask for a job or the version, or are no
 -- text

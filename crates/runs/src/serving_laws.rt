@@ -3,7 +3,7 @@
 ghost use Rattle.std.specs.Prelude.{◌≡◌, ℕ, List};
 ghost use Rattle.runs.specs.Folders.{File};
 ghost use Rattle.runs.specs.Run.{stream_of};
-ghost use Rattle.runs.specs.Servings.{BytesBefore, HasCommand, HaveOwnText, IsServed};
+ghost use Rattle.runs.specs.Servings.{BytesBefore, HaveOwnText, IsServed};
 ghost use Rattle.runs.specs.Servings.{StandardStreams};
 ghost use Rattle.runs.specs.declared.serving.Terminals.{Terminals as TerminalsData};
 ghost use Rattle.runs.specs.declared.serving.Words.{Words as WordsData};
@@ -13,12 +13,12 @@ use board_text::{Sink, Source};
 /// Two servings of the same words, over the same files and over streams with the same bytes, give
 /// one exit status, and the same bytes on standard output and standard error unless the text is
 /// one that `clap` makes. The files and the bytes are known, standard error is no terminal, no
-/// stream fails, neither memory nor a worker is refused, and a word follows the program's name.
+/// stream fails, and neither memory nor a worker is refused.
 pub fn one_serving<I: Source, O: Sink, E: Sink>()
     ensures { (at : List ℕ → File) → (terminals : TerminalsData) → (before : BytesBefore)
         → (words : WordsData) → (old : StandardStreams I O E) → (new : StandardStreams I O E)
         → (other_old : StandardStreams I O E) → (other_new : StandardStreams I O E)
-        → (status : ℕ) → (other : ℕ) → HasCommand words
+        → (status : ℕ) → (other : ℕ)
         → IsServed at terminals before words
         (stream_of I.remaining I.has_failed old.input new.input)
         (stream_of O.contents O.has_failed old.output new.output)

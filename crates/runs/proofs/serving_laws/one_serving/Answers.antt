@@ -4,7 +4,7 @@ use Rattle.runs.proofs.OneServing.{both_given}
 use Rattle.runs.proofs.serving_laws.one_serving.Goals as goal
 
 pub returns : goal.returns
-returns g c = λ at terminals before words old new other_old other_new status other some is also.
+returns g c = λ at terminals before words old new other_old other_new status other is also.
     both_given at is.files terminals is.off before.input before.output before.errors
     (stream_of g.I.Source.remaining g.I.Source.has_failed old.input new.input)
     (stream_of g.O.Sink.contents g.O.Sink.has_failed old.output new.output)
@@ -35,4 +35,4 @@ returns g c = λ at terminals before words old new other_old other_new status ot
       };
       given = also.given;
     })
-    words some is.serves also.serves
+    words is.serves also.serves
