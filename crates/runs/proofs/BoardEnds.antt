@@ -1,24 +1,23 @@
 -- A board's text ends at its first line that is exactly `end`.
-use Rattle.std.proofs.Common.{◌≡◌, ◌≢◌, ◌∙◌, ◌^◌, ◌+◌, ◌-◌, ◌==◌, ℕ, zero, suc, ◌<◌, ◌≤◌, ◌⊎◌, inl, inr, Bool, true}
+use Rattle.std.proofs.Common.{◌≡◌, ◌≢◌, ◌∙◌, ◌^◌, ◌+◌, ◌-◌, ◌==◌, ℕ, zero, suc, ◌<◌, ◌≤◌, inl, inr, Bool, true}
 use Rattle.std.proofs.Common.{false, List, [], ◌∷◌, ◌++◌, length, take, drop}
-use Rattle.std.proofs.Common.{codes, cond, get_or, map, refl, sym, ap, subst, arith, append-nil, append_assoc}
+use Rattle.std.proofs.Common.{codes, cond, get_or, refl, sym, ap, subst, arith, append-nil, append_assoc}
 use Rattle.std.proofs.Common.{length-append}
 use Rattle.std.specs.Fmt.{decimal}
-use Rattle.std.specs.List.{All, AllByRecursion, flat_map}
+use Rattle.std.specs.List.{AllByRecursion, flat_map}
 use Rattle.std.proofs.lemmas.Bool.{cases_lt}
 use Rattle.std.proofs.lemmas.Fmt.{decimal_is_IsNumeral}
 use Rattle.std.specs.Str.Parse.{AllDigits}
 use Rattle.std.proofs.lemmas.Str.Parse.{digit_from_value}
-use Rattle.std.proofs.lemmas.List.{append_cancel_left, take_all}
+use Rattle.std.proofs.lemmas.List.{append_cancel_left}
 use Rattle.std.proofs.lemmas.List.Elements.{recursion_from_All}
 use Rattle.board_text.specs.BoardText.{beats_line, board_text, board_text_before_end, end_line, labels_line}
 use Rattle.board_text.specs.BoardText.{pebbles_line, start_line, version_line}
-use Rattle.board_text.specs.LineForms.{number_line, numbers_line, spaced_numbers, with_line_feed}
-use Rattle.board_text.specs.Numerals.{spaced_texts}
-use Rattle.board_text.specs.PlaceForms.{place_word, places_line, spaced_places}
+use Rattle.board_text.specs.LineForms.{number_line, spaced_numbers, with_line_feed}
+use Rattle.board_text.specs.PlaceForms.{place_word, spaced_places}
 use Rattle.board_text.specs.PlainBoard.{IsBoard, PlainBoard, places, some_blank, version_of}
 use Rattle.board_text.proofs.Cited.{few_places, one_board}
-use Rattle.runs.specs.Joined.{HasNoEndBefore, IsBoardLength, IsEndLine}
+use Rattle.runs.specs.Joined.{IsBoardLength, IsEndLine}
 use Rattle.runs.proofs.EndLines.{one_length}
 use Rattle.runs.proofs.KnownPlays.{Feedless}
 

@@ -4,19 +4,17 @@ use Rattle.std.proofs.Common.{length, Option, Some, None}
 use Rattle.std.proofs.Common.{refl, sym, ap, subst, arith, append-nil, append_assoc, length-append, take}
 use Rattle.std.specs.Fmt.{decimal}
 use Rattle.std.specs.Io.KnownBytes.{IsAtEnd}
-use Rattle.std.specs.List.{All, AllByRecursion, flat_map}
+use Rattle.std.specs.List.{AllByRecursion, flat_map}
 use Rattle.std.proofs.lemmas.Fmt.{decimal_nonempty}
 use Rattle.std.proofs.lemmas.List.{append_cancel_left, append_cancel_right, nil_from_length, same_from_push}
 use Rattle.std.proofs.lemmas.List.{take-append-le}
 use Rattle.std.proofs.lemmas.List.Elements.{recursion_from_All}
 use Rattle.board_text.specs.LineForms.{with_line_feed}
-use Rattle.board_text.specs.PlainBoard.{PlainBoard}
-use Rattle.nested_cycles.specs.declared.game.TheConstants.{MAX_LEVELS}
 use Rattle.player.specs.Laws.{IsGame}
 use Rattle.player.specs.Play.{FullLinesCame, LinesCame, LinesWereAll}
 use Rattle.player.specs.Transcript.{AreResponses, Game, Going, IsPlayed, IsResponse, IsTranscript, Over, PersonAnswers}
 use Rattle.player.specs.Transcript.{PersonAsks, PersonClimbs}
-use Rattle.player.specs.Transcript.{Standing, Stops, no_answer_line, no_request_line, stopped_line}
+use Rattle.player.specs.Transcript.{Standing, no_answer_line, no_request_line, stopped_line}
 use Rattle.player.specs.Words.{BeginsTooLong, HasNoFeed, IsLine}
 use Rattle.player.specs.declared.end.PlayEnd.{PlayEnd}
 use Rattle.player.specs.declared.end.PlayEnd.TheVariants.{Stopped}

@@ -3,10 +3,10 @@ use Rattle.std.proofs.Common.{◌≡◌, ◌≢◌, ◌∙◌, ℕ, ◌<◌, ◌
 use Rattle.std.proofs.Common.{refl, sym, ap, subst, arith, append-nil, length-append}
 use Rattle.std.specs.Prelude.{Result, Ok, Err, MatchResult}
 use Rattle.std.specs.Io.KnownBytes.{Appends, Consumes}
-use Rattle.board_text.specs.Streams.{AppendsPrefix, GaveAll}
+use Rattle.board_text.specs.Streams.{GaveAll}
 use Rattle.runs.specs.Jobs.{WritesWhole}
 use Rattle.runs.specs.Outcomes.{EndsAs}
-use Rattle.runs.specs.Run.{Bytes, Fails, Gave, IsUnread, Ran, Stream}
+use Rattle.runs.specs.Run.{Bytes, Fails, IsUnread, Ran, Stream}
 use Rattle.runs.specs.declared.fault.RunFault.{RunFault}
 use Rattle.runs.specs.declared.fault.RunFault.TheVariants.{Board, TooLarge, Proof, Memory, Worker, Read, Write, Limit}
 use Rattle.runs.specs.declared.outcome.Outcome.{Outcome}

@@ -22,8 +22,7 @@ use Rattle.proof_text.specs.ProofText.{proof_text}
 use Rattle.runs.proofs.EndLines.{one_length}
 use Rattle.std.proofs.Common.{take}
 use Rattle.command_line.specs.Commands.{program}
-use Rattle.command_line.specs.Reading.{AsksFor, AsksForHelp, AsksForVersion, HasNumber, IsReadAs, Shows, side_word}
-use Rattle.command_line.specs.Reading.{version_text}
+use Rattle.command_line.specs.Reading.{AsksFor, AsksForVersion, HasNumber, IsReadAs, Shows, side_word}
 use Rattle.command_line.specs.declared.asked.Job.{Job}
 use Rattle.command_line.specs.declared.asked.Job.TheVariants as jobs
 use Rattle.command_line.specs.declared.asked.JobFault.{JobFault}
@@ -41,7 +40,7 @@ use Rattle.positions.specs.declared.side.Side.{Side}
 use Rattle.positions.specs.declared.side.Side.TheVariants.{Labeller, Adversary}
 use Rattle.player.specs.Laws.{IsGame}
 use Rattle.player.specs.Play.{BreaksOff, Ends as PlayEndsBy, HasEnded, LinesCame}
-use Rattle.player.specs.Transcript.{Game, Going, IsPlayed, Over, PersonClimbs}
+use Rattle.player.specs.Transcript.{Game, IsPlayed, PersonClimbs}
 use Rattle.player.specs.Words.{BeginsTooLong}
 use Rattle.player.specs.declared.end.PlayEnd.{PlayEnd}
 use Rattle.player.specs.declared.end.PlayFault.{PlayFault}
@@ -51,18 +50,18 @@ use Rattle.runs.specs.PlayRun.{IsBrokenOff, IsOver, PlayFails, RanPlay, game_of}
 use Rattle.board_text.specs.BoardText.{board_text}
 use Rattle.runs.specs.BoardRun.{GaveBoard, GaveNoBoard}
 use Rattle.runs.specs.CheckRun.{CheckFails, RanCheck}
-use Rattle.runs.specs.Folders.{CanFail, Closed, File, Holds, Opens, Unknown}
+use Rattle.runs.specs.Folders.{CanFail, Closed, File, Holds, Unknown}
 use Rattle.runs.specs.FaultLines.{line_of_fault}
 use Rattle.runs.specs.Headline.{Solution}
-use Rattle.runs.specs.Jobs.{CanBeUnread, Checks, ChecksJoined, Climbs, Counts, IsDone, Opening, Plays, Solves}
+use Rattle.runs.specs.Jobs.{Checks, ChecksJoined, Climbs, Counts, IsDone, Opening, Plays, Solves}
 use Rattle.runs.specs.Jobs.{WritesNested, WritesWhole}
 use Rattle.runs.specs.NestedText.{IsNestedText}
 use Rattle.runs.specs.Outcomes.{EndsAs, outcome_of_check, outcome_of_run, status_of}
 use Rattle.runs.specs.Output.{line_of}
 use Rattle.runs.specs.Report.{Reports}
-use Rattle.runs.specs.Run.{Bytes, Fails, Ran, Stream, Wrote, WrotePrefix}
+use Rattle.runs.specs.Run.{Bytes, Fails, Ran, Stream}
 use Rattle.runs.specs.Serving.{Answers, Asks, EndsWith, HasNoMemory, IsHelped, IsEnding, IsExplained, IsForPerson}
-use Rattle.runs.specs.Serving.{IsGreeting, IsRefusedWith, IsSaid, IsWritten}
+use Rattle.runs.specs.Serving.{IsGreeting, IsRefusedWith, IsWritten}
 use Rattle.runs.specs.Serving.{Serves, ServesWords, is_typed}
 use Rattle.runs.specs.Servings.{AreKnown, HaveOwnText}
 use Rattle.runs.specs.SolveRun.{CannotSolve}

@@ -9,7 +9,7 @@ use Rattle.runs.specs.Run.{Stream}
 use Rattle.runs.specs.Serving.{Serves}
 use Rattle.runs.specs.declared.serving.Terminals.{Terminals}
 use Rattle.runs.specs.declared.serving.Words.{Words}
-use Rattle.runs.specs.declared.serving.Words.TheVariants.{Given, NotText, OutOfMemory}
+use Rattle.runs.specs.declared.serving.Words.TheVariants.{Given}
 
 -- of each file it is known that it can't be opened, or which bytes it has
 abbrev pub AreKnown : (List ℕ → File) → Type 0
