@@ -3,8 +3,9 @@
 //! A run of the tests may refuse one growth of memory, whichever. So a call that was refused one is
 //! made once more.
 
-ghost use Rattle.std.specs.Prelude.{◌≡◌, ◌-◌, ◌<◌, ◌≤◌, IfSome, length};
+ghost use Rattle.std.specs.Prelude.{◌≡◌, ℕ, ◌-◌, ◌<◌, ◌≤◌, IfSome, length};
 ghost use Rattle.board_text.specs.PlainBoard.{places};
+ghost use Rattle.classes.specs.Classes.{Falls};
 ghost use Rattle.classes.specs.Lists.{AreClassLists};
 
 use crate::assertions::{assert_same, board_of};
@@ -203,7 +204,9 @@ fn members_of_gaps(rt: HostRuntime) {
 }
 
 /// The places with one put among them, if there is room.
-fn with_place(class: &ClassPlaces, place: u16) -> Option<ClassPlaces> {
+fn with_place(class: &ClassPlaces, place: u16) -> Option<ClassPlaces>
+    requires { (bound : ℕ) × Falls bound class.now }
+{
     if class.as_slice().len() < MAX_PEBBLES {
         Some(class.with_place(place))
     } else {

@@ -86,7 +86,7 @@ has_topic words = false
 
 -- the text that says the version
 abbrev pub version_text : List ℕ
-version_text = with_line_feed (codes "pebbles 1.0.0")
+version_text = with_line_feed (codes "pebbles 1.1.0")
     ++ with_line_feed (codes "reads `board 1`, `board 2` and `proof 1`, writes these and `report 1`")
 
 -- the name stands in the text

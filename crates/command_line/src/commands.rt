@@ -15,7 +15,7 @@ use std::alloc::{AllocError, Global};
 /// The program's version, and the first lines of the texts that it reads and writes. `clap` takes
 /// the option from it, and `words` shows it.
 pub(crate) const VERSION: &str =
-    "pebbles 1.0.0\nreads `board 1`, `board 2` and `proof 1`, writes these and `report 1`\n";
+    "pebbles 1.1.0\nreads `board 1`, `board 2` and `proof 1`, writes these and `report 1`\n";
 
 /// The command may be left out.
 const USAGE: &str = "pebbles [COMMAND]";
@@ -276,5 +276,5 @@ fn workers<'a>(alloc: Global) -> Arg<'a>
         .value_name("N")
         .default_value("1")
         .value_parser(value_parser!(u8).range(1..=MAX_WORKERS as i64))
-        .help("How many workers solve the board, 1 to 16")
+        .help("How many workers may share the work, 1 to 16")
 }

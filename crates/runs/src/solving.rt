@@ -3,6 +3,7 @@
 ghost use Rattle.std.specs.Prelude.{◌≡◌, ◌≤◌, true, false, IfOk, IfErr, string_bytes};
 ghost use Rattle.board_text.specs.Ranges.{InRange};
 ghost use Rattle.positions.specs.Ranks.{configurations};
+ghost use Rattle.positions.specs.Value.{HasValue};
 ghost use Rattle.runs.specs.Headline.{Solution};
 ghost use Rattle.runs.specs.Run.{Ran, Fails, TellsStreams, bytes_of, stream_of};
 ghost use Rattle.runs.specs.SolveRun.{CannotSolve, IsSolved};
@@ -16,7 +17,7 @@ use crate::writing::write_text;
 use board_text::{Board, Memory, Sink, Source};
 use index_lists::PlainLists;
 use positions::{MAX_CONFIGURATIONS, Value};
-use proof_text::print;
+use proof_text::{print, print_in_parts};
 use round_workers::{MAX_WORKERS, NoGate, solve_classes};
 use solver::{Solver, Values};
 use std::alloc::Global;
@@ -53,9 +54,9 @@ pub fn run_solve_alone<R: Source, W: Sink>(
 
 /// The same as `run_solve_alone`, with several workers.
 ///
-/// The number of `workers` is 1 to `MAX_WORKERS`. They share each round, each on a thread of its
-/// own but the first. The answer and the bytes written are the same for every number of them. It
-/// may wait for workers.
+/// The number of `workers` is 1 to `MAX_WORKERS`. They share the rounds that `solve_classes` shares,
+/// and each makes a part of the document's rows if there are thousands of them. The answer and the
+/// bytes written are the same for every number of them. It may wait for workers.
 pub fn run_solve<R: Source, W: Sink>(
     rt: &(impl Threads + Wait + Sync),
     alloc: Global,
@@ -112,17 +113,44 @@ pub fn solve_text(
 {
     let board = small_board(alloc, text)?;
     let values = values_by(rt, alloc, workers, &board)?;
-    Ok(solution(alloc, &BestMoves::new(&board, &values))?)
+    let moves = BestMoves::new(&board, &values);
+    Ok(solution_in_parts(rt, alloc, &moves, workers)?)
 }
 
 /// The value of the start of a board with these best moves, and the text of the board's document.
 fn solution(alloc: Global, moves: &BestMoves<'_>) -> Result<Solved, Memory>
     ensures { IfOk result (λ solved. IsSolved moves.now solved.value (string_bytes solved.text)) }
 {
-    let value = moves.value(moves.start());
+    let value = start_value(moves);
     let document = moves.document(alloc)?;
     let text = print(alloc, moves.space(), &document)?;
     Ok(Solved { value, text })
+}
+
+/// The same, with the rows of the document made in this number of `parts`.
+fn solution_in_parts(
+    rt: &(impl Threads + Sync),
+    alloc: Global,
+    moves: &BestMoves<'_>,
+    parts: u8,
+) -> Result<Solved, Memory>
+    requires { 1 ≤ parts }
+    ensures { IfOk result (λ solved. IsSolved moves.now solved.value (string_bytes solved.text)) }
+{
+    if parts == 1 {
+        return solution(alloc, moves);
+    }
+    let value = start_value(moves);
+    let document = moves.document(alloc)?;
+    let text = print_in_parts(rt, alloc, moves.space(), &document, parts as u32)?;
+    Ok(Solved { value, text })
+}
+
+/// The value of the start of a board with these best moves.
+fn start_value(moves: &BestMoves<'_>) -> Value
+    ensures { HasValue moves.now moves.now.start result }
+{
+    moves.value(moves.start())
 }
 
 /// The values of a small board, by this number of workers. One is this thread, and shares nothing.

@@ -7,7 +7,7 @@ use thiserror::Error;
 pub enum SolveFault {
     /// The board has more than `MAX_CONFIGURATIONS` configurations.
     #[error("board too large")]
-    TooLarge,
+    TooLarge = 1,
     /// A growth of memory was refused.
     #[error("out of memory")]
     Memory,

@@ -17,6 +17,6 @@ pub use documents::document;
 pub use laws::{best_answers_last, best_requests_end, one_best_answer, one_best_request};
 pub use laws_of_documents::{
     documents_break_no_rule, documents_claim_what_holds, documents_have_their_form,
-    documents_of_small_boards, documents_show_their_claim, each_board_has_a_document,
-    one_document_of_a_board,
+    documents_mean_their_value, documents_of_small_boards, documents_show_their_claim,
+    each_board_has_a_document, one_document_of_a_board,
 };

@@ -20,10 +20,10 @@ pub gaps_of-gaps-requires-clause-is_class : goal.gaps_of-gaps-requires-clause-is
 gaps_of-gaps-requires-clause-is_class c =
     (held (goal.at.gaps_of-gaps-requires-clause-is_class c).After-as_slice-places).is_class
 
-pub number-requires-clause-size : goal.number-requires-clause-size
-number-requires-clause-size c =
-    let size = (held (goal.at.number-requires-clause-size c).After-as_slice-places).size in
+pub number-number-requires-clause-size : goal.number-number-requires-clause-size
+number-number-requires-clause-size c =
+    let size = (held (goal.at.number-number-requires-clause-size c).After-as_slice-places).size in
     omega (arith, size)
 
-pub number-requires-clause-is_class : goal.number-requires-clause-is_class
-number-requires-clause-is_class c = (held (goal.at.number-requires-clause-is_class c).After-as_slice-places).is_class
+pub number-number-requires-clause-is_class : goal.number-number-requires-clause-is_class
+number-number-requires-clause-is_class c = (held (goal.at.number-number-requires-clause-is_class c).After-as_slice-places).is_class
