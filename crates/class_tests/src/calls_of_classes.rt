@@ -203,14 +203,12 @@ fn members_of_gaps(rt: HostRuntime) {
     assert_gaps(&rt, &classes, &lists);
 }
 
-/// The places with one put among them, if there is room.
-fn with_place(class: &ClassPlaces, place: u16) -> Option<ClassPlaces>
-    requires { (bound : ℕ) × Falls bound class.now }
+/// Puts a place among the others, if there is room.
+fn put(class: &mut ClassPlaces, place: u16)
+    requires { (bound : ℕ) × Falls bound class.old }
 {
     if class.as_slice().len() < MAX_PEBBLES {
-        Some(class.with_place(place))
-    } else {
-        None
+        class.put(place);
     }
 }
 
@@ -225,12 +223,12 @@ fn with_greatest(class: &ClassPlaces, place: u16) -> Option<ClassPlaces> {
 
 #[test]
 fn places_of_classes(rt: HostRuntime) {
-    let class = ClassPlaces::of(&[0, 2, 1]);
+    let mut class = ClassPlaces::of(&[0, 2, 1]);
     assert_same(&rt, "class", class.as_slice(), &[2, 1, 0][..]);
     assert_same(&rt, "index of 1", class.index_of(1), 1);
-    let more = with_place(&class, 1).expect(&rt, "room");
-    assert_same(&rt, "with 1", more.as_slice(), &[2, 1, 1, 0][..]);
-    let most = with_greatest(&more, 2).expect(&rt, "room");
+    put(&mut class, 1);
+    assert_same(&rt, "with 1", class.as_slice(), &[2, 1, 1, 0][..]);
+    let most = with_greatest(&class, 2).expect(&rt, "room");
     assert_same(&rt, "with 2", most.as_slice(), &[2, 2, 1, 1, 0][..]);
     assert_same(&rt, "none", ClassPlaces::none().as_slice(), &[][..]);
 }
