@@ -1,5 +1,6 @@
 -- From the parts of a text to its fault.
-use Rattle.std.proofs.Common.{◌≡◌, ◌⊎◌, ℕ, ◌+◌, Bool, cond, true, List, [], ◌∷◌, ◌++◌, length, map, refl, sym, ap, subst, append_assoc, inl, inr}
+use Rattle.std.proofs.Common.{◌≡◌, ◌⊎◌, ℕ, ◌+◌, Bool, cond, true, List, [], ◌∷◌, ◌++◌, length, map, refl, sym, ap}
+use Rattle.std.proofs.Common.{subst, append_assoc, inl, inr}
 use Rattle.std.specs.List.{flat_map}
 use Rattle.std.specs.Prelude.{codes}
 use Rattle.std.proofs.lemmas.List.{length-map}
@@ -11,10 +12,14 @@ use Rattle.proof_text.specs.declared.fault.ProofKind.{ProofKind}
 use Rattle.proof_text.specs.declared.fault.ProofKind.TheVariants as kinds
 use Rattle.proof_text.specs.declared.proof.LabellerRow.{LabellerRow}
 use Rattle.proof_text.specs.declared.proof.AdversaryRow.{AdversaryRow}
-use Rattle.proof_text.specs.Proof.{PlainProof, IsProof, IsClaim, AreAnswerRows, IsAnswerRow, IsRequestRow, asks_labeller, asks_adversary, answer_row, request_row, answer_rows, request_rows}
+use Rattle.proof_text.specs.Proof.{PlainProof, IsProof, IsClaim, AreAnswerRows, IsAnswerRow, IsRequestRow}
+use Rattle.proof_text.specs.Proof.{asks_labeller, asks_adversary, answer_row, request_row, answer_rows, request_rows}
 use Rattle.board_text.specs.BoardText.{end_line}
-use Rattle.proof_text.specs.ProofText.{version_line, claim_words, claim_line, first_two_lines, labeller_section, adversary_section, proof_text_before_end, proof_text, labeller_lines, answer_line, request_line}
-use Rattle.proof_text.specs.ProofFaults.{LabellerFault, AdversaryFault, HasProofFault, InAdversary, AnswerMisread, RequestMisread, end_number}
+use Rattle.proof_text.specs.ProofText.{version_line, claim_words, claim_line, first_two_lines, labeller_section}
+use Rattle.proof_text.specs.ProofText.{adversary_section, proof_text_before_end, proof_text, labeller_lines}
+use Rattle.proof_text.specs.ProofText.{answer_line, request_line}
+use Rattle.proof_text.specs.ProofFaults.{LabellerFault, AdversaryFault, HasProofFault, InAdversary, AnswerMisread}
+use Rattle.proof_text.specs.ProofFaults.{RequestMisread, end_number}
 use Rattle.proof_text.specs.Inside.RowForm.{PartRead, SectionFault, section_text, labeller_form, adversary_form}
 use Rattle.proof_text.proofs.SectionLemmas.{rows_seen, fault_seen}
 
@@ -36,7 +41,8 @@ section_seen f word row_line rows = rw (length-map rows f, flat_map-map row_line
 pub labeller_section_seen : (board : PlainBoard) (claim : Claim) (rows : List LabellerRow)
     → section_text (labeller_form board claim) rows ≡ labeller_section board claim (answer_rows board rows)
 labeller_section_seen board claim rows =
-    ap (λ (text : List ℕ). cond (asks_labeller claim) text []) (section_seen (answer_row board) (codes "labeller") (answer_line board) rows)
+    ap (λ (text : List ℕ). cond (asks_labeller claim) text [])
+    (section_seen (answer_row board) (codes "labeller") (answer_line board) rows)
 
 pub adversary_section_seen : (board : PlainBoard) (claim : Claim) (rows : List AdversaryRow)
     → section_text (adversary_form board claim) rows ≡ adversary_section board claim (request_rows board rows)
@@ -45,7 +51,8 @@ adversary_section_seen board claim rows =
     (section_seen (request_row board) (codes "adversary") (request_line board) rows)
 
 -- the number of lines of a section
-pub lines_are : {R X : Type 0} (f : R → X) (rows : List R) {asked wanted : Bool} {count lines : ℕ} → asked ≡ wanted → count ≡ length rows
+pub lines_are : {R X : Type 0} (f : R → X) (rows : List R) {asked wanted : Bool} {count lines : ℕ} → asked ≡ wanted
+    → count ≡ length rows
     → lines ≡ cond asked (1 + count) 0 → lines ≡ cond wanted (1 + length (map f rows)) 0
 lines_are f rows e n l = rw (length-map rows f, ← n, ← e) l
 
@@ -56,7 +63,8 @@ pub record HeadRead (claim : Claim) (text rest : List ℕ) : Type 0 where
   pub is_claim : IsClaim claim
   pub spelled : text ≡ first_two_lines claim ++ rest
 
-pub head_read : (claim : Claim) (text a b : List ℕ) → text ≡ version_line ++ a → IsClaim claim × (a ≡ claim_line claim ++ b)
+pub head_read : (claim : Claim) (text a b : List ℕ) → text ≡ version_line ++ a
+    → IsClaim claim × (a ≡ claim_line claim ++ b)
     → HeadRead claim text b
 head_read claim text a b e (is, f) = record { is_claim = is; spelled = rw (e, f) (sym (append_assoc version_line (claim_line claim) b)) }
 
@@ -80,10 +88,12 @@ module _ (board : PlainBoard) {claim : Claim} {text a : List ℕ} (start : HeadR
         asked = asked;
         spelled = start.spelled;
         fault = fault_seen board (answer_row board) (labeller_form board claim).IsRow (IsAnswerRow board claim) (λ row. row.at)
-            (answer_line board) (λ row is. is.0) (number_line (codes "labeller")) (AnswerMisread board claim) a 3 line kind fault;
+            (answer_line board) (λ row is. is.0) (number_line (codes "labeller"))
+            (AnswerMisread board claim) a 3 line kind fault;
       }))
 
-  module _ {labeller : List LabellerRow} {b : List ℕ} (part : PartRead board (labeller_form board claim) labeller a b) where
+  module _ {labeller : List LabellerRow} {b : List ℕ}
+      (part : PartRead board (labeller_form board claim) labeller a b) where
     are_answers : AreAnswerRows board claim (answer_rows board labeller)
     are_answers = rows_seen board (answer_row board) (labeller_form board claim).IsRow (IsAnswerRow board claim) (λ row. row.at)
         (answer_line board) (λ row is. is.0) labeller part.are_rows
@@ -91,7 +101,8 @@ module _ (board : PlainBoard) {claim : Claim} {text a : List ℕ} (start : HeadR
     answers_stand : a ≡ labeller_section board claim (answer_rows board labeller) ++ b
     answers_stand = rw (← labeller_section_seen board claim labeller) part.spelled
 
-    pub adversary_fault : (lines line : ℕ) (kind : ProofKind) → lines ≡ labeller_lines claim (answer_rows board labeller)
+    pub adversary_fault : (lines line : ℕ) (kind : ProofKind)
+        → lines ≡ labeller_lines claim (answer_rows board labeller)
         → (asks_adversary claim ≡ true) × SectionFault board (adversary_form board claim) b (3 + lines) line kind
         → HasProofFault board text line kind
     adversary_fault lines line kind same (asked, fault) =
@@ -106,10 +117,12 @@ module _ (board : PlainBoard) {claim : Claim} {text a : List ℕ} (start : HeadR
           spelled = rw (← answers_stand) start.spelled;
           fault = subst (λ (n : ℕ). InAdversary board b (3 + n) line kind) same
               (fault_seen board (request_row board) (adversary_form board claim).IsRow (IsRequestRow board) (λ row. row.at)
-              (request_line board) (λ row is. is) (number_line (codes "adversary")) (RequestMisread board) b (3 + lines) line kind fault);
+              (request_line board) (λ row is. is) (number_line (codes "adversary")) (RequestMisread board) b
+              (3 + lines) line kind fault);
         }))
 
-    pub front_read : {adversary : List AdversaryRow} {d : List ℕ} → PartRead board (adversary_form board claim) adversary b d
+    pub front_read : {adversary : List AdversaryRow} {d : List ℕ}
+        → PartRead board (adversary_form board claim) adversary b d
         → FrontRead board (record { claim = claim; labeller = answer_rows board labeller; adversary = request_rows board adversary }) text d
     front_read {adversary} {d} other = record {
       is_proof = record {
@@ -145,10 +158,12 @@ module _ {board : PlainBoard} {proof : PlainProof} {text a : List ℕ} (read : F
   )
 
 -- a text that is written part by part: its first two lines, and then the sections
-pub first_printed : (claim : Claim) (t0 t1 t2 t3 : List ℕ) → t0 ≡ [] → t1 ≡ t0 ++ version_line → t2 ≡ t1 ++ claim_words claim
+pub first_printed : (claim : Claim) (t0 t1 t2 t3 : List ℕ) → t0 ≡ [] → t1 ≡ t0 ++ version_line
+    → t2 ≡ t1 ++ claim_words claim
     → t3 ≡ t2 ++ 10 ∷ [] → t3 ≡ first_two_lines claim
 first_printed claim t0 t1 t2 t3 e0 e1 e2 e3 = rw (e3, e2, e1, e0) (simp append_assoc)
 
-pub printed : (claim : Claim) (labeller adversary t0 t1 t2 t3 : List ℕ) → t0 ≡ first_two_lines claim → t1 ≡ t0 ++ labeller
+pub printed : (claim : Claim) (labeller adversary t0 t1 t2 t3 : List ℕ) → t0 ≡ first_two_lines claim
+    → t1 ≡ t0 ++ labeller
     → t2 ≡ t1 ++ adversary → t3 ≡ t2 ++ end_line → t3 ≡ (first_two_lines claim ++ (labeller ++ adversary)) ++ end_line
 printed claim labeller adversary t0 t1 t2 t3 e0 e1 e2 e3 = rw (e3, e2, e1, e0) (simp append_assoc)

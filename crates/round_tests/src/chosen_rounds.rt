@@ -21,9 +21,9 @@ use std::sync::atomic::Ordering::SeqCst;
 use std::thread::Threads;
 
 /// The labels of the board of two layers, and of its upper one.
-const LABELS: u16 = 256;
+const LABELS: u16 = 101;
 
-const UPPER: u16 = 128;
+const UPPER: u16 = 50;
 
 /// A gate that counts how often workers pass in the first round, and in all later ones.
 #[derive(Drop)]
@@ -67,8 +67,7 @@ fn layered(alloc: Global) -> Option<Board> {
     build_board(alloc, LABELS, 3, &[0, 0, 0], &pairs).ok()
 }
 
-/// The values that this number of workers find by classes, or that one thread finds if they were
-/// refused memory or a start twice, and the gate that counted them.
+/// The values that this number of workers find by classes, and the gate that counted them.
 fn counted(
     rt: &(impl Threads + Wait + Sync),
     alloc: Global,
@@ -100,9 +99,11 @@ fn one_round_of_two_is_shared(rt: HostRuntime) {
     let wanted = class_solver_of::<PlainLists>(rt.alloc(), &board).expect(&rt, "a solver");
     let wanted = wanted.solve();
     for workers in 1..5 {
-        let (found, passes) = counted(&rt, rt.alloc(), &board, workers)
-            .or_else(|_| counted(&rt, rt.alloc(), &board, workers))
-            .expect(&rt, "values");
+        let answer = match counted(&rt, rt.alloc(), &board, workers) {
+            Err(_) => counted(&rt, rt.alloc(), &board, workers),
+            answer => answer,
+        };
+        let (found, passes) = answer.expect(&rt, "values");
         let times = if workers == 1 { 0 } else { u64::from(workers) };
         assert_same(&rt, workers, passes.first.load(SeqCst), times);
         assert_same(&rt, workers, passes.later.load(SeqCst), 0);

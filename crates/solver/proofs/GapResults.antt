@@ -1,5 +1,6 @@
 -- The answers of a graph's gap, and the words of its members, are those of the requests in it.
-use Rattle.std.proofs.Common.{◌≡◌, ℕ, ◌<◌, ◌==◌, ◌↔◌, Bool, true, cond, inl, inr, sym, ap, ◌∙◌, subst, List, slice_index}
+use Rattle.std.proofs.Common.{◌≡◌, ℕ, ◌<◌, ◌==◌, ◌↔◌, Bool, true, cond, inl, inr, sym, ap, ◌∙◌, subst, List}
+use Rattle.std.proofs.Common.{slice_index}
 use Rattle.board_text.specs.PlainBoard.{PlainBoard, IsBoard, IsConfiguration, places}
 use Rattle.positions.specs.declared.value.Value.{Value}
 use Rattle.positions.specs.declared.value.Value.TheVariants.{Finite, Forever}
@@ -7,7 +8,8 @@ use Rattle.positions.specs.Game.{Legal, moved}
 use Rattle.positions.specs.Gaps.{gaps, gap_of, pebble_of, member_of, IsAnswer}
 use Rattle.positions.specs.Ranks.{rank_of, configuration_at}
 use Rattle.positions.specs.Value.{HasValue}
-use Rattle.positions.proofs.Cited.{configuration_at-rank_of, gap_below, gap_of-member_of, legal_is_answer, member_is, member_of-gap_of}
+use Rattle.positions.proofs.Cited.{configuration_at-rank_of, gap_below, gap_of-member_of, legal_is_answer, member_is}
+use Rattle.positions.proofs.Cited.{member_of-gap_of}
 use Rattle.positions.proofs.Cited.{pebble_below, same_value}
 use Rattle.board_text.proofs.Cited.{some_places}
 use Rattle.graphs.specs.Numbered.{Numbered, graph_of}
@@ -21,7 +23,8 @@ use Rattle.solver.specs.Inside.Values.{IsWordOf, AreValues}
 use Rattle.solver.specs.declared.word.TheConstants.{OPEN}
 
 -- the word of a configuration's number is the configuration's
-pub word-of-number : (n : Numbered) → IsBoard n.board → (words : List ℕ) → AreValues n words → (c : List ℕ) → IsConfiguration n.board c → IsWordOf n.board c words (number_in n c)
+pub word-of-number : (n : Numbered) → IsBoard n.board → (words : List ℕ) → AreValues n words → (c : List ℕ)
+    → IsConfiguration n.board c → IsWordOf n.board c words (number_in n c)
 word-of-number n is words are c ok =
     let word = are.each (number_in n c) (number-below n is c ok) in record {
       inside = word.inside;
@@ -30,7 +33,8 @@ word-of-number n is words are c ok =
     }
 
 -- a move to any place leads from a configuration to a configuration
-place-moved : (board : PlainBoard) (c : List ℕ) (p place : ℕ) → IsConfiguration board c → p < board.pebbles → place < places board
+place-moved : (board : PlainBoard) (c : List ℕ) (p place : ℕ) → IsConfiguration board c → p < board.pebbles
+    → place < places board
     → IsConfiguration board (moved c p place)
 place-moved board c p place is low inside =
     subst (IsConfiguration board) (member_of-gap_of board c p place is low)
@@ -38,7 +42,8 @@ place-moved board c p place is low inside =
 
 -- a request in a gap: its pebble may be answered by the gap's answers, and the member with a place has
 -- the word of the configuration after it
-module _ (n : Numbered) (is : IsBoard n.board) (gap : ℕ) (c : List ℕ) (p : ℕ) (request : IsRequestIn (numbered_gap n gap) c p) where
+module _ (n : Numbered) (is : IsBoard n.board) (gap : ℕ) (c : List ℕ) (p : ℕ)
+    (request : IsRequestIn (numbered_gap n gap) c p) where
   pub legal-there : (place : ℕ) → place < (graph_of n).places
       → ((graph_of n).struck ((graph_of n).member gap place) ≡ gap) ↔ Legal n.board c p place
   legal-there place low =
@@ -93,7 +98,8 @@ module _ (board : PlainBoard) (is : IsBoard board) (gap : ℕ) (below : gap < ga
       ∙ ap (λ g. member_of board g label) (gap_of-member_of board gap 0 below)
 
 -- so what the results of the gap's number tell of a place is so of the gap's member there
-module _ (board : PlainBoard) (is : IsBoard board) (gap : ℕ) (below : gap < gaps board) (r : NumberedGap) (same : r.game.board ≡ board)
+module _ (board : PlainBoard) (is : IsBoard board) (gap : ℕ) (below : gap < gaps board) (r : NumberedGap)
+    (same : r.game.board ≡ board)
     (request : IsRequestIn r (member_of board gap 0) (pebble_of board gap)) (place : ℕ) (told : Bool) where
   pub told-answer : ((c : List ℕ) (p : ℕ) → IsRequestIn r c p → (told ≡ true) ↔ Legal r.game.board c p place)
       → (told ≡ true) ↔ IsAnswer board gap place
@@ -112,7 +118,8 @@ module _ (board : PlainBoard) (is : IsBoard board) (gap : ℕ) (below : gap < ga
       (tells _ _ request))
 
 -- the value that a word stands for is the configuration's
-pub value-with : (board : PlainBoard) (configuration words : List ℕ) (x : ℕ) (value : Value) → IsWordOf board configuration words x
+pub value-with : (board : PlainBoard) (configuration words : List ℕ) (x : ℕ) (value : Value)
+    → IsWordOf board configuration words x
     → value ≡ value_with_word (slice_index words x) → HasValue board configuration value
 value-with board configuration words x value word is = elim (true_or_false (is_open words x)) [
   | inl still ↦ subst (HasValue board configuration) (sym (is ∙ ap (λ (t : Bool). cond t Forever (Finite (slice_index words x))) still)) (word.forever still)
@@ -123,7 +130,8 @@ finite_not_forever : (number : ℕ) → Finite number ≡ Forever → ⊥
 finite_not_forever number e = cc
 
 -- a word is that of Forever exactly if the configuration lasts forever
-pub open-exactly : (board : PlainBoard) (configuration : List ℕ) (word : ℕ) → HasValue board configuration (value_with_word word)
+pub open-exactly : (board : PlainBoard) (configuration : List ℕ) (word : ℕ)
+    → HasValue board configuration (value_with_word word)
     → (word == OPEN ≡ true) ↔ HasValue board configuration Forever
 open-exactly board configuration word has = (
   λ still. subst (HasValue board configuration) (ap (λ (t : Bool). cond t Forever (Finite word)) still) has,

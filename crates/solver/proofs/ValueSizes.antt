@@ -1,5 +1,7 @@
 -- The number of configurations of each value, by the weights of the numbers whose word it is.
-use Rattle.std.proofs.Common.{◌≡◌, ℕ, ◌+◌, ◌-◌, ◌^◌, ◌<◌, ◌≤◌, ◌==◌, inl, inr, Bool, true, false, cond, zero, suc, refl, arith, sym, ap, ◌∙◌, subst, List, [], ◌∷◌, Contains, length, take, slice_index, slice_set, get_or-take, length-set, get_or-set_same, get_or-set_other}
+use Rattle.std.proofs.Common.{◌≡◌, ℕ, ◌+◌, ◌-◌, ◌^◌, ◌<◌, ◌≤◌, ◌==◌, inl, inr, Bool, true, false, cond, zero, suc, refl}
+use Rattle.std.proofs.Common.{arith, sym, ap, ◌∙◌, subst, List, [], ◌∷◌, Contains, length, take, slice_index, slice_set}
+use Rattle.std.proofs.Common.{get_or-take, length-set, get_or-set_same, get_or-set_other}
 use Rattle.std.proofs.lemmas.Bool.{cases_lt}
 use Rattle.std.proofs.lemmas.Bool.Decides.{nat_tests}
 use Rattle.std.proofs.lemmas.List.{length-take-le}
@@ -10,12 +12,14 @@ use Rattle.positions.specs.declared.value.Value.TheVariants.{Finite, Forever}
 use Rattle.positions.specs.Laws.{Occurs}
 use Rattle.positions.specs.Ranks.{configurations, rank_of, configuration_at}
 use Rattle.positions.specs.Value.{HasValue}
-use Rattle.positions.proofs.Cited.{configuration_at_is, rank_below, configuration_at-rank_of, same_value, size_at_most, size_zero, smaller_occurs}
+use Rattle.positions.proofs.Cited.{configuration_at_is, rank_below, configuration_at-rank_of, same_value, size_at_most}
+use Rattle.positions.proofs.Cited.{size_zero, smaller_occurs}
 use Rattle.classes.specs.Sums.{sum_below}
 use Rattle.classes.proofs.Sums.{sum-zero, sum-suc, sum-more}
 use Rattle.graphs.specs.Numbered.{Numbered, graph_of, configuration_of}
 use Rattle.graphs.specs.NumberedRanks.{AreNumberWeights, number_in}
-use Rattle.graphs.proofs.Cited.{configuration-is, counted-numbers, counted-values, forever_of_lasts, number-below, number-value, same_is, same_or_not, true_or_false, value_of_lasts}
+use Rattle.graphs.proofs.Cited.{configuration-is, counted-numbers, counted-values, forever_of_lasts, number-below}
+use Rattle.graphs.proofs.Cited.{number-value, same_is, same_or_not, true_or_false, value_of_lasts}
 use Rattle.solver.specs.Sizes.{HasCount}
 use Rattle.solver.specs.Inside.Stage.{PlainStage, filed_at, IsEquipped, IsState}
 use Rattle.solver.specs.Inside.Tables.{is_open}
@@ -26,7 +30,8 @@ use Rattle.solver.proofs.States.{filed-exactly, forever-of, open-lasts, round-be
 
 -- ---- sums of weights
 
-weighed-suc : (weights : List ℕ) (test : ℕ → Bool) (k : ℕ) → weighed weights test (suc k) ≡ weighed weights test k + cond (test k) (slice_index weights k) 0
+weighed-suc : (weights : List ℕ) (test : ℕ → Bool) (k : ℕ)
+    → weighed weights test (suc k) ≡ weighed weights test k + cond (test k) (slice_index weights k) 0
 weighed-suc weights test k = sum-suc k (λ x. cond (test x) (slice_index weights x) 0)
 
 cond-least : (b : Bool) (n : ℕ) → cond b n 0 ≤ n
@@ -43,7 +48,8 @@ weighed-few weights test (suc k) =
     omega arith
 
 -- one weight more is no more than all
-pub one-more : (weights : List ℕ) (test : ℕ → Bool) (k count : ℕ) → k < count → sum_below count (slice_index weights) < 2 ^ 32
+pub one-more : (weights : List ℕ) (test : ℕ → Bool) (k count : ℕ) → k < count
+    → sum_below count (slice_index weights) < 2 ^ 32
     → weighed weights test k + slice_index weights k < 2 ^ 32
 one-more weights test k count low few =
     let before = weighed-few weights test k in
@@ -64,7 +70,8 @@ test_same : (m n : ℕ) → (m == n) ≡ true → m ≡ n
 test_same m n e = grind (arith, nat_tests)
 
 -- the weight of a number whose word is a value is added to the value's size
-pub sums-add : (words weights sizes : List ℕ) (k : ℕ) → slice_index words k < length sizes → AreSums words weights k sizes
+pub sums-add : (words weights sizes : List ℕ) (k : ℕ) → slice_index words k < length sizes
+    → AreSums words weights k sizes
     → AreSums words weights (suc k) (slice_set sizes (slice_index words k) (slice_index sizes (slice_index words k) + slice_index weights k))
 sums-add words weights sizes k low are = record {
   each = λ v i.
@@ -76,7 +83,8 @@ sums-add words weights sizes k low are = record {
             let old = are.each w low in
             let here = cond_here (w == v) (slice_index weights k) (same_is w v (sym same)) in
             ap (slice_index (slice_set sizes w (slice_index sizes w + slice_index weights k))) same ∙ set
-            ∙ ap (λ n. n + slice_index weights k) (are.each w low ∙ ap (λ u. weighed weights (λ x. slice_index words x == u) k) (sym same))
+            ∙ ap (λ n. n + slice_index weights k)
+            (are.each w low ∙ ap (λ u. weighed weights (λ x. slice_index words x == u) k) (sym same))
             ∙ ap (λ n. weighed weights (λ x. slice_index words x == v) k + n) (sym here) ∙ sym more
         | inr other ↦
             let away = cond_away (w == v) (slice_index weights k) (differ w v (λ e. other (sym e))) in
@@ -90,7 +98,8 @@ sums-add words weights sizes k low are = record {
     kept-length xs i x v low = subst (λ n. v < n) (length-set xs i x) low
 
 -- the weight of a number without a value is added to no size
-pub sums-skip : (words weights sizes : List ℕ) (k : ℕ) → slice_index words k ≡ OPEN → length sizes ≤ OPEN → AreSums words weights k sizes → AreSums words weights (suc k) sizes
+pub sums-skip : (words weights sizes : List ℕ) (k : ℕ) → slice_index words k ≡ OPEN → length sizes ≤ OPEN
+    → AreSums words weights k sizes → AreSums words weights (suc k) sizes
 sums-skip words weights sizes k no_value small are = record {
   each = λ v i.
       let more = weighed-suc weights (λ x. slice_index words x == v) k in
@@ -105,7 +114,8 @@ forever-add words weights k no_value =
     let here = cond_here (is_open words k) (slice_index weights k) (same_is (slice_index words k) OPEN no_value) in
     omega arith
 
-pub forever-skip : (words weights : List ℕ) (k : ℕ) → (slice_index words k ≡ OPEN → ⊥) → weighed weights (is_open words) k ≡ weighed weights (is_open words) (suc k)
+pub forever-skip : (words weights : List ℕ) (k : ℕ) → (slice_index words k ≡ OPEN → ⊥)
+    → weighed weights (is_open words) k ≡ weighed weights (is_open words) (suc k)
 forever-skip words weights k valued =
     let more = weighed-suc weights (is_open words) k in
     let away = cond_away (is_open words k) (slice_index weights k) (differ (slice_index words k) OPEN valued) in
@@ -118,7 +128,8 @@ pub forever-none : (words weights : List ℕ) → 0 ≡ weighed weights (is_open
 forever-none words weights = sym (sum-zero (λ x. cond (is_open words x) (slice_index weights x) 0))
 
 -- all weights together are few
-pub all-few : (n : Numbered) → IsBoard n.board → configurations n.board ≤ MAX_CONFIGURATIONS → (weights : List ℕ) → AreNumberWeights n weights
+pub all-few : (n : Numbered) → IsBoard n.board → configurations n.board ≤ MAX_CONFIGURATIONS → (weights : List ℕ)
+    → AreNumberWeights n weights
     → sum_below (graph_of n).configurations (slice_index weights) < 2 ^ 32
 all-few n is few weights are =
     let size = counted-numbers n is weights (λ x. true) are in
@@ -141,7 +152,8 @@ module _ (board : PlainBoard) (configuration words : List ℕ) (x : ℕ) (word :
     | inr shut ↦ absurd (finite_not_forever (slice_index words x) (same_value board configuration (Finite (slice_index words x)) Forever (word.finite shut) has))
   ]
 
-  pub word-of-value : (v : ℕ) → HasValue board configuration (Finite v) → (is_open words x ≡ false) × (slice_index words x ≡ v)
+  pub word-of-value : (v : ℕ) → HasValue board configuration (Finite v)
+      → (is_open words x ≡ false) × (slice_index words x ≡ v)
   word-of-value v has = elim (true_or_false (is_open words x)) [
     | inl still ↦ absurd (finite_not_forever v (same_value board configuration (Finite v) Forever has (word.forever still)))
     | inr shut ↦ (shut, same_number (slice_index words x) v (same_value board configuration (Finite (slice_index words x)) (Finite v) (word.finite shut) has))
@@ -251,14 +263,16 @@ module _ (s : PlainStage) (round : ℕ) (st : IsState s round true) (space : Pla
 
 -- ---- the greatest value
 
-pub greatest-none : (board : PlainBoard) (sizes : List ℕ) (forever : ℕ) → AreSizes board sizes forever → slice_index sizes 0 ≡ 0 → (v : ℕ) → Occurs board v → ⊥
+pub greatest-none : (board : PlainBoard) (sizes : List ℕ) (forever : ℕ) → AreSizes board sizes forever
+    → slice_index sizes 0 ≡ 0 → (v : ℕ) → Occurs board v → ⊥
 greatest-none board sizes forever are none v occurs =
     let zeroth = smaller_occurs board 0 v (omega arith) occurs in
     let c : List ℕ = zeroth.0 in
     let nothing = (size_zero _).0 (subst (HasCount board (Finite 0)) none (are.finite 0 are.made)) in
     nothing (rank_of board c) (rank_below board c zeroth.1, subst (λ (d : List ℕ). HasValue board d (Finite 0)) (sym (configuration_at-rank_of board c zeroth.1)) zeroth.2)
 
-pub greatest-some : (board : PlainBoard) (sizes : List ℕ) (forever : ℕ) → AreSizes board sizes forever → (greatest : ℕ) → greatest ≡ length sizes - 1
+pub greatest-some : (board : PlainBoard) (sizes : List ℕ) (forever : ℕ) → AreSizes board sizes forever → (greatest : ℕ)
+    → greatest ≡ length sizes - 1
     → 0 < slice_index sizes 0 → Occurs board greatest × ((v : ℕ) → Occurs board v → v ≤ greatest)
 greatest-some board sizes forever are greatest is some = (
   subst (Occurs board) (sym is) (are.last some),
@@ -269,6 +283,7 @@ greatest-some board sizes forever are greatest is some = (
 )
 
 -- no configuration has a value beyond the sizes
-pub count-beyond : (board : PlainBoard) (sizes : List ℕ) (forever : ℕ) → AreSizes board sizes forever → (v : ℕ) → length sizes ≤ v → HasCount board (Finite v) 0
+pub count-beyond : (board : PlainBoard) (sizes : List ℕ) (forever : ℕ) → AreSizes board sizes forever → (v : ℕ)
+    → length sizes ≤ v → HasCount board (Finite v) 0
 count-beyond board sizes forever are v high =
     (size_zero _).1 (λ rank has. are.beyond v high (configuration_at board rank, configuration_at_is board rank has.0, has.1))

@@ -1,5 +1,6 @@
 -- The ranks added at a step: the result of a best answer, or those of all answers of a gap.
-use Rattle.std.proofs.Common.{◌≡◌, ℕ, ◌+◌, ◌<◌, ◌≤◌, ◌↔◌, inl, inr, Bool, true, false, List, Some, None, slice_index_or, slice_set, sym, ap, ◌∙◌, subst, arith}
+use Rattle.std.proofs.Common.{◌≡◌, ℕ, ◌+◌, ◌<◌, ◌≤◌, ◌↔◌, inl, inr, Bool, true, false, List, Some, None, slice_index_or}
+use Rattle.std.proofs.Common.{slice_set, sym, ap, ◌∙◌, subst, arith}
 use Rattle.std.proofs.Math.ListN.{replicate, length-set, length-replicate}
 use Rattle.std.proofs.lemmas.Bool.{both_ways, cases_eq}
 use Rattle.std.proofs.lemmas.List.{get_or-replicate, get_or-set_other}
@@ -25,10 +26,12 @@ use Rattle.strategies.proofs.AddedRanks.{Below, added_known, added_one, added_sa
 -- ---- the best answer to one request
 
 module _ (board : PlainBoard) (rank pebble : ℕ) (ranks : List ℕ) where
-  pub no_answer_added : IsBestFor board (configuration_at board rank) pebble None → IsWithAll ranks (IsAnswerStep board rank pebble) ranks
+  pub no_answer_added : IsBestFor board (configuration_at board rank) pebble None
+      → IsWithAll ranks (IsAnswerStep board rank pebble) ranks
   no_answer_added none = added_known ranks (IsAnswerStep board rank pebble) (λ to step. absurd (none step.label step.best.0.legal))
 
-  pub worthless_not_added : (best : Best) → IsBestFor board (configuration_at board rank) pebble (Some best) → ¬ IsLess (Finite 0) best.value
+  pub worthless_not_added : (best : Best) → IsBestFor board (configuration_at board rank) pebble (Some best)
+      → ¬ IsLess (Finite 0) best.value
       → IsWithAll ranks (IsAnswerStep board rank pebble) ranks
   worthless_not_added best is not = added_known ranks (IsAnswerStep board rank pebble) (λ to step.
       let c : List ℕ = configuration_at board rank in
@@ -36,8 +39,10 @@ module _ (board : PlainBoard) (rank pebble : ℕ) (ranks : List ℕ) where
       absurd (worthless board (moved c pebble best.label) best.value is.1 not
       (subst (λ (l : ℕ). IsAnswerable board (moved c pebble l)) same step.some)))
 
-  pub answer_added : (best : Best) (to : ℕ) (more : List ℕ) → IsBestFor board (configuration_at board rank) pebble (Some best) → IsLess (Finite 0) best.value
-      → pebble < board.pebbles → to ≡ rank_of board (moved (configuration_at board rank) pebble best.label) → IsWith ranks to more
+  pub answer_added : (best : Best) (to : ℕ) (more : List ℕ)
+      → IsBestFor board (configuration_at board rank) pebble (Some best) → IsLess (Finite 0) best.value
+      → pebble < board.pebbles → to ≡ rank_of board (moved (configuration_at board rank) pebble best.label)
+      → IsWith ranks to more
       → IsWithAll ranks (IsAnswerStep board rank pebble) more
   answer_added best to more is some is_pebble to_is with =
       added_one ranks more to (IsAnswerStep board rank pebble) with (record {
@@ -55,14 +60,16 @@ module _ (board : PlainBoard) (rank pebble : ℕ) (ranks : List ℕ) where
 
 module _ (board : PlainBoard) (gap : ℕ) where
   pub member_added : (label to : ℕ) (ranks some more : List ℕ) → IsAnswer board gap label
-      → to ≡ rank_of board (member_of board gap label) → IsWithAll ranks (Below (IsAnswerAt board gap) label) some → IsWith some to more
+      → to ≡ rank_of board (member_of board gap label) → IsWithAll ranks (Below (IsAnswerAt board gap) label) some
+      → IsWith some to more
       → IsWithAll ranks (Below (IsAnswerAt board gap) (label + 1)) more
   member_added label to ranks some more answer to_is before with =
       added_more ranks some more (IsAnswerAt board gap) label before
       (added_one some more to (IsAnswerAt board gap label) with (answer, to_is) (λ other is. is.1 ∙ sym to_is))
 
   pub no_member_added : (label : ℕ) (ranks some : List ℕ) → ¬ IsAnswer board gap label
-      → IsWithAll ranks (Below (IsAnswerAt board gap) label) some → IsWithAll ranks (Below (IsAnswerAt board gap) (label + 1)) some
+      → IsWithAll ranks (Below (IsAnswerAt board gap) label) some
+      → IsWithAll ranks (Below (IsAnswerAt board gap) (label + 1)) some
   no_member_added label ranks some none before =
       added_same ranks some (Below (IsAnswerAt board gap) label) (Below (IsAnswerAt board gap) (label + 1))
       (λ rank. below_same (IsAnswerAt board gap) label (label + 1) rank (omega arith)
@@ -76,7 +83,8 @@ module _ (board : PlainBoard) (gap : ℕ) where
 
 -- ---- the best request
 
-pub no_request_added : (board : PlainBoard) (rank : ℕ) (ranks : List ℕ) → IsSmallest (LowersValue board (configuration_at board rank)) None
+pub no_request_added : (board : PlainBoard) (rank : ℕ) (ranks : List ℕ)
+    → IsSmallest (LowersValue board (configuration_at board rank)) None
     → IsWithAll ranks (RequestLeads board rank) ranks
 no_request_added board rank ranks none = added_known ranks (RequestLeads board rank)
     (λ to leads. absurd (none leads.1.pebble leads.1.best.0))
@@ -118,11 +126,13 @@ module _ (board : PlainBoard) (rank : ℕ) (is_rank : rank < configurations boar
   results_known ranks expanded is_gap are marked =
       added_known ranks (RequestLeads board rank) (λ to leads. are.there gap is_gap marked to ((leads_is to).1 leads))
 
-  pub results_added : (ranks more : List ℕ) → IsWithAll ranks (IsAnswerOf board gap) more → IsWithAll ranks (RequestLeads board rank) more
+  pub results_added : (ranks more : List ℕ) → IsWithAll ranks (IsAnswerOf board gap) more
+      → IsWithAll ranks (RequestLeads board rank) more
   results_added ranks more added = added_same ranks more (IsAnswerOf board gap) (RequestLeads board rank) leads_is added
 
 -- the answers of one more gap have been added
-pub expanded_more : (board : PlainBoard) (expanded : List Bool) (gap : ℕ) (ranks more : List ℕ) → AreExpanded board expanded ranks → gap < gaps board
+pub expanded_more : (board : PlainBoard) (expanded : List Bool) (gap : ℕ) (ranks more : List ℕ)
+    → AreExpanded board expanded ranks → gap < gaps board
     → IsWithAll ranks (IsAnswerOf board gap) more → AreExpanded board (slice_set expanded gap true) more
 expanded_more board expanded gap ranks more are is_gap added = record {
   one_each = length-set expanded gap true ∙ are.one_each;
@@ -132,7 +142,8 @@ expanded_more board expanded gap ranks more are is_gap added = record {
   ];
 }
 
-pub none_expanded : (board : PlainBoard) (size : ℕ) (ranks : List ℕ) → size ≡ gaps board → AreExpanded board (replicate size false) ranks
+pub none_expanded : (board : PlainBoard) (size : ℕ) (ranks : List ℕ) → size ≡ gaps board
+    → AreExpanded board (replicate size false) ranks
 none_expanded board size ranks size_is = record {
   one_each = length-replicate size false ∙ size_is;
   there = λ gap is_gap marked rank answer. absurd (both_ways (slice_index_or (replicate size false) gap false)

@@ -1,6 +1,7 @@
 -- The best answer of a gap is the best answer to each request in it, and the answers of an ordered gap are
 -- those of its pebble at its members.
-use Rattle.std.proofs.Common.{◌≡◌, ℕ, ◌+◌, ◌<◌, ◌≤◌, ◌↔◌, ◌⊎◌, List, [], ◌∷◌, ◌++◌, length, Option, None, Some, slice_index_or, option_map, inl, inr, refl, sym, subst, arith}
+use Rattle.std.proofs.Common.{◌≡◌, ℕ, ◌+◌, ◌<◌, ◌≤◌, ◌↔◌, ◌⊎◌, List, [], ◌∷◌, ◌++◌, length, Option, None, Some}
+use Rattle.std.proofs.Common.{slice_index_or, option_map, inl, inr, refl, sym, subst, arith}
 use Rattle.std.proofs.lemmas.Bool.{cases_lt}
 use Rattle.std.proofs.lemmas.List.{get_or_append_left, get_or_at, length-append}
 use Rattle.board_text.specs.PlainBoard.{PlainBoard, IsConfiguration, places}
@@ -24,7 +25,8 @@ pub record IsMemberOf (board : PlainBoard) (configuration : List ℕ) (pebble ga
   pub is_pebble : pebble < board.pebbles
   pub its_gap : gap_of board configuration pebble ≡ gap
 
-module _ (board : PlainBoard) (configuration : List ℕ) (pebble gap : ℕ) (is : IsMemberOf board configuration pebble gap) where
+module _ (board : PlainBoard) (configuration : List ℕ) (pebble gap : ℕ)
+    (is : IsMemberOf board configuration pebble gap) where
   pub legal_there : (label : ℕ) → Legal board configuration pebble label ↔ IsAnswer board gap label
   legal_there label = subst (λ (g : ℕ). Legal board configuration pebble label ↔ IsAnswer board g label) is.its_gap
       (legal_is_answer board configuration pebble label is.is_configuration is.is_pebble)
@@ -41,7 +43,8 @@ AreFound g bound best = (configuration : List ℕ) (pebble : ℕ) → IsRequestI
     → IsFoundBelow g.game.board configuration pebble bound best
 
 -- the label at the bound is an answer
-pub found_next : (g : NumberedGap) (label : ℕ) (value : Value) (best : Option Best) (result : Best) → AreFound g label best
+pub found_next : (g : NumberedGap) (label : ℕ) (value : Value) (best : Option Best) (result : Best)
+    → AreFound g label best
     → ((configuration : List ℕ) (pebble : ℕ) → IsRequestIn g configuration pebble → Legal g.game.board configuration pebble label)
     → ((configuration : List ℕ) (pebble : ℕ) → IsRequestIn g configuration pebble
     → HasValue g.game.board (moved configuration pebble label) value)

@@ -14,7 +14,8 @@ use Rattle.strategies.specs.declared.gap_best.Best.{Best}
 use Rattle.strategies.specs.Inside.GapBest.{IsBestFor, IsGapBest}
 use Rattle.strategies.specs.Inside.MovesAt.{IsStanding}
 
-module _ (n : Numbered) (board : PlainBoard) (rank : ℕ) (standing : Standing) (is : IsStanding n board rank standing) where
+module _ (n : Numbered) (board : PlainBoard) (rank : ℕ) (standing : Standing)
+    (is : IsStanding n board rank standing) where
   abbrev here : List ℕ
   here = configuration_at board rank
 
@@ -35,7 +36,8 @@ module _ (n : Numbered) (board : PlainBoard) (rank : ℕ) (standing : Standing) 
       (number_at-below n numbered-board rank (subst (λ (b : PlainBoard). rank < configurations b) (sym is.same_board) is.is_rank))
 
   -- a request of a pebble there is one in the pebble's gap
-  pub request-there : (pebble : ℕ) → pebble < board.pebbles → IsRequestIn (numbered_gap n (slice_index standing.gaps pebble)) here pebble
+  pub request-there : (pebble : ℕ) → pebble < board.pebbles
+      → IsRequestIn (numbered_gap n (slice_index standing.gaps pebble)) here pebble
   request-there pebble low = record {
     is_configuration = ok;
     is_pebble = pebble-too pebble low;
@@ -46,7 +48,8 @@ module _ (n : Numbered) (board : PlainBoard) (rank : ℕ) (standing : Standing) 
   pub best-there : (pebble : ℕ) (best : Option Best) → pebble < board.pebbles
       → IsGapBest (numbered_gap n (slice_index standing.gaps pebble)) best → IsBestFor board here pebble best
   best-there pebble best low are =
-      subst (λ (b : PlainBoard). IsBestFor b here pebble best) is.same_board (are here pebble (request-there pebble low))
+      subst (λ (b : PlainBoard). IsBestFor b here pebble best) is.same_board
+      (are here pebble (request-there pebble low))
 
   -- and the value of the number is the configuration's
   pub value-there : (value : Value) → ((c : List ℕ) → IsConfiguration n.board c → number_in n c ≡ standing.number → HasValue n.board c value)
@@ -56,7 +59,8 @@ module _ (n : Numbered) (board : PlainBoard) (rank : ℕ) (standing : Standing) 
       ap (λ (b : PlainBoard). number_in n (configuration_at b rank)) (sym is.same_board) ∙ sym is.number in
       subst (λ (b : PlainBoard). HasValue b here value) is.same_board (has here ok same)
 
-pub standing-is : (n : Numbered) (board : PlainBoard) (rank : ℕ) (standing : Standing) → IsBoard board → n.board ≡ board → rank < configurations board
+pub standing-is : (n : Numbered) (board : PlainBoard) (rank : ℕ) (standing : Standing) → IsBoard board → n.board ≡ board
+    → rank < configurations board
     → standing.number ≡ number_in n (configuration_at n.board rank)
     → ((pebble : ℕ) → pebble < n.board.pebbles → slice_index standing.gaps pebble ≡ gap_in n (configuration_at n.board rank) pebble)
     → IsStanding n board rank standing

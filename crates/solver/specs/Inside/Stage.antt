@@ -1,6 +1,7 @@
 -- A stage as plain data, and the changes that a round makes to it.
 use Rattle.std.specs.Prelude.{◌≡◌, ◌≢◌, ℕ, suc, ◌+◌, ◌-◌, ◌<◌, ◌≤◌, ◌==◌, Bool, true, false, cond}
-use Rattle.std.specs.Prelude.{List, [], ◌∷◌, ◌++◌, length, map, filter, AllPairs, slice_index, slice_index_or, slice_set}
+use Rattle.std.specs.Prelude.{List, [], ◌∷◌, ◌++◌, length, map, filter, AllPairs, slice_index}
+use Rattle.std.specs.Prelude.{slice_index_or, slice_set}
 use Rattle.std.specs.List.{range_with_len}
 use Rattle.index_lists.specs.Lists.{Lists, AreLists, times}
 use Rattle.board_text.specs.PlainBoard.{PlainBoard, IsBoard}
@@ -11,7 +12,8 @@ use Rattle.solver.specs.Inside.Values.{AreZeros}
 use Rattle.positions.specs.declared.space.TheConstants.{MAX_CONFIGURATIONS}
 use Rattle.graphs.specs.Graph.{PlainGraph, IsGraph, count_below, lasts, is_struck}
 use Rattle.solver.specs.Solving.{Solving}
-use Rattle.solver.specs.Inside.Tables.{IsLast, is_unstruck, struck_rounds, open_members, IsCounted, AreWords, GapIsClosed}
+use Rattle.solver.specs.Inside.Tables.{IsLast, is_unstruck, struck_rounds, open_members, IsCounted}
+use Rattle.solver.specs.Inside.Tables.{AreWords, GapIsClosed}
 
 -- a board and what its numbers stand for, the value that configurations are filed at, a word for
 -- each configuration, a count for each gap, the configurations filed at each value, and those that
@@ -148,7 +150,8 @@ pub record FilesAll (s : PlainStage) (ranks : List ℕ) (s' : PlainStage) : Type
 pub record TakesCounts (s : PlainStage) (counts : List ℕ) (s' : PlainStage) : Type 0 where
   pub rest : s' ≡ with_counts s s'.counts
   pub counts_length : length s'.counts ≡ length s.counts
-  pub each : (gap : ℕ) → gap < (graph_of s.game).gaps → slice_index s'.counts gap ≡ slice_index counts gap
+  pub each : (gap : ℕ) → gap < (graph_of s.game).gaps
+      → slice_index s'.counts gap ≡ slice_index counts gap
 
 -- a solver between its calls
 pub record IsState (s : PlainStage) (round : ℕ) (is_done : Bool) : Type 0 where

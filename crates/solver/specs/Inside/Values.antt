@@ -1,5 +1,6 @@
 -- The words and the sizes of values.
-use Rattle.std.specs.Prelude.{◌≡◌, ℕ, ◌-◌, ◌<◌, ◌≤◌, ◌==◌, Bool, true, false, cond, List, length, slice_index}
+use Rattle.std.specs.Prelude.{◌≡◌, ℕ, ◌-◌, ◌<◌, ◌≤◌, ◌==◌, Bool, true, false, cond, List, length}
+use Rattle.std.specs.Prelude.{slice_index}
 use Rattle.board_text.specs.PlainBoard.{PlainBoard, IsBoard}
 use Rattle.positions.specs.declared.space.TheConstants.{MAX_CONFIGURATIONS}
 use Rattle.positions.specs.declared.value.Value.TheVariants.{Finite, Forever}
@@ -20,7 +21,8 @@ pub record IsWordOf (board : PlainBoard) (configuration words : List ℕ) (x : �
 -- each number has the word of its configuration
 pub record AreValues (n : Numbered) (words : List ℕ) : Type 0 where
   pub words_length : length words ≡ (graph_of n).configurations
-  pub each : (x : ℕ) → x < (graph_of n).configurations → IsWordOf n.board (configuration_of n x) words x
+  pub each : (x : ℕ) → x < (graph_of n).configurations
+      → IsWordOf n.board (configuration_of n x) words x
 
 -- the sum of the weights of the first numbers whose words pass the test
 abbrev pub weighed : List ℕ → (ℕ → Bool) → ℕ → ℕ
@@ -51,7 +53,8 @@ pub record AreNumbered (n : Numbered) (space : PlainBoard) (words : List ℕ) : 
   pub valued : AreValues n words
 
 -- each number has its word, and each value its size
-pub record AreValuesOf (n : Numbered) (space : PlainBoard) (words sizes : List ℕ) (forever : ℕ) : Type 0 where
+pub record AreValuesOf (n : Numbered) (space : PlainBoard) (words sizes : List ℕ)
+    (forever : ℕ) : Type 0 where
   pub numbered : AreNumbered n space words
   pub sized : AreSizes n.board sizes forever
 

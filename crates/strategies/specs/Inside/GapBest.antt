@@ -12,7 +12,8 @@ use Rattle.strategies.specs.Best.{IsLess, IsBestAnswer}
 -- the best answer to a request, with the value of its result; none if no label is legal
 abbrev pub IsBestFor : PlainBoard → List ℕ → ℕ → Option Best → Type 0
 IsBestFor board configuration pebble (Some best) =
-    IsBestAnswer board configuration pebble best.label × HasValue board (moved configuration pebble best.label) best.value
+    IsBestAnswer board configuration pebble best.label × HasValue board
+    (moved configuration pebble best.label) best.value
 IsBestFor board configuration pebble None = (label : ℕ) → Legal board configuration pebble label → ⊥
 
 -- the better of the best answer so far and a later one, which must lead to a greater value

@@ -19,7 +19,8 @@ abbrev pub held : Position → List ℕ
 held p = configuration_at p.board p.rank
 
 -- the number of the configuration of the rank, and those of the gaps of its pebbles
-pub record IsStanding (n : Numbered) (board : PlainBoard) (rank : ℕ) (standing : Standing) : Type 0 where
+pub record IsStanding (n : Numbered) (board : PlainBoard) (rank : ℕ)
+    (standing : Standing) : Type 0 where
   pub is_board : IsBoard board
   pub same_board : n.board ≡ board
   pub is_rank : rank < configurations board

@@ -59,7 +59,8 @@ some : (n : ℕ) (k : ℕ) → k ≡ n → k ≢ 0 → n ≢ 0
 some n k is d e = d (is ∙ e)
 
 -- the stage at the next value is in the next round
-next-round : (s now : PlainStage) (round : ℕ) → s.value ≡ suc round → now.value ≡ s.value → suc round ≡ (at_next_value now).value - 1
+next-round : (s now : PlainStage) (round : ℕ) → s.value ≡ suc round → now.value ≡ s.value
+    → suc round ≡ (at_next_value now).value - 1
 next-round s now round at same = omega arith
 
 -- the stage after a round that filed configurations, and its state at the next value
@@ -94,4 +95,5 @@ invariant_of-self-2 g c =
 pub returns-clause-kept : goal.returns-clause-kept
 returns-clause-kept g c =
     let at = (goal.at.returns-clause-kept g c).Else-filed-eq0 in
-    rw (c.begin_next_value.ensures, c.if-self.false) (solving_of (at_next_value c.file.new.stage) _ false (state-next g at))
+    rw (c.begin_next_value.ensures, c.if-self.false)
+    (solving_of (at_next_value c.file.new.stage) _ false (state-next g at))

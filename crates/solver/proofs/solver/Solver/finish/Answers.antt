@@ -1,4 +1,5 @@
-use Rattle.std.proofs.Common.{◌≡◌, ◌-◌, ◌^◌, ◌<◌, ◌∙◌, ℕ, suc, Bool, true, List, length, take, slice_index, sym, ap, subst, arith}
+use Rattle.std.proofs.Common.{◌≡◌, ◌-◌, ◌^◌, ◌<◌, ◌∙◌, ℕ, suc, Bool, true, List, length, take, slice_index, sym, ap}
+use Rattle.std.proofs.Common.{subst, arith}
 use Rattle.std.proofs.lemmas.List.{take_at}
 use Rattle.classes.specs.Sums.{sum_below}
 use Rattle.graphs.specs.Numbered.{graph_of}
@@ -51,10 +52,12 @@ new-requires g c =
     (subst (λ (p : List ℕ × List ℕ). AreSums p.0 p.1 (length c.deref.result.now) sums) (λ j. (words-are g at j, c.deref-2.ensures.value j)) e.sums) in
     let wide : length sums ≡ size = e.size ∙ ap length c.deref_mut.ensures.value ∙ c.self.invariant.1.zeros_length in
     let forever : c.add_weights-forever.result ≡ weighed weights (is_open words) size =
-    e.forever ∙ ap (λ (p : List ℕ × List ℕ × ℕ). weighed p.1 (is_open p.0) p.2) (λ j. (words-are g at j, c.deref-2.ensures.value j, long g at j)) in
+    e.forever ∙ ap (λ (p : List ℕ × List ℕ × ℕ). weighed p.1 (is_open p.0) p.2)
+    (λ j. (words-are g at j, c.deref-2.ensures.value j, long g at j)) in
     let value_is : now.value ≡ suc (now.value - 1) = (let v = c.self.invariant.0.value_is in omega arith) in
     let taken : c.truncate.new.self.items ≡ take c.stage.inside.value sums =
-    c.truncate.ensures.items ∙ ap (take c.stage.inside.value) (take_at sums _ c.self.inside.sizes.len (e.size ∙ c.deref_mut.ensures.len)) in
+    c.truncate.ensures.items ∙ ap (take c.stage.inside.value)
+    (take_at sums _ c.self.inside.sizes.len (e.size ∙ c.deref_mut.ensures.len)) in
     let cut : c.truncate.new.self.items ≡ take (suc (now.value - 1)) sums =
     taken ∙ ap (λ v. take v sums) (ap (λ (v : PlainStage). v.value) c.stage.view_is ∙ value_is) in
     let all = values-of now _ (state g at) _ weights _ c.self.invariant.1 sums c.truncate.new.self.items c.add_weights-forever.result added wide cut forever in

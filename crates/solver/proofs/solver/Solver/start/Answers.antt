@@ -11,19 +11,24 @@ use Rattle.graphs.proofs.Cited.{some-configurations}
 use Rattle.solver.proofs.States.{start-state, solving_of}
 use Rattle.solver.proofs.solver.Solver.start.Goals as goal
 
-opened-state : (s : PlainStage) (n : Numbered) → s.game ≡ n → IsBoard n.board → (graph_of n).configurations ≤ MAX_CONFIGURATIONS → IsOpened s
+opened-state : (s : PlainStage) (n : Numbered) → s.game ≡ n → IsBoard n.board
+    → (graph_of n).configurations ≤ MAX_CONFIGURATIONS → IsOpened s
     → IsState (at_next_value s) ((at_next_value s).value - 1) false
 opened-state s n same board few opened =
-    start-state s (subst (λ (m : Numbered). IsBoard m.board) (sym same) board) (subst (λ (m : Numbered). (graph_of m).configurations ≤ MAX_CONFIGURATIONS) (sym same) few) opened
+    start-state s (subst (λ (m : Numbered). IsBoard m.board) (sym same) board)
+    (subst (λ (m : Numbered). (graph_of m).configurations ≤ MAX_CONFIGURATIONS) (sym same) few) opened
 
-equipped : (n : Numbered) (board : PlainBoard) (weights : List ℕ) (count : ℕ) (zeros : List ℕ) (space : PlainBoard) → n.board ≡ board → space ≡ board
-    → AreNumberWeights n weights → count ≡ (graph_of n).configurations → zeros ≡ replicate count 0 → configurations space ≤ MAX_CONFIGURATIONS
+equipped : (n : Numbered) (board : PlainBoard) (weights : List ℕ) (count : ℕ) (zeros : List ℕ) (space : PlainBoard)
+    → n.board ≡ board → space ≡ board
+    → AreNumberWeights n weights → count ≡ (graph_of n).configurations → zeros ≡ replicate count 0
+    → configurations space ≤ MAX_CONFIGURATIONS
     → IsEquipped n space weights zeros
 equipped n board weights count zeros space own space_is weighed count_is zeros_are few = record {
   same_space = space_is ∙ sym own;
   weighed = weighed;
   zeros_length = ap length zeros_are ∙ length-replicate count 0 ∙ count_is;
-  zeros_are = λ k low. ap (λ (l : List ℕ). slice_index l k) zeros_are ∙ get_or-replicate count k 0 0 (let long = ap length zeros_are ∙ length-replicate count 0 in omega arith);
+  zeros_are = λ k low. ap (λ (l : List ℕ). slice_index l k) zeros_are
+      ∙ get_or-replicate count k 0 0 (let long = ap length zeros_are ∙ length-replicate count 0 in omega arith);
   few = subst (λ (b : PlainBoard). configurations b ≤ MAX_CONFIGURATIONS) (space_is ∙ sym own) few;
 }
 
@@ -39,9 +44,11 @@ invariant_of-result g c =
     let e = c.in_ok-stage.ensures in
     rw c.begin_next_value.ensures (
       opened-state c.in_ok-stage.stage c.in_ok-graph.graph e.game e.board e.few e.opened,
-      subst (λ (n : Numbered). IsEquipped n c.args.space c.in_ok-weights.weights.items c.in_ok-sizes.sizes.items) (sym e.game)
+      subst (λ (n : Numbered). IsEquipped n c.args.space c.in_ok-weights.weights.items c.in_ok-sizes.sizes.items)
+      (sym e.game)
           (equipped c.in_ok-graph.graph c.args.board.now _ _ c.in_ok-sizes.sizes.items c.args.space (ap (λ (n : Numbered). n.board) c.in_ok-graph.ensures) c.requires
-          c.in_ok-weights.ensures c.configurations-2.ensures.value (c.in_ok-sizes.ensures.items_if_clones_equal (λ y e. e)) c.configurations.ensures.few),
+          c.in_ok-weights.ensures c.configurations-2.ensures.value
+          (c.in_ok-sizes.ensures.items_if_clones_equal (λ y e. e)) c.configurations.ensures.few),
     )
 
 pub returns-clause-kept : goal.returns-clause-kept

@@ -18,9 +18,11 @@ returns c =
     let low : rank < configurations n.board = rw (← c.self.view_is) at c.requires in
     let words : List ℕ = c.self.inside.words.items in
     let word : IsWordOf n.board (configuration_at n.board rank) words (number_at n rank) =
-    word-of-number n c.self.invariant.numbered.is_board words c.self.invariant.numbered.valued (configuration_at n.board rank) (configuration_at_is n.board rank low) in
+    word-of-number n c.self.invariant.numbered.is_board words c.self.invariant.numbered.valued
+    (configuration_at n.board rank) (configuration_at_is n.board rank low) in
     let read : c.index.result.now ≡ slice_index words (number_at n rank) =
-    get_or_read words c.number.result c.index.result.now (subst (λ x. x < length words) (sym c.number.ensures.number) word.inside) c.index.ensures 0
+    get_or_read words c.number.result c.index.result.now
+    (subst (λ x. x < length words) (sym c.number.ensures.number) word.inside) c.index.ensures 0
     ∙ ap (slice_index words) c.number.ensures.number in
     subst (λ (b : PlainBoard). HasValue b (configuration_at b rank) c.value_with.result) c.self.view_is
     (value-with n.board (configuration_at n.board rank) words (number_at n rank) c.value_with.result word (c.value_with.ensures ∙ ap value_with_word read))

@@ -7,7 +7,8 @@ use Rattle.solver.specs.SafeAnswers.{IsSafeAnswer}
 use Rattle.solver.proofs.GapResults.{told-answer, told-forever}
 use Rattle.solver.proofs.values.Values.safe_answer.Goals as goal
 use Rattle.solver.proofs.values.Values.safe_answer.Goals.{After-places-place-end}
-use Rattle.solver.proofs.values.Values.safe_answer.Goals.{else-is_answer-via-then-is_answer+else-lasts_forever, else-is_answer-via-else-is_answer}
+use Rattle.solver.proofs.values.Values.safe_answer.Goals.{else-is_answer-via-then-is_answer+else-lasts_forever}
+use Rattle.solver.proofs.values.Values.safe_answer.Goals.{else-is_answer-via-else-is_answer}
 
 is-board : (c : After-places-place-end) → IsBoard c.args.self.now
 is-board c = subst IsBoard c.results-results.ensures.board c.places-place-end.ensures.is_board

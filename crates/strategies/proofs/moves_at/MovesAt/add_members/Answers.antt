@@ -23,11 +23,13 @@ in_gaps : (c : After-results-results) → c.args.gap < gaps c.args.self.now.boar
 in_gaps c = subst (λ g. g < gaps c.args.self.now.board) (sym c.requires.gap)
     (gap_below c.args.self.now.board (held c.args.self.now) c.args.pebble (member c).is_configuration c.requires.pebble)
 
-end-is : (c : After-results-results) (count : ℕ) → count ≡ places c.results-results.result.game.board → count ≡ places c.args.self.now.board
+end-is : (c : After-results-results) (count : ℕ) → count ≡ places c.results-results.result.game.board
+    → count ≡ places c.args.self.now.board
 end-is c count is = is ∙ ap places c.results-results.ensures.board
 
 -- the test tells the gap's answers
-answers : (c : After-is_answer) (at : After-results-results) → IsMemberOf c.args.self.now.board (held c.args.self.now) c.args.pebble c.args.gap
+answers : (c : After-is_answer) (at : After-results-results)
+    → IsMemberOf c.args.self.now.board (held c.args.self.now) c.args.pebble c.args.gap
     → IsTrue c.is_answer.result ↔ IsAnswer c.args.self.now.board c.args.gap c.loop-label.label
 answers c at is =
     let told = subst (λ (b : PlainBoard). IsTrue c.is_answer.result ↔ Legal b (held c.args.self.now) c.args.pebble c.loop-label.label)

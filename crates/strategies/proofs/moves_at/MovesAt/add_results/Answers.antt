@@ -24,7 +24,8 @@ add_members-requires-clause-gap c = gap-is (goal.at.add_members-requires-clause-
 pub returns-then-get-clause-added : goal.returns-then-get-clause-added
 returns-then-get-clause-added c =
     let at = (goal.at.returns-then-get-clause-added c).After-gap-gap in
-    results_known c.args.self.now.board c.args.self.now.rank (rank-below at) c.in-Some.pebble c.gap-gap.result c.in-Some.ensures.best
+    results_known c.args.self.now.board c.args.self.now.rank
+    (rank-below at) c.in-Some.pebble c.gap-gap.result c.in-Some.ensures.best
     (gap-is at) _ c.args.expanded.now (gap-below at) c.requires.expanded (sym c.get.ensures ∙ c.if-get.true)
 
 pub returns-clause-expanded : goal.returns-clause-expanded
@@ -36,5 +37,6 @@ returns-clause-expanded c =
 pub returns-clause-added : goal.returns-clause-added
 returns-clause-added c =
     let at = (goal.at.returns-clause-added c).After-gap-gap in
-    results_added c.args.self.now.board c.args.self.now.rank (rank-below at) c.in-Some.pebble c.gap-gap.result c.in-Some.ensures.best
+    results_added c.args.self.now.board c.args.self.now.rank
+    (rank-below at) c.in-Some.pebble c.gap-gap.result c.in-Some.ensures.best
     (gap-is at) _ _ c.in_ok-add_members.ensures.added

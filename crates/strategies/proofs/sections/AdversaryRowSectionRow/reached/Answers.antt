@@ -11,7 +11,8 @@ loop-rank-init c =
     let b = c.args.moves.now in
     let is = c.start.ensures.is_board in
     record {
-      size = c.in_ok-add.ensures.size ∙ c.in_ok-reached.ensures.size ∙ (rw c.space-space.ensures.value at c.configurations.ensures.value);
+      size = c.in_ok-add.ensures.size ∙ c.in_ok-reached.ensures.size
+          ∙ (rw c.space-space.ensures.value at c.configurations.ensures.value);
       expanded = rw c.in_ok-expanded.ensures (none_expanded b c.gaps.result _ (rw c.space-space.ensures.value at c.gaps.ensures.value));
       spread = spread_begins b _ _ _ is.start _
           (added_one _ _ _ _ (rw (c.start.ensures.rank, c.in_ok-reached.ensures.empty) at c.in_ok-add.ensures.added) (tt, refl)
@@ -38,7 +39,8 @@ loop-rank-preserved c =
       size = c.in_ok-add_results.ensures.size ∙ c.loop-rank.invariant.size;
       expanded = rw c.at-in-Some.ensures at c.in_ok-add_results.ensures.expanded;
       spread = spread_more c.args.moves.now _ _ _ is.start (request_moves c.args.moves.now) c.loop-rank.index c.in-Some.rank _ _
-          c.loop-rank.invariant.spread (sym c.in-Some.ensures.rank) (rw c.at-in-Some.ensures at c.in_ok-add_results.ensures.added);
+          c.loop-rank.invariant.spread (sym c.in-Some.ensures.rank)
+          (rw c.at-in-Some.ensures at c.in_ok-add_results.ensures.added);
     }
 
 pub returns-clause-reached : goal.returns-clause-reached

@@ -2,7 +2,8 @@ use Rattle.std.proofs.Common.{[], refl, sym, ◌∙◌, arith, rules}
 use Rattle.std.proofs.lemmas.Option.{slice_get_within}
 use Rattle.strategies.proofs.AddedRanks.{added_known, added_one}
 use Rattle.strategies.proofs.GatheredRows.{labellers}
-use Rattle.strategies.proofs.SpreadRanks.{spread_begins, spread_more, spread_ends, spread_below, answer_moves, start_answerable, start_value}
+use Rattle.strategies.proofs.SpreadRanks.{spread_begins, spread_more, spread_ends, spread_below, answer_moves}
+use Rattle.strategies.proofs.SpreadRanks.{start_answerable, start_value}
 use Rattle.strategies.proofs.ValueOrder.{worthless}
 use Rattle.strategies.proofs.sections.LabellerRowSectionRow.reached.Goals as goal
 use Rattle.strategies.proofs.sections.LabellerRowSectionRow.reached.Goals.{then-lt+in_ok-add, else-lt}
@@ -48,7 +49,8 @@ pub loop-rank-preserved : goal.loop-rank-preserved
 loop-rank-preserved c = record {
   size = c.in_ok-add_answers.ensures.size ∙ c.loop-rank.invariant.size;
   spread = spread_more c.args.moves.now _ _ _ c.start-start.ensures.is_board.start (answer_moves c.args.moves.now) c.loop-rank.index c.in-Some.rank _ _
-      c.loop-rank.invariant.spread (sym c.in-Some.ensures.rank) (rw c.at-in-Some.ensures at c.in_ok-add_answers.ensures.added);
+      c.loop-rank.invariant.spread (sym c.in-Some.ensures.rank)
+      (rw c.at-in-Some.ensures at c.in_ok-add_answers.ensures.added);
 }
 
 pub returns-clause-reached : goal.returns-clause-reached
