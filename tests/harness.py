@@ -13,9 +13,7 @@ PROGRAM = os.path.join(CRATES, 'pebbles', 'out', 'pebbles')
 BUILD = '(cd crates/pebbles && rt run < stdin)'
 BUILT = 'accepted least 2\n'
 # the crates of tests, lowest first, and the crates whose parts they share
-TEST_CRATES = (
-    'board_tests', 'class_tests', 'solving_tests', 'round_tests', 'document_tests', 'play_tests', 'command_tests', 'acceptance',
-)
+TEST_CRATES = ('board_tests', 'solving_tests', 'round_tests', 'document_tests', 'play_tests', 'command_tests', 'acceptance')
 FOR_TESTS = ('fakes', 'solved_boards', *TEST_CRATES)
 
 
