@@ -91,13 +91,13 @@ found_forever g bound best found forever configuration pebble is =
     let board : PlainBoard = g.game.board in
     let here : IsBestBelow board configuration pebble bound best = found configuration pebble is in
     best_of_all board configuration pebble bound best here (λ other late legal.
-        let value = some_value board (moved configuration pebble other)
-        (moved_is_configuration board configuration pebble other legal.is_label is.is_configuration) in (
-          value.0,
-          value.1,
-          subst (λ (v : Value). IsLess value.0 v ⊎ ((value.0 ≡ v) × (best.label ≤ other))) (sym forever)
-              (less_or_same bound best.label value.0 other here.early late),
-        ))
+    let value = some_value board (moved configuration pebble other)
+    (moved_is_configuration board configuration pebble other legal.is_label is.is_configuration) in (
+      value.0,
+      value.1,
+      subst (λ (v : Value). IsLess value.0 v ⊎ ((value.0 ≡ v) × (best.label ≤ other))) (sym forever)
+          (less_or_same bound best.label value.0 other here.early late),
+    ))
 
 -- ---- the best answer to a request of a pebble
 

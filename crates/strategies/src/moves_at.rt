@@ -114,7 +114,9 @@ impl<'a> MovesAt<'a> {
         ensures board { result.game.board ≡ self.now.board }
         ensures request { IsRequestIn result (held self.now) pebble }
     {
-        self.best.values().results(self.standing.gaps[pebble as usize])
+        self.best
+            .values()
+            .results(self.standing.gaps[pebble as usize])
     }
 }
 

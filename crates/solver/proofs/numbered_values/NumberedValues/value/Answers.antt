@@ -13,7 +13,7 @@ returns c = λ configuration.
     let words = c.self.inside.words.now in
     subst (λ (m : Numbered). IsConfiguration m.board configuration → number_in m configuration ≡ c.args.number
     → HasValue m.board configuration c.value_with.result) c.self.view_is (λ is same.
-        let word : IsWordOf n.board configuration words c.args.number =
-        subst (IsWordOf n.board configuration words) same
-        (word-of-number n c.self.invariant.is_board words c.self.invariant.valued configuration is) in
-        value-with n.board configuration words c.args.number c.value_with.result word c.value_with.ensures)
+    let word : IsWordOf n.board configuration words c.args.number =
+    subst (IsWordOf n.board configuration words) same
+    (word-of-number n c.self.invariant.is_board words c.self.invariant.valued configuration is) in
+    value-with n.board configuration words c.args.number c.value_with.result word c.value_with.ensures)

@@ -14,7 +14,7 @@ returns c = λ configuration pebble.
     let low : c.args.place < (graph_of n).places = inside-graph n c.args.place (rw (← c.self.view_is) at c.requires) in
     subst (λ (v : NumberedGap). IsRequestIn v configuration pebble
     → IsTrue c.is_answer.result ↔ Legal v.game.board configuration pebble c.args.place) c.self.view_is (λ request.
-        let there = legal-there n c.self.invariant.is_board c.self.inside.gap configuration pebble request c.args.place low in (
-          λ yes. there.0 (c.is_answer.ensures.0 yes),
-          λ legal. c.is_answer.ensures.1 (there.1 legal),
-        ))
+    let there = legal-there n c.self.invariant.is_board c.self.inside.gap configuration pebble request c.args.place low in (
+      λ yes. there.0 (c.is_answer.ensures.0 yes),
+      λ legal. c.is_answer.ensures.1 (there.1 legal),
+    ))

@@ -45,7 +45,7 @@ invariant_of-result g c =
     rw c.begin_next_value.ensures (
       opened-state c.in_ok-stage.stage c.in_ok-graph.graph e.game e.board e.few e.opened,
       subst (λ (n : Numbered). IsEquipped n c.args.space c.in_ok-weights.weights.items c.in_ok-sizes.sizes.items)
-      (sym e.game)
+          (sym e.game)
           (equipped c.in_ok-graph.graph c.args.board.now _ _ c.in_ok-sizes.sizes.items c.args.space (ap (λ (n : Numbered). n.board) c.in_ok-graph.ensures) c.requires
           c.in_ok-weights.ensures c.configurations-2.ensures.value
           (c.in_ok-sizes.ensures.items_if_clones_equal (λ y e. e)) c.configurations.ensures.few),
