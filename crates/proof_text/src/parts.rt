@@ -38,8 +38,8 @@ pub(crate) fn write_in_parts<R: Row + Sync>(
     Ok(())
 }
 
-/// The lines of `rows` in at most `parts` parts of consecutive rows, in their order. A part of more
-/// than 1,024 rows is made on a thread of its own, if one can be started.
+/// The lines of `rows` in at most `parts` parts of consecutive rows, in their order. Threads make
+/// them where each has a thousand rows or more to make, and one can be started.
 fn lines_in_parts<R: Row + Sync>(
     rt: &(impl Threads + Sync),
     alloc: Global,

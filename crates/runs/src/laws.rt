@@ -96,10 +96,12 @@ pub fn printed_documents_are_accepted()
         → (fault : Fault) → HasNoBoard text fault → IsMemory fault }
     ensures faultless_document { (text : List ℕ) → (written : List ℕ) → (value : ValueData) → (board : PlainBoard) → (fault : Fault)
         → IsSolution text value written → IsSmallBoard text board → HasNoProof board written fault → IsMemory fault }
-    ensures runs { (limit : ℕ) → (board_limit : ℕ) → (proof_limit : ℕ) → (bytes : List ℕ) → (text : List ℕ) → (solve_left : Option (List ℕ)) → (board_left : Option (List ℕ))
+    ensures runs { (limit : ℕ) → (board_limit : ℕ) → (proof_limit : ℕ) → (bytes : List ℕ)
+        → (text : List ℕ) → (solve_left : Option (List ℕ)) → (board_left : Option (List ℕ))
         → (proof_left : Option (List ℕ)) → (written : Bytes) → (value : ValueData) → (verdict : VerdictData)
         → Ran IsSolution limit (record { old = Some bytes; new = solve_left }) (record { old = Some []; new = Some text }) value
-        → RanCheck board_limit proof_limit (record { old = Some bytes; new = board_left }) (record { old = Some text; new = proof_left }) written verdict
+        → RanCheck board_limit proof_limit (record { old = Some bytes; new = board_left })
+        (record { old = Some text; new = proof_left }) written verdict
         → verdict ≡ Accepted (record { claim = claim_of value }) }
 {}
 
