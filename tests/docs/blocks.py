@@ -10,6 +10,7 @@ A comment before a block says what else it is:
     <!-- typed: LINES -->        commands that run in a terminal, in which these lines, parted by commas, are typed
     <!-- output of: COMMANDS --> the output of commands that the document doesn't show
 """
+import ast
 import os
 import pty
 import re
@@ -25,6 +26,8 @@ from harness import BUILD, PROGRAM, TOP, Check
 DOCUMENTS = ('README.md', 'docs/designers.md', 'boards/README.md')
 BLOCK = re.compile(r'(?:^<!-- (not run|file|typed|output of):? (.*?) -->\n+)?^```(\w*)\n(.*?)^```$', re.M | re.S)
 INDENTED = re.compile(r'^    \S', re.M)
+# the oldest Python that the scripts of documents run with, as docs/designers.md says
+OLDEST_PYTHON = 3, 8
 
 
 @dataclass
@@ -135,6 +138,13 @@ def passed_over():
     return [f'{document}: {block.says}' for document in DOCUMENTS for block in blocks_of(document) if block.mark == 'not run']
 
 
+def keeps_to_python(document):
+    """None where the oldest Python has the grammar of each script of the document; of what a script calls it says nothing."""
+    for block in blocks_of(document):
+        if block.kind == 'python':
+            ast.parse(block.text, block.says, feature_version=OLDEST_PYTHON)
+
+
 def shows_build():
     """None where README.md has the words that build the program."""
     texts = [block.text for block in blocks_of('README.md')]
@@ -145,4 +155,5 @@ def checks(work):
     """One for each document, and that README.md has the words by which the tests build the program."""
     for document in DOCUMENTS:
         yield Check(f'the blocks of {document}', partial(session, document, work))
+        yield Check(f'the scripts of {document}', partial(keeps_to_python, document))
     yield Check('the words that build the program', partial(shows_build))

@@ -4,6 +4,7 @@ import re
 import subprocess
 from functools import partial
 
+import wrong_bodies
 from harness import CRATES, TOP, Check
 
 TICKED = re.compile(r'(?<!`)`([^`\n]+)`(?!`)')
@@ -75,6 +76,7 @@ def lacks(document):
     names = {part for word in ticked if NAME.match(word) and not PATH.match(word) and not ANY.search(word)
              for part in re.split(r'::|\.', word.removesuffix('()'))}
     known = words_of_tree(CRATES, ('.rt', '.antt', '.edit')) | words_of_tree(os.path.join(TOP, 'tests'), ('.py', 'run', '.c'))
+    known |= wrong_bodies.names()
     unknown = {name for name in names - known if not name.endswith('_') or not any(word.startswith(name) for word in known)}
     missing += sorted(strangers(unknown)) if unknown else []
     return f'not there: {", ".join(missing)}' if missing else None
