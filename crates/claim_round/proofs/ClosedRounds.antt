@@ -20,7 +20,7 @@ use Rattle.index_lists.proofs.Cited.{cond_other}
 use Rattle.positions.specs.declared.value.Value.TheVariants.{Finite}
 use Rattle.positions.specs.Value.{HasValue}
 use Rattle.positions.specs.Counts.{HasSize}
-use Rattle.positions.specs.declared.space.TheConstants.{MAX_CONFIGURATIONS}
+use Rattle.classes.specs.declared.counting.TheConstants.{MAX_CLASSES}
 use Rattle.positions.proofs.Cited.{same_size, size_zero, size_at_most}
 use Rattle.solver.specs.Solving.{Solving, IsSolving, AnswerLasts, IsAnswerAt}
 use Rattle.retro_core.specs.Round.{PlainSeat, Round, IsLawful, IsWorkedOff, spent_seat, seat_at, all_todo}
@@ -261,7 +261,7 @@ small_counts s e sol done g i =
     let same = places_are s.game in let top = few_places s.game.board sol.is_board in omega arith) in
     omega arith
 
-pub small_value : (s : Solving) (words : List ℕ) (counts won : List ℕ) → s.rounds < (graph_of s.game).configurations → (graph_of s.game).configurations ≤ MAX_CONFIGURATIONS
+pub small_value : (s : Solving) (words : List ℕ) (counts won : List ℕ) → s.rounds < (graph_of s.game).configurations → (graph_of s.game).configurations ≤ MAX_CLASSES
     → Finishes s (record { counts = counts; values = map value_of_word words; won = won }) → (rank : ℕ) → rank < length words
     → slice_index words rank < 2 ^ 32
 small_value s words counts won below few done rank i =

@@ -1,14 +1,12 @@
 -- The entries that a seat may still owe, after each step, and the number of members of a gap.
-use Rattle.std.proofs.Common.{◌≡◌, ℕ, zero, suc, ◌+◌, ◌-◌, ◌*◌, ◌/◌, ◌^◌, ◌<◌, ◌≤◌, List, [], ◌∷◌, ◌++◌, length, take, drop, refl, ap, ◌∙◌, arith, inl, inr, length-append, length-take, length-drop, mul-le-mul_left}
-use Rattle.graphs.specs.Numbered.{Numbered, graph_of}
+use Rattle.std.proofs.Common.{◌≡◌, ℕ, zero, suc, ◌+◌, ◌-◌, ◌*◌, ◌/◌, ◌^◌, ◌<◌, ◌≤◌, List, [], ◌∷◌, ◌++◌, length, take, drop, refl, ap, ◌∙◌, arith, inl, inr, length-append, length-take, length-drop}
+use Rattle.graphs.specs.Numbered.{graph_of}
 use mathlib.Core.Logic.{dite}
 use native.Mathlib.Decide.{ℕ_discrete}
-use Rattle.board_text.specs.PlainBoard.{places}
-use Rattle.board_text.specs.declared.board.TheConstants.{MAX_LABELS}
-use Rattle.board_text.proofs.Cited.{some_places, few_places}
+use Rattle.board_text.proofs.Cited.{some_places}
 use Rattle.index_lists.specs.Lists.{times, without_node}
 use Rattle.index_lists.proofs.Cited.{cond_same, cond_other, times-without_same, times-without_other, length-without, times-here}
-use Rattle.positions.specs.declared.space.TheConstants.{MAX_CONFIGURATIONS}
+use Rattle.graphs.proofs.Cited.{numbers-fit}
 use Rattle.solver.specs.Solving.{Solving, IsSolving, source}
 use Rattle.graphs.proofs.Cited.{same_or_not, places_are}
 use Rattle.retro_core.proofs.Cited.{source-once}
@@ -53,12 +51,7 @@ pub some_most : (k : Key) → IsSolving k.solving → 0 < most_members k
 some_most k sol = let some = some_places k.solving.game.board sol.is_board in let same = places_are k.solving.game in omega arith
 
 pub narrow : (k : Key) → IsSolving k.solving → most_members k * size k < 2 ^ 32
-narrow k sol =
-    let a : most_members k * size k ≤ most_members k * MAX_CONFIGURATIONS = mul-le-mul_left (most_members k) sol.few in
-    let top = few_places k.solving.game.board sol.is_board in
-    let same = places_are k.solving.game in
-    let p : most_members k ≤ MAX_LABELS + 1 = omega arith in
-    omega arith
+narrow k sol = numbers-fit k.solving.game sol.is_board sol.few_by
 
 -- ---- loads
 

@@ -1,6 +1,6 @@
 -- The state before the first step: the words, and the configurations to strike.
 use Rattle.std.proofs.Common.{◌≡◌, ℕ, ◌*◌, ◌<◌, ◌≤◌, List, [], ◌∷◌, ◌++◌, map, length, take, drop, refl, mul-le-mul_left, sym, ap, ◌∙◌, subst, inl, inr, arith, length-append, length-take, length-drop}
-use Rattle.graphs.specs.Numbered.{Numbered, graph_of}
+use Rattle.graphs.specs.Numbered.{graph_of}
 use Rattle.std.specs.List.{filter}
 use Rattle.std.proofs.lemmas.List.{drop_at, length-map, take_at}
 use Rattle.std.proofs.lemmas.List.Elements.{All-push}

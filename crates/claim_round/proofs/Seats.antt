@@ -1,6 +1,6 @@
 -- A seat's fields agree with its view after a step.
 use Rattle.std.proofs.Common.{◌≡◌, ℕ, ◌+◌, ◌-◌, ◌*◌, ◌/◌, ◌<◌, ◌≤◌, ◌⊎◌, ◌==◌, cond, inl, inr, ⊎_elim, List, [], ◌∷◌, ◌++◌, length, take, drop, refl, sym, ap, ◌∙◌, subst, arith, length-append, length-drop, length-take, mul-le-mul_left}
-use Rattle.graphs.specs.Numbered.{Numbered, graph_of}
+use Rattle.graphs.specs.Numbered.{graph_of}
 use Rattle.std.specs.Prelude.{vec_capacity}
 use Rattle.std.specs.VecDeque.{deque_capacity}
 use mathlib.Core.Logic.{dite}

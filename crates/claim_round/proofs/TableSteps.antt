@@ -1,6 +1,6 @@
 -- Each step on the table keeps the rule: it is one step more of the history, or none.
 use Rattle.std.proofs.Common.{◌≡◌, ◌≢◌, ℕ, zero, suc, ◌+◌, ◌-◌, ◌*◌, ◌%◌, ◌^◌, ◌<◌, ◌≤◌, ◌==◌, Bool, true, false, cond, eqb, List, [], ◌∷◌, ◌++◌, length, drop, set, get_or, refl, sym, ap, ◌∙◌, subst, inl, inr, arith, Some, None}
-use Rattle.graphs.specs.Numbered.{Numbered, graph_of}
+use Rattle.graphs.specs.Numbered.{graph_of}
 use Rattle.std.specs.Prelude.{slice_index}
 use Rattle.std.proofs.lemmas.List.{map-set, map_push, length-map, length-take, length-drop}
 use Rattle.std.proofs.lemmas.List.Elements.{All-push, All-set}

@@ -1,7 +1,7 @@
 -- The steps of the machine on words in one list: the words that a strike and a try of a lawful
 -- round find, and their answers.
 use Rattle.std.proofs.Common.{◌≡◌, ◌≢◌, ◌⊎◌, ℕ, suc, ◌+◌, ◌-◌, ◌<◌, ◌==◌, Bool, true, false, cond, List, map, length, take, drop, set, sym, ap, ◌∙◌, inl, inr, subst, arith, Option, Some, None, get_or, slice_index}
-use Rattle.graphs.specs.Numbered.{Numbered, graph_of}
+use Rattle.graphs.specs.Numbered.{graph_of}
 use Rattle.std.specs.Option.{is_none}
 use Rattle.std.proofs.lemmas.List.{get_or-map, map-set, take-set-le, drop-set-lt, drop-set-add, get_or-take, get_or-drop, length-map}
 use Rattle.std.proofs.Math.Seq.{take-set-lt}

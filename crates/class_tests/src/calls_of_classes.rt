@@ -10,10 +10,10 @@ ghost use Rattle.classes.specs.Lists.{AreClassLists};
 
 use crate::assertions::{assert_same, board_of};
 use crate::classes_of_boards::classes_of;
-use board_text::MAX_PEBBLES;
+use board_text::{Board, MAX_PEBBLES};
 use classes::{ClassPlaces, Classes};
 use fakes::boards::THREE_PEBBLES;
-use positions::Space;
+use fakes::is_configuration;
 use std::alloc::Global;
 use std::process::Abort;
 
@@ -160,12 +160,12 @@ fn ways_of(classes: &Classes, pebbles: u8, bound: u16) -> Option<u32> {
     }
 }
 
-/// The number of the class of a rank's configuration, if there is one.
-fn number_at(classes: &Classes, space: &Space, rank: u32) -> Option<u32>
-    requires { classes.now ≡ space.now }
+/// The number of the class of a configuration, if the board has it.
+fn number_of(classes: &Classes, board: &Board, held: &[u16]) -> Option<u32>
+    requires { classes.now ≡ board.now }
 {
-    if rank < space.configurations() {
-        Some(classes.number_at(space, rank))
+    if is_configuration(board, held) {
+        Some(classes.number_of(held))
     } else {
         None
     }
@@ -180,9 +180,8 @@ fn counts_of_classes(rt: HostRuntime) {
     assert_same(&rt, "classes", classes.count(), 10);
     assert_same(&rt, "gaps", classes.gaps(), 6);
     assert_same(&rt, "on two places", ways_of(&classes, 3, 2), Some(4));
-    // The configuration 0 2 1.
-    let number = number_at(&classes, &Space::new(&board), 7);
-    assert_same(&rt, "rank 7", number, Some(5));
+    let number = number_of(&classes, &board, &[0, 2, 1]);
+    assert_same(&rt, "0 2 1", number, Some(5));
 }
 
 #[test]

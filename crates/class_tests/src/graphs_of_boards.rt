@@ -3,15 +3,15 @@
 //! A run of the tests may refuse one growth of memory, whichever. So a call that was refused one is
 //! made once more.
 
-ghost use Rattle.std.specs.Prelude.{◌≡◌, ◌≤◌, IfSome};
-ghost use Rattle.positions.specs.Ranks.{configurations};
+ghost use Rattle.std.specs.Prelude.{◌≡◌, IfSome};
 ghost use Rattle.graphs.specs.Numbered.{numbered};
 
 use crate::assertions::{assert_same, board_of};
 use board_text::Board;
 use fakes::boards::{CYCLE_WITHOUT_LABELS, THREE_CYCLE};
-use graphs::{Graph, Numbering};
-use positions::{MAX_CONFIGURATIONS, Space, is_small};
+use fakes::is_configuration;
+use graphs::{Graph, Numbering, has_few};
+use positions::Space;
 use std::alloc::Global;
 use std::process::Abort;
 
@@ -25,7 +25,7 @@ struct Worked {
     struck: &'static [Option<u32>],
     /// The number of each rank's configuration, and the gaps of its pebbles.
     ranks: &'static [(u32, u32, u32)],
-    weights: &'static [u32],
+    weights: &'static [u64],
 }
 
 /// The three-cycle, in which 1 dominates 0, 2 dominates 1, and 0 dominates 2.
@@ -181,10 +181,9 @@ const BLANKS_BY_RANKS: Worked = Worked {
 
 /// The graph of a board that isn't too large.
 fn graph_of(alloc: Global, board: &Board, numbering: Numbering) -> Option<Graph>
-    ensures graph { IfSome result (λ graph. graph ≡ numbered board.now numbering) }
-    ensures few { IfSome result (λ _. configurations board.now ≤ MAX_CONFIGURATIONS) }
+    ensures { IfSome result (λ graph. graph ≡ numbered board.now numbering) }
 {
-    if !is_small(board) {
+    if !has_few(board, numbering) {
         return None;
     }
     match Graph::of(alloc, board, numbering) {
@@ -201,12 +200,12 @@ fn wanted_member(worked: &Worked, gap: u32, place: u32) -> Option<(u32, bool)> {
     Some((member, *struck == Some(gap)))
 }
 
-/// The number of a rank's configuration and the gaps of its first two pebbles, if it has them.
-fn numbers_of(graph: &Graph, space: &Space, rank: u32) -> Option<(u32, u32, u32)>
-    requires { space.now ≡ graph.now.board }
+/// The number of a configuration and the gaps of its first two pebbles, if the board has it.
+fn numbers_of(graph: &Graph, board: &Board, held: &[u16]) -> Option<(u32, u32, u32)>
+    requires { board.now ≡ graph.now.board }
 {
-    if rank < space.configurations() {
-        let standing = graph.standing(space, rank);
+    if is_configuration(board, held) {
+        let standing = graph.standing(held);
         Some((standing.number, standing.gaps[0], standing.gaps[1]))
     } else {
         None
@@ -214,18 +213,18 @@ fn numbers_of(graph: &Graph, space: &Space, rank: u32) -> Option<(u32, u32, u32)
 }
 
 /// The number alone.
-fn number_of(graph: &Graph, space: &Space, rank: u32) -> Option<u32>
-    requires { space.now ≡ graph.now.board }
+fn number_of(graph: &Graph, board: &Board, held: &[u16]) -> Option<u32>
+    requires { board.now ≡ graph.now.board }
 {
-    if rank < space.configurations() {
-        Some(graph.number(space, rank))
+    if is_configuration(board, held) {
+        Some(graph.number_of(held))
     } else {
         None
     }
 }
 
 /// The weights of a graph's numbers.
-fn weights_of(alloc: Global, graph: &Graph) -> Option<Vec<u32>> {
+fn weights_of(alloc: Global, graph: &Graph) -> Option<Vec<u64>> {
     match graph.weights(alloc) {
         Ok(weights) => Some(weights),
         Err(_) => graph.weights(alloc).ok(),
@@ -271,9 +270,10 @@ fn assert_struck(rt: &impl Abort, graph: &Graph, worked: &Worked) {
 }
 
 /// Asserts the numbers of configurations and of their gaps.
-fn assert_ranks(rt: &impl Abort, graph: &Graph, space: &Space, worked: &Worked)
-    requires { space.now ≡ graph.now.board }
+fn assert_ranks(rt: &impl Abort, graph: &Graph, board: &Board, worked: &Worked)
+    requires { board.now ≡ graph.now.board }
 {
+    let space = Space::of(board).ok().expect(rt, "a space");
     assert_same(
         rt,
         "ranks",
@@ -282,17 +282,16 @@ fn assert_ranks(rt: &impl Abort, graph: &Graph, space: &Space, worked: &Worked)
     );
     for rank in 0..space.configurations() {
         let wanted = worked.ranks.get(rank as usize).copied();
-        assert_same(
-            rt,
-            ("numbers of", rank),
-            numbers_of(graph, space, rank),
-            wanted,
-        );
+        let places = space.places_at(rank);
+        let held = &places[..space.pebbles() as usize];
+        let numbers = numbers_of(graph, board, held);
+        assert_same(rt, ("numbers of", rank), numbers, wanted);
+        let number = wanted.map(|(number, _, _)| number);
         assert_same(
             rt,
             ("number of", rank),
-            number_of(graph, space, rank),
-            wanted.map(|(number, _, _)| number),
+            number_of(graph, board, held),
+            number,
         );
     }
 }
@@ -318,7 +317,7 @@ fn assert_graph(rt: &impl Abort, alloc: Global, worked: &Worked) {
     assert_members(rt, &graph, worked);
     assert_rows(rt, &graph, worked);
     assert_struck(rt, &graph, worked);
-    assert_ranks(rt, &graph, &Space::new(&board), worked);
+    assert_ranks(rt, &graph, &board, worked);
     assert_weights(rt, alloc, &graph, worked);
 }
 

@@ -3,30 +3,21 @@
 //! A run of the tests may refuse one growth of memory, whichever. So a call that was refused one is
 //! made once more.
 
-ghost use Rattle.std.specs.Prelude.{◌≡◌, IfSome};
+ghost use Rattle.std.specs.Prelude.{◌≡◌};
 
 use crate::assertions::assert_same;
 use crate::documents::print_document;
 use crate::drawn_boards::drawn_board;
 use crate::strategy_documents::document_of;
 use board_text::Board;
-use index_lists::PlainLists;
 use positions::Value;
-use solved_boards::{class_solver_of, value, values_of};
+use solved_boards::{value, values_by_classes, values_of};
 use solver::Values;
 use std::alloc::Global;
 use std::process::Abort;
 
 /// The number of boards that are drawn.
 const BOARDS: u64 = 1_000;
-
-/// The values of a board that isn't too large, found by classes.
-fn values_by_classes(alloc: Global, board: &Board) -> Option<Values>
-    ensures { IfSome result (λ values. values ≡ board.now) }
-{
-    let solver = class_solver_of::<PlainLists>(alloc, board).ok()?;
-    Some(solver.solve())
-}
 
 /// The text of the document of a board with these values.
 fn document_text(rt: &impl Abort, alloc: Global, board: &Board, values: &Values) -> String

@@ -12,7 +12,7 @@ ghost use Rattle.strategies.specs.Meaning.{Means};
 
 use board_text::{Board, Memory};
 use index_lists::PlainLists;
-use positions::{MAX_CONFIGURATIONS, Value};
+use positions::{MAX_CONFIGURATIONS, Value, is_small};
 use proof_text::Proof;
 use solver::{SolveFault, Solver, Values};
 use std::alloc::Global;
@@ -65,5 +65,9 @@ fn values_of(alloc: Global, board: &Board) -> Result<Values, SolveFault>
         ↔ (MAX_CONFIGURATIONS < configurations board.now) }
     ensures no_worker { result ≡ Err SolveFault.Worker → ⊥ }
 {
-    Ok(Solver::<PlainLists>::of_classes(alloc, board)?.solve())
+    if !is_small(board) {
+        return Err(SolveFault::TooLarge);
+    }
+    let solver = Solver::<PlainLists>::of_classes(alloc, board)?;
+    Ok(Values::new(solver.solve_numbered(), board))
 }

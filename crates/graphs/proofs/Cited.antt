@@ -11,3 +11,4 @@ pub use Rattle.graphs.proofs.NumberedValues.{tree_of_lasts, lasts_of_tree, value
 pub use Rattle.graphs.proofs.Dominators.{ordered-gaps, dominator-some, dominator-none}
 pub use Rattle.graphs.proofs.ConfigurationNumbers.{configuration-is, gap-in-below, gap-in-legal, gap-in-moved, number-below, number-value, number_at-below}
 pub use Rattle.graphs.proofs.NumberWeights.{counted-numbers, counted-values}
+pub use Rattle.graphs.proofs.FewNumbers.{numbers-fit}

@@ -1,6 +1,5 @@
 -- The numbers of configurations and of their gaps, by either numbering.
-use Rattle.std.proofs.Common.{◌≡◌, ◌<◌, ◌↔◌, ◌∙◌, ℕ, List, Option, Some, None, get_or, ap, sym, subst}
-use Rattle.std.specs.Prelude.{IfSome}
+use Rattle.std.proofs.Common.{◌≡◌, ◌<◌, ◌↔◌, ◌∙◌, ℕ, List, get_or, ap, sym, subst}
 use Rattle.board_text.specs.PlainBoard.{PlainBoard, IsBoard, IsConfiguration, places}
 use Rattle.positions.specs.Game.{Legal, moved}
 use Rattle.positions.specs.Gaps.{gap_of}
@@ -16,7 +15,9 @@ use Rattle.graphs.specs.declared.graph.Numbering.{Numbering}
 use Rattle.graphs.specs.declared.graph.Numbering.TheVariants.{Ordered, Classes}
 use Rattle.graphs.specs.ClassGraph.{class_at, gap_number}
 use Rattle.graphs.specs.Inside.Filling.{IsAnswerIn}
-use Rattle.graphs.specs.Inside.Tables.{numbering_with}
+use Rattle.graphs.specs.Inside.Tables.{found_by}
+use Rattle.graphs.specs.declared.graph.Finder.{Finder}
+use Rattle.graphs.specs.declared.graph.Finder.TheVariants.{Ranks, Kinds}
 use Rattle.graphs.specs.Numbered.{Numbered, numbered, graph_by, graph_of, configuration_by, configuration_of}
 use Rattle.graphs.specs.NumberedRanks.{number_by, number_in, gap_by, gap_in, number_at}
 use Rattle.graphs.proofs.OrderedGraphs as ranks
@@ -40,17 +41,17 @@ pub class-gap : (n : Numbered) (c : List ℕ) (p : ℕ) → n.numbering ≡ Clas
 unfolding gap_by
 class-gap n c p e = ap (λ k. gap_by k n.board c p) e
 
--- the numbering that a graph's field tells
-module _ (n : Numbered) (b : PlainBoard) (held : Option PlainBoard) (view : numbered b (numbering_with held) ≡ n) where
-  pub by-ranks : held ≡ None → n.numbering ≡ Ordered
-  by-ranks none = ap (λ (m : Numbered). m.numbering) (sym view) ∙ ap numbering_with none
+-- the numbering that a graph's finder tells, and its board
+module _ (n : Numbered) (finder : Finder) (view : found_by finder ≡ n) (board : PlainBoard) where
+  pub by-ranks : finder ≡ Ranks board → (n.numbering ≡ Ordered) × (board ≡ n.board)
+  by-ranks is =
+      let same : numbered board Ordered ≡ n = sym (ap found_by is) ∙ view in
+      (ap (λ (m : Numbered). m.numbering) (sym same), ap (λ (m : Numbered). m.board) same)
 
-  pub by-classes : (classes : PlainBoard) → held ≡ Some classes → n.numbering ≡ Classes
-  by-classes classes some = ap (λ (m : Numbered). m.numbering) (sym view) ∙ ap numbering_with some
-
-  pub classes-board : (classes : PlainBoard) → held ≡ Some classes → IfSome held (λ c. c ≡ b) → classes ≡ n.board
-  classes-board classes some own =
-      subst (λ (o : Option PlainBoard). IfSome o (λ c. c ≡ b)) some own ∙ ap (λ (m : Numbered). m.board) view
+  pub by-classes : finder ≡ Kinds board → (n.numbering ≡ Classes) × (board ≡ n.board)
+  by-classes is =
+      let same : numbered board Classes ≡ n = sym (ap found_by is) ∙ view in
+      (ap (λ (m : Numbered). m.numbering) (sym same), ap (λ (m : Numbered). m.board) same)
 
 -- ---- laws by cases
 

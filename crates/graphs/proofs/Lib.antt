@@ -13,4 +13,5 @@ pub mod RankTables
 pub mod ClassTables
 pub mod NumberedValues
 pub mod Dominators
+pub mod FewNumbers
 pub mod Cited

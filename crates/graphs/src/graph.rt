@@ -4,8 +4,9 @@ ghost use Rattle.std.specs.Prelude.{◌≡◌, ℕ, ◌<◌, ◌≤◌, length, 
 ghost use Rattle.std.specs.Prelude.{◌↔◌, IfOk};
 ghost use Rattle.board_text.specs.PlainBoard.{IsBoard};
 ghost use Rattle.positions.specs.Ranks.{configurations};
+ghost use Rattle.classes.specs.Numbers.{class_count};
 ghost use Rattle.graphs.specs.Graph.{IsGraph};
-ghost use Rattle.graphs.specs.Numbered.{numbered, graph_of};
+ghost use Rattle.graphs.specs.Numbered.{IsFewBy, numbered, graph_of};
 ghost use Rattle.graphs.specs.declared.graph.Numbering.TheVariants.{Ordered};
 ghost use Rattle.graphs.specs.declared.graph.Numbering.TheVariants.{Classes as ClassesData};
 
@@ -13,11 +14,10 @@ use crate::class_numbers::ClassNumbers;
 use crate::numbers::Tables;
 use crate::ordered_numbers::OrderedNumbers;
 use board_text::{Board, Memory};
-use classes::Classes;
-use positions::MAX_CONFIGURATIONS;
+use classes::{Classes, MAX_CLASSES, has_few_classes};
+use positions::{MAX_CONFIGURATIONS, Space, is_small};
 use std::alloc::Global;
 use std::marker::Model;
-use std::snapshot::Snapshot;
 
 /// What the numbers of configurations and gaps stand for.
 #[derive(Clone, Copy, Debug, Drop, PartialEq, Eq)]
@@ -29,6 +29,24 @@ pub enum Numbering {
     Classes,
 }
 
+/// Whether `board` has few enough configurations to have ranks, or classes to have numbers, so that
+/// its graph by `numbering` can be made.
+pub fn has_few(board: &Board, numbering: Numbering) -> bool
+    ensures { IsTrue result ↔ IsFewBy numbering board.now }
+{
+    match numbering {
+        Numbering::Ordered => is_small(board),
+        Numbering::Classes => has_few_classes(board),
+    }
+}
+
+/// What finds the numbers of a board's configurations and of their gaps.
+#[derive(Drop)]
+pub(crate) enum Finder {
+    Ranks(Space),
+    Kinds(Classes),
+}
+
 /// A game as two tables of numbers: the members of each gap, and the gap in which each
 /// configuration is an answer.
 ///
@@ -36,26 +54,20 @@ pub enum Numbering {
 /// pebble. Contracts see the board and the numbering.
 #[derive(Drop)]
 pub struct Graph {
-    /// The board, for contracts alone: it takes no memory.
-    pub(crate) board: Snapshot<Board>,
-    /// The classes, if numbers stand for them.
-    pub(crate) classes: Option<Classes>,
+    pub(crate) finder: Finder,
     pub(crate) tables: Tables,
 }
 
 impl Model for Graph {
-    ghost use Rattle.std.specs.Prelude.{◌≡◌, IfSome};
-    ghost use Rattle.graphs.specs.Numbered.{Numbered, numbered};
-    ghost use Rattle.graphs.specs.Inside.Tables.{AreTables, numbering_with};
+    ghost use Rattle.graphs.specs.Numbered.{Numbered};
+    ghost use Rattle.graphs.specs.Inside.Tables.{AreTables, found_by};
 
     ghost Value = { Numbered };
 
-    ghost view = { λ s. numbered s.board.value (numbering_with s.classes) };
+    ghost view = { λ s. found_by s.finder };
 
-    ghost invariant = { λ s. IfSome s.classes (λ classes. classes ≡ s.board.value)
-        × AreTables (numbered s.board.value (numbering_with s.classes)) s.tables.configurations
-        s.tables.gaps
-        s.tables.places s.tables.members.items s.tables.struck.items };
+    ghost invariant = { λ s. AreTables (found_by s.finder) s.tables.configurations
+        s.tables.gaps s.tables.places s.tables.members.items s.tables.struck.items };
 }
 
 impl Graph {
@@ -63,7 +75,7 @@ impl Graph {
     ///
     /// It takes time in the number of members of all gaps, and a word for each of them.
     pub fn of(alloc: Global, board: &Board, numbering: Numbering) -> Result<Graph, Memory>
-        requires { configurations board.now ≤ MAX_CONFIGURATIONS }
+        requires { IsFewBy numbering board.now }
         ensures { IfOk result (λ graph. graph ≡ numbered board.now numbering) }
     {
         match numbering {
@@ -80,22 +92,20 @@ impl Graph {
         let numbers = OrderedNumbers::of(alloc, board)?;
         let tables = Tables::of(alloc, &numbers)?;
         Ok(Graph {
-            board: Snapshot::of(board),
-            classes: None,
+            finder: Finder::Ranks(Space::new(board)),
             tables,
         })
     }
 
     /// The graph of the classes of `board`.
     fn of_classes(alloc: Global, board: &Board) -> Result<Graph, Memory>
-        requires { configurations board.now ≤ MAX_CONFIGURATIONS }
+        requires { class_count board.now ≤ MAX_CLASSES }
         ensures { IfOk result (λ graph. graph ≡ numbered board.now ClassesData) }
     {
         let classes = Classes::of(alloc, board)?;
         let tables = Tables::of(alloc, &ClassNumbers::of(alloc, board, &classes)?)?;
         Ok(Graph {
-            board: Snapshot::of(board),
-            classes: Some(classes),
+            finder: Finder::Kinds(classes),
             tables,
         })
     }
@@ -103,7 +113,8 @@ impl Graph {
     /// The number of configurations, each a number below it.
     pub fn configurations(&self) -> u32
         ensures value { result ≡ (graph_of self.now).configurations }
-        ensures few { result ≤ MAX_CONFIGURATIONS }
+        ensures few { result ≤ MAX_CLASSES }
+        ensures few_by { IsFewBy self.now.numbering self.now.board }
         ensures graph { IsGraph (graph_of self.now) }
         ensures board { IsBoard self.now.board }
     {

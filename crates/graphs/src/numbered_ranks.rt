@@ -2,78 +2,71 @@
 //! stands for.
 
 ghost use Rattle.std.specs.Prelude.{◌≡◌, ℕ, ◌<◌, IfOk, slice_index};
+ghost use Rattle.board_text.specs.PlainBoard.{IsConfiguration};
 ghost use Rattle.positions.specs.Gaps.{gap_of};
-ghost use Rattle.positions.specs.Ranks.{configurations, configuration_at};
+ghost use Rattle.positions.specs.Ranks.{rank_of};
 ghost use Rattle.graphs.specs.Numbered.{graph_of};
-ghost use Rattle.graphs.specs.NumberedRanks.{number_at, gap_in, AreNumberWeights};
+ghost use Rattle.graphs.specs.NumberedRanks.{number_in, gap_in, AreNumberWeights};
 
-use crate::graph::Graph;
+use crate::graph::{Finder, Graph};
 use board_text::{MAX_PEBBLES, Memory};
 use classes::Standing;
 use positions::Space;
 use std::alloc::Global;
 
 impl Graph {
-    /// The number of the configuration of `rank`: the rank, or the number of its class.
-    ///
-    /// The space is that of the graph's board.
-    pub fn number(&self, space: &Space, rank: u32) -> u32
-        requires space { space.now ≡ self.now.board }
-        requires rank { rank < configurations self.now.board }
-        ensures number { result ≡ number_at self.now rank }
+    /// The number of the configuration `held`: its rank, or the number of its class.
+    pub fn number_of(&self, held: &[u16]) -> u32
+        requires { IsConfiguration self.now.board held.now }
+        ensures number { result ≡ number_in self.now held.now }
         ensures below { result < (graph_of self.now).configurations }
     {
-        match &self.classes {
-            None => rank,
-            Some(classes) => classes.number_at(space, rank),
+        match &self.finder {
+            Finder::Ranks(space) => space.rank(held),
+            Finder::Kinds(classes) => classes.number_of(held),
         }
     }
 
-    /// The number of the configuration of `rank`, and those of the gaps of all pebbles there. This
+    /// The number of the configuration `held`, and those of the gaps of all pebbles there. This
     /// takes one sort of the places.
-    ///
-    /// The space is that of the graph's board.
-    pub fn standing(&self, space: &Space, rank: u32) -> Standing
-        requires space { space.now ≡ self.now.board }
-        requires rank { rank < configurations self.now.board }
-        ensures number { result.number ≡ number_at self.now rank }
+    pub fn standing(&self, held: &[u16]) -> Standing
+        requires { IsConfiguration self.now.board held.now }
+        ensures number { result.number ≡ number_in self.now held.now }
         ensures below { result.number < (graph_of self.now).configurations }
         ensures gaps { (pebble : ℕ) → pebble < self.now.board.pebbles
-            → slice_index result.gaps pebble
-            ≡ gap_in self.now (configuration_at self.now.board rank) pebble }
+            → slice_index result.gaps pebble ≡ gap_in self.now held.now pebble }
         ensures gaps_below { (pebble : ℕ) → pebble < self.now.board.pebbles
             → slice_index result.gaps pebble < (graph_of self.now).gaps }
     {
-        match &self.classes {
-            None => Standing {
-                number: rank,
-                gaps: ordered_gaps(space, rank),
-            },
-            Some(classes) => classes.at_rank(space, rank),
+        match &self.finder {
+            Finder::Ranks(space) => ordered_standing(space, held),
+            Finder::Kinds(classes) => classes.standing(held),
         }
     }
 
     /// The weight of each number: how many configurations have it. All are 1 if numbers are ranks.
     /// The error is that memory ran out.
-    pub fn weights(&self, alloc: Global) -> Result<Vec<u32>, Memory>
+    pub fn weights(&self, alloc: Global) -> Result<Vec<u64>, Memory>
         ensures { IfOk result (λ weights. AreNumberWeights self.now weights.items) }
     {
-        match &self.classes {
-            None => Ok(vec![in alloc; 1; self.tables.configurations as usize]?),
-            Some(classes) => classes.weights(alloc),
+        match &self.finder {
+            Finder::Ranks(_) => Ok(vec![in alloc; 1u64; self.tables.configurations as usize]?),
+            Finder::Kinds(classes) => classes.weights(alloc),
         }
     }
 }
 
-/// The gaps of all pebbles at the configuration of `rank`.
-fn ordered_gaps(space: &Space, rank: u32) -> [u32; MAX_PEBBLES]
-    requires { rank < configurations space.now }
-    ensures { (pebble : ℕ) → pebble < space.now.pebbles
-        → slice_index result pebble ≡ gap_of space.now (configuration_at space.now rank) pebble }
+/// The rank of the configuration `held`, and the gaps of all pebbles there.
+fn ordered_standing(space: &Space, held: &[u16]) -> Standing
+    requires { IsConfiguration space.now held.now }
+    ensures number { result.number ≡ rank_of space.now held.now }
+    ensures gaps { (pebble : ℕ) → pebble < space.now.pebbles
+        → slice_index result.gaps pebble ≡ gap_of space.now held.now pebble }
 {
+    let number = space.rank(held);
     let mut gaps = [0; MAX_PEBBLES];
     for pebble in 0..space.pebbles() {
-        gaps[pebble as usize] = space.gap(rank, pebble);
+        gaps[pebble as usize] = space.gap(number, pebble);
     }
-    gaps
+    Standing { number, gaps }
 }

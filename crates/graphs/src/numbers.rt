@@ -5,10 +5,11 @@ ghost use Rattle.board_text.specs.PlainBoard.{IsBoard};
 ghost use Rattle.graphs.specs.Inside.Filling.{AreAnswerBits, AreMemberRows, IsRowPushed};
 ghost use Rattle.graphs.specs.Inside.Filling.{IsGapNoted, AreStruck};
 ghost use Rattle.graphs.specs.Inside.Tables.{AreTables};
-ghost use Rattle.graphs.specs.Numbered.{Numbered, graph_of};
+ghost use Rattle.graphs.specs.Numbered.{IsFewBy, Numbered, graph_of};
 
 use board_text::Memory;
-use positions::{LabelSet, MAX_CONFIGURATIONS};
+use classes::MAX_CLASSES;
+use positions::LabelSet;
 use std::alloc::Global;
 
 /// A way to number the configurations and gaps of a board.
@@ -19,7 +20,8 @@ pub(crate) trait Numbers {
     /// The number of configurations.
     fn configurations(&self) -> u32
         ensures value { result ≡ (graph_of (game self.now)).configurations }
-        ensures few { result ≤ MAX_CONFIGURATIONS }
+        ensures few { result ≤ MAX_CLASSES }
+        ensures few_by { IsFewBy (game self.now).numbering (game self.now).board }
         ensures is_board { IsBoard (game self.now).board };
 
     /// The number of gaps.

@@ -10,8 +10,9 @@ use board_text::Board;
 use claim_round::RoundSeat;
 use fakes::build_board;
 use index_lists::PlainLists;
+use positions::is_small;
 use round_workers::{Gate, MIN_SHARED, solve_classes};
-use solved_boards::{class_solver_of, value};
+use solved_boards::{class_solver_of, value, values_by_classes};
 use solver::{Progress, SolveFault, Values};
 use std::alloc::{AllocError, Global};
 use std::process::Abort;
@@ -74,12 +75,15 @@ fn counted(
     board: &Board,
     workers: u32,
 ) -> Result<(Values, Passes), SolveFault>
-    requires { (1 ≤ workers) × (workers ≤ 16) }
+    requires workers { (1 ≤ workers) × (workers ≤ 16) }
     ensures { IfOk result (λ found. found.0 ≡ board.now) }
 {
+    if !is_small(board) {
+        return Err(SolveFault::TooLarge);
+    }
     let passes = Passes::none();
     let values = solve_classes(rt, alloc, board, workers, &passes)?;
-    Ok((values, passes))
+    Ok((Values::new(values, board), passes))
 }
 
 /// Asserts that the round which strikes the classes filed at 0 has enough of them to be shared, and
@@ -96,8 +100,7 @@ fn assert_on_both_sides(rt: &impl Abort, alloc: Global, board: &Board) {
 fn one_round_of_two_is_shared(rt: HostRuntime) {
     let board = layered(rt.alloc()).expect(&rt, "a board");
     assert_on_both_sides(&rt, rt.alloc(), &board);
-    let wanted = class_solver_of::<PlainLists>(rt.alloc(), &board).expect(&rt, "a solver");
-    let wanted = wanted.solve();
+    let wanted = values_by_classes(rt.alloc(), &board).expect(&rt, "values");
     for workers in 1..5 {
         let answer = match counted(&rt, rt.alloc(), &board, workers) {
             Err(_) => counted(&rt, rt.alloc(), &board, workers),

@@ -1,7 +1,8 @@
 //! Solving a board round by round, each round shared by all workers or made by their caller alone.
 
-ghost use Rattle.std.specs.Prelude.{◌≡◌, ℕ, ◌<◌, ◌≤◌, ◌↔◌, ◌≢◌, false, length, Err, IfOk, IfErr};
+ghost use Rattle.std.specs.Prelude.{◌≡◌, ℕ, ◌<◌, ◌≤◌, ◌↔◌, ◌≢◌, true, false, length, Err, IfOk, IfErr};
 ghost use Rattle.positions.specs.Ranks.{configurations};
+ghost use Rattle.classes.specs.Numbers.{class_count};
 ghost use Rattle.graphs.specs.declared.graph.Numbering.TheVariants.{Classes};
 ghost use Rattle.graphs.specs.Numbered.{numbered, graph_of};
 ghost use Rattle.solver.specs.Ending.{IsRoundEnd};
@@ -11,9 +12,10 @@ use crate::gate::Gate;
 use crate::tree::share;
 use board_text::Board;
 use claim_round::{Closed, SharedRound};
+use classes::MAX_CLASSES;
 use index_lists::{ListStore, PlainLists};
 use positions::MAX_CONFIGURATIONS;
-use solver::{Progress, SolveFault, Solver, Values};
+use solver::{NumberedValues, Progress, SolveFault, Solver, Values};
 use std::alloc::Global;
 use std::sync::Wait;
 use std::thread::Threads;
@@ -70,11 +72,14 @@ pub fn solve_values<G: Gate, R: Threads + Wait + Sync>(
     ensures worker { result ≡ Err SolveFault.Worker → 1 < workers }
 {
     let solver = Solver::<PlainLists>::open(alloc, board)?;
-    solve_rounds(rt, alloc, solver, workers, gate, 0)
+    match run_rounds(rt, alloc, solver, workers, gate, 0)?.finish() {
+        Ok(values) => Ok(values),
+        Err(_) => unreachable!(),
+    }
 }
 
-/// The values of `board`, found in rounds over classes of configurations: all that exchanged
-/// pebbles give are one.
+/// The values of `board` by the numbers of its classes, found in rounds over classes of
+/// configurations: all that exchanged pebbles give are one.
 ///
 /// A round that strikes those of at least `MIN_SHARED` classes is shared by all workers, as each
 /// round of `solve_values` is. A smaller one, and every round of one worker, is made by this thread
@@ -86,44 +91,45 @@ pub fn solve_classes<G: Gate, R: Threads + Wait + Sync>(
     board: &Board,
     workers: u32,
     gate: &G,
-) -> Result<Values, SolveFault>
+) -> Result<NumberedValues, SolveFault>
     requires workers { (1 ≤ workers) × (workers ≤ MAX_WORKERS) }
-    ensures values { IfOk result (λ values. values ≡ board.now) }
-    ensures too_large { (result ≡ Err SolveFault.TooLarge) ↔ (MAX_CONFIGURATIONS < configurations board.now) }
+    ensures values { IfOk result (λ values. values ≡ numbered board.now Classes) }
+    ensures too_large { (result ≡ Err SolveFault.TooLarge) ↔ (MAX_CLASSES < class_count board.now) }
     ensures worker { result ≡ Err SolveFault.Worker → 1 < workers }
     ensures enough { result ≡ Err SolveFault.Worker
         → MIN_SHARED ≤ (graph_of (numbered board.now Classes)).configurations }
 {
     let solver = Solver::<PlainLists>::of_classes(alloc, board)?;
     let least = if workers == 1 { u32::MAX } else { MIN_SHARED };
-    solve_rounds(rt, alloc, solver, workers, gate, least)
+    match run_rounds(rt, alloc, solver, workers, gate, least)?.finish_numbered() {
+        Ok(values) => Ok(values),
+        Err(_) => unreachable!(),
+    }
 }
 
-/// The values of the board of `solver`, found in rounds of which `workers` workers share those
-/// before which at least `least` configurations were filed.
-fn solve_rounds<G: Gate, R: Threads + Wait + Sync>(
+/// The solver after all rounds that its board takes, of which `workers` workers share those before
+/// which at least `least` configurations were filed.
+fn run_rounds<G: Gate, R: Threads + Wait + Sync>(
     rt: &R,
     alloc: Global,
     solver: Solver<PlainLists>,
     workers: u32,
     gate: &G,
     least: u32,
-) -> Result<Values, SolveFault>
+) -> Result<Solver<PlainLists>, SolveFault>
     requires kept { IsSolving solver }
     requires workers { (1 ≤ workers) × (workers ≤ MAX_WORKERS) }
-    ensures values { IfOk result (λ values. values ≡ solver.game.board) }
+    ensures game { IfOk result (λ ended. ended.game ≡ solver.game) }
+    ensures done { IfOk result (λ ended. ended.is_done ≡ true) }
     ensures fault { IfErr result (λ f. f ≢ SolveFault.TooLarge) }
     ensures worker { result ≡ Err SolveFault.Worker → 1 < workers }
     ensures shared { IfErr result (λ _. least ≤ (graph_of solver.game).configurations) }
 {
     let mut solver = solver;
-    loop {
-        match solver.finish() {
-            Ok(values) => return Ok(values),
-            Err(unfinished) => solver = unfinished.solver,
-        }
+    while !solver.done() {
         file_next(rt, alloc, &mut solver, workers, gate, least)?;
     }
+    Ok(solver)
 }
 
 /// Files all configurations of the next value, or finds that none has it: by `workers` workers if

@@ -9,7 +9,7 @@ ghost use Rattle.solver.specs.Solving.{IsSolving};
 
 use board_text::Board;
 use index_lists::{ListStore, PlainLists};
-use positions::{MAX_CONFIGURATIONS, Value};
+use positions::{MAX_CONFIGURATIONS, Value, is_small};
 use solver::{SolveFault, Solver, Values};
 use std::alloc::Global;
 
@@ -55,6 +55,17 @@ pub fn values_over<S: ListStore + Drop>(alloc: Global, board: &Board) -> Option<
 {
     let solver = solver_of::<S>(alloc, board).ok()?;
     Some(solver.solve())
+}
+
+/// The values of a board that isn't too large, found by classes.
+pub fn values_by_classes(alloc: Global, board: &Board) -> Option<Values>
+    ensures { IfSome result (λ values. values ≡ board.now) }
+{
+    if !is_small(board) {
+        return None;
+    }
+    let solver = class_solver_of::<PlainLists>(alloc, board).ok()?;
+    Some(Values::new(solver.solve_numbered(), board))
 }
 
 /// The value of the configuration of `rank`, if the board has one of this rank.

@@ -7,7 +7,7 @@ use Rattle.std.proofs.lemmas.List.FromFn.{length-map-range_with_len, get_or-map-
 use Rattle.index_lists.specs.Lists.{Lists, times, AreLists, AreSame, node_pushed}
 use Rattle.index_lists.proofs.Cited.{cond_same, cond_other, times-append}
 use Rattle.graphs.specs.Numbered.{Numbered, graph_of}
-use Rattle.positions.specs.declared.space.TheConstants.{MAX_CONFIGURATIONS}
+use Rattle.classes.specs.declared.counting.TheConstants.{MAX_CLASSES}
 use Rattle.solver.specs.Inside.Stage.{first_lists, PlainStage, stage_of, filed_at, rank_listed, rank_filed, IsFiled}
 use Rattle.solver.specs.Inside.Tables.{is_open}
 use Rattle.graphs.proofs.Cited.{same_or_not}
@@ -87,13 +87,13 @@ module _ (s : PlainStage) (rank : ℕ) where
   ]
 
 -- an open configuration is in no list
-pub open-free : (s : PlainStage) (rank : ℕ) → IsFiled s → (graph_of s.game).configurations ≤ MAX_CONFIGURATIONS → rank < (graph_of s.game).configurations → is_open s.values rank ≡ true → (v : ℕ) → times rank (filed_at s v) ≡ 0
+pub open-free : (s : PlainStage) (rank : ℕ) → IsFiled s → (graph_of s.game).configurations ≤ MAX_CLASSES → rank < (graph_of s.game).configurations → is_open s.values rank ≡ true → (v : ℕ) → times rank (filed_at s v) ≡ 0
 open-free s rank are few i still v = elim (cases_lt ((graph_of s.game).configurations) v) [
   | inl beyond ↦ ap (times rank) (past s.buckets v (let size = are.lists_length in omega arith))
   | inr low ↦ are.once v rank low i ∙ cond_other (slice_index s.values rank) v 1 0 (let word = open_word s.values rank still in λ e. omega arith)
 ]
 
-pub filed-once : (s : PlainStage) (rank : ℕ) → IsFiled s → (graph_of s.game).configurations ≤ MAX_CONFIGURATIONS → s.value ≤ (graph_of s.game).configurations → rank < (graph_of s.game).configurations → is_open s.values rank ≡ true → IsFiled (rank_filed s rank)
+pub filed-once : (s : PlainStage) (rank : ℕ) → IsFiled s → (graph_of s.game).configurations ≤ MAX_CLASSES → s.value ≤ (graph_of s.game).configurations → rank < (graph_of s.game).configurations → is_open s.values rank ≡ true → IsFiled (rank_filed s rank)
 filed-once s rank are few low i still = record {
   values_length = length-set s.values rank s.value ∙ are.values_length;
   lists_length = length-set s.buckets s.value (filed_at s s.value ++ rank ∷ []) ∙ are.lists_length;

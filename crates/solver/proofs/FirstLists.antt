@@ -6,7 +6,7 @@ use Rattle.std.proofs.lemmas.Bool.{cases_lt}
 use Rattle.std.proofs.lemmas.List.Quantifiers.{all_pairs_push}
 use Rattle.index_lists.specs.Lists.{times}
 use Rattle.index_lists.proofs.Cited.{cond_same, cond_other, times-here, times-more, times-append}
-use Rattle.positions.specs.declared.space.TheConstants.{MAX_CONFIGURATIONS}
+use Rattle.classes.specs.declared.counting.TheConstants.{MAX_CLASSES}
 use Rattle.graphs.specs.Graph.{PlainGraph, is_answered, lasts}
 use Rattle.graphs.specs.Numbered.{Numbered, graph_of}
 use Rattle.solver.specs.Inside.Stage.{PlainStage, filed_at, rank_listed}
@@ -124,7 +124,7 @@ first-are-words a words are = record {
   stopping = λ x i shut. let zero = first-zero a words are x i shut in rw zero.0 zero.1;
 }
 
-pub all-listed : (s : PlainStage) (rank : ℕ) (now : PlainStage) → IsUnlisted s → (graph_of s.game).configurations ≤ MAX_CONFIGURATIONS → rank ≡ (graph_of s.game).configurations → IsListing s rank now → IsOpened now
+pub all-listed : (s : PlainStage) (rank : ℕ) (now : PlainStage) → IsUnlisted s → (graph_of s.game).configurations ≤ MAX_CLASSES → rank ≡ (graph_of s.game).configurations → IsListing s rank now → IsOpened now
 all-listed s rank now are few all l = record {
   value_is = l.value_is;
   stage = record {

@@ -19,4 +19,5 @@ pub mod Lending
 pub mod RoundsLeft
 pub mod Cited
 pub mod ValueSizes
+pub mod RankSpaces
 pub mod GapResults

@@ -4,7 +4,7 @@ use Rattle.std.proofs.lemmas.Bool.Decides.{nat_tests}
 use Rattle.index_lists.specs.Lists.{times}
 use Rattle.index_lists.proofs.Cited.{times-here, times-more, times-later}
 use Rattle.graphs.specs.Numbered.{graph_of}
-use Rattle.positions.specs.declared.space.TheConstants.{MAX_CONFIGURATIONS}
+use Rattle.classes.specs.declared.counting.TheConstants.{MAX_CLASSES}
 use Rattle.graphs.specs.Graph.{PlainGraph, IsGraph, live_answers, lasts}
 use Rattle.solver.specs.Inside.Stage.{PlainStage, with_counts, strikes_copied, IsFiled, IsKept, Closes, IsStruckAt, IsStriking}
 use Rattle.solver.specs.Inside.Tables.{is_unstruck, IsCounted, AreWords}
@@ -147,7 +147,7 @@ module _ (s : PlainStage) (is : IsGraph (graph_of s.game)) (c : ℕ) (rest : Lis
       once = fewer;
     }
 
-    pub struck-closed : (s' : PlainStage) → n ≡ 0 → (graph_of s.game).configurations ≤ MAX_CONFIGURATIONS → s.value ≤ (graph_of s.game).configurations → Closes (with_counts s (slice_set s.counts g n)) g s' → IsStriking s' rest
+    pub struck-closed : (s' : PlainStage) → n ≡ 0 → (graph_of s.game).configurations ≤ MAX_CLASSES → s.value ≤ (graph_of s.game).configurations → Closes (with_counts s (slice_set s.counts g n)) g s' → IsStriking s' rest
     struck-closed s' none few low closes =
         let value_is : s.value ≡ suc k.round = k.value_is in
         striking-of s' rest (graph_of s.game) (ap graph_of closes.kept.game_is) k.round (closes.kept.value_is ∙ value_is)

@@ -1,13 +1,14 @@
 -- The number of configurations of each value, by the weights of the numbers whose word it is.
 use Rattle.std.proofs.Common.{◌≡◌, ℕ, ◌+◌, ◌-◌, ◌^◌, ◌<◌, ◌≤◌, ◌==◌, inl, inr, Bool, true, false, cond, zero, suc, refl}
 use Rattle.std.proofs.Common.{arith, sym, ap, ◌∙◌, subst, List, [], ◌∷◌, Contains, length, take, slice_index, slice_set}
+use Rattle.std.proofs.Common.{Option}
 use Rattle.std.proofs.Common.{get_or-take, length-set, get_or-set_same, get_or-set_other}
 use Rattle.std.proofs.lemmas.Bool.{cases_lt}
 use Rattle.std.proofs.lemmas.Bool.Decides.{nat_tests}
 use Rattle.std.proofs.lemmas.List.{length-take-le}
 use Rattle.board_text.specs.PlainBoard.{PlainBoard, IsBoard}
 use Rattle.positions.specs.Counts.{HasSize}
-use Rattle.positions.specs.declared.space.TheConstants.{MAX_CONFIGURATIONS}
+use Rattle.classes.specs.declared.counting.TheConstants.{MAX_CLASSES}
 use Rattle.positions.specs.declared.value.Value.TheVariants.{Finite, Forever}
 use Rattle.positions.specs.Laws.{Occurs}
 use Rattle.positions.specs.Ranks.{configurations, rank_of, configuration_at}
@@ -15,6 +16,7 @@ use Rattle.positions.specs.Value.{HasValue}
 use Rattle.positions.proofs.Cited.{configuration_at_is, rank_below, configuration_at-rank_of, same_value, size_at_most}
 use Rattle.positions.proofs.Cited.{size_zero, smaller_occurs}
 use Rattle.classes.specs.Sums.{sum_below}
+use Rattle.classes.proofs.Cited.{lists-fit}
 use Rattle.classes.proofs.Sums.{sum-zero, sum-suc, sum-more}
 use Rattle.graphs.specs.Numbered.{Numbered, graph_of, configuration_of}
 use Rattle.graphs.specs.NumberedRanks.{AreNumberWeights, number_in}
@@ -23,7 +25,7 @@ use Rattle.graphs.proofs.Cited.{number-value, same_is, same_or_not, true_or_fals
 use Rattle.solver.specs.Sizes.{HasCount}
 use Rattle.solver.specs.Inside.Stage.{PlainStage, filed_at, IsEquipped, IsState}
 use Rattle.solver.specs.Inside.Tables.{is_open}
-use Rattle.solver.specs.Inside.Values.{IsWordOf, AreValues, weighed, AreSums, AreZeros, AreSizes, AreValuesOf}
+use Rattle.solver.specs.Inside.Values.{IsWordOf, AreValues, weighed, AreSums, AreZeros, AreSizes, AreNumberedValues}
 use Rattle.solver.specs.declared.word.TheConstants.{OPEN}
 use Rattle.solver.proofs.ListedWords.{valued_word}
 use Rattle.solver.proofs.States.{filed-exactly, forever-of, open-lasts, round-below, some_in, word-few}
@@ -49,8 +51,8 @@ weighed-few weights test (suc k) =
 
 -- one weight more is no more than all
 pub one-more : (weights : List ℕ) (test : ℕ → Bool) (k count : ℕ) → k < count
-    → sum_below count (slice_index weights) < 2 ^ 32
-    → weighed weights test k + slice_index weights k < 2 ^ 32
+    → sum_below count (slice_index weights) < 2 ^ 64
+    → weighed weights test k + slice_index weights k < 2 ^ 64
 one-more weights test k count low few =
     let before = weighed-few weights test k in
     let next = sum-suc k (slice_index weights) in
@@ -72,7 +74,8 @@ test_same m n e = grind (arith, nat_tests)
 -- the weight of a number whose word is a value is added to the value's size
 pub sums-add : (words weights sizes : List ℕ) (k : ℕ) → slice_index words k < length sizes
     → AreSums words weights k sizes
-    → AreSums words weights (suc k) (slice_set sizes (slice_index words k) (slice_index sizes (slice_index words k) + slice_index weights k))
+    → AreSums words weights (suc k) (slice_set sizes (slice_index words k) (slice_index sizes (slice_index words k)
+    + slice_index weights k))
 sums-add words weights sizes k low are = record {
   each = λ v i.
       let w : ℕ = slice_index words k in
@@ -103,7 +106,8 @@ pub sums-skip : (words weights sizes : List ℕ) (k : ℕ) → slice_index words
 sums-skip words weights sizes k no_value small are = record {
   each = λ v i.
       let more = weighed-suc weights (λ x. slice_index words x == v) k in
-      let away = cond_away (slice_index words k == v) (slice_index weights k) (differ (slice_index words k) v (λ e. omega arith)) in
+      let away = cond_away (slice_index words k == v) (slice_index weights k) (differ (slice_index words k) v
+      (λ e. omega arith)) in
       are.each v i ∙ (let old : ℕ = weighed weights (λ x. slice_index words x == v) k in omega arith);
 }
 
@@ -122,19 +126,21 @@ forever-skip words weights k valued =
     omega arith
 
 pub zeros-sums : (words weights sizes : List ℕ) → AreZeros sizes → AreSums words weights 0 sizes
-zeros-sums words weights sizes zeros = record { each = λ v i. zeros v i ∙ sym (sum-zero (λ x. cond (slice_index words x == v) (slice_index weights x) 0)) }
+zeros-sums words weights sizes zeros = record {
+  each = λ v i. zeros v i ∙ sym
+      (sum-zero (λ x. cond (slice_index words x == v) (slice_index weights x) 0));
+}
 
 pub forever-none : (words weights : List ℕ) → 0 ≡ weighed weights (is_open words) 0
 forever-none words weights = sym (sum-zero (λ x. cond (is_open words x) (slice_index weights x) 0))
 
 -- all weights together are few
-pub all-few : (n : Numbered) → IsBoard n.board → configurations n.board ≤ MAX_CONFIGURATIONS → (weights : List ℕ)
-    → AreNumberWeights n weights
-    → sum_below (graph_of n).configurations (slice_index weights) < 2 ^ 32
-all-few n is few weights are =
+pub all-few : (n : Numbered) → IsBoard n.board → (weights : List ℕ) → AreNumberWeights n weights
+    → sum_below (graph_of n).configurations (slice_index weights) < 2 ^ 64
+all-few n is weights are =
     let size = counted-numbers n is weights (λ x. true) are in
     let most = size_at_most _ _ (configurations n.board) size (λ rank has. has.0) in
-    omega arith
+    omega (arith, most, lists-fit n.board is)
 
 -- ---- the values of a solved board
 
@@ -149,14 +155,20 @@ module _ (board : PlainBoard) (configuration words : List ℕ) (x : ℕ) (word :
   pub open-of-forever : HasValue board configuration Forever → is_open words x ≡ true
   open-of-forever has = elim (true_or_false (is_open words x)) [
     | inl still ↦ still
-    | inr shut ↦ absurd (finite_not_forever (slice_index words x) (same_value board configuration (Finite (slice_index words x)) Forever (word.finite shut) has))
+    | inr shut ↦ absurd (finite_not_forever (slice_index words x) (same_value board configuration
+        (Finite (slice_index words x)) Forever (word.finite shut) has))
   ]
 
   pub word-of-value : (v : ℕ) → HasValue board configuration (Finite v)
       → (is_open words x ≡ false) × (slice_index words x ≡ v)
   word-of-value v has = elim (true_or_false (is_open words x)) [
-    | inl still ↦ absurd (finite_not_forever v (same_value board configuration (Finite v) Forever has (word.forever still)))
-    | inr shut ↦ (shut, same_number (slice_index words x) v (same_value board configuration (Finite (slice_index words x)) (Finite v) (word.finite shut) has))
+    | inl still ↦ absurd (finite_not_forever v (same_value board configuration (Finite v) Forever has
+        (word.forever still)))
+    | inr shut ↦ (
+      shut,
+      same_number (slice_index words x) v (same_value board configuration
+          (Finite (slice_index words x)) (Finite v) (word.finite shut) has),
+    )
   ]
 
 -- if some number has a fact whose numbers are counted, one is found
@@ -167,7 +179,7 @@ some-counted P count size some = found size.members refl
     found [] e = absurd (let many = size.so_many in let none = ap length e in omega arith)
     found (k ∷ rest) e = (k, (size.each k).0 (subst (λ (l : List ℕ). Contains l k) e (0, omega arith, refl)))
 
-module _ (s : PlainStage) (round : ℕ) (st : IsState s round true) (space : PlainBoard) (weights zeros : List ℕ)
+module _ (s : PlainStage) (round : ℕ) (st : IsState s round true) (space : Option PlainBoard) (weights zeros : List ℕ)
     (equipped : IsEquipped s.game space weights zeros) where
   abbrev n : Numbered
   n = s.game
@@ -189,15 +201,18 @@ module _ (s : PlainStage) (round : ℕ) (st : IsState s round true) (space : Pla
     words_length = st.stage.words_are.values_length;
     each = λ x i. record {
       inside = (let long = st.stage.words_are.values_length in omega arith);
-      finite = λ shut. value_of_lasts n st.is_board (slice_index s.values x) x i (st.stage.words_are.lasting x i shut) (st.stage.words_are.stopping x i shut);
-      forever = λ still. forever_of_lasts n st.is_board x i (forever-of s round true st refl x i (open-lasts s round true st x i still));
+      finite = λ shut. value_of_lasts n st.is_board (slice_index s.values x) x i (st.stage.words_are.lasting x i shut)
+          (st.stage.words_are.stopping x i shut);
+      forever = λ still. forever_of_lasts n st.is_board x i (forever-of s round true st refl x i (open-lasts s round
+          true st x i still));
     };
   }
 
   module _ (sums sizes : List ℕ) (forever : ℕ) (are : AreSums s.values weights size sums) (wide : length sums ≡ size)
       (taken : sizes ≡ take (suc round) sums) (forever_is : forever ≡ weighed weights (is_open s.values) size) where
     sizes-length : length sizes ≡ suc round
-    sizes-length = ap length taken ∙ length-take-le (suc round) sums (let below = round-below s round true st in omega arith)
+    sizes-length = ap length taken ∙ length-take-le (suc round) sums (let below = round-below s round true st in omega
+        arith)
 
     size-of : (v : ℕ) → v ≤ round → slice_index sizes v ≡ weighed weights (λ x. slice_index s.values x == v) size
     size-of v low =
@@ -213,19 +228,29 @@ module _ (s : PlainStage) (round : ℕ) (st : IsState s round true) (space : Pla
               let most = st.few in
               let shut = valued_word s.values x (λ e. omega arith) in
               subst (λ u. HasValue n.board (configuration_of n x) (Finite u)) same ((values-are.each x i).finite shut),
-          λ has. same_is (slice_index s.values x) v (word-of-value n.board (configuration_of n x) s.values x (values-are.each x i) v has).1,
+          λ has. same_is (slice_index s.values x) v (word-of-value n.board (configuration_of n x) s.values x
+              (values-are.each x i) v has).1,
         )))
 
     last-occurs : 0 < slice_index sizes 0 → Occurs n.board round
     last-occurs some = elim (cases_lt 0 round) [
       | inl later ↦
-          let filed = some_in s st.is_graph st.few (filed_at s round) (let h = st.last_filed later in λ none. omega arith) in
-          let i = st.stage.filed_are.below round filed.0 filed.1 in
-          (configuration_of n filed.0, configuration-is n st.is_board filed.0 i, ((filed-exactly s round true st round filed.0 i).0 filed.1).1)
+          let filed = some_in s st.is_graph st.few (filed_at s round) (let h = st.last_filed later in λ none. omega
+          arith) in
+          let i = st.stage.filed_are.below round filed.0 filed.1 in (
+            configuration_of n filed.0,
+            configuration-is n st.is_board filed.0 i,
+            ((filed-exactly s round true st round
+                filed.0 i).0 filed.1).1,
+          )
       | inr first ↦
           let none : 0 ≡ round = omega arith in
           let one = some-counted _ _ (counted 0 (omega arith)) some in
-          subst (Occurs n.board) none (configuration_at n.board one.0, configuration_at_is n.board one.0 one.1.0, one.1.1)
+          subst (Occurs n.board) none (
+            configuration_at n.board one.0,
+            configuration_at_is n.board one.0 one.1.0,
+            one.1.1,
+          )
     ]
 
     pub sized : AreSizes n.board sizes forever
@@ -244,22 +269,15 @@ module _ (s : PlainStage) (round : ℕ) (st : IsState s round true) (space : Pla
           let long = sizes-length in
           omega arith;
       last = λ some. subst (Occurs n.board) (let long = sizes-length in omega arith) (last-occurs some);
-      unending = subst (HasCount n.board Forever) (sym forever_is) (counted-values n st.is_board weights (is_open s.values) Forever equipped.weighed (λ x i. (
-        λ still. (values-are.each x i).forever still,
-        λ has. open-of-forever n.board (configuration_of n x) s.values x (values-are.each x i) has,
-      )));
+      unending = subst (HasCount n.board Forever) (sym forever_is) (counted-values n st.is_board weights
+          (is_open s.values) Forever equipped.weighed (λ x i. (
+            λ still. (values-are.each x i).forever still,
+            λ has. open-of-forever n.board (configuration_of n x) s.values x (values-are.each x i) has,
+          )));
     }
 
-    pub values-of : AreValuesOf n space s.values sizes forever
-    values-of = record {
-      numbered = record {
-        is_board = st.is_board;
-        few = equipped.few;
-        same_space = equipped.same_space;
-        valued = values-are;
-      };
-      sized = sized;
-    }
+    pub values-of : AreNumberedValues n s.values sizes forever
+    values-of = record { is_board = st.is_board; valued = values-are; sized = sized }
 
 -- ---- the greatest value
 
@@ -269,7 +287,11 @@ greatest-none board sizes forever are none v occurs =
     let zeroth = smaller_occurs board 0 v (omega arith) occurs in
     let c : List ℕ = zeroth.0 in
     let nothing = (size_zero _).0 (subst (HasCount board (Finite 0)) none (are.finite 0 are.made)) in
-    nothing (rank_of board c) (rank_below board c zeroth.1, subst (λ (d : List ℕ). HasValue board d (Finite 0)) (sym (configuration_at-rank_of board c zeroth.1)) zeroth.2)
+    nothing (rank_of board c) (
+      rank_below board c zeroth.1,
+      subst (λ (d : List ℕ). HasValue board d (Finite 0))
+          (sym (configuration_at-rank_of board c zeroth.1)) zeroth.2,
+    )
 
 pub greatest-some : (board : PlainBoard) (sizes : List ℕ) (forever : ℕ) → AreSizes board sizes forever → (greatest : ℕ)
     → greatest ≡ length sizes - 1
@@ -286,4 +308,8 @@ greatest-some board sizes forever are greatest is some = (
 pub count-beyond : (board : PlainBoard) (sizes : List ℕ) (forever : ℕ) → AreSizes board sizes forever → (v : ℕ)
     → length sizes ≤ v → HasCount board (Finite v) 0
 count-beyond board sizes forever are v high =
-    (size_zero _).1 (λ rank has. are.beyond v high (configuration_at board rank, configuration_at_is board rank has.0, has.1))
+    (size_zero _).1 (λ rank has. are.beyond v high (
+      configuration_at board rank,
+      configuration_at_is board rank has.0,
+      has.1,
+    ))

@@ -2,12 +2,12 @@
 use Rattle.std.specs.Prelude.{◌≡◌, ℕ, suc, ◌+◌, ◌<◌, ◌≤◌, ◌↔◌, Bool, true, false, List, [], length, filter, AllPairs, slice_index_or}
 use Rattle.board_text.specs.PlainBoard.{PlainBoard, IsBoard, IsConfiguration}
 use Rattle.index_lists.specs.Lists.{times}
-use Rattle.positions.specs.declared.space.TheConstants.{MAX_CONFIGURATIONS}
+use Rattle.classes.specs.declared.counting.TheConstants.{MAX_CLASSES}
 use Rattle.positions.specs.declared.value.Value.TheVariants.{Finite, Forever}
 use Rattle.positions.specs.Game.{LabellerTree}
 use Rattle.positions.specs.Value.{HasValue}
 use Rattle.graphs.specs.Graph.{PlainGraph, is_struck}
-use Rattle.graphs.specs.Numbered.{Numbered, graph_of, configuration_of}
+use Rattle.graphs.specs.Numbered.{Numbered, graph_of, configuration_of, IsFewBy}
 
 -- a board and what its numbers stand for, the last round that filed something, whether a later one
 -- filed nothing; the configurations filed at each value, the members of each gap that are not filed,
@@ -60,7 +60,8 @@ to_strike s = filter (is_struck (graph_of s.game)) (bucket s s.rounds)
 -- the knowledge of a solver, whenever no call of it runs
 pub record IsSolving (s : Solving) : Type 0 where
   pub is_board : IsBoard s.game.board
-  pub few : (graph_of s.game).configurations ≤ MAX_CONFIGURATIONS
+  pub few : (graph_of s.game).configurations ≤ MAX_CLASSES
+  pub few_by : IsFewBy s.game.numbering s.game.board
   pub below : s.rounds < (graph_of s.game).configurations
   pub buckets : AreBuckets s
   pub sources : AreOpenMembers s

@@ -5,7 +5,8 @@ use thiserror::Error;
 /// The reason why a board was not solved.
 #[derive(Clone, Copy, Debug, Error, PartialEq, Eq)]
 pub enum SolveFault {
-    /// The board has more than `MAX_CONFIGURATIONS` configurations.
+    /// The board has more than `MAX_CONFIGURATIONS` configurations, or if they are found by
+    /// classes, more than `MAX_CLASSES` classes.
     #[error("board too large")]
     TooLarge = 1,
     /// A growth of memory was refused.

@@ -1,74 +1,126 @@
 //! The values of a board by the numbers of its graph.
 
-ghost use Rattle.std.specs.Prelude.{◌≡◌, ◌<◌, ℕ, List, slice_index};
+ghost use Rattle.std.specs.Prelude.{◌≡◌, ◌<◌, ◌≤◌, ℕ, List, slice_index};
 ghost use Rattle.board_text.specs.PlainBoard.{IsBoard, IsConfiguration};
-ghost use Rattle.positions.specs.Ranks.{configurations, configuration_at};
+ghost use Rattle.positions.specs.Laws.{Occurs};
 ghost use Rattle.positions.specs.Value.{HasValue};
+ghost use Rattle.positions.specs.declared.value.Value.TheVariants.{Finite};
 ghost use Rattle.graphs.specs.Numbered.{graph_of};
-ghost use Rattle.graphs.specs.NumberedRanks.{gap_in, number_at, number_in};
+ghost use Rattle.graphs.specs.NumberedRanks.{gap_in, number_in};
 ghost use Rattle.solver.specs.GapRequests.{numbered_gap};
-ghost use Rattle.solver.specs.Inside.Values.{AreNumbered};
+ghost use Rattle.solver.specs.Sizes.{HasCount, IsGreatest};
+ghost use Rattle.solver.specs.Inside.Values.{AreNumberedValues};
 
 use crate::results::Results;
 use crate::word::value_with;
 use classes::Standing;
 use graphs::Graph;
-use positions::{Space, Value};
+use positions::Value;
 use std::marker::Model;
 
 /// The values of a board by the numbers of its graph, which are those of configurations and of
 /// gaps.
 ///
-/// Contracts see the board and what the numbers stand for.
+/// It holds no board: contracts see it as the board and what the numbers stand for.
 #[derive(Drop)]
-pub struct NumberedValues<'a> {
-    graph: &'a Graph,
-    space: &'a Space,
-    words: &'a [u32],
+pub struct NumberedValues {
+    graph: Graph,
+    /// The value of the configurations of each number, or `OPEN` for Forever.
+    words: Vec<u32>,
+    /// How many configurations have each finite value, 0 and up to the greatest that there is.
+    sizes: Vec<u64>,
+    /// How many configurations have the value Forever.
+    forever: u64,
 }
 
-impl<'a> Model for NumberedValues<'a> {
+impl Model for NumberedValues {
     ghost use Rattle.graphs.specs.Numbered.{Numbered};
-    ghost use Rattle.solver.specs.Inside.Values.{AreNumbered};
+    ghost use Rattle.solver.specs.Inside.Values.{AreNumberedValues};
 
     ghost Value = { Numbered };
 
-    ghost view = { λ s. s.graph.now };
+    ghost view = { λ s. s.graph };
 
-    ghost invariant = { λ s. AreNumbered s.graph.now s.space.now s.words.now };
+    ghost invariant = { λ s. AreNumberedValues s.graph s.words.items s.sizes.items s.forever };
 }
 
-impl<'a> NumberedValues<'a> {
-    /// The values in the words `words` of the numbers of `graph`.
-    pub(crate) fn new(graph: &'a Graph, space: &'a Space, words: &'a [u32]) -> NumberedValues<'a>
-        requires { AreNumbered graph.now space.now words.now }
-        ensures { result ≡ graph.now }
+impl NumberedValues {
+    /// The values in the words `words` of the numbers of `graph`, with the number of configurations
+    /// of each finite value in `sizes`.
+    pub(crate) fn new(
+        graph: Graph,
+        words: Vec<u32>,
+        sizes: Vec<u64>,
+        forever: u64,
+    ) -> NumberedValues
+        requires { AreNumberedValues graph words.items sizes.items forever }
+        ensures { result ≡ graph }
     {
         NumberedValues {
             graph,
-            space,
             words,
+            sizes,
+            forever,
+        }
+    }
+
+    /// The value of the configuration `held`.
+    pub fn of(&self, held: &[u16]) -> Value
+        requires { IsConfiguration self.now.board held.now }
+        ensures { HasValue self.now.board held.now result }
+    {
+        value_with(self.words[self.graph.number_of(held) as usize])
+    }
+
+    /// The number of configurations that have the value `value`.
+    pub fn count(&self, value: Value) -> u64
+        ensures { HasCount self.now.board value result }
+    {
+        match value {
+            Value::Finite(number) => self.count_finite(number),
+            Value::Forever => self.forever,
+        }
+    }
+
+    /// The number of configurations that have the finite value `number`.
+    fn count_finite(&self, number: u32) -> u64
+        ensures { HasCount self.now.board (Finite number) result }
+    {
+        if number as usize >= self.sizes.len() {
+            return 0;
+        }
+        self.sizes[number as usize]
+    }
+
+    /// The greatest finite value of a configuration, if one has a finite value.
+    pub fn greatest_finite(&self) -> Option<u32>
+        ensures { IsGreatest (Occurs self.now.board) result }
+    {
+        if self.sizes[0] == 0 {
+            None
+        } else {
+            Some((self.sizes.len() - 1) as u32)
         }
     }
 
     /// The number of gaps. Each is a number below it.
     pub fn gaps(&self) -> u32
-        ensures { result ≡ (graph_of self.now).gaps }
+        ensures value { result ≡ (graph_of self.now).gaps }
+        ensures is_board { IsBoard self.now.board }
     {
         self.graph.gaps()
     }
 
-    /// The number of the configuration of `rank`, and those of the gaps of all pebbles there.
-    pub fn standing(&self, rank: u32) -> Standing
-        requires { rank < configurations self.now.board }
-        ensures number { result.number ≡ number_at self.now rank }
+    /// The number of the configuration `held`, and those of the gaps of all pebbles there.
+    pub fn standing(&self, held: &[u16]) -> Standing
+        requires { IsConfiguration self.now.board held.now }
+        ensures number { result.number ≡ number_in self.now held.now }
         ensures gaps { (pebble : ℕ) → pebble < self.now.board.pebbles
-            → slice_index result.gaps pebble
-            ≡ gap_in self.now (configuration_at self.now.board rank) pebble }
+            → slice_index result.gaps pebble ≡ gap_in self.now held.now pebble }
         ensures gaps_below { (pebble : ℕ) → pebble < self.now.board.pebbles
             → slice_index result.gaps pebble < (graph_of self.now).gaps }
     {
-        self.graph.standing(self.space, rank)
+        self.graph.standing(held)
     }
 
     /// The value of each configuration with the number `number`.
@@ -82,15 +134,15 @@ impl<'a> NumberedValues<'a> {
     }
 
     /// The results of the answers of `gap`.
-    pub fn results(&self, gap: u32) -> Results<'a>
+    pub fn results(&self, gap: u32) -> Results<'_>
         requires { gap < (graph_of self.now).gaps }
         ensures results { result ≡ numbered_gap self.now gap }
         ensures is_board { IsBoard self.now.board }
     {
         Results {
-            graph: self.graph,
+            graph: &self.graph,
             gap,
-            words: self.words,
+            words: &self.words,
         }
     }
 }

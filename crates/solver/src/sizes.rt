@@ -9,13 +9,13 @@ use crate::word::OPEN;
 
 /// Adds the weight of each number to the size of the value that is its word, and returns the sum of
 /// the weights of those whose word is `OPEN`.
-pub(crate) fn add_weights(sizes: &mut [u32], words: &[u32], weights: &[u32]) -> u32
+pub(crate) fn add_weights(sizes: &mut [u64], words: &[u32], weights: &[u64]) -> u64
     requires wide { length weights.now ≡ length words.now }
     requires zeros { AreZeros sizes.old }
     requires inside { (x : ℕ) → x < length words.now → is_open words.now x ≡ false
         → slice_index words.now x < length sizes.old }
     requires small { length sizes.old ≤ OPEN }
-    requires few { sum_below (length words.now) (slice_index weights.now) < 2 ^ 32 }
+    requires few { sum_below (length words.now) (slice_index weights.now) < 2 ^ 64 }
     ensures size { length sizes.new ≡ length sizes.old }
     ensures sums { AreSums words.now weights.now (length words.now) sizes.new }
     ensures forever { result ≡ weighed weights.now (is_open words.now) (length words.now) }

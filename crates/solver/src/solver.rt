@@ -3,19 +3,23 @@
 //! `first_filed`, `next_filed`, `first_source` and `next_source` go through lists one by one, for callers; no command does.
 
 ghost use Rattle.std.specs.Prelude.{◌≡◌, ℕ, ◌+◌, ◌<◌, ◌≤◌, ◌↔◌, true, false, length, map, slice_get, IfOk, IfErr, Err, Some, None};
+ghost use Rattle.board_text.specs.PlainBoard.{IsBoard};
 ghost use Rattle.positions.specs.declared.value.Value.TheVariants.{Finite};
 ghost use Rattle.positions.specs.Value.{HasValue};
 ghost use Rattle.positions.specs.Ranks.{configurations};
 ghost use Rattle.positions.specs.Gaps.{IsDominator};
-ghost use Rattle.graphs.specs.Numbered.{numbered, graph_of, configuration_of};
+ghost use Rattle.classes.specs.Numbers.{class_count};
+ghost use Rattle.graphs.specs.Numbered.{IsFewBy, numbered, graph_of, configuration_of};
 ghost use Rattle.positions.specs.Counts.{HasSize, IsSmallest};
 ghost use Rattle.solver.specs.Words.{value_of_word, AreFirstCounts, AreFirstValues};
 ghost use Rattle.solver.specs.Ending.{IsRoundEnd};
+ghost use Rattle.solver.specs.Inside.Stage.{HasSpaceBy};
 ghost use Rattle.solver.specs.Solving.{IsSolving, HasFiled, HasFoundNone, bucket, source, AnswerLasts, AnswerForever, to_strike};
 
 use crate::end::RoundEnd;
 use crate::fault::SolveFault;
 use crate::next_value::{ByStrikes, FromEnd, NextValue};
+use crate::numbered_values::NumberedValues;
 use crate::progress::Progress;
 use crate::sizes::add_weights;
 use crate::source_walk::SourceWalk;
@@ -23,6 +27,7 @@ use crate::stage::Stage;
 use crate::values::Values;
 use crate::word::value_of;
 use board_text::{Board, Memory};
+use classes::{MAX_CLASSES, has_few_classes};
 use graphs::{Graph, Numbering};
 use index_lists::ListStore;
 use positions::{MAX_CONFIGURATIONS, Space, TooLarge};
@@ -37,11 +42,12 @@ use std::marker::Model;
 #[derive(Drop)]
 pub struct Solver<S: ListStore> {
     stage: Stage<S>,
-    space: Space,
+    /// The space of the board, if numbers are ranks.
+    space: Option<Space>,
     /// How many configurations have each number.
-    weights: Vec<u32>,
+    weights: Vec<u64>,
     /// Zeros, and room for the number of configurations of each finite value.
-    sizes: Vec<u32>,
+    sizes: Vec<u64>,
     done: bool,
 }
 
@@ -68,7 +74,13 @@ impl<S: ListStore + Drop> Solver<S> {
         ensures too_large { (result ≡ Err SolveFault.TooLarge) ↔ (MAX_CONFIGURATIONS < configurations board.now) }
         ensures no_worker { result ≡ Err SolveFault.Worker → ⊥ }
     {
-        Solver::opened(alloc, board, Numbering::Ordered)
+        match Space::of(board) {
+            Ok(space) => match Solver::start(alloc, board, Numbering::Ordered, Some(space)) {
+                Ok(solver) => Ok(solver),
+                Err(Memory) => Err(SolveFault::Memory),
+            },
+            Err(TooLarge) => Err(SolveFault::TooLarge),
+        }
     }
 
     /// A solver of `board` whose numbers are those of classes of configurations, whichever pebble
@@ -77,46 +89,35 @@ impl<S: ListStore + Drop> Solver<S> {
         ensures game { IfOk result (λ solver. solver.game ≡ numbered board.now Numbering.Classes) }
         ensures start { IfOk result (λ solver. (solver.rounds ≡ 0) × (solver.is_done ≡ false)) }
         ensures kept { IfOk result (λ solver. IsSolving solver) }
-        ensures too_large { (result ≡ Err SolveFault.TooLarge) ↔ (MAX_CONFIGURATIONS < configurations board.now) }
+        ensures too_large { (result ≡ Err SolveFault.TooLarge)
+            ↔ (MAX_CLASSES < class_count board.now) }
         ensures no_worker { result ≡ Err SolveFault.Worker → ⊥ }
     {
-        Solver::opened(alloc, board, Numbering::Classes)
-    }
-
-    /// A solver of `board` by `numbering`, which has filed the configurations of value 0, in
-    /// ascending order.
-    fn opened(alloc: Global, board: &Board, numbering: Numbering) -> Result<Solver<S>, SolveFault>
-        ensures game { IfOk result (λ solver. solver.game ≡ numbered board.now numbering) }
-        ensures start { IfOk result (λ solver. (solver.rounds ≡ 0) × (solver.is_done ≡ false)) }
-        ensures kept { IfOk result (λ solver. IsSolving solver) }
-        ensures too_large { (result ≡ Err SolveFault.TooLarge) ↔ (MAX_CONFIGURATIONS < configurations board.now) }
-        ensures no_worker { result ≡ Err SolveFault.Worker → ⊥ }
-    {
-        match Space::of(board) {
-            Ok(space) => match Solver::start(alloc, space, board, numbering) {
-                Ok(solver) => Ok(solver),
-                Err(Memory) => Err(SolveFault::Memory),
-            },
-            Err(TooLarge) => Err(SolveFault::TooLarge),
+        if !has_few_classes(board) {
+            return Err(SolveFault::TooLarge);
+        }
+        match Solver::start(alloc, board, Numbering::Classes, None) {
+            Ok(solver) => Ok(solver),
+            Err(Memory) => Err(SolveFault::Memory),
         }
     }
 
-    /// A solver of `board`, whose space is `space`, by `numbering`.
+    /// A solver of `board` by `numbering`. The space is the board's, if numbers are ranks.
     fn start(
         alloc: Global,
-        space: Space,
         board: &Board,
         numbering: Numbering,
+        space: Option<Space>,
     ) -> Result<Solver<S>, Memory>
-        requires { space ≡ board.now }
+        requires few { IsFewBy numbering board.now }
+        requires space { HasSpaceBy numbering board.now space }
         ensures game { IfOk result (λ solver. solver.game ≡ numbered board.now numbering) }
         ensures start { IfOk result (λ solver. (solver.rounds ≡ 0) × (solver.is_done ≡ false)) }
         ensures kept { IfOk result (λ solver. IsSolving solver) }
     {
-        let _ = space.configurations();
         let graph = Graph::of(alloc, board, numbering)?;
         let weights = graph.weights(alloc)?;
-        let sizes = vec![in alloc; 0; graph.configurations() as usize]?;
+        let sizes = vec![in alloc; 0u64; graph.configurations() as usize]?;
         let mut stage = Stage::<S>::open(alloc, graph)?;
         stage.begin_next_value();
         Ok(Solver {
@@ -202,11 +203,15 @@ impl<S: ListStore> Solver<S> {
         self.stage.graph()
     }
 
-    /// The space of the board.
+    /// The space of the board. The numbers of the solver are ranks.
     pub fn space(&self) -> &Space
+        requires ordered { self.now.game.numbering ≡ Numbering.Ordered }
         ensures { result.now ≡ self.now.game.board }
     {
-        &self.space
+        match &self.space {
+            Some(space) => space,
+            None => unreachable!(),
+        }
     }
 
     /// The smallest pebble that dominates all others at the configuration of `rank`, if one does. A
@@ -217,7 +222,7 @@ impl<S: ListStore> Solver<S> {
         ensures { IsSmallest (IsDominator self.now.game.board (configuration_of self.now.game rank)) result }
     {
         match self.stage.graph().struck(rank) {
-            Some(gap) => Some(self.space.gap_pebble(gap)),
+            Some(gap) => Some(self.space().gap_pebble(gap)),
             None => None,
         }
     }
@@ -340,14 +345,44 @@ pub struct Unfinished<S: ListStore> {
 }
 
 impl<S: ListStore + Drop> Solver<S> {
-    /// The values of the board, once a round has found that no configuration has the next one.
+    /// The values of the board, once a round has found that no configuration has the next one. The
+    /// numbers of the solver are ranks.
     pub fn finish(self) -> Result<Values, Unfinished<S>>
+        requires ordered { self.game.numbering ≡ Numbering.Ordered }
         ensures values { IfOk result (λ values. (self.is_done ≡ true) × (values ≡ self.game.board)) }
         ensures unfinished { IfErr result (λ unfinished. (self.is_done ≡ false) × (unfinished.solver ≡ self)) }
     {
         if !self.done {
             return Err(Unfinished { solver: self });
         }
+        let (numbered, space) = self.close();
+        match space {
+            Some(space) => Ok(Values::with_space(numbered, space)),
+            None => unreachable!(),
+        }
+    }
+
+    /// The values of the board by the solver's numbers, once a round has found that no
+    /// configuration has the next one.
+    pub fn finish_numbered(self) -> Result<NumberedValues, Unfinished<S>>
+        ensures values { IfOk result (λ values. (self.is_done ≡ true) × (values ≡ self.game)) }
+        ensures unfinished { IfErr result (λ unfinished.
+            (self.is_done ≡ false) × (unfinished.solver ≡ self)) }
+    {
+        if !self.done {
+            return Err(Unfinished { solver: self });
+        }
+        let (numbered, _) = self.close();
+        Ok(numbered)
+    }
+
+    /// The values of a solver that is done, and the space, if numbers are ranks.
+    fn close(self) -> (NumberedValues, Option<Space>)
+        requires { self.is_done ≡ true }
+        ensures is_board { IsBoard self.game.board }
+        ensures values { result.0 ≡ self.game }
+        ensures space { HasSpaceBy self.game.numbering self.game.board result.1 }
+    {
         let Solver {
             stage,
             space,
@@ -363,20 +398,38 @@ impl<S: ListStore + Drop> Solver<S> {
         } = stage;
         let forever = add_weights(&mut sizes, &values, &weights);
         sizes.truncate(value as usize);
-        Ok(Values::new(graph, space, values, sizes, forever))
+        (NumberedValues::new(graph, values, sizes, forever), space)
     }
 
-    /// The values of the board, after all rounds that it takes.
+    /// The values of the board, after all rounds that it takes. The numbers of the solver are
+    /// ranks.
     pub fn solve(self) -> Values
+        requires ordered { self.game.numbering ≡ Numbering.Ordered }
         ensures { result ≡ self.game.board }
     {
+        match self.after_all_rounds().finish() {
+            Ok(values) => values,
+            Err(_) => unreachable!(),
+        }
+    }
+
+    /// The values of the board by the solver's numbers, after all rounds that it takes.
+    pub fn solve_numbered(self) -> NumberedValues
+        ensures { result ≡ self.game }
+    {
+        let (numbered, _) = self.after_all_rounds().close();
+        numbered
+    }
+
+    /// The solver after all rounds that the board takes.
+    fn after_all_rounds(self) -> Solver<S>
+        ensures game { result.game ≡ self.game }
+        ensures done { result.is_done ≡ true }
+    {
         let mut solver = self;
-        loop {
-            match solver.finish() {
-                Ok(values) => return values,
-                Err(unfinished) => solver = unfinished.solver,
-            }
+        while !solver.done() {
             solver.round();
         }
+        solver
     }
 }

@@ -3,8 +3,9 @@
 //! A run of the tests may refuse one growth of memory, whichever. So a call that was refused one is
 //! made once more.
 
-ghost use Rattle.std.specs.Prelude.{◌≡◌};
-ghost use Rattle.graphs.specs.declared.graph.Numbering.TheVariants.{Ordered};
+ghost use Rattle.std.specs.Prelude.{◌≡◌, IfSome};
+ghost use Rattle.graphs.specs.Numbered.{numbered};
+ghost use Rattle.graphs.specs.declared.graph.Numbering.TheVariants.{Ordered, Classes};
 
 use crate::assertions::{assert_same, board_of};
 use crate::solving_classes::assert_same_values;
@@ -15,7 +16,7 @@ use fakes::boards::{
 };
 use fakes::value_at;
 use index_lists::{LinkLists, ListStore, PlainLists};
-use positions::{Space, Value};
+use positions::{Space, Value, is_small};
 use solved_boards::{class_solver_of, solver_of, value};
 use solver::{Progress, Solver, Values};
 use std::alloc::Global;
@@ -33,32 +34,25 @@ pub(crate) fn open_classes<S: ListStore + Drop>(
     rt: &impl Abort,
     alloc: Global,
     board: &Board,
-) -> Solver<S> {
+) -> Solver<S>
+    ensures { result.game ≡ numbered board.now Classes }
+{
     class_solver_of(alloc, board).expect(rt, "a solver by classes")
 }
 
-/// The values of a board, found round by round.
+/// The values of a board, found by ranks.
 pub(crate) fn solve<S: ListStore + Drop>(rt: &impl Abort, alloc: Global, board: &Board) -> Values {
-    finished(rt, open::<S>(rt, alloc, board))
+    open::<S>(rt, alloc, board).solve()
 }
 
-/// The values of a board, found round by round by classes.
+/// The values of a board that isn't too large, found by classes.
 pub(crate) fn solve_classes<S: ListStore + Drop>(
     rt: &impl Abort,
     alloc: Global,
     board: &Board,
 ) -> Values {
-    finished(rt, open_classes::<S>(rt, alloc, board))
-}
-
-/// The values of a solver's board, after all its rounds.
-fn finished<S: ListStore + Drop>(rt: &impl Abort, mut solver: Solver<S>) -> Values {
-    for _ in 0..=solver.graph().configurations() {
-        if solver.round() == Progress::Done {
-            break;
-        }
-    }
-    solver.finish().ok().expect(rt, "values")
+    assert!(rt; is_small(board));
+    Values::new(open_classes::<S>(rt, alloc, board).solve_numbered(), board)
 }
 
 /// The value that a solver has for a number, if it is that of a configuration.
@@ -132,7 +126,10 @@ fn chain_of_three(rt: HostRuntime) {
 }
 
 /// The solver that `finish` gives back if the rounds aren't done.
-fn given_back<S: ListStore + Drop>(solver: Solver<S>) -> Option<Solver<S>> {
+fn given_back<S: ListStore + Drop>(solver: Solver<S>) -> Option<Solver<S>>
+    requires { solver.game.numbering ≡ Ordered }
+    ensures { IfSome result (λ again. again.game.numbering ≡ Ordered) }
+{
     match solver.finish() {
         Ok(_) => None,
         Err(unfinished) => Some(unfinished.solver),

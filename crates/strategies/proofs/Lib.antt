@@ -15,6 +15,7 @@ pub mod FirstRows
 pub mod ShownClaims
 pub mod LonePebble
 pub mod BitMarks
+pub mod ListedNumbers
 pub mod AddedRanks
 pub mod ReachedMarks
 pub mod GapAnswers
@@ -23,6 +24,9 @@ pub mod LoweringRequests
 pub mod SpreadRanks
 pub mod AddedSteps
 pub mod GatheredRows
+pub mod RowsAtRanks
+pub mod RowsInParts
+pub mod AskedRows
 pub mod MadeRows
 pub mod Closure
 pub mod SomeDocument

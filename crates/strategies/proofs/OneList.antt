@@ -21,13 +21,13 @@ use Rattle.strategies.proofs.BestRequests as requests
 -- ---- ascending lists with the same members
 
 module _ {X : Type 0} (rank : X → ℕ) where
-  abbrev IsAscending : List X → Type 0
+  abbrev pub IsAscending : List X → Type 0
   IsAscending rows = AllPairs (λ first second. rank first < rank second) rows
 
-  tail_ascends : (first : X) (rows : List X) → IsAscending (first ∷ rows) → IsAscending rows
+  pub tail_ascends : (first : X) (rows : List X) → IsAscending (first ∷ rows) → IsAscending rows
   tail_ascends first rows ascends i j d less inside = ascends (suc i) (suc j) d (omega arith) (omega arith)
 
-  behind_first : (first : X) (rows : List X) (row : X) → IsAscending (first ∷ rows) → Contains rows row → rank first < rank row
+  pub behind_first : (first : X) (rows : List X) (row : X) → IsAscending (first ∷ rows) → Contains rows row → rank first < rank row
   behind_first first rows row ascends among =
       let larger : rank first < rank (get_or rows among.0 row) = ascends 0 (suc among.0) row (omega arith) (let inside : among.0 < length rows = among.1 in omega arith) in
       subst (λ (r : X). rank first < rank r) among.2 larger

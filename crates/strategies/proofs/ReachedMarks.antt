@@ -1,12 +1,12 @@
 -- Marks of the ranks that were reached.
-use Rattle.std.proofs.Common.{◌≡◌, ◌≢◌, ℕ, ◌<◌, ◌≤◌, inl, inr, Bool, true, false, List, [], ◌∷◌, ◌++◌, length, slice_index_or, slice_set, Option, Some, None, sym, ◌∙◌, subst}
+use Rattle.std.proofs.Common.{◌≡◌, ◌≢◌, ℕ, ◌<◌, ◌≤◌, inl, inr, Bool, true, false, List, [], ◌∷◌, ◌++◌, length, slice_index_or, slice_set, sym, ◌∙◌, subst}
 use Rattle.std.specs.List.{Contains}
 use Rattle.std.proofs.lemmas.Bool.{both_ways, cases_lt, cases_eq}
 use Rattle.std.proofs.lemmas.List.{get_or-set_same, get_or-set_other, get_or_past}
 use Rattle.std.proofs.lemmas.List.Elements.{Contains-get_or, Contains-append_left, Contains-push, Contains-push_cases}
 use Rattle.std.proofs.lemmas.List.Quantifiers.{all_pairs_push}
-use Rattle.positions.specs.Counts.{IsSmallest}
-use Rattle.strategies.specs.Inside.ReachedRanks.{AreMarked}
+use Rattle.strategies.specs.Inside.Marks.{AreMarkedNumbers}
+use Rattle.strategies.specs.Inside.ReachedRanks.{AreInOrder, AreMarked}
 use Rattle.strategies.proofs.AddedRanks.{few_apart}
 
 -- one more rank is marked
@@ -38,9 +38,13 @@ few_ranks marks ranks are = few_apart ranks (length marks) are.once (λ rank amo
   | inr beyond ↦ absurd (both_ways (slice_index_or marks rank false) (get_or_past marks rank false beyond) ((are.marked rank).1 among))
 ])
 
--- the first mark from a bound on is the first rank that was reached
-pub first_reached : (marks : List Bool) (ranks : List ℕ) (bound : ℕ) → AreMarked marks ranks → (found : Option ℕ)
-    → IsSmallest (λ number. (bound ≤ number) × (slice_index_or marks number false ≡ true)) found → IsSmallest (λ rank. (bound ≤ rank) × Contains ranks rank) found
-first_reached marks ranks bound are None none = λ other is. none other (is.0, (are.marked other).1 is.1)
-first_reached marks ranks bound are (Some rank) first =
-    ((first.0.0, (are.marked rank).0 first.0.1), λ other is. first.1 other (is.0, (are.marked other).1 is.1))
+-- the marked numbers, in ascending order, are the ranks in order
+pub ordered_marks : (marks : List Bool) (ranks numbers : List ℕ) → AreMarked marks ranks → AreMarkedNumbers marks numbers
+    → AreInOrder ranks numbers
+ordered_marks marks ranks numbers are listed = record {
+  each = λ rank. (
+    λ among. (are.marked rank).0 ((listed.each rank).0 among),
+    λ among. (listed.each rank).1 ((are.marked rank).1 among),
+  );
+  ascending = listed.ascending;
+}

@@ -1,18 +1,24 @@
 //! Making the document that shows the value of a board's start.
 
-ghost use Rattle.std.specs.Prelude.{◌≡◌, IfOk};
+ghost use Rattle.std.specs.Prelude.{◌≡◌, ◌≤◌, IfOk};
+ghost use Rattle.board_text.specs.PlainBoard.{IsConfiguration};
 ghost use Rattle.positions.specs.Claim.{Shows};
+ghost use Rattle.positions.specs.Ranks.{configurations};
+ghost use Rattle.positions.specs.Value.{HasValue};
 ghost use Rattle.proof_text.specs.Proof.{IsDocument, answer_rows, plain_proof, request_rows};
 ghost use Rattle.proof_text.specs.Rules.{BreaksNoRule};
 ghost use Rattle.strategies.specs.Document.{IsDocumentOf};
+ghost use Rattle.strategies.specs.Inside.Side.{AreAdversaryRows, AreSection, labeller_side};
 
 use crate::best_moves::BestMoves;
 use crate::gap_best::GapBest;
+use crate::rows::{section, section_in_parts};
 use board_text::{Board, Memory};
-use positions::{Claim, Value};
-use proof_text::Proof;
+use positions::{Claim, MAX_CONFIGURATIONS, Value};
+use proof_text::{AdversaryRow, LabellerRow, Proof};
 use solver::Values;
 use std::alloc::Global;
+use std::thread::Threads;
 
 impl BestMoves<'_> {
     /// The document of the board: the value of its start, a strategy for the labeller, and one for
@@ -28,17 +34,67 @@ impl BestMoves<'_> {
         let listed = best.list(alloc)?;
         let moves = BestMoves::by(self.board(), self.values(), best.with_listed(&listed));
         let value = moves.value(moves.start());
-        let labeller = moves.section(alloc, value)?;
-        // A start that lasts forever has no rows for the adversary.
+        let labeller = section(alloc, &moves, value)?;
         let adversary = match value {
-            Value::Finite(_) => moves.section(alloc, value)?,
+            Value::Finite(_) => section(alloc, &moves, value)?,
             Value::Forever => Vec::new(alloc),
         };
-        Ok(Proof {
+        Ok(moves.document_of(value, labeller, adversary))
+    }
+
+    /// The same as `document`, with each side's rows made in at most `parts` parts. Threads make
+    /// them where each has a thousand rows or more to make, and one can be started.
+    pub fn document_in_parts(
+        &self,
+        rt: &(impl Threads + Sync),
+        alloc: Global,
+        parts: u32,
+    ) -> Result<Proof, Memory>
+        requires { 1 ≤ parts }
+        ensures document { IfOk result (λ proof.
+            IsDocumentOf self.now (plain_proof self.now proof)) }
+        ensures form { IfOk result (IsDocument self.now) }
+        ensures rules { IfOk result (λ proof. BreaksNoRule self.now (plain_proof self.now proof)) }
+        ensures shows { IfOk result (λ proof. Shows self.now
+            (answer_rows self.now proof.labeller.items)
+            (request_rows self.now proof.adversary.items) proof.claim) }
+    {
+        let best = GapBest::new(self.values().numbered());
+        let listed = best.list(alloc)?;
+        let moves = BestMoves::by(self.board(), self.values(), best.with_listed(&listed));
+        let value = moves.value(moves.start());
+        let labeller = section_in_parts(rt, alloc, &moves, value, parts)?;
+        let adversary = match value {
+            Value::Finite(_) => section_in_parts(rt, alloc, &moves, value, parts)?,
+            Value::Forever => Vec::new(alloc),
+        };
+        Ok(moves.document_of(value, labeller, adversary))
+    }
+
+    /// The document of the board, whose start has the value `value`, with the rows of both sides. A
+    /// start that lasts forever has no rows for the adversary.
+    fn document_of(
+        &self,
+        value: Value,
+        labeller: Vec<LabellerRow>,
+        adversary: Vec<AdversaryRow>,
+    ) -> Proof
+        requires value { HasValue self.now self.now.start value }
+        requires start { IsConfiguration self.now self.now.start }
+        requires few { configurations self.now ≤ MAX_CONFIGURATIONS }
+        requires labeller { AreSection self.now (labeller_side self.now value) labeller.items }
+        requires adversary { AreAdversaryRows self.now value adversary.items }
+        ensures document { IsDocumentOf self.now (plain_proof self.now result) }
+        ensures form { IsDocument self.now result }
+        ensures rules { BreaksNoRule self.now (plain_proof self.now result) }
+        ensures shows { Shows self.now (answer_rows self.now result.labeller.items)
+            (request_rows self.now result.adversary.items) result.claim }
+    {
+        Proof {
             claim: Claim::from(value),
             labeller,
             adversary,
-        })
+        }
     }
 }
 

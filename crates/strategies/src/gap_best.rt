@@ -23,7 +23,7 @@ pub(crate) struct Best {
 /// Contracts see the board and what the numbers stand for.
 #[derive(Drop)]
 pub(crate) struct GapBest<'a> {
-    values: NumberedValues<'a>,
+    values: &'a NumberedValues,
     /// The best answer of each gap, or `None` if it is found whenever it is asked for.
     listed: Option<&'a [Option<Best>]>,
 }
@@ -35,16 +35,16 @@ impl<'a> Model for GapBest<'a> {
 
     ghost Value = { Numbered };
 
-    ghost view = { λ s. s.values };
+    ghost view = { λ s. s.values.now };
 
     ghost invariant = { λ s. MatchOption s.listed (Unit {0})
-        (λ listed. AreGapsBest s.values listed.now) };
+        (λ listed. AreGapsBest s.values.now listed.now) };
 }
 
 impl<'a> GapBest<'a> {
     /// The best answers by `values`, each found whenever it is asked for.
-    pub(crate) fn new(values: NumberedValues<'a>) -> GapBest<'a>
-        ensures { result ≡ values.entry }
+    pub(crate) fn new(values: &'a NumberedValues) -> GapBest<'a>
+        ensures { result ≡ values.now }
     {
         GapBest {
             values,
@@ -64,10 +64,10 @@ impl<'a> GapBest<'a> {
     }
 
     /// The values by the numbers of gaps.
-    pub(crate) fn values(&self) -> &NumberedValues<'a>
+    pub(crate) fn values(&self) -> &'a NumberedValues
         ensures { result.now ≡ self.now }
     {
-        &self.values
+        self.values
     }
 
     /// The best answer of each gap.

@@ -10,6 +10,7 @@ mod marks;
 mod moves_at;
 mod reached;
 mod reached_ranks;
+mod rows;
 mod sections;
 
 pub use best_moves::{BestMoves, best_answer, best_request};

@@ -1,7 +1,8 @@
 //! A set of numbers below a size, with a bit for each.
 
-ghost use Rattle.std.specs.Prelude.{◌≡◌, ◌<◌, ◌≤◌, true, false, length, IfOk, replicate, slice_index_or, slice_set};
+ghost use Rattle.std.specs.Prelude.{◌≡◌, ◌+◌, ◌^◌, ◌<◌, ◌≤◌, true, false, length, IfOk, IfSome, replicate, slice_index_or, slice_set};
 ghost use Rattle.positions.specs.Counts.{IsSmallest};
+ghost use Rattle.strategies.specs.Inside.Marks.{AreMarkedNumbers};
 
 use board_text::Memory;
 use std::alloc::Global;
@@ -56,7 +57,8 @@ impl Marks {
 
     /// The smallest marked number that is at least `bound`, if there is one.
     pub(crate) fn first_from(&self, bound: u32) -> Option<u32>
-        ensures { IsSmallest (λ number. (bound ≤ number) × (slice_index_or self.now number false ≡ true)) result }
+        ensures first { IsSmallest (λ number. (bound ≤ number) × (slice_index_or self.now number false ≡ true)) result }
+        ensures below { IfSome result (λ number. number + 1 < 2 ^ 32) }
     {
         let size = self.size as usize;
         let word = WORD as usize;
@@ -74,5 +76,18 @@ impl Marks {
             number += word - number % word;
         }
         None
+    }
+
+    /// The marked numbers, in ascending order. There is room for `count` of them.
+    pub(crate) fn list(&self, alloc: Global, count: usize) -> Result<Vec<u32>, Memory>
+        ensures { IfOk result (λ numbers. AreMarkedNumbers self.now numbers.items) }
+    {
+        let mut numbers = Vec::with_capacity(alloc, count)?;
+        let mut from = 0;
+        while let Some(number) = self.first_from(from) {
+            numbers.push(number)?;
+            from = number + 1;
+        }
+        Ok(numbers)
     }
 }

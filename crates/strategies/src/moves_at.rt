@@ -45,11 +45,13 @@ impl<'a> MovesAt<'a> {
         requires rank { rank < configurations space.now }
         ensures { result ≡ position space.now rank }
     {
+        let held = space.places_at(rank);
+        let standing = best.values().standing(&held[..space.pebbles() as usize]);
         MovesAt {
             space,
             best,
             rank,
-            standing: best.values().standing(rank),
+            standing,
         }
     }
 

@@ -1,8 +1,7 @@
 //! A set of reached configurations that keeps their order.
 
 ghost use Rattle.std.specs.Prelude.{◌≡◌, ◌<◌, ◌≤◌, [], length, Contains, IfOk, slice_get};
-ghost use Rattle.positions.specs.Counts.{IsSmallest};
-ghost use Rattle.strategies.specs.Inside.ReachedRanks.{IsWith};
+ghost use Rattle.strategies.specs.Inside.ReachedRanks.{AreInOrder, IsWith};
 
 use crate::marks::Marks;
 use board_text::Memory;
@@ -53,18 +52,11 @@ impl Reached {
         Ok(())
     }
 
-    /// The smallest rank that was reached and is at least `bound`, if there is one.
-    pub(crate) fn first_from(&self, bound: u32) -> Option<u32>
-        ensures { IsSmallest (λ rank. (bound ≤ rank) × Contains self.now.ranks rank) result }
+    /// The ranks that were reached, in ascending order.
+    pub(crate) fn in_order(&self, alloc: Global) -> Result<Vec<u32>, Memory>
+        ensures { IfOk result (λ ordered. AreInOrder self.now.ranks ordered.items) }
     {
-        self.marks.first_from(bound)
-    }
-
-    /// The number of ranks that were reached.
-    pub(crate) fn len(&self) -> usize
-        ensures { result ≡ length self.now.ranks }
-    {
-        self.ranks.len()
+        self.marks.list(alloc, self.ranks.len())
     }
 
     /// The rank that was reached after `index` others, if there is one.

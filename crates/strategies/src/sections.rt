@@ -98,29 +98,6 @@ impl SectionRow for AdversaryRow {
     }
 }
 
-impl BestMoves<'_> {
-    /// One side's rows of the document of a board whose start has the value `start`, in ascending
-    /// rank.
-    pub(crate) fn section<R: SectionRow>(
-        &self,
-        alloc: Global,
-        start: Value,
-    ) -> Result<Vec<R>, Memory>
-        ensures { IfOk result (λ rows. AreSection self.now (R.side self.now start) rows.items) }
-    {
-        let reached = R::reached(self, alloc)?;
-        let mut rows = Vec::with_capacity(alloc, reached.len())?;
-        let mut from = 0;
-        while let Some(rank) = reached.first_from(from) {
-            if let Some(row) = R::at(self, start, rank) {
-                rows.push(row)?;
-            }
-            from = rank + 1;
-        }
-        Ok(rows)
-    }
-}
-
 /// The turns for which a configuration with `value` is listed, if the start has the value
 /// `start`.
 fn turns(start: Value, value: Value) -> Turns

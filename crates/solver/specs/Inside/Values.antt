@@ -2,10 +2,11 @@
 use Rattle.std.specs.Prelude.{◌≡◌, ℕ, ◌-◌, ◌<◌, ◌≤◌, ◌==◌, Bool, true, false, cond, List, length}
 use Rattle.std.specs.Prelude.{slice_index}
 use Rattle.board_text.specs.PlainBoard.{PlainBoard, IsBoard}
-use Rattle.positions.specs.declared.space.TheConstants.{MAX_CONFIGURATIONS}
+use Rattle.classes.specs.declared.counting.TheConstants.{MAX_CLASSES}
 use Rattle.positions.specs.declared.value.Value.TheVariants.{Finite, Forever}
 use Rattle.positions.specs.Laws.{Occurs}
 use Rattle.positions.specs.Ranks.{configurations}
+use Rattle.positions.specs.declared.space.TheConstants.{MAX_CONFIGURATIONS}
 use Rattle.positions.specs.Value.{HasValue}
 use Rattle.classes.specs.Sums.{sum_below}
 use Rattle.graphs.specs.Numbered.{Numbered, graph_of, configuration_of}
@@ -39,23 +40,16 @@ AreZeros numbers = (k : ℕ) → k < length numbers → slice_index numbers k �
 -- how many configurations have each finite value that there is, and how many have Forever
 pub record AreSizes (board : PlainBoard) (sizes : List ℕ) (forever : ℕ) : Type 0 where
   pub made : 0 < length sizes
-  pub few : length sizes ≤ MAX_CONFIGURATIONS
+  pub few : length sizes ≤ MAX_CLASSES
   pub finite : (v : ℕ) → v < length sizes → HasCount board (Finite v) (slice_index sizes v)
   pub beyond : (v : ℕ) → length sizes ≤ v → Occurs board v → ⊥
   pub last : 0 < slice_index sizes 0 → Occurs board (length sizes - 1)
   pub unending : HasCount board Forever forever
 
--- the space is that of the board, and each number has its word
-pub record AreNumbered (n : Numbered) (space : PlainBoard) (words : List ℕ) : Type 0 where
-  pub is_board : IsBoard n.board
-  pub few : configurations n.board ≤ MAX_CONFIGURATIONS
-  pub same_space : space ≡ n.board
-  pub valued : AreValues n words
-
 -- each number has its word, and each value its size
-pub record AreValuesOf (n : Numbered) (space : PlainBoard) (words sizes : List ℕ)
-    (forever : ℕ) : Type 0 where
-  pub numbered : AreNumbered n space words
+pub record AreNumberedValues (n : Numbered) (words sizes : List ℕ) (forever : ℕ) : Type 0 where
+  pub is_board : IsBoard n.board
+  pub valued : AreValues n words
   pub sized : AreSizes n.board sizes forever
 
 -- the number is that of a gap, and each configuration's number has its word
@@ -63,3 +57,9 @@ pub record AreResults (n : Numbered) (gap : ℕ) (words : List ℕ) : Type 0 whe
   pub is_board : IsBoard n.board
   pub is_gap : gap < (graph_of n).gaps
   pub valued : AreValues n words
+
+-- the board is that of the values, and has few enough configurations to have ranks
+pub record HaveRanks (n : Numbered) (board : PlainBoard) : Type 0 where
+  pub same_board : n.board ≡ board
+  pub is_board : IsBoard board
+  pub few : configurations board ≤ MAX_CONFIGURATIONS

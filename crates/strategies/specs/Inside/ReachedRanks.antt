@@ -59,6 +59,11 @@ pub record AreMarked (marks : List Bool) (ranks : List ℕ) : Type 0 where
   pub marked : (rank : ℕ) → (slice_index_or marks rank false ≡ true) ↔ Contains ranks rank
   pub once : AllPairs (λ first second. first ≢ second) ranks
 
+-- the same ranks, in ascending order
+pub record AreInOrder (ranks ordered : List ℕ) : Type 0 where
+  pub each : (rank : ℕ) → Contains ordered rank ↔ Contains ranks rank
+  pub ascending : AllPairs (λ first second. first < second) ordered
+
 -- the rank was added after the others, or was among them
 pub record IsWith (before : List ℕ) (rank : ℕ) (after : List ℕ) : Type 0 where
   pub known : Contains before rank → after ≡ before

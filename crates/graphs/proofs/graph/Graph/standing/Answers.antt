@@ -1,77 +1,74 @@
-use Rattle.std.proofs.Common.{◌<◌, ◌∙◌, ℕ, List, sym, ap, subst}
-use Rattle.board_text.specs.PlainBoard.{PlainBoard, IsBoard}
+use Rattle.std.proofs.Common.{◌<◌, ◌∙◌, List, ℕ, sym, ap, subst}
+use Rattle.board_text.specs.PlainBoard.{PlainBoard, IsBoard, IsConfiguration}
 use Rattle.positions.specs.Gaps.{gap_of}
-use Rattle.positions.specs.Ranks.{configuration_at}
-use Rattle.positions.proofs.Cited.{configuration_at_is, rank_of-configuration_at}
-use Rattle.classes.specs.Weights.{class_number_at}
-use Rattle.graphs.specs.ClassGraph.{gap_number}
+use Rattle.positions.specs.Ranks.{rank_of}
 use Rattle.graphs.specs.Numbered.{Numbered, graph_of}
-use Rattle.graphs.proofs.ConfigurationNumbers.{rank-gap, class-gap, rank-number, class-number, by-ranks, by-classes, classes-board}
-use Rattle.graphs.proofs.ConfigurationNumbers.{gap-in-below, number_at-below}
+use Rattle.graphs.proofs.ConfigurationNumbers.{rank-gap, class-gap, rank-number, class-number, by-ranks, by-classes}
+use Rattle.graphs.proofs.ConfigurationNumbers.{gap-in-below, number-below}
 use Rattle.graphs.proofs.graph.Graph.standing.Goals as goal
 
-pub returns-in-None-clause-gaps : goal.returns-in-None-clause-gaps
-returns-in-None-clause-gaps c = λ pebble low.
-    let n : Numbered = c.args.self.now in
-    let numbering = by-ranks n c.self.inside.board.value c.self.inside.classes c.self.view_is c.in-None.is in
-    c.ordered_gaps.ensures pebble (subst (λ (b : PlainBoard). pebble < b.pebbles) (sym c.requires.space) low)
-    ∙ ap (λ (b : PlainBoard). gap_of b (configuration_at b c.args.rank) pebble) c.requires.space
-    ∙ sym (rank-gap n (configuration_at n.board c.args.rank) pebble numbering)
+pub ordered_standing-requires : goal.ordered_standing-requires
+ordered_standing-requires c =
+    let found = by-ranks c.args.self.now c.self.inside.finder c.self.view_is c.in-Ranks.space c.in-Ranks.is in
+    subst (λ (b : PlainBoard). IsConfiguration b c.args.held.now) (sym found.1) c.requires
 
-pub returns-in-None-clause-gaps_below : goal.returns-in-None-clause-gaps_below
-returns-in-None-clause-gaps_below c = λ pebble low.
-    let n : Numbered = c.args.self.now in
-    let is : IsBoard n.board = subst (λ (m : Numbered). IsBoard m.board) c.self.view_is c.self.invariant.1.is_board in
-    let configuration : List ℕ = configuration_at n.board c.args.rank in
-    subst (λ x. x < (graph_of n).gaps) (sym (returns-in-None-clause-gaps c pebble low))
-    (gap-in-below n is configuration pebble (configuration_at_is n.board c.args.rank c.requires.rank) low)
+pub standing-requires : goal.standing-requires
+standing-requires c =
+    let found = by-classes c.args.self.now c.self.inside.finder c.self.view_is c.in-Kinds.classes c.in-Kinds.is in
+    subst (λ (b : PlainBoard). IsConfiguration b c.args.held.now) (sym found.1) c.requires
 
-pub returns-in-Some-clause-gaps : goal.returns-in-Some-clause-gaps
-returns-in-Some-clause-gaps c = λ pebble low.
+pub returns-in-Ranks-clause-number : goal.returns-in-Ranks-clause-number
+returns-in-Ranks-clause-number c =
     let n : Numbered = c.args.self.now in
-    let classes : PlainBoard = c.in-Some.classes in
-    let numbering = by-classes n c.self.inside.board.value c.self.inside.classes c.self.view_is classes c.in-Some.is in
-    let own = classes-board n c.self.inside.board.value c.self.inside.classes c.self.view_is classes c.in-Some.is
-    c.self.invariant.0 in
-    c.at_rank.ensures.gaps pebble (subst (λ (b : PlainBoard). pebble < b.pebbles) (sym own) low)
-    ∙ ap (λ (b : PlainBoard). gap_number (configuration_at b c.args.rank) pebble) own
-    ∙ sym (class-gap n (configuration_at n.board c.args.rank) pebble numbering)
+    let found = by-ranks n c.self.inside.finder c.self.view_is c.in-Ranks.space c.in-Ranks.is in
+    c.ordered_standing.ensures.number ∙ ap (λ (b : PlainBoard). rank_of b c.args.held.now) found.1
+    ∙ sym (rank-number n c.args.held.now found.0)
 
-pub returns-in-Some-clause-gaps_below : goal.returns-in-Some-clause-gaps_below
-returns-in-Some-clause-gaps_below c = λ pebble low.
+pub returns-in-Ranks-clause-below : goal.returns-in-Ranks-clause-below
+returns-in-Ranks-clause-below c =
     let n : Numbered = c.args.self.now in
-    let is : IsBoard n.board = subst (λ (m : Numbered). IsBoard m.board) c.self.view_is c.self.invariant.1.is_board in
-    let configuration : List ℕ = configuration_at n.board c.args.rank in
-    subst (λ x. x < (graph_of n).gaps) (sym (returns-in-Some-clause-gaps c pebble low))
-    (gap-in-below n is configuration pebble (configuration_at_is n.board c.args.rank c.requires.rank) low)
+    let is : IsBoard n.board = subst (λ (m : Numbered). IsBoard m.board) c.self.view_is c.self.invariant.is_board in
+    subst (λ x. x < (graph_of n).configurations) (sym (returns-in-Ranks-clause-number c)) (number-below n is
+    c.args.held.now c.requires)
 
-pub returns-in-None-clause-number : goal.returns-in-None-clause-number
-returns-in-None-clause-number c =
+pub returns-in-Ranks-clause-gaps : goal.returns-in-Ranks-clause-gaps
+returns-in-Ranks-clause-gaps c = λ pebble low.
     let n : Numbered = c.args.self.now in
-    let numbering = by-ranks n c.self.inside.board.value c.self.inside.classes c.self.view_is c.in-None.is in
-    sym (rank-number n (configuration_at n.board c.args.rank) numbering
-    ∙ rank_of-configuration_at n.board c.args.rank c.requires.rank)
+    let found = by-ranks n c.self.inside.finder c.self.view_is c.in-Ranks.space c.in-Ranks.is in
+    c.ordered_standing.ensures.gaps pebble (subst (λ (b : PlainBoard). pebble < b.pebbles) (sym found.1) low)
+    ∙ ap (λ (b : PlainBoard). gap_of b c.args.held.now pebble) found.1
+    ∙ sym (rank-gap n c.args.held.now pebble found.0)
 
-pub returns-in-None-clause-below : goal.returns-in-None-clause-below
-returns-in-None-clause-below c =
+pub returns-in-Ranks-clause-gaps_below : goal.returns-in-Ranks-clause-gaps_below
+returns-in-Ranks-clause-gaps_below c = λ pebble low.
     let n : Numbered = c.args.self.now in
-    let is : IsBoard n.board = subst (λ (m : Numbered). IsBoard m.board) c.self.view_is c.self.invariant.1.is_board in
-    subst (λ x. x < (graph_of n).configurations) (sym (returns-in-None-clause-number c))
-    (number_at-below n is c.args.rank c.requires.rank)
+    let is : IsBoard n.board = subst (λ (m : Numbered). IsBoard m.board) c.self.view_is c.self.invariant.is_board in
+    subst (λ x. x < (graph_of n).gaps) (sym (returns-in-Ranks-clause-gaps c pebble low))
+    (gap-in-below n is c.args.held.now pebble c.requires low)
 
-pub returns-in-Some-clause-number : goal.returns-in-Some-clause-number
-returns-in-Some-clause-number c =
+pub returns-in-Kinds-clause-number : goal.returns-in-Kinds-clause-number
+returns-in-Kinds-clause-number c =
     let n : Numbered = c.args.self.now in
-    let classes : PlainBoard = c.in-Some.classes in
-    let numbering = by-classes n c.self.inside.board.value c.self.inside.classes c.self.view_is classes c.in-Some.is in
-    let own = classes-board n c.self.inside.board.value c.self.inside.classes c.self.view_is classes c.in-Some.is
-    c.self.invariant.0 in
-    c.at_rank.ensures.number ∙ ap (λ (b : PlainBoard). class_number_at b c.args.rank) own
-    ∙ sym (class-number n (configuration_at n.board c.args.rank) numbering)
+    let found = by-classes n c.self.inside.finder c.self.view_is c.in-Kinds.classes c.in-Kinds.is in
+    c.standing.ensures.number ∙ sym (class-number n c.args.held.now found.0)
 
-pub returns-in-Some-clause-below : goal.returns-in-Some-clause-below
-returns-in-Some-clause-below c =
+pub returns-in-Kinds-clause-below : goal.returns-in-Kinds-clause-below
+returns-in-Kinds-clause-below c =
     let n : Numbered = c.args.self.now in
-    let is : IsBoard n.board = subst (λ (m : Numbered). IsBoard m.board) c.self.view_is c.self.invariant.1.is_board in
-    subst (λ x. x < (graph_of n).configurations) (sym (returns-in-Some-clause-number c))
-    (number_at-below n is c.args.rank c.requires.rank)
+    let is : IsBoard n.board = subst (λ (m : Numbered). IsBoard m.board) c.self.view_is c.self.invariant.is_board in
+    subst (λ x. x < (graph_of n).configurations) (sym (returns-in-Kinds-clause-number c)) (number-below n is
+    c.args.held.now c.requires)
+
+pub returns-in-Kinds-clause-gaps : goal.returns-in-Kinds-clause-gaps
+returns-in-Kinds-clause-gaps c = λ pebble low.
+    let n : Numbered = c.args.self.now in
+    let found = by-classes n c.self.inside.finder c.self.view_is c.in-Kinds.classes c.in-Kinds.is in
+    c.standing.ensures.gaps pebble (subst (λ (b : PlainBoard). pebble < b.pebbles) (sym found.1) low)
+    ∙ sym (class-gap n c.args.held.now pebble found.0)
+
+pub returns-in-Kinds-clause-gaps_below : goal.returns-in-Kinds-clause-gaps_below
+returns-in-Kinds-clause-gaps_below c = λ pebble low.
+    let n : Numbered = c.args.self.now in
+    let is : IsBoard n.board = subst (λ (m : Numbered). IsBoard m.board) c.self.view_is c.self.invariant.is_board in
+    subst (λ x. x < (graph_of n).gaps) (sym (returns-in-Kinds-clause-gaps c pebble low))
+    (gap-in-below n is c.args.held.now pebble c.requires low)

@@ -27,22 +27,30 @@ pub gap_pebble-requires : goal.gap_pebble-requires
 gap_pebble-requires g c =
     let at = (goal.at.gap_pebble-requires g c).After-struck in
     let low = subst (λ (m : Numbered). c.in-Some.gap < (graph_of m).gaps) c.graph.ensures c.in-Some.ensures.1 in
-    subst (λ (b : PlainBoard). c.in-Some.gap < gaps b) (sym c.self.invariant.1.same_space)
+    let own : c.space.result.now ≡ (game g at).board = c.space.ensures ∙ ap (λ (v : Solving). v.game.board)
+    (sym c.self.view_is) in
+    subst (λ (b : PlainBoard). c.in-Some.gap < gaps b) (sym own)
     (subst (λ n. c.in-Some.gap < n) (ordered-gaps (game g at) (ordered g at)) low)
 
 pub returns-in-Some : goal.returns-in-Some
 returns-in-Some g c =
     let at = (goal.at.returns-in-Some g c).After-struck in
     let low = subst (λ (m : Numbered). c.in-Some.gap < (graph_of m).gaps) c.graph.ensures c.in-Some.ensures.1 in
+    let own : c.space.result.now ≡ (game g at).board = c.space.ensures ∙ ap (λ (v : Solving). v.game.board)
+    (sym c.self.view_is) in
     let pebble : pebble_of (game g at).board c.in-Some.gap ≡ c.gap_pebble.result =
-    ap (λ (b : PlainBoard). pebble_of b c.in-Some.gap) (sym c.self.invariant.1.same_space) ∙ sym c.gap_pebble.ensures.pebble in
-    subst (λ (v : Solving). IsSmallest (IsDominator v.game.board (configuration_of v.game c.args.rank)) (Some c.gap_pebble.result)) c.self.view_is
+    ap (λ (b : PlainBoard). pebble_of b c.in-Some.gap) (sym own) ∙ sym c.gap_pebble.ensures.pebble in
+    subst (λ (v : Solving). IsSmallest (IsDominator v.game.board (configuration_of v.game c.args.rank))
+    (Some c.gap_pebble.result)) c.self.view_is
     (subst (λ p. IsSmallest (IsDominator (game g at).board (configuration_of (game g at) c.args.rank)) (Some p)) pebble
-    (dominator-some (game g at) (ordered g at) c.self.invariant.0.is_board c.args.rank c.in-Some.gap (inside g at) (same g at c.in-Some.gap c.in-Some.ensures.0) low))
+    (dominator-some (game g at) (ordered g at) c.self.invariant.0.is_board c.args.rank c.in-Some.gap (inside g at)
+    (same g at c.in-Some.gap c.in-Some.ensures.0) low))
 
 pub returns-in-None : goal.returns-in-None
 returns-in-None g c =
     let at = (goal.at.returns-in-None g c).After-struck in
-    let none = subst (λ (m : Numbered). (graph_of m).gaps ≤ (graph_of m).struck c.args.rank) c.graph.ensures c.in-None.ensures in
-    subst (λ (v : Solving). IsSmallest (IsDominator v.game.board (configuration_of v.game c.args.rank)) None) c.self.view_is
+    let none = subst (λ (m : Numbered). (graph_of m).gaps ≤ (graph_of m).struck c.args.rank) c.graph.ensures
+    c.in-None.ensures in
+    subst (λ (v : Solving). IsSmallest (IsDominator v.game.board (configuration_of v.game c.args.rank)) None)
+    c.self.view_is
     (dominator-none (game g at) (ordered g at) c.self.invariant.0.is_board c.args.rank (inside g at) none)

@@ -1,64 +1,38 @@
-use Rattle.std.proofs.Common.{◌≡◌, ◌-◌, ◌^◌, ◌<◌, ◌∙◌, ℕ, suc, Bool, true, List, length, take, slice_index, sym, ap}
-use Rattle.std.proofs.Common.{subst, arith}
-use Rattle.std.proofs.lemmas.List.{take_at}
-use Rattle.classes.specs.Sums.{sum_below}
-use Rattle.graphs.specs.Numbered.{graph_of}
-use Rattle.solver.specs.Inside.Stage.{PlainStage, IsState}
-use Rattle.solver.specs.Inside.Tables.{is_open}
-use Rattle.solver.specs.Inside.Values.{weighed, AreSums, AreValuesOf}
-use Rattle.solver.proofs.ValueSizes.{all-few, values-of, words-inside}
-use Rattle.solver.proofs.solver.Solver.finish.Given
+use Rattle.std.proofs.Common.{◌≡◌, ◌≤◌, ◌∙◌, sym, ap, subst, Some, None}
+use Rattle.board_text.specs.PlainBoard.{PlainBoard, IsBoard}
+use Rattle.positions.specs.Ranks.{configurations}
+use Rattle.positions.specs.declared.space.TheConstants.{MAX_CONFIGURATIONS}
+use Rattle.graphs.specs.Numbered.{Numbered}
+use Rattle.solver.specs.Solving.{Solving}
+use Rattle.solver.specs.Inside.Values.{HaveRanks}
+use Rattle.solver.proofs.RankSpaces.{ranks_space, same_some}
 use Rattle.solver.proofs.solver.Solver.finish.Goals as goal
-use Rattle.solver.proofs.solver.Solver.finish.Goals.{After-deref-2}
 
-module _ (g : Given.Over) (c : After-deref-2 g) where
-  abbrev s : PlainStage
-  s = c.self.inside.stage
+with-ranks : (n : Numbered) (made : Numbered) (space : PlainBoard) → made ≡ n → IsBoard n.board → space ≡ n.board
+    → configurations n.board ≤ MAX_CONFIGURATIONS → HaveRanks made space
+with-ranks n made space same is own few = record {
+  same_board = ap (λ (m : Numbered). m.board) same ∙ sym own;
+  is_board = subst IsBoard (sym own) is;
+  few = subst (λ (b : PlainBoard). configurations b ≤ MAX_CONFIGURATIONS) (sym own) few;
+}
 
-  state : IsState s (s.value - 1) true
-  state = subst (λ d. IsState s (s.value - 1) d) c.if-not-self.false c.self.invariant.0
+pub with_space-requires : goal.with_space-requires
+with_space-requires g c =
+    let n : Numbered = c.args.self.game in
+    let found = ranks_space n.numbering n.board _ c.requires.ordered c.close-numbered.ensures.space in
+    with-ranks n c.close-numbered.result.0 c.in-Some.space c.close-numbered.ensures.values c.close-numbered.ensures.is_board
+    (same_some _ _ (sym c.in-Some.is ∙ found.0)) found.1
 
-  words-are : c.deref.result.now ≡ s.values
-  words-are = c.deref.ensures.value ∙ ap (λ (v : PlainStage). v.values) c.stage.view_is
+pub unreachable-requires : goal.unreachable-requires
+unreachable-requires g c =
+    let n : Numbered = c.args.self.game in
+    let found = ranks_space n.numbering n.board _ c.requires.ordered c.close-numbered.ensures.space in
+    let none = sym c.in-None.is ∙ found.0 in absurd cc
 
-  long : length c.deref.result.now ≡ (graph_of s.game).configurations
-  long = ap length words-are ∙ c.self.invariant.0.stage.words_are.values_length
-
-pub add_weights-forever-requires-clause-inside : goal.add_weights-forever-requires-clause-inside
-add_weights-forever-requires-clause-inside g c =
-    let at = (goal.at.add_weights-forever-requires-clause-inside g c).After-deref-2 in
-    subst (λ (l : List ℕ). (x : ℕ) → x < length l → is_open l x ≡ Bool.false → slice_index l x < length c.deref_mut.result.now) (sym (words-are g at))
-    (subst (λ (z : List ℕ). (x : ℕ) → x < length (s g at).values → is_open (s g at).values x ≡ Bool.false → slice_index (s g at).values x < length z) (sym c.deref_mut.ensures.value)
-    (words-inside (s g at) _ (state g at) _ _ _ c.self.invariant.1))
-
-pub add_weights-forever-requires-clause-few : goal.add_weights-forever-requires-clause-few
-add_weights-forever-requires-clause-few g c =
-    let at = (goal.at.add_weights-forever-requires-clause-few g c).After-deref-2 in
-    let all = all-few (s g at).game c.self.invariant.0.is_board c.self.invariant.1.few c.self.inside.weights.items c.self.invariant.1.weighed in
-    subst (λ n. sum_below n (slice_index c.deref-2.result.now) < 2 ^ 32) (sym (long g at))
-    (subst (λ (l : List ℕ). sum_below (graph_of (s g at).game).configurations (slice_index l) < 2 ^ 32) (sym c.deref-2.ensures.value) all)
-
-pub new-requires : goal.new-requires
-new-requires g c =
-    let at = (goal.at.new-requires g c).After-deref-2 in
-    let now : PlainStage = s g at in
-    let words : List ℕ = now.values in
-    let weights : List ℕ = c.self.inside.weights.items in
-    let sums : List ℕ = c.add_weights-forever.new.sizes in
-    let e = c.add_weights-forever.ensures in
-    let size : ℕ = (graph_of now.game).configurations in
-    let added : AreSums words weights size sums =
-    subst (λ n. AreSums words weights n sums) (long g at)
-    (subst (λ (p : List ℕ × List ℕ). AreSums p.0 p.1 (length c.deref.result.now) sums) (λ j. (words-are g at j, c.deref-2.ensures.value j)) e.sums) in
-    let wide : length sums ≡ size = e.size ∙ ap length c.deref_mut.ensures.value ∙ c.self.invariant.1.zeros_length in
-    let forever : c.add_weights-forever.result ≡ weighed weights (is_open words) size =
-    e.forever ∙ ap (λ (p : List ℕ × List ℕ × ℕ). weighed p.1 (is_open p.0) p.2)
-    (λ j. (words-are g at j, c.deref-2.ensures.value j, long g at j)) in
-    let value_is : now.value ≡ suc (now.value - 1) = (let v = c.self.invariant.0.value_is in omega arith) in
-    let taken : c.truncate.new.self.items ≡ take c.stage.inside.value sums =
-    c.truncate.ensures.items ∙ ap (take c.stage.inside.value)
-    (take_at sums _ c.self.inside.sizes.len (e.size ∙ c.deref_mut.ensures.len)) in
-    let cut : c.truncate.new.self.items ≡ take (suc (now.value - 1)) sums =
-    taken ∙ ap (λ v. take v sums) (ap (λ (v : PlainStage). v.value) c.stage.view_is ∙ value_is) in
-    let all = values-of now _ (state g at) _ weights _ c.self.invariant.1 sums c.truncate.new.self.items c.add_weights-forever.result added wide cut forever in
-    subst (λ (v : PlainStage). AreValuesOf v.game c.self.inside.space v.values c.truncate.new.self.items c.add_weights-forever.result) (sym c.stage.view_is) all
+pub returns-clause-values : goal.returns-clause-values
+returns-clause-values g c =
+    let n : Numbered = c.args.self.game in
+    let found = ranks_space n.numbering n.board _ c.requires.ordered c.close-numbered.ensures.space in (
+      ap (λ (v : Solving). v.is_done) (sym c.self.view_is) ∙ c.if-not-self.false,
+      c.with_space.ensures ∙ same_some _ _ (sym c.in-Some.is ∙ found.0),
+    )

@@ -7,17 +7,17 @@ use Rattle.strategies.proofs.marks.Marks.first_from.Goals.{After-index}
 in-words : (c : After-index) → c.loop-number.number / 64 < length c.self.inside.words.items
 in-words c = omega (arith, c.loop-number-test.true, c.self.invariant)
 
-pub returns-then-first-size : goal.returns-then-first-size
-returns-then-first-size c =
-    let at = (goal.at.returns-then-first-size c).After-index in
+pub returns-then-first-size-clause-first : goal.returns-then-first-size-clause-first
+returns-then-first-size-clause-first c =
+    let at = (goal.at.returns-then-first-size-clause-first c).After-index in
     let s = c.self.inside in
     let fits : c.index.result.now < 2 ^ 64 = search rules in
     let first = first_in_word s.words.items c.loop-number.number c.index.result.now (in-words at) c.index.ensures c.args.bound (omega (arith, c.if-rest-ne0.true)) fits c.loop-number.invariant.none in
     rw (← c.self.view_is) (first_mark s.size s.words.items c.args.bound _ (omega (arith, c.loop-number.invariant.above)) c.if-first-size.true first.0 first.1)
 
-pub returns-else-first-size : goal.returns-else-first-size
-returns-else-first-size c =
-    let at = (goal.at.returns-else-first-size c).After-index in
+pub returns-else-first-size-clause-first : goal.returns-else-first-size-clause-first
+returns-else-first-size-clause-first c =
+    let at = (goal.at.returns-else-first-size-clause-first c).After-index in
     let s = c.self.inside in
     let fits : c.index.result.now < 2 ^ 64 = search rules in
     let first = first_in_word s.words.items c.loop-number.number c.index.result.now (in-words at) c.index.ensures c.args.bound (omega (arith, c.if-rest-ne0.true)) fits c.loop-number.invariant.none in
@@ -30,5 +30,5 @@ loop-number-preserved c = record {
       c.index.ensures c.args.bound c.if-rest-ne0.false c.loop-number.invariant.none;
 }
 
-pub returns : goal.returns
-returns c = let s = c.self.inside in rw (← c.self.view_is) (no_mark s.size s.words.items c.args.bound c.loop-number.number c.loop-number-test.false c.loop-number.invariant.none)
+pub returns-clause-first : goal.returns-clause-first
+returns-clause-first c = let s = c.self.inside in rw (← c.self.view_is) (no_mark s.size s.words.items c.args.bound c.loop-number.number c.loop-number-test.false c.loop-number.invariant.none)

@@ -1,0 +1,43 @@
+use Rattle.std.proofs.Common.{◌<◌, ◌∙◌, List, ℕ, sym, ap, subst}
+use Rattle.board_text.specs.PlainBoard.{PlainBoard, IsBoard, IsConfiguration}
+use Rattle.positions.specs.Ranks.{rank_of}
+use Rattle.graphs.specs.Numbered.{Numbered, graph_of}
+use Rattle.graphs.proofs.ConfigurationNumbers.{rank-number, class-number, by-ranks, by-classes, number-below}
+use Rattle.graphs.proofs.graph.Graph.number_of.Goals as goal
+
+pub rank-requires : goal.rank-requires
+rank-requires c =
+    let found = by-ranks c.args.self.now c.self.inside.finder c.self.view_is c.in-Ranks.space c.in-Ranks.is in
+    subst (λ (b : PlainBoard). IsConfiguration b c.args.held.now) (sym found.1) c.requires
+
+pub number_of-requires : goal.number_of-requires
+number_of-requires c =
+    let found = by-classes c.args.self.now c.self.inside.finder c.self.view_is c.in-Kinds.classes c.in-Kinds.is in
+    subst (λ (b : PlainBoard). IsConfiguration b c.args.held.now) (sym found.1) c.requires
+
+pub returns-in-Ranks-clause-number : goal.returns-in-Ranks-clause-number
+returns-in-Ranks-clause-number c =
+    let n : Numbered = c.args.self.now in
+    let found = by-ranks n c.self.inside.finder c.self.view_is c.in-Ranks.space c.in-Ranks.is in
+    c.rank.ensures.rank ∙ ap (λ (b : PlainBoard). rank_of b c.args.held.now) found.1
+    ∙ sym (rank-number n c.args.held.now found.0)
+
+pub returns-in-Ranks-clause-below : goal.returns-in-Ranks-clause-below
+returns-in-Ranks-clause-below c =
+    let n : Numbered = c.args.self.now in
+    let is : IsBoard n.board = subst (λ (m : Numbered). IsBoard m.board) c.self.view_is c.self.invariant.is_board in
+    subst (λ x. x < (graph_of n).configurations) (sym (returns-in-Ranks-clause-number c)) (number-below n is
+    c.args.held.now c.requires)
+
+pub returns-in-Kinds-clause-number : goal.returns-in-Kinds-clause-number
+returns-in-Kinds-clause-number c =
+    let n : Numbered = c.args.self.now in
+    let found = by-classes n c.self.inside.finder c.self.view_is c.in-Kinds.classes c.in-Kinds.is in
+    c.number_of.ensures.number ∙ sym (class-number n c.args.held.now found.0)
+
+pub returns-in-Kinds-clause-below : goal.returns-in-Kinds-clause-below
+returns-in-Kinds-clause-below c =
+    let n : Numbered = c.args.self.now in
+    let is : IsBoard n.board = subst (λ (m : Numbered). IsBoard m.board) c.self.view_is c.self.invariant.is_board in
+    subst (λ x. x < (graph_of n).configurations) (sym (returns-in-Kinds-clause-number c)) (number-below n is
+    c.args.held.now c.requires)
