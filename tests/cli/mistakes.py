@@ -12,6 +12,8 @@ from program import LONGEST, Ran, fault, shown, written
 CHAIN = os.path.join(BOARDS, 'chain-of-three.board')
 CHAIN_PROOF = os.path.join(BOARDS, 'chain-of-three.proof')
 README = os.path.join(TOP, 'README.md')
+# a document for the chain without its row for 2 0
+MOST_WITHOUT_A_ROW = 'proof 1\nmost 2\nadversary 3\nat 0 0 for 2 ask 0\nat 1 0 for 1 ask 1\nat 1 2 for 0 ask 0\nend\n'
 
 
 @dataclass
@@ -110,36 +112,53 @@ def of_boards(work):
         good = file.read()
     version, pairs = 'line 1 Version', 'beats 1 0\nbeats 2 0\nbeats 2 1'
     texts = [
-        ('an empty board', b'', version, 'empty'),
+        ('an empty board', b'', version, 'it is empty'),
         ('Windows line ends', in_board(good, '\n', '\r\n'), version, 'Windows'),
+        ('old Mac line ends', in_board(good, '\n', '\r'), version, 'a carriage return alone'),
         ('a byte order mark', b'\xef\xbb\xbf' + good.encode(), version, 'byte order mark'),
         ('UTF-16', good.encode('utf-16'), version, 'UTF-16'),
         ('a comment before a board', b'# mine\n' + good.encode(), version, 'line 1 must be'),
         ('another word for board', in_board(good, 'board', 'Board'), version, 'line 1 must be'),
         ('lines 2 and 3 exchanged', in_board(good, 'labels 3\npebbles 2', 'pebbles 2\nlabels 3'), 'line 2 Labels', 'labels V'),
-        ('257 labels', in_board(good, 'labels 3', 'labels 257'), 'line 2 Labels', '256'),
-        ('seven pebbles', in_board(good, 'pebbles 2', 'pebbles 7'), 'line 3 Pebbles', 'from 1 to 6'),
-        ('no label in board 1', in_board(good, 'start 0 0', 'start 0 -'), 'line 4 Start', '`board 2`'),
-        ('labels alone in board 2', in_board(good, 'board 1', 'board 2'), 'line 4 Start', 'once at least'),
-        ('too few places', in_board(good, 'start 0 0', 'start 0'), 'line 4 Start', 'a place for each pebble'),
-        ('a space at the end', in_board(good, 'start 0 0', 'start 0 0 '), 'line 4 Start', 'none at the end'),
-        ('a tab', in_board(good, 'beats 1 0', 'beats\t1 0'), 'line 5 Beats', 'a tab'),
-        ('an empty line', in_board(good, 'beats 1 0', '\nbeats 1 0'), 'line 5 Beats', 'an empty line'),
-        ('a label out of range', in_board(good, 'beats 1 0', 'beats 3 0'), 'line 5 Beats', 'below V'),
-        ('both directions', in_board(good, pairs, 'beats 0 1\nbeats 1 0'), 'line 6 TwoWay', 'the other way round'),
+        ('257 labels', in_board(good, 'labels 3', 'labels 257'), 'line 2 Labels', '257 is more than 256; line 2'),
+        ('a leading zero', in_board(good, 'labels 3', 'labels 03'), 'line 2 Labels', 'no leading zero'),
+        ('a board of one line', b'board 1\n', 'line 2 Labels', 'the text ends before this line; line 2'),
+        ('a carriage return in line 2', in_board(good, 'labels 3', 'labels 3\r'), 'line 2 Labels', 'a carriage return is in the line'),
+        ('seven pebbles', in_board(good, 'pebbles 2', 'pebbles 7'), 'line 3 Pebbles', '7 is more than 6; line 3'),
+        ('no label in board 1', in_board(good, 'start 0 0', 'start 0 -'), 'line 4 Start', 'a `-` is in the line of a `board 1`'),
+        ('labels alone in board 2', in_board(good, 'board 1', 'board 2'), 'line 4 Start', 'no `-` is in the line of a `board 2`'),
+        ('too few places', in_board(good, 'start 0 0', 'start 0'), 'line 4 Start', 'places in the line: 1, pebbles: 2; line 4'),
+        ('too many places', in_board(good, 'start 0 0', 'start 0 0 0'), 'line 4 Start', 'places in the line: 3, pebbles: 2; line 4'),
+        ('a start out of range', in_board(good, 'start 0 0', 'start 0 3'), 'line 4 Start', 'labels of this board are below 3; line 4'),
+        ('a space at the end', in_board(good, 'start 0 0', 'start 0 0 '), 'line 4 Start', 'a space is at the end of the line'),
+        ('a space at the start', in_board(good, 'start 0 0', ' start 0 0'), 'line 4 Start', 'a space is at the start of the line'),
+        ('two spaces', in_board(good, 'start 0 0', 'start  0 0'), 'line 4 Start', 'two spaces are side by side'),
+        ('a tab', in_board(good, 'beats 1 0', 'beats\t1 0'), 'line 5 Beats', 'a tab is in the line'),
+        ('an empty line', in_board(good, 'beats 1 0', '\nbeats 1 0'), 'line 5 Beats', 'the line is empty'),
+        ('a label out of range', in_board(good, 'beats 1 0', 'beats 3 0'), 'line 5 Beats', '3 is no label of this board: they are below 3; the line'),
+        ('a carriage return in a pair', in_board(good, 'beats 1 0', 'beats 1 0\r'), 'line 5 Beats', 'a carriage return is in the line'),
+        ('another word for beats', in_board(good, 'beats 1 0', 'beat 1 0'), 'line 5 Beats', '`beats X Y`'),
+        ('both directions', in_board(good, pairs, 'beats 0 1\nbeats 1 0'), 'line 6 TwoWay', 'line 5 has the same two labels the other way round'),
         ('a label that dominates itself', in_board(good, 'beats 1 0', 'beats 1 1'), 'line 5 SelfBeat', 'must differ'),
-        ('pairs that do not ascend', in_board(good, pairs, 'beats 2 1\nbeats 1 0'), 'line 6 Order', 'sort'),
-        ('no end', in_board(good, 'end\n', ''), 'line 8 End', '`end`'),
+        ('pairs that do not ascend', in_board(good, pairs, 'beats 2 1\nbeats 1 0'), 'line 6 Order', 'before that of line 5; lines `beats X Y`'),
+        ('a pair twice', in_board(good, pairs, 'beats 1 0\nbeats 1 0'), 'line 6 Order', 'the same pair is in line 5; lines `beats X Y`'),
+        ('no end', in_board(good, 'end\n', ''), 'line 8 End', 'the text ends before this line; the last line must be `end`'),
+        ('an end without its line feed', in_board(good, 'end\n', 'end'), 'line 8 End', 'no line feed at its end'),
+        ('an end with a carriage return', in_board(good, 'end\n', 'end\r\n'), 'line 8 End', 'a carriage return is in the line'),
         ('an empty line after the end', good.encode() + b'\n', 'line 9 Trailing', 'nothing may follow'),
+        ('a joined input as a board', good.encode() + open(CHAIN_PROOF, 'rb').read(), 'line 9 Trailing', 'a strategy document comes after'),
     ]
     for number, (name, text, line, says) in enumerate(texts):
         path = written(work, f'mistake-{number}.board', text)
         yield Mistake(name, ['solve', path], fault(1, f'board fault {line}'), path, says)
     large = written(work, 'mistake-large.board', empty(33))
-    yield Mistake('a board that is too large', ['solve', large], fault(1, 'board too large'), large, '1185921 configurations')
+    yield Mistake('a board that is too large', ['solve', large], fault(1, 'board too large'), large,
+                  '1185921 configurations, and the most is 1048576; with as many pebbles a board has at most 32 labels')
     few = written(work, 'mistake-few-labels.board', board_text(1, 20, [0] * 5, []))
     yield Mistake('a board that is too large and has few labels', ['solve', few], fault(1, 'board too large'), few,
-                  '3200000 configurations, and the most is 1048576; no start of this board lasts for ever')
+                  'at most 16 labels; no start of this board lasts for ever')
+    blank = written(work, 'mistake-large-blank.board', board_text(2, 32, ['-'] + [0] * 3, []))
+    yield Mistake('a board 2 that is too large', ['solve', blank], fault(1, 'board too large'), blank, 'at most 31 labels')
     long = written(work, 'mistake-long.board', b'board 1\n' + b' ' * 1_048_576)
     yield Mistake('a board that is too long', ['solve', long], fault(5, 'input too long'), long, '1048576 bytes')
 
@@ -149,36 +168,87 @@ def of_files(work):
     nowhere = os.path.join(work, 'nosuch.board')
     unread = fault(5, 'read fault')
     version = 'board fault line 1 Version'
+    circle = os.path.join(work, 'circle.board')
+    os.symlink(circle, circle)
+    joined = os.path.join(BOARDS, 'chain-of-three-least-two.joined')
     yield Mistake('no such board', ['solve', nowhere], unread, nowhere, 'no such file')
     yield Mistake('no such board of a check', ['check', nowhere, CHAIN_PROOF], unread, nowhere, 'no such file')
     yield Mistake('no such document', ['check', CHAIN, nowhere], unread, nowhere, 'no such file')
+    yield Mistake('an empty path', ['solve', ''], unread, 'the empty path', 'no such file')
+    yield Mistake('links in a circle', ['solve', circle], unread, circle, 'lead back to themselves')
+    yield Mistake('a file as a folder', ['solve', f'{CHAIN}/x.board'], unread, f'{CHAIN}/x.board', 'a file and no folder')
+    yield Mistake('a name that is too long', ['solve', 'x' * 300], unread, 'x' * 300, 'longer than the system allows')
     yield Mistake('a folder as a board', ['solve', work], unread, work, 'folder')
     yield Mistake('a folder as a document', ['check', CHAIN, work], unread, work, 'folder')
     yield Mistake('a hyphen for standard input', ['solve', '-'], unread, '-', '/dev/stdin')
+    yield Mistake('a hyphen for a document', ['check', CHAIN, '-'], unread, '-', '/dev/stdin')
     yield Mistake('README as a board', ['solve', README], fault(1, version), README, 'line 1 must be')
-    yield Mistake('a document as a board', ['solve', CHAIN_PROOF], fault(1, version), CHAIN_PROOF, 'strategy document')
+    for words in (['solve'], ['report'], ['play', '--side', 'labeller']):
+        yield Mistake(f'a document as a board of {words[0]}', [*words, CHAIN_PROOF], fault(1, version), CHAIN_PROOF,
+                      'it is a strategy document and no board\n')
     yield Mistake('board and document exchanged', ['check', CHAIN_PROOF, CHAIN], fault(1, version), CHAIN_PROOF, 'exchanged')
+    yield Mistake('the document named twice', ['check', CHAIN_PROOF, CHAIN_PROOF], fault(1, version), CHAIN_PROOF, 'no board\n')
     yield Mistake('the board named twice', ['check', CHAIN, CHAIN], fault(1, 'proof fault line 1 Version'), CHAIN, 'given twice')
+    other = os.path.join(BOARDS, 'three-cycle.board')
+    yield Mistake('another board as a document', ['check', CHAIN, other], fault(1, 'proof fault line 1 Version'), other,
+                  'it is a board and no strategy document\n')
+    yield Mistake('a joined input as a document', ['check', CHAIN, joined], fault(1, 'proof fault line 1 Version'), joined,
+                  '`pebbles < FILE`')
 
 
 def of_documents(work):
     """Documents with a fault, and of other boards."""
     with open(CHAIN_PROOF) as file:
         good = file.read()
-    first, second, third = good.splitlines()[:3]
-    word, count = third.split()
+    with open(os.path.join(BOARDS, 'chain-of-three-least-two.joined')) as file:
+        least = file.read()[len(open(CHAIN).read()):]
+    row, section = 'at 0 0 for 2 take 1 1', 'labeller 3'
+    fewer, more = f'{section.split()[0]} 4', f'{section.split()[0]} 2'
     texts = [
-        ('an empty document', b'', 'line 1 Version', 'empty'),
-        ('a claim of no form', in_board(good, second, 'for ever'), 'line 2 Claim', '`forever`'),
-        ('a section of another name', in_board(good, third, f'{word}s {count}'), 'line 3 Section', '`labeller n`'),
-        ('fewer rows than the first line says', in_board(good, third, f'{word} {int(count) + 1}'), f'line {4 + int(count)} Row', 'fewer rows'),
+        ('an empty document', b'', 'line 1 Version', 'it is empty'),
+        ('a claim of no form', in_board(good, 'value 2', 'for ever'), 'line 2 Claim', '`forever`'),
+        ('a claim that is too large', in_board(good, 'value 2', 'value 1000000001'), 'line 2 Claim', '1000000001 is more than 1000000000; line 2'),
+        ('a section of another name', in_board(good, 'labeller 3', 'labellers 3'), 'line 3 Section', '`labeller n`'),
+        ('a section that is not due', in_board(least, 'least 2', 'most 2'), 'line 3 Section', 'the claim asks for no such section here'),
+        ('a section that is too large', in_board(least, section, 'labeller 1048577'), 'line 3 Section', '1048577 is more than 1048576'),
+        ('a section that is missing', in_board(least, 'least 2', 'value 2'), 'line 7 Section', 'a section is missing'),
+        ('more rows before a section', in_board(good, section, more), 'line 6 Section', 'more rows than its first line says'),
+        ('rows without a section', in_board(least, f'{section}\n', ''), 'line 3 Section', 'a row comes before the first line of its section'),
+        ('fewer rows before a section', in_board(good, section, fewer), 'line 7 Row', 'fewer rows than its first line says'),
+        ('fewer rows before the end', in_board(least, section, fewer), 'line 7 Row', 'fewer rows than its first line says'),
+        ('more rows before the end', in_board(least, section, more), 'line 6 End', 'the last section has more rows than its first line says'),
+        ('a section that the claim has none of', in_board(good, 'value 2', 'least 2'), 'line 7 End', 'the claim asks for no such section here'),
+        ('a row of three pebbles', in_board(least, row, 'at 0 0 0 for 2 take 1 1 1'), 'line 4 Row', 'places in the line: 3, pebbles: 2'),
+        ('a row with a carriage return', in_board(least, row, f'{row}\r'), 'line 4 Row', 'a carriage return is in the line'),
+        ('a document that ends in its rows', least[:least.index('at 0 1')].encode(), 'line 5 Row', 'the text ends before this line'),
+        ('a label out of range in a row', in_board(least, row, 'at 0 3 for 2 take 1 1'), 'line 4 Label', 'labels of this board are below 3'),
+        ('a pebble out of range', in_board(good, 'at 0 0 for 2 ask 0', 'at 0 0 for 2 ask 2'), 'line 8 Pebble', 'pebbles of this board are below 2'),
+        ('a star in a document of a number', in_board(least, 'at 0 0 for 2', 'at 0 0 for *'), 'line 4 Number', '`forever` document'),
+        ('rows that do not ascend', in_board(least, 'at 0 1 for 1 take 2 1\n', f'{row}\n'), 'line 5 Order', 'must ascend'),
+        ('a document without its end', in_board(least, 'end\n', ''), 'line 7 End', 'the text ends before this line'),
+        ('an empty line after a document', least.encode() + b'\n', 'line 8 Trailing', 'nothing may follow'),
     ]
     for number, (name, text, line, says) in enumerate(texts):
         path = written(work, f'mistake-{number}.proof', text)
         yield Mistake(name, ['check', CHAIN, path], fault(1, f'proof fault {line}'), path, says)
+    value = good
+    refused = [
+        ('the start is missing', 'proof 1\nleast 1\nlabeller 0\nend\n', "the start has no row in the labeller's section"),
+        ('the start is missing for the adversary', 'proof 1\nmost 1\nadversary 0\nend\n', "the start has no row in the adversary's section"),
+        ('the claim is too high', least.replace('least 2', 'least 3'), 'a number below that of the claim'),
+        ('the claim is too low', value.replace('value 2', 'value 1'), 'a number above that of the claim'),
+        ('an answer is not legal', least.replace('take 1 1', 'take 0 1'), 'does not dominate the labels of all other pebbles'),
+        ('a result has no row', least.replace(section, more).replace('at 1 0 for 1 take 1 2\n', ''), 'leads to a configuration that has no row'),
+        ('a number is too small', least.replace('least 2', 'least 3').replace('for 2', 'for 3'), 'a row whose number is too small'),
+        ('a label is legal at 0', value.replace('at 2 0 for 0 ask 1', 'at 2 0 for 0 ask 0'), 'as if no label were legal'),
+        ('a result of a label has no row', MOST_WITHOUT_A_ROW, 'leads to a configuration that has no row'),
+        ('a number is too large', value.replace('at 1 2 for 0 ask 0', 'at 1 2 for 1 ask 0'), 'is not below that of this row'),
+    ]
+    for number, (name, text, says) in enumerate(refused):
+        path = written(work, f'refused-{number}.proof', text.encode())
+        yield Mistake(name, ['check', CHAIN, path], Ran(3, b'refused ..', b''), path, says)
     other = os.path.join(BOARDS, 'one-pair.proof')
-    refused = Ran(3, b'refused ..', b'')
-    yield Mistake('a document of another board', ['check', CHAIN, other], refused, other, 'another board')
+    yield Mistake('a document of another board', ['check', CHAIN, other], Ran(3, b'refused ..', b''), other, 'another board')
 
 
 def of_streams(work):
@@ -187,14 +257,24 @@ def of_streams(work):
         board, document = file.read(), other.read()
     wrong_board, wrong_document = fault(1, 'board fault line 1 Version'), fault(1, 'proof fault line 1 Version')
     before, after = 'standard input', 'standard input after the board'
-    yield Mistake('a board without a document', [], wrong_document, after, 'empty', given=board)
-    yield Mistake('a board twice', [], wrong_document, after, 'given twice', given=board + board)
+    yield Mistake('a board without a document', [], wrong_document, after, 'nothing comes after the board', given=board)
+    yield Mistake('a board twice', [], wrong_document, after, 'a second board comes after the board', given=board + board)
     yield Mistake('a blank line before a document', [], wrong_document, after, 'line 1 must be', given=board + b'\n' + document)
     yield Mistake('no input', [], wrong_board, before, 'it is empty')
-    yield Mistake('a document before its board', [], wrong_board, before, 'strategy document', given=document + board)
+    yield Mistake('a document before its board', [], wrong_board, before, 'the board must come before that', given=document + board)
     yield Mistake('Windows line ends on standard input', [], wrong_board, before, 'Windows', given=board.replace(b'\n', b'\r\n'))
+    yield Mistake('a carriage return on standard input', [], fault(1, 'proof fault line 2 Claim'), after, 'a carriage return is in the line',
+                  given=board + document.replace(b'value 2', b'value 2\r'))
     yield Mistake('a board on standard input that is too large', [], fault(1, 'board too large'), before, '1185921 configurations',
                   given=empty(33))
+    closed = ['sh', '-c', 'exec "$0" "$@" <&-']
+    folder = ['sh', '-c', f'exec "$0" "$@" < {work}']
+    unread = fault(5, 'read fault')
+    for name, words in (('a joined check', []), ('a play', ['play', '--side', 'adversary', CHAIN]), ('a climb', ['climb', '2'])):
+        yield Mistake(f'a closed standard input for {name}', words, unread, before, 'it is closed', before=closed)
+    yield Mistake('a folder for a joined check', [], unread, before, 'it is a folder', before=folder)
+    opening = fault(5, 'read fault', b'value 2\nat 0 0\n')
+    yield Mistake('a folder for a play', ['play', '--side', 'adversary', CHAIN], opening, before, 'it is a folder', before=folder)
     large = written(work, 'mistake-memory.board', empty(32))
     little = ['sh', '-c', 'ulimit -v 4096; exec "$0" "$@"']
     yield Mistake('too little memory', ['solve', large], fault(4, 'out of memory'), 'memory', 'smaller board', before=little)
@@ -219,10 +299,16 @@ def of_permissions(work):
 def of_words(work):
     """Words of no command: the message is clap's."""
     wrong = Ran(2, b'', b'error: ..')
-    for words in (['--workers', '0'], ['slove', CHAIN], [CHAIN], ['check', CHAIN], ['solve', '-w', '4', CHAIN], ['solve', '--json', CHAIN],
-                  ['solve', '--workers', 'x', CHAIN], ['solve', CHAIN, 'extra'], ['play', 'labeller', CHAIN],
-                  ['play', '--side', 'both', CHAIN], ['nested', '7', '3'], ['climb', '25'], ['help', 'solv']):
-        yield Mistake(f'the words {" ".join(os.path.basename(word) for word in words)}', words, wrong, 'pebbles', '`pebbles --help`')
+    general, path, workers = '`pebbles --help` lists', 'the name of a command comes before a path', '`--workers` comes with a number'
+    options, version = 'the only options are', '`--version` stands alone'
+    told = [(['--workers', '0'], workers), (['slove', 'board'], general), ([CHAIN], path), (['c.board'], path), (['check', CHAIN], general),
+            (['solve', '-w', '4', CHAIN], options), (['solve', '--json', CHAIN], options), (['solve', '-q', CHAIN], options),
+            (['solve', '-j', '4', CHAIN], options), (['solve', '--version'], version), (['solve', '--workers', 'x', CHAIN], workers),
+            (['solve', '--workers', CHAIN], workers), (['solve', CHAIN, 'extra'], general), (['solve', '--workers', '4', CHAIN, 'extra'], general),
+            (['solve', '--workers', '17', CHAIN], workers), (['solve', '--workers'], workers), (['report', '--workers', '4', '-q', CHAIN], options), (['play', 'labeller', CHAIN], general),
+            (['play', '--side', 'both', CHAIN], general), (['nested', '7', '3'], general), (['climb', '25'], general), (['help', 'solv'], general)]
+    for words, says in told:
+        yield Mistake(f'the words {" ".join(os.path.basename(word) for word in words)}', words, wrong, 'pebbles', says)
     text = fault(2, 'error: a word on the command line is not text')
     yield Mistake('a path that is no text', ['solve', b'\xff.board'], text, 'pebbles', 'UTF-8')
 

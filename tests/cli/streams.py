@@ -7,7 +7,7 @@ from program import BOARDS, LONGEST, PROGRAM, Check, Ran, board, check, differs,
 
 READ_FAULT = fault(5, 'read fault')
 WRITE_FAULT = fault(5, 'write fault')
-INPUT, OUTPUT = 0, 1
+INPUT, OUTPUT, ERRORS = 0, 1, 2
 PAIR, PAIR_STRATEGY, CHAIN = board('one-pair'), strategy('one-pair'), board('chain-of-three')
 # a file that is opened and can't be read, by whoever asks
 UNREADABLE = '/proc/self/mem'
@@ -27,8 +27,35 @@ def full(name, words, given=b''):
 
 
 def closed(name, wanted, words, stream, given=b''):
-    """The check of a run whose input or output is closed."""
+    """The check of a run of which a standard stream is closed."""
     return check(name, wanted, words, input=given, preexec_fn=partial(os.close, stream))
+
+
+def close(streams):
+    """Closes these streams."""
+    for stream in streams:
+        os.close(stream)
+
+
+def files_of(process):
+    """The files that a process has open, by their numbers."""
+    folder = f'/proc/{process}/fd'
+    return {int(number): os.readlink(f'{folder}/{number}') for number in os.listdir(folder)}
+
+
+def opens_elsewhere(path, streams):
+    """None where a board in a pipe of this name isn't opened in place of one of these standard streams, which are closed."""
+    os.mkfifo(path)
+    with subprocess.Popen([PROGRAM, 'solve', path], stdin=subprocess.DEVNULL, stdout=subprocess.PIPE, stderr=subprocess.PIPE,
+                          preexec_fn=partial(close, streams)) as reader:
+        with open(path, 'wb') as pipe:
+            opened = {}
+            while path not in opened.values() and reader.poll() is None:
+                opened = files_of(reader.pid)
+            pipe.write(text_of(CHAIN))
+        reader.wait(LONGEST)
+    boards = [number for number, name in opened.items() if name == path]
+    return None if boards and min(boards) > ERRORS else f'{opened}'
 
 
 def leaves_on_folder(wanted, words):
@@ -60,9 +87,7 @@ def joined_and_check():
     """Those of the checker, on joined and on separate texts."""
     joined = text_of(os.path.join(BOARDS, 'chain-of-three-least-two.joined'))
     yield full('a full device', [], joined)
-    yield closed('a closed standard output', WRITE_FAULT, [], OUTPUT, joined)
     yield folder('a directory as input', READ_FAULT, [])
-    yield closed('a closed standard input', READ_FAULT, [], INPUT)
     yield full('check on a full device', ['check', PAIR, PAIR_STRATEGY])
     yield check('a board that can not be read', READ_FAULT, ['check', UNREADABLE, PAIR_STRATEGY])
     yield check('a document that can not be read', READ_FAULT, ['check', PAIR, UNREADABLE])
@@ -73,7 +98,6 @@ def solve_and_report(nested):
     for command in ('solve', 'report'):
         yield check(f'{command} of a board that can not be read', READ_FAULT, [command, UNREADABLE])
         yield full(f'{command} on a full device', [command, nested])
-        yield closed(f'{command} on a closed standard output', WRITE_FAULT, [command, PAIR], OUTPUT)
     yield Check('solve on a closed pipe', partial(fails_on_closed_pipe, ['solve', nested]))
 
 
@@ -86,6 +110,29 @@ def plays():
     yield folder('a climb with a folder for lines', fault(5, 'read fault', b'levels 2\nat 0 0\n'), ['climb', '2'])
 
 
+def closed_streams(work):
+    """Those of standard streams that are closed, for jobs that read standard input and for those that don't."""
+    board_and_proof = text_of(os.path.join(BOARDS, 'chain-of-three-least-two.joined'))
+    typed = {'a joined check': ([], board_and_proof), 'a play as the labeller': (['play', '--side', 'labeller', CHAIN], b'1\nquit\n'),
+             'a play as the adversary': (['play', '--side', 'adversary', CHAIN], b'1\nquit\n'), 'a climb': (['climb', '2'], b'0\nquit\n')}
+    others = {'check': (['check', PAIR, PAIR_STRATEGY], b''), 'solve': (['solve', CHAIN], b''), 'report': (['report', CHAIN], b''),
+              'a nested board': (['nested', '2', '2'], b''), 'help': (['--help'], b'')}
+    for name, (words, given) in typed.items():
+        yield closed(f'{name} on a closed standard input', READ_FAULT, words, INPUT)
+    for name, (words, given) in others.items():
+        yield closed(f'{name} beside a closed standard input', run(words), words, INPUT)
+    for name, (words, given) in [*typed.items(), *others.items()]:
+        yield closed(f'{name} on a closed standard output', WRITE_FAULT, words, OUTPUT, given)
+        done = run(words, input=given)
+        yield closed(f'{name} beside a closed standard error', Ran(done.status, done.output), words, ERRORS, given)
+    yield closed('a fault told to a closed standard error', Ran(1), ['solve', PAIR_STRATEGY], ERRORS)
+    yield closed('a closed standard input as a board', READ_FAULT, ['solve', '/dev/stdin'], INPUT)
+    yield check('all standard streams are closed', Ran(5), ['solve', CHAIN], preexec_fn=partial(close, (INPUT, OUTPUT, ERRORS)))
+    for streams in ([INPUT], [OUTPUT], [ERRORS], [INPUT, OUTPUT, ERRORS]):
+        path = os.path.join(work, f'pipe-{"-".join(map(str, streams))}')
+        yield Check(f'no board in place of the streams {streams}', partial(opens_elsewhere, path, streams))
+
+
 def checks(work):
     """Those of each command."""
     yield from joined_and_check()
@@ -93,3 +140,4 @@ def checks(work):
     yield full('help on a full device', ['--help'])
     yield from solve_and_report(written(work, 'streams.board', run(['nested', '4', '4']).output))
     yield from plays()
+    yield from closed_streams(work)

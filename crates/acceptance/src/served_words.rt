@@ -110,14 +110,23 @@ impl Folder for Shelf {
 
 /// Streams that are no terminals.
 const NO_TERMINALS: Terminals = Terminals {
+    input_closed: false,
     input: false,
     errors: false,
 };
 
 /// Streams that are terminals.
 const TERMINALS: Terminals = Terminals {
+    input_closed: false,
     input: true,
     errors: true,
+};
+
+/// A standard input that is closed, and no terminals.
+const NO_INPUT: Terminals = Terminals {
+    input_closed: true,
+    input: false,
+    errors: false,
 };
 
 /// The status, and the texts on standard output and standard error.
@@ -258,6 +267,24 @@ fn no_words(rt: HostRuntime) {
     assert!(rt;
         outcome(&rt, alloc, &Words::OutOfMemory, NO_TERMINALS, "", no_memory) == Outcome::Refused
     );
+}
+
+#[test]
+fn a_closed_standard_input(rt: HostRuntime) {
+    let alloc = rt.alloc();
+    let unread = Served {
+        status: 5,
+        output: "",
+        errors: "read fault\n",
+    };
+    let words = ["pebbles", "play", "--side", "adversary", "chain.board"];
+    let words = Words::Given(words.as_slice());
+    let comes = comes_right(|| outcome(&rt, alloc, &words, NO_INPUT, "quit\n", unread));
+    assert!(rt; comes);
+    let words = ["pebbles", "nested", "1", "1"];
+    let words = Words::Given(words.as_slice());
+    let comes = comes_right(|| outcome(&rt, alloc, &words, NO_INPUT, "", done(LONE_LABEL)));
+    assert!(rt; comes);
 }
 
 #[test]

@@ -39,7 +39,7 @@ const AFTER_HELP: &str = "Exit statuses:\n  \
     pebbles solve cycle.board > cycle.proof\n  \
     pebbles check cycle.board cycle.proof";
 
-// The help of `solve` says this limit.
+// The helps of `solve`, `report` and `play` say this limit.
 const _: () = prove!(MAX_CONFIGURATIONS == 1_048_576);
 
 /// The help of `solve`.
@@ -54,6 +54,20 @@ const ABOUT_SOLVING: &str =
     board too large             more than 1048576 configurations: labels to the power of pebbles\n\n\
     Example:\n  \
     pebbles solve chain.board > chain.proof";
+
+/// The help of `report`.
+const ABOUT_REPORTING: &str = "The report is the same for every number of workers.\n\n\
+    Common faults:\n  \
+    board fault line 1 Version  not a board: Windows line ends, or a strategy document\n  \
+    board fault line 4 Start    as many labels as pebbles are wanted, each below the number of \
+    labels\n  \
+    board fault line N Beats    line N is not `beats` and two labels, with one space between \
+    them\n  \
+    board fault line N Order    the pairs are not sorted as numbers, or one is there twice\n  \
+    board too large             more than 1048576 configurations: labels to the power of \
+    pebbles\n\n\
+    Example:\n  \
+    pebbles report chain.board";
 
 /// The help of `check`.
 const ABOUT_CHECKING: &str =
@@ -77,6 +91,14 @@ const ABOUT_PLAYING: &str =
     To anything else it answers `not a request` or `not an answer`, and the play goes on. It also \
     ends if no label is legal. As the labeller on a board that lasts for ever you read `no \
     strategy`: the adversary has none.\n\n\
+    Common faults:\n  \
+    board fault line 1 Version  not a board: Windows line ends, or a strategy document\n  \
+    board fault line 4 Start    as many labels as pebbles are wanted, each below the number of \
+    labels\n  \
+    board fault line N Order    the pairs are not sorted as numbers, or one is there twice\n  \
+    board too large             more than 1048576 configurations: labels to the power of \
+    pebbles\n  \
+    input too long              a line of yours has more than 64 bytes\n\n\
     Example:\n  \
     pebbles play --side adversary chain.board";
 
@@ -165,10 +187,7 @@ fn report<'a>(alloc: Global) -> Result<Command<'a>, AllocError>
     let board = path(alloc, "board", "BOARD", "The path of a board");
     Command::new(alloc, "report")
         .about("Reads a board, and writes how many configurations have each value")
-        .after_help(
-            "The report is the same for every number of workers.\n\n\
-            Example:\n  pebbles report chain.board",
-        )
+        .after_help(ABOUT_REPORTING)
         .arg(workers(alloc))?
         .arg(board)
 }

@@ -20,8 +20,9 @@ ghost use Rattle.pebbles.specs.Program.{Gives, borrowed_texts, fresh};
 use board_text::Through;
 use runs::{System, Terminals, Words, serve};
 use std::alloc::{AllocError, Global};
-use std::fs::Files;
+use std::fs::{File, Files};
 use std::io::{IsTerminal, Read, Write};
+use std::os::fd::{AsRawFd, IntoRawFd};
 use std::process::ExitCode;
 use std::sync::Wait;
 use std::thread::Threads;
@@ -30,6 +31,7 @@ use std::{env, io};
 fn main(rt: HostRuntime) -> ExitCode {
     let alloc = rt.alloc();
     let terminals = Terminals {
+        input_closed: stand_in(&rt),
         input: rt.stdin().is_terminal(),
         errors: rt.stderr().is_terminal(),
     };
@@ -118,6 +120,33 @@ fn serve_over<I: Read + Drop, O: Write + Drop, E: Write + Drop>(
         &mut errors,
     );
     ExitCode::from(status)
+}
+
+/// Opens a folder at the number of each standard stream that is closed, so that no file of a job
+/// is opened there, and says whether standard input is closed. From such a stream nothing is read,
+/// and to it nothing is written.
+fn stand_in(rt: &HostRuntime) -> bool {
+    let mut input_closed = false;
+    for _ in 0..3 {
+        match number_taken(rt) {
+            Some(0) => input_closed = true,
+            Some(_) => {}
+            None => return input_closed,
+        }
+    }
+    input_closed
+}
+
+/// The number of a standard stream that was closed, at which the root folder stays open from now
+/// on; none if no stream is closed, or that folder can't be opened.
+fn number_taken(rt: &HostRuntime) -> Option<i32> {
+    let Ok(folder) = File::open(rt, "/") else {
+        return None;
+    };
+    if folder.as_raw_fd() > 2 {
+        return None;
+    }
+    Some(folder.into_raw_fd())
 }
 
 /// The words of the command line, or why there are none.

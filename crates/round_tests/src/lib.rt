@@ -6,6 +6,8 @@ mod assertions;
 #[cfg(test)]
 mod chosen_rounds;
 #[cfg(test)]
+mod histories;
+#[cfg(test)]
 mod rounds;
 #[cfg(test)]
 mod shared_rounds;

@@ -1,4 +1,5 @@
 pub mod EndLines
+pub mod SolverFaults
 pub mod WrittenWords
 pub mod FailedRuns
 pub mod WrongTexts

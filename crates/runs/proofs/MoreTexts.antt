@@ -23,7 +23,7 @@ use Rattle.std.proofs.Common.{
   inr,
   arith,
 }
-use Rattle.std.proofs.lemmas.List.{append_assoc, append-nil, length-append, take-append-le}
+use Rattle.std.proofs.lemmas.List.{append_assoc, append-nil, length-append, map-append, take-append-le}
 use Rattle.std.proofs.Math.Seq.{take-append-add}
 use Rattle.std.specs.Prelude.{All, Option, None, Some}
 use Rattle.std.specs.Io.KnownBytes.{Appends}
@@ -32,7 +32,7 @@ use Rattle.board_text.specs.Streams.{AppendsPrefix}
 use Rattle.runs.specs.Run.{stream_of}
 use Rattle.runs.specs.Serving.{IsEnding, IsExplained, IsForPerson, IsSaid, IsWritten}
 use Rattle.runs.specs.declared.outcome.Outcome.{Outcome}
-use Rattle.runs.specs.Inside.Writing.{IsMore}
+use Rattle.runs.specs.Inside.Writing.{IsMore, shown, shown_byte}
 use Rattle.runs.proofs.ShownTexts.{IsPlain}
 
 both : (a b c : Option (List ℕ)) (s t : List ℕ) → Appends a b s → Appends b c t → Appends a c (s ++ t)
@@ -169,11 +169,16 @@ typed_line true false typed words plain both is = cc
 typed_line false errors typed words plain both is = cc
 
 -- a line that was written in parts
-pub line_of_parts : (about colon number words : List ℕ)
-    → about ++ (colon ++ (number ++ (words ++ with_line_feed []))) ≡ with_line_feed
-    (about ++ (colon ++ (number ++ words)))
-line_of_parts about colon number words = sym (
-    append_assoc about (colon ++ (number ++ words)) (with_line_feed [])
-    ∙ ap (λ (l : List ℕ). about ++ l) (append_assoc colon (number ++ words) (with_line_feed [])
-    ∙ ap (λ (l : List ℕ). colon ++ l) (append_assoc number words (with_line_feed [])))
+pub line_of_parts : (about colon words : List ℕ)
+    → about ++ (colon ++ (words ++ with_line_feed [])) ≡ with_line_feed (about ++ (colon ++ words))
+line_of_parts about colon words = sym (
+    append_assoc about (colon ++ words) (with_line_feed [])
+    ∙ ap (λ (l : List ℕ). about ++ l) (append_assoc colon words (with_line_feed []))
     )
+
+-- two texts for a person, one after the other
+pub then_shown : {W : Type 0} (known : W → Option (List ℕ)) (failed : W → Bool) (a b c : W) (s t : List ℕ)
+    → IsMore known failed a b (shown s) → IsMore known failed b c (shown t) → IsMore known failed a c (shown (s ++ t))
+then_shown known failed a b c s t first second =
+    subst (IsMore known failed a c) (sym (map-append shown_byte s t))
+    (then_more known failed a b c (shown s) (shown t) first second)

@@ -2,7 +2,7 @@
 use Rattle.std.proofs.Common.{◌≡◌, ◌≢◌, ◌∙◌, ◌&&◌, ℕ, ◌<◌, ◌≤◌, ◌⊎◌, inl, inr, Bool, true, false, true≢false, List, []}
 use Rattle.std.proofs.Common.{◌++◌, length, Option, Some, None}
 use Rattle.std.proofs.Common.{codes, refl, sym, ap, subst, arith, append-nil}
-use Rattle.std.specs.Prelude.{Result, Ok, Err, MatchResult, string_bytes}
+use Rattle.std.specs.Prelude.{Result, Ok, Err, MatchResult, string_bytes, ◌||◌}
 use Rattle.clap.specs.Kinds.{IsAmong, Kinds}
 use Rattle.clap.specs.declared.error.kind.ErrorKind.{ErrorKind}
 use Rattle.clap.specs.declared.error.kind.ErrorKind.TheVariants as kinds
@@ -62,7 +62,7 @@ use Rattle.runs.specs.Report.{Reports}
 use Rattle.runs.specs.Run.{Bytes, Fails, Ran, Stream}
 use Rattle.runs.specs.Serving.{Answers, Asks, EndsWith, HasNoMemory, IsHelped, IsEnding, IsExplained, IsForPerson}
 use Rattle.runs.specs.Serving.{IsGreeting, IsRefusedWith, IsWritten}
-use Rattle.runs.specs.Serving.{Serves, ServesWords, is_typed}
+use Rattle.runs.specs.Serving.{Serves, ServesWords, is_typed, lacks_input}
 use Rattle.runs.specs.Servings.{AreKnown, HaveOwnText}
 use Rattle.runs.specs.SolveRun.{CannotSolve}
 use Rattle.runs.specs.Texts.{HasNoBoard, HasNoProof, IsSmallBoard, IsWrongBoard, IsWrongProof}
@@ -1042,8 +1042,52 @@ module _ (at : List ℕ → File) (terminals : Terminals) (off : terminals.error
           (explained_is terminals.errors text said off is),
     )
 
+    -- the job lacked its input
+    lacked_is : input.IsKept × output.IsKept × EndsWith at terminals input output errors status [] (Broken Read)
+        → (status ≡ status_of (Broken Read)) × (output.bytes.new ≡ Some (taken ++ []))
+        × (errors.bytes.new ≡ Some (told ++ ending (Broken Read)))
+    lacked_is (kept, kept_too, ends) =
+        (ends.1, stayed output taken gives.had kept_too, said_is (Broken Read) ends)
+
     no_memory : HasNoMemory at terminals input output errors status → ⊥
     no_memory (kept, kept_too, ends) = gives.given ends.1
+
+-- ---- the input that a job lacks
+
+-- the command of this name reads standard input
+abbrev reads_input : Text → Bool
+reads_input name = bytes_eq name (codes "play") || bytes_eq name (codes "climb")
+
+typed_by_name : (name : Text) (rows : List Row) (job : Job) → AsksFor name rows job
+    → is_typed job ≡ reads_input name
+typed_by_name name rows jobs.Joined asks = absurd asks
+typed_by_name name rows (jobs.Check b p) asks = rw asks.0 refl
+typed_by_name name rows (jobs.Nested l p) asks = rw asks.0 refl
+typed_by_name name rows (jobs.Solve w b) asks = rw asks.0 refl
+typed_by_name name rows (jobs.Report w b) asks = rw asks.0 refl
+typed_by_name name rows (jobs.Play s b) asks = rw asks.0 refl
+typed_by_name name rows (jobs.Climb l) asks = rw asks.0 refl
+
+typed_as_read : (found : Option (Text × List Row)) (job more : Job) → IsReadAs found job → IsReadAs found more
+    → is_typed job ≡ is_typed more
+typed_as_read None job more read read_too = absurd read
+typed_as_read (Some found) job more read read_too =
+    typed_by_name found.0 found.1 job read ∙ sym (typed_by_name found.0 found.1 more read_too)
+
+-- the same words ask for jobs of which both read standard input, or none
+typed_alike : (words : List Text) (job more : Job) → Asks words job → Asks words more
+    → is_typed job ≡ is_typed more
+typed_alike words job more (inl joined) (inl joined_too) = ap is_typed (joined.1 ∙ sym joined_too.1)
+typed_alike words job more (inl joined) (inr read) = absurd (omega (arith, joined.0, read.0))
+typed_alike words job more (inr read) (inl joined) = absurd (omega (arith, joined.0, read.0))
+typed_alike words job more (inr read) (inr read_too) =
+    typed_as_read (subcommand_of program words) job more read.2 read_too.2
+
+lack_alike : (terminals : Terminals) (words : List Text) (job more : Job) → Asks words job → Asks words more
+    → lacks_input terminals job ≡ false → lacks_input terminals more ≡ true → ⊥
+lack_alike terminals words job more asks asks_too has lacks =
+    let alike = ap (λ t. terminals.input_closed && t) (typed_alike words job more asks asks_too) in
+    true≢false (sym lacks ∙ sym alike ∙ has)
 
 none_among : (kind : ErrorKind) (found : Kinds) → found ≡ [] → IsAmong kind found → ⊥
 none_among kind found none has = subst (λ (k : Kinds). IsAmong kind k) none has
@@ -1152,21 +1196,29 @@ module _ (at : List ℕ → File) (known : AreKnown at) (terminals : Terminals) 
   pub both_served : (words : List Text) → ServesWords at terminals input output errors status words
       → ServesWords at terminals other_input other_output other_errors other words
       → (status ≡ other) × ((length words ≤ 1) ⊎ (fault_of program words ≡ []) ⊎ AsksForVersion words → AreSame)
-  both_served words (inl (job, asks, greeting, greets, outcome, done, ends))
-      (inl (more, asks_too, greeting_too, greets_too, next, done_too, ends_too)) =
+  both_served words (inl (job, asks, inl (has, greeting, greets, outcome, done, ends)))
+      (inl (more, asks_too, inl (has_too, greeting_too, greets_too, next, done_too, ends_too))) =
       let both = both_jobs words job more outcome next
       (job_done at terminals off lines taken told input output errors status gives words job greeting outcome asks
       greets done ends)
       (job_done at terminals off lines taken told other_input other_output other_errors other gives_too words more
       greeting_too next asks_too greets_too done_too ends_too) in
       (both.0, λ own. both.1)
-  both_served words (inl (job, asks, greeting, greets, outcome, done, ends))
-      (inr (fault, more, shows, takes, answers)) =
+  both_served words (inl (job, asks, inr (lacks, kept, kept_too, ends)))
+      (inl (more, asks_too, inr (lacks_too, held, held_too, ends_too))) =
+      let one = lacked_is at terminals off lines taken told input output errors status gives (kept, kept_too, ends) in
+      let two = lacked_is at terminals off lines taken told other_input other_output other_errors other gives_too
+      (held, held_too, ends_too) in
+      (one.0 ∙ sym two.0, λ own. (one.1 ∙ sym two.1, one.2 ∙ sym two.2))
+  both_served words (inl (job, asks, inl is)) (inl (more, asks_too, inr also)) =
+      absurd (lack_alike terminals words job more asks asks_too is.0 also.0)
+  both_served words (inl (job, asks, inr is)) (inl (more, asks_too, inl also)) =
+      absurd (lack_alike terminals words more job asks_too asks also.0 is.0)
+  both_served words (inl (job, asks, is)) (inr (fault, more, shows, takes, answers)) =
       absurd (job_or_fault words job fault asks more shows
       (λ e. no_memory at terminals off lines taken told other_input other_output other_errors other gives_too
       (subst (λ f. Answers at terminals other_input other_output other_errors other f) e answers)))
-  both_served words (inr (fault, more, shows, takes, answers))
-      (inl (job, asks, greeting, greets, outcome, done, ends)) =
+  both_served words (inr (fault, more, shows, takes, answers)) (inl (job, asks, is)) =
       absurd (job_or_fault words job fault asks more shows
       (λ e. no_memory at terminals off lines taken told input output errors status gives
       (subst (λ f. Answers at terminals input output errors status f) e answers)))

@@ -22,12 +22,10 @@ plain_if_shown text =
     (λ i inside. plainly (get_or text i 0) (is_control (get_or text i 0)) refl))
 
 -- a line in parts has none
-pub plain_line : (about colon number words : List ℕ) → All IsPlain colon
-    → All IsPlain (shown about ++ (colon ++ (shown number ++ shown words)))
-plain_line about colon number words plain =
-    All-append IsPlain (shown about) (colon ++ (shown number ++ shown words)) (plain_if_shown about)
-    (All-append IsPlain colon (shown number ++ shown words) plain
-    (All-append IsPlain (shown number) (shown words) (plain_if_shown number) (plain_if_shown words)))
+pub plain_line : (about colon words : List ℕ) → All IsPlain colon → All IsPlain (shown about ++ (colon ++ shown words))
+plain_line about colon words plain =
+    All-append IsPlain (shown about) (colon ++ shown words) (plain_if_shown about)
+    (All-append IsPlain colon (shown words) plain (plain_if_shown words))
 
 pub colon_is_plain : All IsPlain (58 ∷ 32 ∷ [])
 colon_is_plain = All-cons IsPlain 58 (32 ∷ []) refl (All-cons IsPlain 32 [] refl (All-nil IsPlain))

@@ -17,7 +17,7 @@ use Rattle.runs.specs.Folders.{File}
 use Rattle.runs.specs.Jobs.{IsDone}
 use Rattle.runs.specs.Run.{Stream}
 use Rattle.runs.specs.Outcomes.{status_of}
-use Rattle.runs.specs.declared.fault.RunFault.TheVariants.{Memory, Write}
+use Rattle.runs.specs.declared.fault.RunFault.TheVariants.{Memory, Read, Write}
 use Rattle.runs.specs.declared.outcome.Outcome.{Outcome}
 use Rattle.runs.specs.declared.outcome.Outcome.TheVariants.{Broken, Done, Refused}
 use Rattle.runs.specs.declared.serving.Terminals.{Terminals}
@@ -59,14 +59,18 @@ IsEnding terminal Done said = said ≡ []
 IsEnding terminal Refused said = IsExplained terminal [] said
 IsEnding terminal (Broken fault) said = IsExplained terminal (line_of_fault fault) said
 
--- the job reads lines from standard input that a person may type
+-- the job reads standard input, with lines that a person may type
 abbrev pub is_typed : Job → Bool
 is_typed Joined = true
 is_typed (Play side board) = true
 is_typed (Climb levels) = true
 is_typed job = false
 
--- before such a job a line, if standard input and standard error are terminals
+-- the job reads standard input, which is closed
+abbrev pub lacks_input : Terminals → Job → Bool
+lacks_input terminals job = terminals.input_closed && is_typed job
+
+-- before a job that reads it a line, if standard input and standard error are terminals
 abbrev pub IsGreeting : Terminals → Job → List ℕ → Type 0
 IsGreeting terminals job text =
     IsForPerson (terminals.input && terminals.errors && is_typed job) text
@@ -105,11 +109,18 @@ module _ (at : List ℕ → File) (terminals : Terminals) (input output errors :
   Answers (Usage text) = IsRefusedWith (string_bytes text)
   Answers NoMemory = HasNoMemory
 
-  -- the words ask for a job, which is done or broken off; or for none, and that is answered
+  -- the job is done or broken off; or it lacks its input, and that alone is told
+  abbrev pub ServesJob : Job → Type 0
+  ServesJob job =
+      ((lacks_input terminals job ≡ false) × (greeting : List ℕ) × IsGreeting terminals job greeting
+      × (outcome : Outcome) × IsDone at input output job outcome × EndsWith greeting outcome)
+      ⊎ ((lacks_input terminals job ≡ true) × input.IsKept × output.IsKept
+      × EndsWith [] (Broken Read))
+
+  -- the words ask for a job, which is served; or for none, and that is answered
   abbrev pub ServesWords : List Text → Type 0
   ServesWords words =
-      ((job : Job) × Asks words job × (greeting : List ℕ) × IsGreeting terminals job greeting
-      × (outcome : Outcome) × IsDone at input output job outcome × EndsWith greeting outcome)
+      ((job : Job) × Asks words job × ServesJob job)
       ⊎ ((fault : JobFault) × (1 < length words) × Shows words fault
       × (takes program words ≡ true → fault ≡ NoMemory) × Answers fault)
 

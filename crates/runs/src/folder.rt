@@ -6,7 +6,7 @@ ghost use Rattle.runs.specs.Folders.{File, Unknown, CanFail, Opens};
 use board_text::{Failed, Source, Through};
 use std::fs;
 use std::fs::Files;
-use std::io::ErrorKind;
+use std::io::{Error, ErrorKind};
 
 /// Why a path can't be read.
 #[derive(Clone, Copy, Debug, PartialEq, Eq)]
@@ -17,7 +17,15 @@ pub enum Trouble {
     Forbidden,
     /// It is a folder.
     Folder,
-    /// Anything else.
+    /// A word before a slash names a file.
+    NoFolder,
+    /// Symbolic links lead back to themselves.
+    Loop,
+    /// The path, or a name in it, is too long.
+    LongName,
+    /// The system has another reason, of this number.
+    Coded(u32),
+    /// Nothing is known of the reason.
     Other,
 }
 
@@ -68,17 +76,29 @@ impl<R: Files> Folder for System<'_, R> {
     }
 
     fn trouble(&self, path: &str) -> Trouble {
-        match fs::open(self.rt, path) {
-            Ok(_) => match fs::metadata(self.rt, path) {
-                Ok(found) if found.is_dir() => Trouble::Folder,
-                _ => Trouble::Other,
+        match fs::metadata(self.rt, path) {
+            Ok(found) if found.is_dir() => Trouble::Folder,
+            Ok(_) => match fs::open(self.rt, path) {
+                Ok(_) => Trouble::Other,
+                Err(error) => reason(error),
             },
-            Err(error) => match error.kind() {
-                ErrorKind::NotFound => Trouble::Missing,
-                ErrorKind::PermissionDenied => Trouble::Forbidden,
-                ErrorKind::IsADirectory => Trouble::Folder,
-                _ => Trouble::Other,
-            },
+            Err(error) => reason(error),
         }
+    }
+}
+
+/// Why the system opened no file.
+fn reason(error: Error) -> Trouble {
+    match error.kind() {
+        ErrorKind::NotFound => Trouble::Missing,
+        ErrorKind::PermissionDenied => Trouble::Forbidden,
+        ErrorKind::IsADirectory => Trouble::Folder,
+        ErrorKind::NotADirectory => Trouble::NoFolder,
+        ErrorKind::FilesystemLoop => Trouble::Loop,
+        ErrorKind::InvalidFilename => Trouble::LongName,
+        _ => match error.raw_os_error() {
+            Some(code) => Trouble::Coded(code.unsigned_abs()),
+            None => Trouble::Other,
+        },
     }
 }

@@ -12,9 +12,10 @@ ghost use Rattle.runs.specs.Run.{stream_of};
 
 use crate::checking::{JoinedRun, MAX_PROOF_BYTES, run_check, run_keeping_text};
 use crate::fault::RunFault;
-use crate::folder::Folder;
+use crate::folder::{Folder, Trouble};
+use crate::inputs::{INPUT_PATH, Inputs, Origin};
 use crate::nesting::run_nested;
-use crate::notes::{BOARD_LIMITS, LINE_LIMITS, Note, Origin, PROOF_LIMITS, unread};
+use crate::notes::{BOARD_LIMITS, LINE_LIMITS, Note, PROOF_LIMITS, unread};
 use crate::outcome::Outcome;
 use crate::playing::{run_climb, run_play};
 use crate::reading::MAX_BOARD_BYTES;
@@ -59,7 +60,7 @@ fn on_board<'a, F: Folder>(
     let text = file(folder, path, reader, MAX_BOARD_BYTES, BOARD_LIMITS);
     Ended {
         outcome,
-        note: Note::of(outcome, &text, &text),
+        note: Note::of(outcome, &Inputs::alone(text, text)),
     }
 }
 
@@ -78,20 +79,32 @@ fn file<'a, 'h, F: Folder>(
     };
     Origin {
         name: path,
-        head: reader.head(),
+        text: reader.text(),
+        is_whole: reader.count() == reader.text().len(),
         trouble,
         is_too_long: reader.count() > limit,
         limits,
     }
 }
 
+/// Why standard input couldn't be read, if it has failed.
+fn trouble_of_input<F: Folder, I: Source>(folder: &F, input: &I) -> Option<Trouble> {
+    if input.failed() {
+        Some(folder.trouble(INPUT_PATH))
+    } else {
+        None
+    }
+}
+
 /// Does the job, and says how it ended.
 ///
+/// The first bytes of files are kept to explain a fault if `explains` says so.
 /// The streams must not have failed before. With several workers it may wait for them.
 pub fn carry_out<'a, F: Folder, I: Source, O: Sink>(
     rt: &(impl Threads + Wait + Sync),
     alloc: Global,
     job: &Job<'a>,
+    explains: bool,
     folder: &F,
     input: &mut I,
     output: &mut O,
@@ -104,20 +117,23 @@ pub fn carry_out<'a, F: Folder, I: Source, O: Sink>(
         (stream_of O.contents O.has_failed output.old output.new) job.now result.outcome }
 {
     match *job {
-        Job::Joined => check_joined(rt, alloc, input, output),
-        Job::Check { board, proof } => check(rt, alloc, folder, board, proof, output),
+        Job::Joined => check_joined(rt, alloc, folder, input, output),
+        Job::Check { board, proof } => check(rt, alloc, explains, folder, board, proof, output),
         Job::Nested { levels, pebbles } => write_nested(alloc, levels, pebbles, output),
-        Job::Solve { workers, board } => solve(rt, alloc, folder, workers, board, output),
-        Job::Report { workers, board } => report(rt, alloc, folder, workers, board, output),
-        Job::Play { side, board } => play(alloc, folder, side, board, input, output),
-        Job::Climb { levels } => climb(alloc, levels, input, output),
+        Job::Solve { workers, board } => solve(rt, alloc, explains, folder, workers, board, output),
+        Job::Report { workers, board } => {
+            report(rt, alloc, explains, folder, workers, board, output)
+        }
+        Job::Play { side, board } => play(alloc, explains, folder, side, board, input, output),
+        Job::Climb { levels } => climb(alloc, folder, levels, input, output),
     }
 }
 
 /// Checks the document after a board on standard input.
-fn check_joined<I: Source, O: Sink>(
+fn check_joined<F: Folder, I: Source, O: Sink>(
     rt: &(impl Threads + Sync),
     alloc: Global,
+    folder: &F,
     input: &mut I,
     output: &mut O,
 ) -> Ended<'static>
@@ -133,10 +149,14 @@ fn check_joined<I: Source, O: Sink>(
 {
     let JoinedRun { result, text } = run_keeping_text(rt, alloc, input, output);
     let outcome = Outcome::of_check(result);
-    let (board, document) = Origin::joined(text.as_slice());
+    let origin = Origin {
+        text: text.as_slice(),
+        is_whole: true,
+        ..Origin::standard_input(trouble_of_input(folder, input), PROOF_LIMITS)
+    };
     Ended {
         outcome,
-        note: Note::of(outcome, &board, &document),
+        note: Note::of_check(result, &Inputs::joined(origin)),
     }
 }
 
@@ -144,6 +164,7 @@ fn check_joined<I: Source, O: Sink>(
 fn check<'a, F: Folder, O: Sink>(
     rt: &(impl Threads + Sync),
     alloc: Global,
+    explains: bool,
     folder: &F,
     board: &'a str,
     proof: &'a str,
@@ -163,14 +184,15 @@ fn check<'a, F: Folder, O: Sink>(
     let Ok(file_of_proof) = folder.open(proof) else {
         return unopened(folder, proof);
     };
-    let mut reader = Watched::new(file_of_board);
-    let mut other = Watched::new(file_of_proof);
-    let outcome = Outcome::of_check(run_check(rt, alloc, &mut reader, &mut other, output));
+    let mut reader = Watched::new(alloc, file_of_board, explains);
+    let mut other = Watched::new(alloc, file_of_proof, explains);
+    let checked = run_check(rt, alloc, &mut reader, &mut other, output);
+    let outcome = Outcome::of_check(checked);
     let first = file(folder, board, &reader, MAX_BOARD_BYTES, BOARD_LIMITS);
     let second = file(folder, proof, &other, MAX_PROOF_BYTES, PROOF_LIMITS);
     Ended {
         outcome,
-        note: Note::of(outcome, &first, &second),
+        note: Note::of_check(checked, &Inputs::apart(first, second)),
     }
 }
 
@@ -188,7 +210,7 @@ fn write_nested<O: Sink>(alloc: Global, levels: u8, pebbles: u8, output: &mut O)
     let outcome = Outcome::of_run(run_nested(alloc, levels, pebbles, output));
     Ended {
         outcome,
-        note: Note::without_files(outcome),
+        note: Note::without_files(outcome, None),
     }
 }
 
@@ -196,6 +218,7 @@ fn write_nested<O: Sink>(alloc: Global, levels: u8, pebbles: u8, output: &mut O)
 fn solve<'a, F: Folder, O: Sink>(
     rt: &(impl Threads + Wait + Sync),
     alloc: Global,
+    explains: bool,
     folder: &F,
     workers: u8,
     board: &'a str,
@@ -212,7 +235,7 @@ fn solve<'a, F: Folder, O: Sink>(
     let Ok(file_of_board) = folder.open(board) else {
         return unopened(folder, board);
     };
-    let mut reader = Watched::new(file_of_board);
+    let mut reader = Watched::new(alloc, file_of_board, explains);
     if workers == 1 {
         let outcome = Outcome::of_run(run_solve_alone(alloc, &mut reader, output));
         return on_board(outcome, folder, board, &reader);
@@ -225,6 +248,7 @@ fn solve<'a, F: Folder, O: Sink>(
 fn report<'a, F: Folder, O: Sink>(
     rt: &(impl Threads + Wait + Sync),
     alloc: Global,
+    explains: bool,
     folder: &F,
     workers: u8,
     board: &'a str,
@@ -241,7 +265,7 @@ fn report<'a, F: Folder, O: Sink>(
     let Ok(file_of_board) = folder.open(board) else {
         return unopened(folder, board);
     };
-    let mut reader = Watched::new(file_of_board);
+    let mut reader = Watched::new(alloc, file_of_board, explains);
     if workers == 1 {
         let outcome = Outcome::of_run(run_report_alone(alloc, &mut reader, output));
         return on_board(outcome, folder, board, &reader);
@@ -253,6 +277,7 @@ fn report<'a, F: Folder, O: Sink>(
 /// Plays on the board at a path with a person, who is this side and writes to standard input.
 fn play<'a, F: Folder, I: Source, O: Sink>(
     alloc: Global,
+    explains: bool,
     folder: &F,
     side: Side,
     board: &'a str,
@@ -274,18 +299,20 @@ fn play<'a, F: Folder, I: Source, O: Sink>(
     let Ok(file_of_board) = folder.open(board) else {
         return unopened(folder, board);
     };
-    let mut reader = Watched::new(file_of_board);
+    let mut reader = Watched::new(alloc, file_of_board, explains);
     let outcome = Outcome::of_run(run_play(alloc, side, &mut reader, input, output));
     let text = file(folder, board, &reader, MAX_BOARD_BYTES, BOARD_LIMITS);
+    let lines = Origin::standard_input(trouble_of_input(folder, input), LINE_LIMITS);
     Ended {
         outcome,
-        note: Note::of(outcome, &text, &Origin::standard_input(LINE_LIMITS)),
+        note: Note::of(outcome, &Inputs::alone(text, lines)),
     }
 }
 
 /// Plays on the nested board of a level with a person, who asks by the lines of standard input.
-fn climb<I: Source, O: Sink>(
+fn climb<F: Folder, I: Source, O: Sink>(
     alloc: Global,
+    folder: &F,
     levels: u8,
     input: &mut I,
     output: &mut O,
@@ -304,6 +331,6 @@ fn climb<I: Source, O: Sink>(
     let outcome = Outcome::of_run(run_climb(alloc, levels, input, output));
     Ended {
         outcome,
-        note: Note::without_files(outcome),
+        note: Note::without_files(outcome, trouble_of_input(folder, input)),
     }
 }

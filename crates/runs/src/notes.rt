@@ -7,13 +7,14 @@ ghost use Rattle.runs.specs.Serving.{is_typed};
 use crate::checking::{MAX_JOINED_BYTES, MAX_PROOF_BYTES};
 use crate::fault::RunFault;
 use crate::folder::Trouble;
-use crate::hints::{board_hint, proof_hint, trouble_hint};
-use crate::joined::board_length;
+use crate::hints::board_hint;
+use crate::inputs::{Inputs, Origin, STANDARD_INPUT};
 use crate::outcome::Outcome;
+use crate::parts::{Part, Parts, around, two_words, words};
+use crate::proof_hints::{proof_hint, refusal_hint};
 use crate::reading::MAX_BOARD_BYTES;
-use crate::watched::head_of;
-use board_text::line_reader::LineReader;
-use board_text::{MAX_LABELS, MAX_PEBBLES};
+use crate::sizes::Sizes;
+use crate::verdicts::Verdict;
 use command_line::Job;
 use positions::{MAX_CONFIGURATIONS, Side};
 
@@ -36,106 +37,85 @@ pub(crate) const PROOF_LIMITS: &str = "an input has at most 134217728 bytes";
 pub(crate) const LINE_LIMITS: &str =
     "a line of a play has at most 64 bytes, and a play at most 1000000 lines";
 
-/// The name of standard input in explanations.
-pub(crate) const STANDARD_INPUT: &str = "standard input";
-
-/// The name of the document in a joined input.
-const AFTER_THE_BOARD: &str = "standard input after the board";
-
 /// The explanation of a fault: the name of a file or of a stream, and what to look for there.
 #[derive(Clone, Copy, Debug, PartialEq, Eq)]
 pub struct Note<'a> {
     pub about: &'a str,
-    /// The number that `words` begin with, if they begin with one.
-    pub number: Option<u64>,
-    pub words: &'static str,
+    pub parts: Parts,
 }
 
 impl<'a> Note<'a> {
-    /// The explanation of `outcome` in a job that reads `board`, and after it `other`. It is empty
-    /// if the job was done.
-    pub(crate) fn of(outcome: Outcome, board: &Origin<'a, '_>, other: &Origin<'a, '_>) -> Note<'a> {
+    /// The explanation of `outcome` in a run over `inputs` that is no check. It is empty if the
+    /// run was done.
+    pub(crate) fn of(outcome: Outcome, inputs: &Inputs<'a, '_>) -> Note<'a> {
         match outcome {
-            Outcome::Done => Note::new("", ""),
-            Outcome::Refused => Note::new(
-                other.name,
-                "its tables do not show its claim for this board; the line says where; is it the \
-                document of another board?",
-            ),
-            Outcome::Broken(fault) => explain(fault, board, other),
+            Outcome::Broken(fault) => explain(fault, inputs),
+            Outcome::Done | Outcome::Refused => Note::new("", ""),
+        }
+    }
+
+    /// The explanation of how the check of `inputs` ended. It is empty if the document was
+    /// accepted.
+    pub(crate) fn of_check(
+        checked: Result<Verdict, RunFault>,
+        inputs: &Inputs<'a, '_>,
+    ) -> Note<'a> {
+        match checked {
+            Ok(Verdict::Accepted(_)) => Note::new("", ""),
+            Ok(Verdict::Refused(fault)) => Note {
+                about: inputs.other.name,
+                parts: two_words(
+                    refusal_hint(fault),
+                    "; is it the document of another board?",
+                ),
+            },
+            Err(fault) => explain(fault, inputs),
         }
     }
 
     /// An explanation without a number.
-    pub(crate) fn new(about: &'a str, words: &'static str) -> Note<'a> {
+    pub(crate) fn new(about: &'a str, said: &'static str) -> Note<'a> {
         Note {
             about,
-            number: None,
-            words,
+            parts: words(said),
         }
     }
 }
 
 impl Note<'static> {
-    /// The explanation of `outcome` in a job that reads no file.
-    pub(crate) fn without_files(outcome: Outcome) -> Note<'static> {
-        let input = Origin::standard_input(LINE_LIMITS);
-        Note::of(outcome, &input, &input)
+    /// The explanation of `outcome` in a job that reads no file, and possibly standard input, which
+    /// may have this trouble.
+    pub(crate) fn without_files(outcome: Outcome, trouble: Option<Trouble>) -> Note<'static> {
+        let input = Origin::standard_input(trouble, LINE_LIMITS);
+        Note::of(outcome, &Inputs::alone(input, input))
+    }
+
+    /// The explanation of a job that reads standard input, which is closed.
+    pub(crate) fn no_input() -> Note<'static> {
+        Note::new(
+            STANDARD_INPUT,
+            "it is closed, and this job reads it; give it with `<`, or by a pipe",
+        )
     }
 }
 
-/// An input of a job, as far as it explains a fault.
-#[derive(Clone, Copy, Debug)]
-pub(crate) struct Origin<'a, 'h> {
-    /// Its path, or the name of standard input.
-    pub(crate) name: &'a str,
-    /// Its first bytes, as far as they are known.
-    pub(crate) head: &'h [u8],
-    /// Why it couldn't be read, if it couldn't.
-    pub(crate) trouble: Option<Trouble>,
-    /// Whether more bytes came than it may have.
-    pub(crate) is_too_long: bool,
-    /// Its limits, in words.
-    pub(crate) limits: &'static str,
-}
-
-impl Origin<'static, 'static> {
-    /// Standard input, of which no byte is known.
-    pub(crate) fn standard_input(limits: &'static str) -> Origin<'static, 'static> {
-        Origin {
-            name: STANDARD_INPUT,
-            head: &[],
-            trouble: None,
-            is_too_long: false,
-            limits,
-        }
-    }
-}
-
-impl<'h> Origin<'static, 'h> {
-    /// The board with which the joined input `text` begins, and the document after it.
-    pub(crate) fn joined(text: &'h [u8]) -> (Origin<'static, 'h>, Origin<'static, 'h>) {
-        let (board, document) = text.split_at(board_length(text));
-        let input = Origin::standard_input(PROOF_LIMITS);
-        let board = Origin {
-            head: head_of(board),
-            ..input
-        };
-        let document = Origin {
-            name: AFTER_THE_BOARD,
-            head: head_of(document),
-            ..input
-        };
-        (board, document)
-    }
-}
-
-/// The explanation of `fault` in a job that reads `board`, and after it `other`.
-fn explain<'a>(fault: RunFault, board: &Origin<'a, '_>, other: &Origin<'a, '_>) -> Note<'a> {
+/// The explanation of `fault` in a job over `inputs`.
+fn explain<'a>(fault: RunFault, inputs: &Inputs<'a, '_>) -> Note<'a> {
+    let board = &inputs.board;
+    let other = &inputs.other;
     match fault {
-        RunFault::Board(fault) => Note::new(board.name, board_hint(fault.kind, board.head)),
-        RunFault::TooLarge => too_large(board),
-        RunFault::Proof(fault) => Note::new(other.name, proof_hint(fault.kind, other.head)),
+        RunFault::Board(fault) => Note {
+            about: board.name,
+            parts: board_hint(fault, inputs),
+        },
+        RunFault::TooLarge => Note {
+            about: board.name,
+            parts: too_large_hint(board.text),
+        },
+        RunFault::Proof(fault) => Note {
+            about: other.name,
+            parts: proof_hint(fault, inputs),
+        },
         RunFault::Memory => Note::new(
             "memory",
             "the system gave no more; one worker takes least, and a smaller board less",
@@ -159,60 +139,62 @@ fn explain<'a>(fault: RunFault, board: &Origin<'a, '_>, other: &Origin<'a, '_>) 
 
 /// The explanation of an input that couldn't be opened or read.
 pub(crate) fn unread(name: &str, trouble: Trouble) -> Note<'_> {
-    Note::new(name, trouble_hint(name, trouble))
-}
-
-/// The explanation of a board that has too many configurations.
-fn too_large<'a>(board: &Origin<'a, '_>) -> Note<'a> {
-    let sizes = sizes_of(board.head);
+    let about = if name.is_empty() {
+        "the empty path"
+    } else {
+        name
+    };
     Note {
-        about: board.name,
-        number: sizes.map(Sizes::configurations),
-        words: match sizes {
-            Some(sizes) if sizes.has_few_labels() => {
-                " configurations, and the most is 1048576; no start of this board lasts for ever, \
-                since n pebbles need 2^n - 1 labels"
-            }
-            _ => {
-                " configurations, labels to the power of pebbles (in `board 2` with one label \
-                more); the most is 1048576"
-            }
-        },
+        about,
+        parts: trouble_hint(name, trouble),
     }
 }
 
-/// The numbers in the first three lines of a board.
-#[derive(Clone, Copy)]
-struct Sizes {
-    /// The number of labels, and one more if a pebble may have none.
-    places: u64,
-    labels: u64,
-    pebbles: u32,
+/// Why an input of this name can't be opened or read, and what to do.
+fn trouble_hint(name: &str, trouble: Trouble) -> Parts {
+    match trouble {
+        Trouble::Missing if name == "-" => words(
+            "there is no file of this name; standard input is /dev/stdin, or is read when there \
+            are no words",
+        ),
+        Trouble::Missing => words("there is no such file; look for its spelling and its folder"),
+        Trouble::Forbidden => words("you may not read it; `chmod +r` permits it"),
+        Trouble::Folder => words("it is a folder; name a file in it"),
+        Trouble::NoFolder => words("a word of the path before a `/` names a file and no folder"),
+        Trouble::Loop => words("its symbolic links lead back to themselves"),
+        Trouble::LongName => words("the path, or a name in it, is longer than the system allows"),
+        Trouble::Coded(code) => around(
+            "the system could not open it; the number of its reason is ",
+            u64::from(code),
+            "",
+        ),
+        Trouble::Other => words("the system could not read it"),
+    }
 }
 
-impl Sizes {
-    /// The number of configurations.
-    fn configurations(self) -> u64 {
-        self.places.saturating_pow(self.pebbles)
+/// The words for a board with these first bytes that has too many configurations.
+fn too_large_hint(board: &[u8]) -> Parts {
+    match Sizes::of(board) {
+        Some(sizes) => [
+            Part::Number(sizes.configurations()),
+            Part::Words(
+                " configurations, and the most is 1048576; with as many pebbles a board has at \
+                most ",
+            ),
+            Part::Number(sizes.most_labels()),
+            Part::Words(" labels"),
+            Part::Words(if sizes.has_few_labels() {
+                "; no start of this board lasts for ever, since n pebbles need 2^n - 1 labels"
+            } else {
+                ""
+            }),
+            Part::Words(""),
+        ],
+        None => words(
+            "it has more configurations than 1048576: labels to the power of pebbles, in `board 2` \
+            with one label more",
+        ),
     }
-
-    /// Whether the pebbles n need more labels to last for ever, which are 2^n - 1 at least.
-    fn has_few_labels(self) -> bool {
-        self.labels < 2_u64.saturating_pow(self.pebbles).saturating_sub(1)
-    }
-}
-
-/// The numbers of a board with these first bytes.
-fn sizes_of(head: &[u8]) -> Option<Sizes> {
-    let mut text = LineReader::new(head);
-    let version = text.number_line("board".as_bytes(), 1, 2)?;
-    let labels = text.number_line("labels".as_bytes(), 1, MAX_LABELS as u32)?;
-    let pebbles = text.number_line("pebbles".as_bytes(), 1, MAX_PEBBLES as u32)?;
-    Some(Sizes {
-        places: (labels + version - 1) as u64,
-        labels: labels as u64,
-        pebbles,
-    })
 }
 
 /// The words that say which lines `job` reads from a person; none if it reads no typed lines.

@@ -5,7 +5,8 @@ ghost use Rattle.clap.specs.Walk.{texts};
 ghost use Rattle.runs.specs.Run.{stream_of};
 ghost use Rattle.runs.specs.Inside.Writing.{IsMore, shown};
 ghost use Rattle.runs.specs.Serving.{IsEnding, IsExplained, IsForPerson, IsGreeting};
-ghost use Rattle.runs.specs.Serving.{Serves, ServesWords};
+ghost use Rattle.runs.specs.Serving.{Serves, ServesJob, ServesWords, is_typed, lacks_input};
+ghost use Rattle.command_line.specs.Reading.{IsInRange};
 ghost use Rattle.runs.specs.declared.fault.RunFault.TheVariants.{Memory};
 ghost use Rattle.runs.specs.declared.outcome.Outcome.TheVariants.{Broken};
 ghost use Rattle.runs.specs.Outcomes.{status_of};
@@ -16,7 +17,10 @@ use crate::folder::Folder;
 use crate::jobs::carry_out;
 use crate::notes::{Note, greeting};
 use crate::outcome::Outcome;
+use crate::parts;
+use crate::parts::{Part, Parts};
 use crate::showing::write_shown;
+use crate::usage::usage_hint;
 use crate::writing::{write_more, write_text};
 use board_text::{Sink, Source};
 use command_line::{Job, JobFault, job};
@@ -32,7 +36,7 @@ const NOT_TEXT: &str = "error: a word on the command line is not text\n";
 const NOT_TEXT_NOTE: &str =
     "a path must be UTF-8; rename the file, or give it as standard input (/dev/stdin)";
 
-/// The explanation of wrong use.
+/// The end of the explanation of wrong use.
 const USAGE_NOTE: &str =
     "`pebbles --help` lists the commands, and `pebbles help COMMAND` the words of one";
 
@@ -46,9 +50,11 @@ pub enum Words<'a, 'w> {
     OutOfMemory,
 }
 
-/// The standard streams that are terminals.
+/// The standard streams that are terminals, and whether there is a standard input.
 #[derive(Clone, Copy, Debug, PartialEq, Eq)]
 pub struct Terminals {
+    /// Whether the process was started with standard input closed.
+    pub input_closed: bool,
     pub input: bool,
     pub errors: bool,
 }
@@ -60,12 +66,27 @@ impl Terminals {
     {
         self.input && self.errors
     }
+
+    /// Whether `job` reads standard input, and that is closed.
+    fn lacks_input(self, job: &Job<'_>) -> bool
+        ensures { result ≡ lacks_input self job.now }
+    {
+        self.input_closed && is_typed(job)
+    }
+}
+
+/// Whether `job` reads standard input.
+fn is_typed(job: &Job<'_>) -> bool
+    ensures { result ≡ is_typed job.now }
+{
+    matches!(job, Job::Joined | Job::Play { .. } | Job::Climb { .. })
 }
 
 /// Does the job that `words` ask for, and gives the exit status.
 ///
 /// Paths are opened in the folder. Results, transcripts and help go to `output`, fault lines and
 /// usage texts to `errors`, and if that is a terminal, an explanation after each.
+/// A job that reads standard input isn't begun if that is closed, which is a read fault.
 /// The streams must not have failed before. With several workers it may wait for them.
 pub fn serve<F: Folder, I: Source, O: Sink, E: Sink>(
     rt: &(impl Threads + Wait + Sync),
@@ -91,7 +112,7 @@ pub fn serve<F: Folder, I: Source, O: Sink, E: Sink>(
         Words::Given(words) => {
             serve_words(rt, alloc, words, terminals, folder, input, output, errors)
         }
-        Words::NotText => refuse(NOT_TEXT, NOT_TEXT_NOTE, terminals, errors),
+        Words::NotText => refuse(NOT_TEXT, parts::words(NOT_TEXT_NOTE), terminals, errors),
         Words::OutOfMemory => tell_no_memory(terminals, errors),
     }
 }
@@ -118,18 +139,55 @@ fn serve_words<F: Folder, I: Source, O: Sink, E: Sink>(
         result (texts words.now) }
 {
     match job(alloc, words) {
-        Ok(job) => {
-            greet(&job, terminals, errors);
-            let ended = carry_out(rt, alloc, &job, folder, input, output);
-            tell(ended.outcome, ended.note, terminals, errors)
-        }
+        Ok(job) => serve_job(rt, alloc, &job, terminals, folder, input, output, errors),
         Err(JobFault::Help { text }) => {
             let outcome = Outcome::of_run(write_text(output, &text));
-            tell(outcome, Note::without_files(outcome), terminals, errors)
+            tell(
+                outcome,
+                Note::without_files(outcome, None),
+                terminals,
+                errors,
+            )
         }
-        Err(JobFault::Usage { text }) => refuse(&text, USAGE_NOTE, terminals, errors),
+        Err(JobFault::Usage { text }) => refuse(
+            &text,
+            parts::two_words(usage_hint(words), USAGE_NOTE),
+            terminals,
+            errors,
+        ),
         Err(JobFault::Memory) => tell_no_memory(terminals, errors),
     }
+}
+
+/// Does the job, unless it lacks its input, and gives the exit status.
+fn serve_job<F: Folder, I: Source, O: Sink, E: Sink>(
+    rt: &(impl Threads + Wait + Sync),
+    alloc: Global,
+    job: &Job<'_>,
+    terminals: Terminals,
+    folder: &F,
+    input: &mut I,
+    output: &mut O,
+    errors: &mut E,
+) -> u8
+    requires numbers { IsInRange job.now }
+    requires input_ready { I.has_failed input.old ≡ false }
+    requires input_unended { I.has_ended input.old ≡ false }
+    requires output_ready { O.has_failed output.old ≡ false }
+    requires errors_ready { E.has_failed errors.old ≡ false }
+    ensures { ServesJob (F.at folder.now) terminals
+        (stream_of I.remaining I.has_failed input.old input.new)
+        (stream_of O.contents O.has_failed output.old output.new)
+        (stream_of E.contents E.has_failed errors.old errors.new)
+        result job.now }
+{
+    if terminals.lacks_input(job) {
+        let closed = Outcome::Broken(RunFault::Read);
+        return tell(closed, Note::no_input(), terminals, errors);
+    }
+    greet(job, terminals, errors);
+    let ended = carry_out(rt, alloc, job, terminals.errors, folder, input, output);
+    tell(ended.outcome, ended.note, terminals, errors)
 }
 
 /// Says that memory to read the words in was refused, and gives the exit status.
@@ -139,7 +197,12 @@ fn tell_no_memory<E: Sink>(terminals: Terminals, errors: &mut E) -> u8
     ensures status { result ≡ status_of (Broken Memory) }
 {
     let outcome = Outcome::Broken(RunFault::Memory);
-    tell(outcome, Note::without_files(outcome), terminals, errors)
+    tell(
+        outcome,
+        Note::without_files(outcome, None),
+        terminals,
+        errors,
+    )
 }
 
 /// Greets a person at a terminal, if `job` reads typed lines.
@@ -200,30 +263,39 @@ fn write_note<E: Sink>(note: Note<'_>, errors: &mut E)
 {
     write_shown(errors, note.about);
     write_more(errors, ": ");
-    write_number(note.number, errors);
-    write_shown(errors, note.words);
+    write_parts(note.parts.as_slice(), errors);
     write_more(errors, "\n");
 }
 
-/// Writes the digits of a number, if there is one.
-fn write_number<E: Sink>(number: Option<u64>, errors: &mut E)
+/// Writes the parts of an explanation, one after the other.
+fn write_parts<E: Sink>(parts: &[Part], errors: &mut E)
     ensures { (text : List ℕ) × IsMore E.contents E.has_failed errors.old errors.new (shown text) }
 {
-    match number {
-        Some(number) => {
+    for part in parts {
+        write_part(*part, errors);
+    }
+}
+
+/// Writes a part of an explanation.
+fn write_part<E: Sink>(part: Part, errors: &mut E)
+    ensures { (text : List ℕ) × IsMore E.contents E.has_failed errors.old errors.new (shown text) }
+{
+    match part {
+        Part::Words(words) => write_shown(errors, words),
+        Part::Number(number) => {
             let mut digits = Buffer::new();
             write_shown(errors, digits.format(number));
         }
-        None => {}
     }
 }
 
 /// Writes a text that says that the use was wrong, and gives the exit status.
-fn refuse<E: Sink>(text: &str, words: &'static str, terminals: Terminals, errors: &mut E) -> u8
+fn refuse<E: Sink>(text: &str, parts: Parts, terminals: Terminals, errors: &mut E) -> u8
     ensures said { (said : List ℕ) × IsExplained terminals.errors text.now said
         × IsMore E.contents E.has_failed errors.old errors.new said }
     ensures status { result ≡ 2 }
 {
-    say(text, Note::new("pebbles", words), terminals, errors);
+    let about = "pebbles";
+    say(text, Note { about, parts }, terminals, errors);
     2
 }

@@ -141,7 +141,7 @@ fn solution_in_parts(
         return solution(alloc, moves);
     }
     let value = start_value(moves);
-    let document = moves.document(alloc)?;
+    let document = moves.document_in_parts(rt, alloc, parts as u32)?;
     let text = print_in_parts(rt, alloc, moves.space(), &document, parts as u32)?;
     Ok(Solved { value, text })
 }
@@ -168,7 +168,8 @@ pub(crate) fn values_by(
     if workers == 1 {
         return values_of(alloc, board);
     }
-    Ok(solve_classes(rt, alloc, board, workers as u32, &NoGate)?)
+    let numbered = solve_classes(rt, alloc, board, workers as u32, &NoGate)?;
+    Ok(Values::new(numbered, board))
 }
 
 /// The values of a small board, by as many rounds as it takes.
@@ -177,5 +178,6 @@ pub(crate) fn values_of(alloc: Global, board: &Board) -> Result<Values, RunFault
     ensures values { IfOk result (λ values. values ≡ board.now) }
     ensures memory { IfErr result IsMemory }
 {
-    Ok(Solver::<PlainLists>::of_classes(alloc, board)?.solve())
+    let solver = Solver::<PlainLists>::of_classes(alloc, board)?;
+    Ok(Values::new(solver.solve_numbered(), board))
 }

@@ -3,45 +3,39 @@
 
 ghost use Rattle.std.specs.Prelude.{◌≡◌};
 
-use arrayvec::ArrayVec;
-use board_text::{Failed, MAX_LABELS, MAX_PEBBLES, Source};
+use crate::reading::MAX_BOARD_BYTES;
+use board_text::{Failed, Source};
+use std::alloc::Global;
 
-/// The number of first bytes that are kept. The first three lines of a board have at most 29.
-const HEAD_BYTES: usize = 32;
-
-// They have 29 bytes with three digits for the labels and one for the pebbles.
-const _: () = prove!(MAX_LABELS < 1000);
-
-const _: () = prove!(MAX_PEBBLES < 10);
-
-/// The first bytes of `text`, as many as a watched source keeps.
-pub(crate) fn head_of(text: &[u8]) -> &[u8] {
-    &text[..text.len().min(HEAD_BYTES)]
-}
+/// The number of first bytes that are kept: all of a board.
+const KEPT_BYTES: usize = MAX_BOARD_BYTES;
 
 /// A source, and the bytes that it gave so far: the first of them, and their number.
 #[derive(Drop)]
 pub(crate) struct Watched<S> {
     source: S,
-    head: ArrayVec<u8, HEAD_BYTES>,
+    text: Vec<u8>,
+    /// Whether bytes are kept, if there is room.
+    keeps: bool,
     count: usize,
 }
 
 impl<S> Watched<S> {
-    /// Watches a source of which nothing was read yet.
-    pub(crate) fn new(source: S) -> Watched<S>
+    /// Watches a source of which nothing was read yet. Bytes are kept if `keeps` says so.
+    pub(crate) fn new(alloc: Global, source: S, keeps: bool) -> Watched<S>
         ensures { result.source ≡ source }
     {
         Watched {
             source,
-            head: ArrayVec::new(),
+            text: Vec::new(alloc),
+            keeps,
             count: 0,
         }
     }
 
-    /// The first bytes that were read.
-    pub(crate) fn head(&self) -> &[u8] {
-        self.head.as_slice()
+    /// The first bytes that were read, as far as they were kept.
+    pub(crate) fn text(&self) -> &[u8] {
+        self.text.as_slice()
     }
 
     /// The number of bytes that were read.
@@ -49,13 +43,17 @@ impl<S> Watched<S> {
         self.count
     }
 
-    /// Counts `bytes`, and keeps them as far as there is room.
+    /// Counts `bytes`, and keeps them as far as there is room. After memory for them was refused
+    /// none are kept.
     fn keep(&mut self, bytes: &[u8])
         ensures { self.new.source ≡ self.old.source }
     {
-        let kept = bytes.len().min(self.head.remaining_capacity());
-        let _ = self.head.try_extend_from_slice(&bytes[..kept]);
         self.count = self.count.saturating_add(bytes.len());
+        if self.keeps {
+            let room = KEPT_BYTES.saturating_sub(self.text.len());
+            let kept = &bytes[..bytes.len().min(room)];
+            self.keeps = self.text.extend_from_slice(kept).is_ok();
+        }
     }
 }
 

@@ -3,7 +3,7 @@ use Rattle.runs.specs.declared.outcome.Outcome.TheVariants.{Broken}
 use Rattle.std.proofs.Common.{inl, inr, refl, [], string_bytes}
 use Rattle.runs.specs.Run.{stream_of}
 use Rattle.runs.specs.Serving.{EndsWith}
-use Rattle.runs.proofs.MoreTexts.{ended, greeted, refused}
+use Rattle.runs.proofs.MoreTexts.{ended, refused}
 use Rattle.runs.proofs.Served.{asked, helped, more_words, written}
 use Rattle.runs.proofs.serving.serve_words.Goals as goal
 
@@ -12,17 +12,7 @@ returns-in-Ok g c = inl (
   c.in-Ok.job,
   asked c.args.words.now c.job.result c.job.ensures.joined c.in-Ok.job c.in-Ok.is c.in-Ok.ensures.job
       c.in-Ok.ensures.faultless,
-  c.greet.ensures.0,
-  c.greet.ensures.1,
-  c.carry_out-ended.result.outcome,
-  c.carry_out-ended.ensures,
-  (
-    greeted g.E.Sink.contents g.E.Sink.has_failed c.args.errors.now c.requires.errors_ready c.greet.new.errors
-        c.tell.new.errors
-        c.greet.ensures.0 c.args.terminals.errors c.carry_out-ended.result.outcome c.greet.ensures.2
-        c.tell.ensures.told,
-    c.tell.ensures.status,
-  ),
+  c.serve_job.ensures,
 )
 
 pub returns-in-Err-Help : goal.returns-in-Err-Help
@@ -30,10 +20,10 @@ returns-in-Err-Help g c =
     let fault = c.in-Err-Help.field-0 in
     let output = stream_of g.O.Sink.contents g.O.Sink.has_failed c.args.output.now c.write_text.new.writer in
     let input = stream_of g.I.Source.remaining g.I.Source.has_failed c.args.input.now c.args.input.now in
-    let errors = stream_of g.E.Sink.contents g.E.Sink.has_failed c.args.errors.now c.tell-in-Err-Help.new.errors in
+    let errors = stream_of g.E.Sink.contents g.E.Sink.has_failed c.args.errors.now c.tell.new.errors in
     let w = c.write_text.ensures in
-    let told = rw c.of_run-outcome.ensures at c.tell-in-Err-Help.ensures.told in
-    let status = rw c.of_run-outcome.ensures at c.tell-in-Err-Help.ensures.status in
+    let told = rw c.of_run-outcome.ensures at c.tell.ensures.told in
+    let status = rw c.of_run-outcome.ensures at c.tell.ensures.status in
     inr (
       fault,
       more_words c.args.words.now c.job.result c.job.ensures.joined fault c.in-Err-Help.is,
@@ -45,9 +35,9 @@ returns-in-Err-Help g c =
             at w.prefix) w.fault w.failed,
         refl,
         helped output c.write_text.result w.fault w.failed (λ o. EndsWith (g.F.Folder.at c.args.folder.now)
-            c.args.terminals input output errors c.tell-in-Err-Help.result [] o) (
+            c.args.terminals input output errors c.tell.result [] o) (
               ended g.E.Sink.contents g.E.Sink.has_failed c.args.errors.now c.requires.errors_ready
-                  c.tell-in-Err-Help.new.errors
+                  c.tell.new.errors
                   c.args.terminals.errors _ told,
               status,
             ),

@@ -9,29 +9,20 @@ pub returns : goal.returns
 returns g c =
     let known = g.E.Sink.contents in
     let failed = g.E.Sink.has_failed in
-    let number = c.write_number.ensures in
+    let parts = c.write_parts.ensures in
     let e0 = c.args.errors.now in
     let e1 = c.write_shown.new.errors in
     let e2 = c.write_more.new.writer in
-    let e3 = c.write_number.new.errors in
-    let e4 = c.write_shown-2.new.errors in
-    let e5 = c.write_more-2.new.writer in
+    let e3 = c.write_parts.new.errors in
+    let e4 = c.write_more-2.new.writer in
     let about = shown c.args.note.about.now in
-    let digits = shown number.0 in
-    let words = shown c.args.note.words.now in
+    let words = shown parts.0 in
     let colon = 58 ∷ 32 ∷ [] in
-    let four = then_more known failed e3 e4 e5 words
-    (with_line_feed []) c.write_shown-2.ensures c.write_more-2.ensures in
-    let three = then_more known failed e2 e3 e5 digits (words ++ with_line_feed []) number.1 four in
-    let two = then_more known failed e1 e2 e5 colon
-    (digits ++ (words ++ with_line_feed [])) c.write_more.ensures three in
-    let all = then_more known failed e0 e1 e5 about (colon ++ (digits ++ (words ++ with_line_feed [])))
-    c.write_shown.ensures two in (
-      with_line_feed (about ++ (colon ++ (digits ++ words))),
-      (
-        about ++ (colon ++ (digits ++ words)),
-        plain_line c.args.note.about.now colon number.0 c.args.note.words.now colon_is_plain,
-        refl,
-      ),
-      subst (IsMore known failed e0 e5) (line_of_parts about colon digits words) all,
+    let three = then_more known failed e2 e3 e4 words (with_line_feed []) parts.1 c.write_more-2.ensures in
+    let two = then_more known failed e1 e2 e4 colon (words ++ with_line_feed []) c.write_more.ensures three in
+    let rest = colon ++ (words ++ with_line_feed []) in
+    let all = then_more known failed e0 e1 e4 about rest c.write_shown.ensures two in (
+      with_line_feed (about ++ (colon ++ words)),
+      (about ++ (colon ++ words), plain_line c.args.note.about.now colon parts.0 colon_is_plain, refl),
+      subst (IsMore known failed e0 e4) (line_of_parts about colon words) all,
     )

@@ -1,0 +1,68 @@
+//! The numbers in the first lines of a board that explain a fault of it.
+
+use board_text::line_reader::LineReader;
+use board_text::{MAX_LABELS, MAX_PEBBLES};
+use positions::MAX_CONFIGURATIONS;
+
+// The largest numbers of places for three to six pebbles.
+const _: () = prove!(101 * 101 * 101 <= MAX_CONFIGURATIONS && 102 * 102 * 102 > MAX_CONFIGURATIONS);
+
+const _: () = prove!(32 * 32 * 32 * 32 == MAX_CONFIGURATIONS);
+
+const _: () = prove!(16 * 16 * 16 * 16 * 16 == MAX_CONFIGURATIONS);
+
+const _: () = prove!(
+    10 * 10 * 10 * 10 * 10 * 10 <= MAX_CONFIGURATIONS
+        && 11 * 11 * 11 * 11 * 11 * 11 > MAX_CONFIGURATIONS
+);
+
+/// The numbers in the first three lines of a board.
+#[derive(Clone, Copy)]
+pub(crate) struct Sizes {
+    pub(crate) version: u32,
+    pub(crate) labels: u32,
+    pub(crate) pebbles: u32,
+}
+
+impl Sizes {
+    /// The numbers of a board that begins so, if its first three lines are there.
+    pub(crate) fn of(board: &[u8]) -> Option<Sizes> {
+        let mut text = LineReader::new(board);
+        Some(Sizes {
+            version: text.number_line("board".as_bytes(), 1, 2)?,
+            labels: text.number_line("labels".as_bytes(), 1, MAX_LABELS as u32)?,
+            pebbles: text.number_line("pebbles".as_bytes(), 1, MAX_PEBBLES as u32)?,
+        })
+    }
+
+    /// The number of configurations.
+    pub(crate) fn configurations(self) -> u64 {
+        let places = if self.version == 2 {
+            u64::from(self.labels) + 1
+        } else {
+            u64::from(self.labels)
+        };
+        places.saturating_pow(self.pebbles)
+    }
+
+    /// The most labels of a board with as many pebbles, of the same version.
+    pub(crate) fn most_labels(self) -> u64 {
+        let places = match self.pebbles {
+            3 => 101,
+            4 => 32,
+            5 => 16,
+            6 => 10,
+            _ => return MAX_LABELS as u64,
+        };
+        if self.version == 2 {
+            places - 1
+        } else {
+            places
+        }
+    }
+
+    /// Whether the pebbles n need more labels to last for ever, which are 2^n - 1 at least.
+    pub(crate) fn has_few_labels(self) -> bool {
+        u64::from(self.labels) < 2_u64.saturating_pow(self.pebbles).saturating_sub(1)
+    }
+}

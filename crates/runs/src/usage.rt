@@ -1,0 +1,60 @@
+//! The words that explain wrong use, by the words of the command line.
+
+use board_text::line_reader::LineReader;
+use command_line::MAX_WORKERS;
+
+// The words say this limit.
+const _: () = prove!(MAX_WORKERS == 16);
+
+/// Why these words, the program's name first, may be wrong, if they show it.
+pub(crate) fn usage_hint(words: &[&str]) -> &'static str {
+    if words.len() > 1 && is_path(words[1]) {
+        return "the name of a command comes before a path, as in `pebbles solve BOARD`; ";
+    }
+    for at in 1..words.len() {
+        let word = words[at];
+        if word == "--" {
+            return "";
+        }
+        if word == "--workers" && !is_count(words, at + 1) {
+            return "`--workers` comes with a number from 1 to 16, as in `--workers 4`; ";
+        }
+        if is_version(word) {
+            return "`--version` stands alone, as in `pebbles --version`; ";
+        }
+        if is_unknown_option(word) {
+            return "the only options are `--workers` of `solve` and `report`, `--side` of `play`, \
+                `--help` and `--version`; ";
+        }
+    }
+    ""
+}
+
+/// Whether the word at this place is a number of workers.
+fn is_count(words: &[&str], at: usize) -> bool {
+    at < words.len()
+        && LineReader::new(words[at].as_bytes())
+            .number(1, MAX_WORKERS as u32)
+            .is_some()
+}
+
+/// Whether a word can only be a path.
+fn is_path(word: &str) -> bool {
+    !word.starts_with("-") && (word.contains(".") || word.contains("/"))
+}
+
+/// Whether a word asks for the version.
+fn is_version(word: &str) -> bool {
+    word == "--version" || word == "-V"
+}
+
+/// Whether a word is an option that no command has.
+fn is_unknown_option(word: &str) -> bool {
+    let is_known = word.starts_with("--workers=")
+        || word.starts_with("--side=")
+        || word == "--help"
+        || word == "-h"
+        || word == "--workers"
+        || word == "--side";
+    word.starts_with("-") && !is_known
+}
