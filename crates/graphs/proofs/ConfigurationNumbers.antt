@@ -14,10 +14,10 @@ use Rattle.classes.proofs.Cited.{is-below, with-is, value-of-class}
 use Rattle.graphs.specs.declared.graph.Numbering.{Numbering}
 use Rattle.graphs.specs.declared.graph.Numbering.TheVariants.{Ordered, Classes}
 use Rattle.graphs.specs.ClassGraph.{class_at, gap_number}
-use Rattle.graphs.specs.Inside.Filling.{IsAnswerIn}
+use Rattle.graphs.specs.Answers.{IsAnswerIn}
 use Rattle.graphs.specs.Inside.Tables.{found_by}
 use Rattle.graphs.specs.declared.graph.Finder.{Finder}
-use Rattle.graphs.specs.declared.graph.Finder.TheVariants.{Ranks, Kinds}
+use Rattle.graphs.specs.declared.graph.Finder.TheVariants.{Ranks, Classes as ByClasses}
 use Rattle.graphs.specs.Numbered.{Numbered, numbered, graph_by, graph_of, configuration_by, configuration_of}
 use Rattle.graphs.specs.NumberedRanks.{number_by, number_in, gap_by, gap_in, number_at}
 use Rattle.graphs.proofs.OrderedGraphs as ranks
@@ -48,7 +48,7 @@ module _ (n : Numbered) (finder : Finder) (view : found_by finder ≡ n) (board 
       let same : numbered board Ordered ≡ n = sym (ap found_by is) ∙ view in
       (ap (λ (m : Numbered). m.numbering) (sym same), ap (λ (m : Numbered). m.board) same)
 
-  pub by-classes : finder ≡ Kinds board → (n.numbering ≡ Classes) × (board ≡ n.board)
+  pub by-classes : finder ≡ ByClasses board → (n.numbering ≡ Classes) × (board ≡ n.board)
   by-classes is =
       let same : numbered board Classes ≡ n = sym (ap found_by is) ∙ view in
       (ap (λ (m : Numbered). m.numbering) (sym same), ap (λ (m : Numbered). m.board) same)

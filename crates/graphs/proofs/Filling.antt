@@ -6,46 +6,9 @@ use Rattle.std.proofs.Math.ListN.{length-set}
 use Rattle.std.proofs.lemmas.Bool.{cases_lt}
 use Rattle.std.proofs.lemmas.List.{length_push, get_or_append_left, get_or_push}
 use Rattle.graphs.specs.Graph.{PlainGraph, IsGraph}
-use Rattle.graphs.specs.Inside.Filling.{IsAnswerIn, AreMemberRows, IsRowPushed, IsGapNoted, AreStruck}
+use Rattle.graphs.specs.Answers.{IsAnswerIn}
+use Rattle.graphs.specs.Inside.Filling.{IsGapNoted, AreStruck}
 use Rattle.graphs.proofs.LastingRanks.{same_or_not}
-
--- ---- members
-
-pub pushed-none : (a : PlainGraph) (gap : ℕ) (members : List ℕ) → IsRowPushed a gap 0 members members
-pushed-none a gap members = record { size = omega arith; kept = λ k low. refl; each = λ v low. absurd (omega arith) }
-
-pub pushed-more : (a : PlainGraph) (gap place : ℕ) (old now : List ℕ) → IsRowPushed a gap place old now
-    → IsRowPushed a gap (place + 1) old (now ++ a.member gap place ∷ [])
-pushed-more a gap place old now p =
-    let size = p.size in record {
-      size = length_push now (a.member gap place) ∙ (omega arith);
-      kept = λ k low. get_or_append_left now (a.member gap place ∷ []) 0 k (omega arith) ∙ p.kept k low;
-      each = λ v low. elim (cases_lt v place) [
-        | inl less ↦ get_or_append_left now (a.member gap place ∷ []) 0 (length old + v) (omega arith) ∙ p.each v less
-        | inr last ↦
-            let at : length old + v ≡ length now = omega arith in
-            let is : place ≡ v = omega arith in
-            get_or_push now (a.member gap place) 0 (length old + v) (sym at) ∙ ap (a.member gap) is
-      ];
-    }
-
-pub rows-more : (a : PlainGraph) (gap : ℕ) (old now : List ℕ) → AreMemberRows a gap old
-    → IsRowPushed a gap a.places old now → AreMemberRows a (gap + 1) now
-rows-more a gap old now rows p = record {
-  size = (let one = rows.size in let two = p.size in omega arith);
-  each = λ g v low inside. elim (cases_lt g gap) [
-    | inl before ↦
-        let most : a.places * (g + 1) ≤ a.places * gap =
-        mul-le-mul_left a.places (let h : g + 1 ≤ gap = omega arith in h) in
-        p.kept (g * a.places + v) (let size = rows.size in omega arith) ∙ rows.each g v before inside
-    | inr last ↦
-        let here : gap ≡ g = omega arith in
-        let size : length old ≡ g * a.places = rows.size ∙ ap (λ h. h * a.places) here in
-        ap (λ k. get_or now (k + v) 0) (sym size) ∙ p.each v inside ∙ ap (λ h. a.member h v) here
-  ];
-}
-
--- ---- answers
 
 pub noted-none : (a : PlainGraph) (gap : ℕ) (struck : List ℕ) → IsGapNoted a gap 0 struck struck
 noted-none a gap struck = record { same_length = refl; noted = λ v low. absurd (omega arith); others = λ x. inl refl }

@@ -8,7 +8,7 @@ use Rattle.positions.specs.Gaps.{gaps, member_of, IsAnswer}
 use Rattle.positions.specs.Ranks.{configurations, rank_of}
 use Rattle.positions.specs.Tuples.{tuple_of}
 use Rattle.graphs.specs.declared.graph.Numbering.TheVariants.{Ordered}
-use Rattle.graphs.specs.Inside.Filling.{IsAnswerIn, AreAnswerBits}
+use Rattle.graphs.specs.Answers.{IsAnswerIn, AreAnswerBits}
 use Rattle.graphs.specs.Numbered.{numbered, graph_of, graph_by}
 use Rattle.graphs.specs.Ordered.{ordered}
 use Rattle.graphs.proofs.OrderedGraphs.{struck-there, there-struck}
@@ -47,6 +47,10 @@ module _ (s b : PlainBoard) (same : s ≡ b) where
   pub gaps-shown : (n : ℕ) → n ≡ gaps s → n ≡ (graph_of (numbered b Ordered)).gaps
   unfolding graph_by
   gaps-shown n e = subst (λ (p : PlainBoard). n ≡ gaps p) same e
+
+  pub place-inside : (v : ℕ) → v < (graph_of (numbered b Ordered)).places → v < places s
+  unfolding graph_by
+  place-inside v i = subst (λ (p : PlainBoard). v < places p) (sym same) i
 
   pub places-shown : (n : ℕ) → n ≡ places s → n ≡ (graph_of (numbered b Ordered)).places
   unfolding graph_by

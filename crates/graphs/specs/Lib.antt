@@ -1,4 +1,5 @@
 pub mod Graph
+pub mod Answers
 pub mod Lasting
 pub mod Shows
 pub mod Struck

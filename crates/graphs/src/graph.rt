@@ -1,21 +1,22 @@
-//! A game as two tables of numbers.
+//! A game as numbers, and a table of the gaps in which they are answers.
 
 ghost use Rattle.std.specs.Prelude.{◌≡◌, ℕ, ◌<◌, ◌≤◌, length, slice_index, MatchOption, IsTrue};
 ghost use Rattle.std.specs.Prelude.{◌↔◌, IfOk};
 ghost use Rattle.board_text.specs.PlainBoard.{IsBoard};
 ghost use Rattle.positions.specs.Ranks.{configurations};
 ghost use Rattle.classes.specs.Numbers.{class_count};
+ghost use Rattle.graphs.specs.Answers.{AreAnswerBits};
 ghost use Rattle.graphs.specs.Graph.{IsGraph};
 ghost use Rattle.graphs.specs.Numbered.{IsFewBy, numbered, graph_of};
 ghost use Rattle.graphs.specs.declared.graph.Numbering.TheVariants.{Ordered};
 ghost use Rattle.graphs.specs.declared.graph.Numbering.TheVariants.{Classes as ClassesData};
 
 use crate::class_numbers::ClassNumbers;
-use crate::numbers::Tables;
+use crate::numbers::{Numbers, Tables};
 use crate::ordered_numbers::OrderedNumbers;
-use board_text::{Board, Memory};
-use classes::{Classes, MAX_CLASSES, has_few_classes};
-use positions::{MAX_CONFIGURATIONS, Space, is_small};
+use board_text::{Board, MAX_LABELS, Memory};
+use classes::{MAX_CLASSES, has_few_classes};
+use positions::{LabelSet, MAX_CONFIGURATIONS, is_small};
 use std::alloc::Global;
 use std::marker::Model;
 
@@ -40,15 +41,16 @@ pub fn has_few(board: &Board, numbering: Numbering) -> bool
     }
 }
 
-/// What finds the numbers of a board's configurations and of their gaps.
+/// What finds the numbers of a board's configurations and of their gaps, and the members and answers
+/// of a gap.
 #[derive(Drop)]
 pub(crate) enum Finder {
-    Ranks(Space),
-    Kinds(Classes),
+    Ranks(OrderedNumbers),
+    Classes(ClassNumbers),
 }
 
-/// A game as two tables of numbers: the members of each gap, and the gap in which each
-/// configuration is an answer.
+/// A game as numbers: the members of each gap, which are found whenever they are asked for, and a
+/// table of the gap in which each configuration is an answer.
 ///
 /// Configurations and gaps are numbers from 0 on. A gap has one member for each place of its
 /// pebble. Contracts see the board and the numbering.
@@ -67,13 +69,13 @@ impl Model for Graph {
     ghost view = { λ s. found_by s.finder };
 
     ghost invariant = { λ s. AreTables (found_by s.finder) s.tables.configurations
-        s.tables.gaps s.tables.places s.tables.members.items s.tables.struck.items };
+        s.tables.gaps s.tables.places s.tables.struck.items };
 }
 
 impl Graph {
     /// The graph of `board` by `numbering`. The error is that memory ran out.
     ///
-    /// It takes time in the number of members of all gaps, and a word for each of them.
+    /// It takes time in the number of answers of all gaps.
     pub fn of(alloc: Global, board: &Board, numbering: Numbering) -> Result<Graph, Memory>
         requires { IsFewBy numbering board.now }
         ensures { IfOk result (λ graph. graph ≡ numbered board.now numbering) }
@@ -92,7 +94,7 @@ impl Graph {
         let numbers = OrderedNumbers::of(alloc, board)?;
         let tables = Tables::of(alloc, &numbers)?;
         Ok(Graph {
-            finder: Finder::Ranks(Space::new(board)),
+            finder: Finder::Ranks(numbers),
             tables,
         })
     }
@@ -102,10 +104,10 @@ impl Graph {
         requires { class_count board.now ≤ MAX_CLASSES }
         ensures { IfOk result (λ graph. graph ≡ numbered board.now ClassesData) }
     {
-        let classes = Classes::of(alloc, board)?;
-        let tables = Tables::of(alloc, &ClassNumbers::of(alloc, board, &classes)?)?;
+        let numbers = ClassNumbers::of(alloc, board)?;
+        let tables = Tables::of(alloc, &numbers)?;
         Ok(Graph {
-            finder: Finder::Kinds(classes),
+            finder: Finder::Classes(numbers),
             tables,
         })
     }
@@ -143,19 +145,21 @@ impl Graph {
         ensures below { result < (graph_of self.now).configurations }
         ensures graph { IsGraph (graph_of self.now) }
     {
-        self.members(gap)[place as usize]
+        match &self.finder {
+            Finder::Ranks(numbers) => numbers.member(gap, place),
+            Finder::Classes(numbers) => numbers.member(gap, place),
+        }
     }
 
-    /// The members of `gap`, by place, which is in ascending order.
-    pub fn members(&self, gap: u32) -> &[u32]
+    /// The labels that are answers of `gap`.
+    pub fn answers(&self, gap: u32) -> LabelSet
         requires { gap < (graph_of self.now).gaps }
-        ensures size { length result.now ≡ (graph_of self.now).places }
-        ensures each { (place : ℕ) → place < (graph_of self.now).places
-            → slice_index result.now place ≡ (graph_of self.now).member gap place }
-        ensures graph { IsGraph (graph_of self.now) }
+        ensures { AreAnswerBits (graph_of self.now) gap result }
     {
-        let first = gap as usize * self.tables.places as usize;
-        &self.tables.members[first..first + self.tables.places as usize]
+        match &self.finder {
+            Finder::Ranks(numbers) => numbers.answers(gap),
+            Finder::Classes(numbers) => numbers.answers(gap),
+        }
     }
 
     /// Whether the member of `gap` with `place` is an answer of the gap.
@@ -165,7 +169,8 @@ impl Graph {
         ensures { IsTrue result
             ↔ ((graph_of self.now).struck ((graph_of self.now).member gap place) ≡ gap) }
     {
-        self.tables.struck[self.member(gap, place) as usize] == gap
+        let answers = self.answers(gap);
+        place < MAX_LABELS as u32 && answers.contains(place as u16)
     }
 
     /// The gap in which `configuration` is an answer, if there is one.

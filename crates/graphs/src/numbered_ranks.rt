@@ -22,8 +22,8 @@ impl Graph {
         ensures below { result < (graph_of self.now).configurations }
     {
         match &self.finder {
-            Finder::Ranks(space) => space.rank(held),
-            Finder::Kinds(classes) => classes.number_of(held),
+            Finder::Ranks(numbers) => numbers.space().rank(held),
+            Finder::Classes(numbers) => numbers.classes().number_of(held),
         }
     }
 
@@ -39,8 +39,8 @@ impl Graph {
             → slice_index result.gaps pebble < (graph_of self.now).gaps }
     {
         match &self.finder {
-            Finder::Ranks(space) => ordered_standing(space, held),
-            Finder::Kinds(classes) => classes.standing(held),
+            Finder::Ranks(numbers) => ordered_standing(numbers.space(), held),
+            Finder::Classes(numbers) => numbers.classes().standing(held),
         }
     }
 
@@ -51,7 +51,7 @@ impl Graph {
     {
         match &self.finder {
             Finder::Ranks(_) => Ok(vec![in alloc; 1u64; self.tables.configurations as usize]?),
-            Finder::Kinds(classes) => classes.weights(alloc),
+            Finder::Classes(numbers) => numbers.classes().weights(alloc),
         }
     }
 }

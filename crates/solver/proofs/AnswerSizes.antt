@@ -1,11 +1,14 @@
 -- Counts of a gap's answers, as sizes in the game's terms.
-use Rattle.std.proofs.Common.{◌≡◌, ℕ, ◌+◌, ◌<◌, ◌==◌, ◌&&◌, ◌↔◌, Bool, true, false, cond, zero, suc, refl, arith, sym, ap, ◌∙◌, subst, [], ◌∷◌, Contains}
+use Rattle.std.proofs.Common.{◌≡◌, ℕ, ◌+◌, ◌<◌, ◌==◌, ◌&&◌, ◌↔◌, Bool, true, false, cond, zero, suc, refl, arith, sym, ap, ◌∙◌, subst, List, [], ◌∷◌, Contains}
 use Rattle.std.proofs.lemmas.Bool.Decides.{nat_tests}
 use Rattle.board_text.specs.PlainBoard.{IsBoard}
+use Rattle.board_text.specs.Domination.{has_bit}
+use Rattle.board_text.specs.declared.board.TheConstants.{MAX_LABELS}
 use Rattle.positions.specs.Game.{LabellerTree}
 use Rattle.positions.specs.Counts.{HasSize}
 use Rattle.positions.proofs.Cited.{size_of, count_below as count_to, count_below-zero as count_to-zero, count_below-add as count_to-add}
-use Rattle.positions.proofs.Cited.{same_size, size_zero}
+use Rattle.positions.proofs.Cited.{same_size, same_fact_size, size_zero}
+use Rattle.graphs.specs.Answers.{IsAnswerIn, AreAnswerBits}
 use Rattle.graphs.specs.Graph.{PlainGraph, count_below, live_answers, lasts}
 use Rattle.graphs.specs.Numbered.{Numbered, graph_of, configuration_of}
 use Rattle.graphs.proofs.Cited.{both_true, and_true, true_not_false, same_is, numbered-is, tree_of_lasts, lasts_of_tree}
@@ -64,6 +67,23 @@ live-size a g above P means =
       λ passes. let both = both_true (a.struck (a.member g v) == g) (above (a.member g v)) passes.1 in
           (record { is_place = passes.0; struck = test_same (a.struck (a.member g v)) g both.0 }, (means v passes.0).0 both.1),
     )))
+
+-- the number of bits that are set is the count of all answers
+pub live-all : (a : PlainGraph) (g : ℕ) (row : List ℕ) (size : ℕ) → AreAnswerBits a g row
+    → HasSize (λ v. (v < MAX_LABELS) × (has_bit row v ≡ true)) size → size ≡ live_answers a (lasts a 0) g
+live-all a g row size bits is =
+    let all = live-size a g (lasts a 0) (λ v. v < a.places) (λ v low. (λ _. low, λ _. refl)) in
+    same_size (λ v. (v < MAX_LABELS) × (has_bit row v ≡ true)) size (live_answers a (lasts a 0) g) is
+    (same_fact_size (λ v. IsAnswerAt a g v × (v < a.places)) (λ v. (v < MAX_LABELS) × (has_bit row v ≡ true))
+    (live_answers a (lasts a 0) g) (λ v. (
+      λ answer.
+          let here : IsAnswerIn a g v = (answer.0.is_place, answer.0.struck) in
+          let few = bits.few v here in
+          (few, (bits.each v few).1 here),
+      λ set.
+          let here = (bits.each v set.0).0 set.1 in
+          (record { is_place = here.0; struck = here.1 }, here.0),
+    )) all)
 
 -- the count is the number of answers after which a labeller lasts `depth` requests
 pub above-size : (n : Numbered) → IsBoard n.board → (depth g : ℕ) → g < (graph_of n).gaps

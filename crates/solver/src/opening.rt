@@ -74,13 +74,7 @@ fn count_answers(graph: &Graph, gap: u32) -> u32
     requires { gap < (graph_of graph.now).gaps }
     ensures { result ≡ live_answers (graph_of graph.now) (lasts (graph_of graph.now) 0) gap }
 {
-    let mut count = 0;
-    for place in 0..graph.places() {
-        if graph.is_answer(gap, place) {
-            count += 1;
-        }
-    }
-    count
+    graph.answers(gap).len()
 }
 
 /// The word of each configuration before the first round: 0 if a request has no answer, else `OPEN`.

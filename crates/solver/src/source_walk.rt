@@ -3,27 +3,30 @@
 ghost use Rattle.std.specs.Prelude.{◌≡◌, ◌∷◌, [], MatchOption};
 
 use crate::word::OPEN;
+use graphs::Graph;
 use std::marker::Model;
 
 /// A walk over the members of a gap that have no value of at most the number of rounds. Contracts
 /// see those that are left.
 #[derive(Drop)]
 pub struct SourceWalk<'a> {
+    pub(crate) graph: &'a Graph,
     pub(crate) words: &'a [u32],
-    pub(crate) members: &'a [u32],
-    /// How many members are passed.
-    pub(crate) passed: usize,
+    pub(crate) gap: u32,
+    /// The place of the next member.
+    pub(crate) place: u32,
 }
 
 impl<'a> Model for SourceWalk<'a> {
-    ghost use Rattle.std.specs.Prelude.{ℕ, List, drop};
-    ghost use Rattle.solver.specs.Inside.SourceWalk.{open_among, HaveWords};
+    ghost use Rattle.std.specs.Prelude.{ℕ, List};
+    ghost use Rattle.graphs.specs.Numbered.{graph_of};
+    ghost use Rattle.solver.specs.Inside.SourceWalk.{open_from, IsWalk};
 
     ghost Value = { List ℕ };
 
-    ghost view = { λ s. open_among s.words.now (drop s.passed s.members.now) };
+    ghost view = { λ s. open_from (graph_of s.graph.now) s.words.now s.gap s.place };
 
-    ghost invariant = { λ s. HaveWords s.words.now s.members.now };
+    ghost invariant = { λ s. IsWalk (graph_of s.graph.now) s.words.now s.gap };
 }
 
 impl<'a> SourceWalk<'a> {
@@ -31,14 +34,14 @@ impl<'a> SourceWalk<'a> {
     pub fn take_next(&mut self) -> Option<u32>
         ensures { MatchOption result ((self.old ≡ []) × (self.new ≡ [])) (λ member. self.old ≡ member ∷ self.new) }
     {
-        for index in self.passed..self.members.len() {
-            let member = self.members[index];
+        for place in self.place..self.graph.places() {
+            let member = self.graph.member(self.gap, place);
             if self.words[member as usize] == OPEN {
-                self.passed = index + 1;
+                self.place = place + 1;
                 return Some(member);
             }
         }
-        self.passed = self.members.len();
+        self.place = self.graph.places();
         None
     }
 }

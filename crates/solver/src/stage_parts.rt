@@ -120,9 +120,10 @@ impl<S: ListStore> Stage<S> {
         ensures { result ≡ open_members (graph_of self.now.game) self.now.values gap }
     {
         SourceWalk {
+            graph: &self.graph,
             words: &self.values,
-            members: self.graph.members(gap),
-            passed: 0,
+            gap,
+            place: 0,
         }
     }
 }

@@ -1,30 +1,26 @@
 -- The meaning of a graph's tables.
-use Rattle.std.specs.Prelude.{◌≡◌, ℕ, ◌+◌, ◌*◌, ◌<◌, ◌≤◌, List, length}
+use Rattle.std.specs.Prelude.{◌≡◌, ℕ, ◌<◌, ◌≤◌, List, length}
 use Rattle.std.specs.Prelude.{slice_index}
 use Rattle.board_text.specs.PlainBoard.{PlainBoard, IsBoard}
 use Rattle.classes.specs.declared.counting.TheConstants.{MAX_CLASSES}
 use Rattle.graphs.specs.declared.graph.Finder.{Finder}
-use Rattle.graphs.specs.declared.graph.Finder.TheVariants.{Ranks, Kinds}
+use Rattle.graphs.specs.declared.graph.Finder.TheVariants.{Ranks, Classes as ByClasses}
 use Rattle.graphs.specs.declared.graph.Numbering.TheVariants.{Ordered, Classes}
 use Rattle.graphs.specs.Numbered.{Numbered, numbered, graph_of, IsFewBy}
 
 -- the board whose numbers are found, and what they stand for
 abbrev pub found_by : Finder → Numbered
 found_by (Ranks board) = numbered board Ordered
-found_by (Kinds board) = numbered board Classes
+found_by (ByClasses board) = numbered board Classes
 
--- these are the sizes of the graph, its members gap by gap, and the gap in which each configuration
--- is an answer
+-- these are the sizes of the graph, and the gap in which each configuration is an answer
 pub record AreTables (n : Numbered) (configurations gaps places : ℕ)
-    (members struck : List ℕ) : Type 0 where
+    (struck : List ℕ) : Type 0 where
   pub is_board : IsBoard n.board
   pub few : configurations ≤ MAX_CLASSES
   pub few_by : IsFewBy n.numbering n.board
   pub configurations_is : configurations ≡ (graph_of n).configurations
   pub gaps_is : gaps ≡ (graph_of n).gaps
   pub places_is : places ≡ (graph_of n).places
-  pub members_length : length members ≡ gaps * places
   pub struck_length : length struck ≡ configurations
-  pub each_member : (g v : ℕ) → g < gaps → v < places
-      → slice_index members (g * places + v) ≡ (graph_of n).member g v
   pub each_struck : (c : ℕ) → c < configurations → slice_index struck c ≡ (graph_of n).struck c

@@ -1,7 +1,8 @@
-use Rattle.std.proofs.Common.{◌≡◌, ◌+◌, ◌*◌, ◌<◌, ◌≤◌, ◌∙◌, ℕ, length, get_or, ap, sym, subst, arith, slice_set}
+use Rattle.std.proofs.Common.{◌+◌, ◌<◌, ◌≤◌, ℕ, length, sym, subst, arith, slice_set}
 use Rattle.positions.proofs.Cited.{next_of, after_step}
 use Rattle.graphs.specs.Graph.{PlainGraph}
-use Rattle.graphs.specs.Inside.Filling.{IsAnswerIn, IsGapNoted}
+use Rattle.graphs.specs.Answers.{IsAnswerIn}
+use Rattle.graphs.specs.Inside.Filling.{IsGapNoted}
 use Rattle.graphs.specs.Numbered.{Numbered, graph_of}
 use Rattle.graphs.proofs.Filling.{noted-to, noted-more}
 use Rattle.graphs.proofs.NumberedGraphs.{numbered-is}
@@ -26,19 +27,16 @@ next g c =
       none = λ v most below is. let least = smallest.1 v (most, is) in omega (arith, below, least);
     }
 
-member : (g : _) (c : In-Some g) → get_or c.args.members.now (c.args.gap * c.places.result + c.in-Some.label) 0
-    ≡ (graph_of (g.N.Numbers.game c.args.numbers.now)).member c.args.gap c.in-Some.label
-member g c =
-    ap (λ n. get_or c.args.members.now (c.args.gap * n + c.in-Some.label) 0) c.places.ensures
-    ∙ c.requires.rows.each c.args.gap c.in-Some.label c.requires.gap (next g c).answer.0
+pub member-requires-clause-place : goal.member-requires-clause-place
+member-requires-clause-place g c = (next g (goal.at.member-requires-clause-place g c).In-Some).answer.0
 
-pub bounds-struck-members : goal.bounds-struck-members
-bounds-struck-members g c =
-    let at = (goal.at.bounds-struck-members g c).In-Some in
+pub bounds-struck-member : goal.bounds-struck-member
+bounds-struck-member g c =
+    let at = (goal.at.bounds-struck-member g c).In-Some in
     let n : Numbered = g.N.Numbers.game c.args.numbers.now in
     let inside = (numbered-is n c.requires.is_board).member_in c.args.gap c.in-Some.label c.requires.gap
     (next g at).answer.0 in
-    omega (arith, inside, member g at, c.loop-label.invariant.noted.same_length, c.requires.size)
+    omega (arith, inside, c.member.ensures, c.loop-label.invariant.noted.same_length, c.requires.size)
 
 pub loop-label-preserved : goal.loop-label-preserved
 loop-label-preserved g c =
@@ -47,15 +45,15 @@ loop-label-preserved g c =
     let at = (goal.at.loop-label-preserved g c).In-Some in
     let is = next g at in
     let label : ℕ = c.in-Some.label in
-    let rank : ℕ = get_or c.args.members.now (c.args.gap * c.places.result + label) 0 in
+    let rank : ℕ = c.member.result in
     let small = c.answers.ensures.few label is.answer in
     let before = noted-to a c.args.gap c.loop-label.labels.from label c.args.struck.now c.loop-label.struck
     c.loop-label.invariant.noted is.none in
     let inside = (numbered-is n c.requires.is_board).member_in c.args.gap label c.requires.gap
     is.answer.0 in
     let low : rank < length c.loop-label.struck =
-    omega (arith, inside, member g at, before.same_length, c.requires.size) in
-    let more = noted-more a c.args.gap label rank c.args.struck.now c.loop-label.struck (member g at) is.answer low
+    omega (arith, inside, c.member.ensures, before.same_length, c.requires.size) in
+    let more = noted-more a c.args.gap label rank c.args.struck.now c.loop-label.struck c.member.ensures is.answer low
     before in
     record {
       most = omega (arith, small, c.in-Some.ensures.from);

@@ -1,7 +1,8 @@
 use Rattle.std.proofs.Common.{◌-◌, ◌≤◌}
 use Rattle.board_text.specs.declared.board.TheConstants.{MAX_LABELS}
 use Rattle.positions.proofs.Cited.{AreFrom}
-use Rattle.graphs.specs.Inside.Filling.{IsAnswerIn, IsGapNoted}
+use Rattle.graphs.specs.Answers.{IsAnswerIn}
+use Rattle.graphs.specs.Inside.Filling.{IsGapNoted}
 use Rattle.graphs.specs.Numbered.{graph_of}
 use Rattle.graphs.proofs.numbers.note_answers.Given as goal
 

@@ -14,10 +14,10 @@ returns-in_ok-vec-in-Ranks c =
     ranks-weighed n c.in_ok-vec-in-Ranks.field-0.items c.self.inside.tables.configurations found.0 bound
     (c.in_ok-vec-in-Ranks.ensures.items_if_clones_equal (λ y e. e))
 
-pub returns-in-Kinds : goal.returns-in-Kinds
-returns-in-Kinds c =
+pub returns-in-Classes : goal.returns-in-Classes
+returns-in-Classes c =
     let n : Numbered = c.args.self.now in
-    let found = by-classes n c.self.inside.finder c.self.view_is c.in-Kinds.classes c.in-Kinds.is in
-    IfOk-weaker c.weights.result _ _ (λ weights are. classes-weighed n weights.items c.in-Kinds.classes found.0 found.1
-    are)
+    let found = by-classes n c.self.inside.finder c.self.view_is c.in-Classes.numbers c.in-Classes.is in
+    IfOk-weaker c.weights.result _ _ (λ weights are. classes-weighed n weights.items c.classes.result.now found.0
+    (c.classes.ensures ∙ found.1) are)
     c.weights.ensures

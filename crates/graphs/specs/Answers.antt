@@ -1,0 +1,14 @@
+-- The answers of a gap, as bits.
+use Rattle.std.specs.Prelude.{◌≡◌, ℕ, ◌<◌, ◌↔◌, true, List}
+use Rattle.board_text.specs.Domination.{has_bit}
+use Rattle.board_text.specs.declared.board.TheConstants.{MAX_LABELS}
+use Rattle.graphs.specs.Graph.{PlainGraph}
+
+-- the label is an answer of the gap
+abbrev pub IsAnswerIn : PlainGraph → ℕ → ℕ → Type 0
+IsAnswerIn a gap label = (label < a.places) × (a.struck (a.member gap label) ≡ gap)
+
+-- the bits are those of the answers of the gap, all of which are labels
+pub record AreAnswerBits (a : PlainGraph) (gap : ℕ) (row : List ℕ) : Type 0 where
+  pub few : (label : ℕ) → IsAnswerIn a gap label → label < MAX_LABELS
+  pub each : (label : ℕ) → label < MAX_LABELS → (has_bit row label ≡ true) ↔ IsAnswerIn a gap label
