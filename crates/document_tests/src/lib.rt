@@ -18,4 +18,6 @@ mod drawn_documents;
 #[cfg(test)]
 mod long_documents;
 #[cfg(test)]
+mod numbered_moves;
+#[cfg(test)]
 mod strategy_documents;

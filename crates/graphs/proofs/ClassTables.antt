@@ -80,6 +80,28 @@ module _ (s b : PlainBoard) (same : s ≡ b) where
       (bits-of-row s is g (subst (λ (p : PlainBoard). g < ways (p.pebbles - 1) (places p)) (sym same) i) rows row are
       row_is)
 
+-- ---- a walk over the members of a gap
+
+-- the walk's next member was taken
+pub record IsWalked (b : PlainBoard) (g : ℕ) (before after : GapMembers) (n : ℕ) : Type 0 where
+  pub board : after.board ≡ b
+  pub gap : after.gap ≡ gap_class b g
+  pub place : after.place ≡ before.place + 1
+  pub inside : before.place < places b
+  pub member : n ≡ (graph_of (numbered b Classes)).member g before.place
+
+pub walked : (b : PlainBoard) (g : ℕ) (before after : GapMembers) (n : ℕ) → before.board ≡ b
+    → before.gap ≡ gap_class b g
+    → TakesMember before after n → IsWalked b g before after n
+unfolding graph_by
+walked b g before after n board gap takes = record {
+  board = ap (λ (w : GapMembers). w.board) takes.rest ∙ board;
+  gap = ap (λ (w : GapMembers). w.gap) takes.rest ∙ gap;
+  place = ap (λ (w : GapMembers). w.place) takes.rest;
+  inside = subst (λ (p : PlainBoard). before.place < places p) board takes.is_place;
+  member = takes.number_is ∙ ap (λ l. class_number (put before.place l)) gap;
+}
+
 -- the places of a gap are a class
 pub gap-places : (b : PlainBoard) → IsBoard b → (g : ℕ) → g < ways (b.pebbles - 1) (places b) → (held : List ℕ)
     → held ≡ gap_class b g → (length held < b.pebbles) × IsClass (places b) (length held) held

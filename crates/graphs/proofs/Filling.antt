@@ -6,9 +6,21 @@ use Rattle.std.proofs.Math.ListN.{length-set}
 use Rattle.std.proofs.lemmas.Bool.{cases_lt}
 use Rattle.std.proofs.lemmas.List.{length_push, get_or_append_left, get_or_push}
 use Rattle.graphs.specs.Graph.{PlainGraph, IsGraph}
-use Rattle.graphs.specs.Answers.{IsAnswerIn}
+use Rattle.graphs.specs.Answers.{IsAnswerIn, AreMembers}
 use Rattle.graphs.specs.Inside.Filling.{IsGapNoted, AreStruck}
 use Rattle.graphs.proofs.LastingRanks.{same_or_not}
+
+-- one member more is written at its place
+pub member-more : (a : PlainGraph) (gap place member : ℕ) (members : List ℕ) → place < length members
+    → member ≡ a.member gap place → AreMembers a gap place members
+    → AreMembers a gap (place + 1) (slice_set members place member)
+member-more a gap place member members low is before = λ v less. elim (cases_lt v place) [
+  | inl earlier ↦ get_or-set_other members place v member 0 (λ same. omega arith) ∙ before v earlier
+  | inr last ↦
+      let here : v ≡ place = omega arith in
+      ap (slice_index (slice_set members place member)) here ∙ get_or-set_same members place member 0 low ∙ is
+      ∙ ap (a.member gap) (sym here)
+]
 
 pub noted-none : (a : PlainGraph) (gap : ℕ) (struck : List ℕ) → IsGapNoted a gap 0 struck struck
 noted-none a gap struck = record { same_length = refl; noted = λ v low. absurd (omega arith); others = λ x. inl refl }

@@ -1,5 +1,5 @@
--- The answers of a gap, as bits.
-use Rattle.std.specs.Prelude.{◌≡◌, ℕ, ◌<◌, ◌↔◌, true, List}
+-- The members and the answers of a gap.
+use Rattle.std.specs.Prelude.{◌≡◌, ℕ, ◌<◌, ◌↔◌, true, List, slice_index}
 use Rattle.board_text.specs.Domination.{has_bit}
 use Rattle.board_text.specs.declared.board.TheConstants.{MAX_LABELS}
 use Rattle.graphs.specs.Graph.{PlainGraph}
@@ -12,3 +12,8 @@ IsAnswerIn a gap label = (label < a.places) × (a.struck (a.member gap label) �
 pub record AreAnswerBits (a : PlainGraph) (gap : ℕ) (row : List ℕ) : Type 0 where
   pub few : (label : ℕ) → IsAnswerIn a gap label → label < MAX_LABELS
   pub each : (label : ℕ) → label < MAX_LABELS → (has_bit row label ≡ true) ↔ IsAnswerIn a gap label
+
+-- the list begins with the gap's members at the first `count` places
+abbrev pub AreMembers : PlainGraph → ℕ → ℕ → List ℕ → Type 0
+AreMembers a gap count members =
+    (place : ℕ) → place < count → slice_index members place ≡ a.member gap place

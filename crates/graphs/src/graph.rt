@@ -5,14 +5,14 @@ ghost use Rattle.std.specs.Prelude.{◌↔◌, IfOk};
 ghost use Rattle.board_text.specs.PlainBoard.{IsBoard};
 ghost use Rattle.positions.specs.Ranks.{configurations};
 ghost use Rattle.classes.specs.Numbers.{class_count};
-ghost use Rattle.graphs.specs.Answers.{AreAnswerBits};
+ghost use Rattle.graphs.specs.Answers.{AreAnswerBits, AreMembers};
 ghost use Rattle.graphs.specs.Graph.{IsGraph};
 ghost use Rattle.graphs.specs.Numbered.{IsFewBy, numbered, graph_of};
 ghost use Rattle.graphs.specs.declared.graph.Numbering.TheVariants.{Ordered};
 ghost use Rattle.graphs.specs.declared.graph.Numbering.TheVariants.{Classes as ClassesData};
 
 use crate::class_numbers::ClassNumbers;
-use crate::numbers::{Numbers, Tables};
+use crate::numbers::{MAX_PLACES, Numbers, Tables};
 use crate::ordered_numbers::OrderedNumbers;
 use board_text::{Board, MAX_LABELS, Memory};
 use classes::{MAX_CLASSES, has_few_classes};
@@ -148,6 +148,20 @@ impl Graph {
         match &self.finder {
             Finder::Ranks(numbers) => numbers.member(gap, place),
             Finder::Classes(numbers) => numbers.member(gap, place),
+        }
+    }
+
+    /// The members of `gap`, by place, which is in ascending order. The entries after them say
+    /// nothing.
+    pub fn members(&self, gap: u32) -> [u32; MAX_PLACES]
+        requires { gap < (graph_of self.now).gaps }
+        ensures members { AreMembers (graph_of self.now) gap (graph_of self.now).places result }
+        ensures few { (graph_of self.now).places ≤ MAX_PLACES }
+        ensures graph { IsGraph (graph_of self.now) }
+    {
+        match &self.finder {
+            Finder::Ranks(numbers) => numbers.members(gap),
+            Finder::Classes(numbers) => numbers.members(gap),
         }
     }
 

@@ -1,4 +1,4 @@
-//! A game as two tables of numbers: the members of each gap, and the gap in which each
+//! A game as numbers of configurations and of gaps: the members of each gap, and the gap in which each
 //! configuration is an answer.
 #![tactic(auto)]
 
@@ -10,6 +10,7 @@ mod numbers;
 mod ordered_numbers;
 
 pub use graph::{Graph, Numbering, has_few};
+pub use numbers::MAX_PLACES;
 pub use laws::{
     configurations_have_numbers, gaps_answer_requests, graphs_have_the_values_of_boards,
     numbered_graphs_show_their_boards, weights_count_configurations,

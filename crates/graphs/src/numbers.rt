@@ -2,15 +2,18 @@
 
 ghost use Rattle.std.specs.Prelude.{◌≡◌, ◌+◌, ◌<◌, ◌≤◌, length, IfOk, vec_capacity};
 ghost use Rattle.board_text.specs.PlainBoard.{IsBoard};
-ghost use Rattle.graphs.specs.Answers.{AreAnswerBits};
+ghost use Rattle.graphs.specs.Answers.{AreAnswerBits, AreMembers};
 ghost use Rattle.graphs.specs.Inside.Filling.{IsGapNoted, AreStruck};
 ghost use Rattle.graphs.specs.Inside.Tables.{AreTables};
 ghost use Rattle.graphs.specs.Numbered.{IsFewBy, Numbered, graph_of};
 
-use board_text::Memory;
+use board_text::{MAX_LABELS, Memory};
 use classes::MAX_CLASSES;
 use positions::LabelSet;
 use std::alloc::Global;
+
+/// The most places that a pebble can have: those of the labels, and one without a label.
+pub const MAX_PLACES: usize = MAX_LABELS + 1;
 
 /// A way to number the configurations and gaps of a board.
 pub(crate) trait Numbers {
@@ -37,6 +40,11 @@ pub(crate) trait Numbers {
         requires gap { gap < (graph_of (game self.now)).gaps }
         requires place { place < (graph_of (game self.now)).places }
         ensures { result ≡ (graph_of (game self.now)).member gap place };
+
+    /// The members of `gap`, by place. The entries after them say nothing.
+    fn members(&self, gap: u32) -> [u32; MAX_PLACES]
+        requires { gap < (graph_of (game self.now)).gaps }
+        ensures { AreMembers (graph_of (game self.now)) gap (graph_of (game self.now)).places result };
 
     /// The answers of `gap`.
     fn answers(&self, gap: u32) -> LabelSet

@@ -9,3 +9,5 @@ mod climbs;
 mod plays;
 #[cfg(test)]
 mod plays_in_memory;
+#[cfg(test)]
+mod plays_without_ranks;

@@ -1,31 +1,29 @@
 -- The reply to the line of a person who answers.
-use Rattle.std.proofs.Common.{◌≡◌, ◌≢◌, ℕ, suc, ◌+◌, ◌≤◌, ◌<◌, ◌⊎◌, ◌↔◌, Bool, true, false, not, List, ◌++◌, inl, inr, refl, sym, ap, ◌∙◌, subst, arith, add-one, append_assoc}
+use Rattle.std.proofs.Common.{◌≡◌, ◌≢◌, ℕ, suc, ◌+◌, ◌≤◌, ◌⊎◌, ◌↔◌, Bool, true, false, not, List, ◌++◌, inl, inr, refl, sym, ap, ◌∙◌, subst, arith, add-one, append_assoc}
 use Rattle.std.specs.Prelude.{Option, None, Some, Result, Ok, Err, IfOk, IsSome}
 use Rattle.std.specs.Option.{is_some}
 use Rattle.std.specs.Fmt.{decimal}
 use Rattle.std.proofs.lemmas.Fmt.{decimal_injective}
-use Rattle.board_text.specs.PlainBoard.{PlainBoard, IsConfiguration}
+use Rattle.board_text.specs.PlainBoard.{PlainBoard}
 use Rattle.board_text.specs.declared.board.TheConstants.{MAX_LABELS}
 use Rattle.positions.specs.Counts.{IsSmallest}
 use Rattle.positions.specs.Game.{Legal, moved}
-use Rattle.positions.specs.Ranks.{configurations, configuration_at, rank_of}
 use Rattle.positions.specs.Value.{HasValue}
 use Rattle.positions.specs.declared.value.Value.{Value}
 use Rattle.positions.specs.declared.value.Value.TheVariants.{Finite, Forever}
-use Rattle.positions.proofs.Cited.{each_or_some, dominates_or_not, configuration_at-rank_of, same_value}
+use Rattle.positions.proofs.Cited.{each_or_some, dominates_or_not, same_value}
 use Rattle.strategies.specs.Best.{HasGreatestResult, HasSmallerValue, IsLess, IsBestRequest}
 use Rattle.strategies.proofs.Cited.{best_request, same_request}
 use Rattle.player.specs.Transcript.{Standing, Going, Over, PersonAnswers, BeginsPlay, Asks, AsksAfterLine, opening_lines, at_line, ask_line}
 use Rattle.player.specs.Transcript.{stuck_line, no_strategy_line, no_answer_line, stopped_line}
 use Rattle.player.specs.Inside.Steps.{IsResponseToMeaning, AddsText}
-use Rattle.player.specs.Inside.PlayState.{PlayState, at, IsLegalAt, IsRequestAt, HasAsked, IsStandingAfter}
+use Rattle.player.specs.Inside.PlayState.{PlayState, IsLegalAt, IsRequestAt, HasAsked, IsStandingAfter}
 use Rattle.player.specs.declared.line_meaning.LineMeaning.TheVariants.{Number, Quit, Other}
 use Rattle.player.specs.declared.end.PlayEnd.{PlayEnd}
 use Rattle.player.specs.declared.end.PlayEnd.TheVariants.{Stuck, Stopped, NoStrategy}
 use Rattle.player.specs.declared.labeller_side.Next.{Next}
 use Rattle.player.specs.declared.labeller_side.Next.TheVariants as next
 use Rattle.player.specs.declared.labeller_side.Request.{Request}
-use Rattle.player.proofs.MovedRanks.{moved_at}
 use Rattle.player.proofs.RequestLines.{no_quit}
 
 none_if : (answer : Option ℕ) (is_none : Bool) → is_some answer ≡ not is_none → is_none ≡ true → answer ≡ None
@@ -99,42 +97,48 @@ module _ (board : PlainBoard) (configuration : List ℕ) where
 -- ---- at a seat
 
 module _ (inside seat : PlayState) (same : inside ≡ seat) where
-  pub legal_at : (asked label : ℕ) → IsBestRequest inside.board (at inside) asked → Legal inside.board (at inside) asked label → IsLegalAt seat label
-  legal_at asked label best legal = subst (λ s. IsLegalAt s label) same (asked, best, legal)
+  pub legal_at : (asked label : ℕ) → IsBestRequest inside.board inside.at asked → Legal inside.board inside.at asked label → IsLegalAt seat label
+  legal_at asked label best legal = subst (λ (s : PlayState). IsLegalAt s label) same (asked, best, legal)
 
   -- a legal label is legal for the pebble that is asked for
-  pub legal_there : (asked label : ℕ) → IsBestRequest inside.board (at inside) asked → IsLegalAt seat label → Legal inside.board (at inside) asked label
+  pub legal_there : (asked label : ℕ) → IsBestRequest inside.board inside.at asked → IsLegalAt seat label → Legal inside.board inside.at asked label
   legal_there asked label best legal =
-      let there : IsLegalAt inside label = subst (λ s. IsLegalAt s label) (sym same) legal in
-      subst (λ p. Legal inside.board (at inside) p label) (same_request inside.board (at inside) there.0 asked there.1 best) there.2
+      let there : IsLegalAt inside label = subst (λ (s : PlayState). IsLegalAt s label) (sym same) legal in
+      subst (λ p. Legal inside.board inside.at p label) (same_request inside.board inside.at there.0 asked there.1 best) there.2
 
   -- the pebble was put on the label, and the text of the next request was written
-  pub put_said : (space : PlainBoard) (asked to label : ℕ) (old middle new said : List ℕ) (standing : Standing) → space ≡ inside.board → inside.rank < configurations inside.board
-      → IsBestRequest inside.board (at inside) asked → Legal inside.board (at inside) asked label
-      → to ≡ rank_of space (moved (configuration_at space inside.rank) asked label) → middle ≡ old ++ at_line space (configuration_at space to) → new ≡ middle ++ said
-      → Asks inside.board (configuration_at inside.board to) (inside.requests + 1) said standing
-      → AddsText old new (λ said. (line : List ℕ) → line ≡ decimal label → AsksAfterLine seat.board (at seat) seat.requests line said standing)
-  put_said space asked to label old middle new said standing of_board within best legal to_is moved_line written asks =
-      let there : configuration_at inside.board to ≡ moved (at inside) asked label =
-      moved_at inside.board inside.rank to asked label within legal.is_label (subst (λ b. to ≡ rank_of b (moved (configuration_at b inside.rank) asked label)) of_board to_is) in
-      let text : new ≡ old ++ (at_line inside.board (configuration_at inside.board to) ++ said) =
-      written ∙ ap (λ l. l ++ said) (subst (λ b. middle ≡ old ++ at_line b (configuration_at b to)) of_board moved_line) ∙ append_assoc old (at_line inside.board (configuration_at inside.board to)) said in
-      let next : Asks inside.board (moved (at inside) asked label) (suc inside.requests) said standing =
-      subst (λ c. Asks inside.board c (suc inside.requests) said standing) there (rw add-one at asks) in
-      subst (λ s. AddsText old new (λ said. (line : List ℕ) → line ≡ decimal label → AsksAfterLine s.board (at s) s.requests line said standing)) same (
-        at_line inside.board (configuration_at inside.board to) ++ said,
+  pub put_said : (space : PlainBoard) (asked label : ℕ) (after written old middle new said : List ℕ) (standing : Standing)
+      → space ≡ inside.board → IsBestRequest inside.board inside.at asked → Legal inside.board inside.at asked label
+      → after ≡ moved inside.at asked label → written ≡ after → middle ≡ old ++ at_line space written → new ≡ middle ++ said
+      → Asks inside.board after (inside.requests + 1) said standing
+      → AddsText old new (λ said. (line : List ℕ) → line ≡ decimal label → AsksAfterLine seat.board seat.at seat.requests line said standing)
+  put_said space asked label after written old middle new said standing of_board best legal there same_places moved_line whole asks =
+      let text : new ≡ old ++ (at_line space written ++ said) =
+      whole ∙ ap (λ (l : List ℕ). l ++ said) moved_line ∙ append_assoc old (at_line space written) said in
+      let next : Asks inside.board (moved inside.at asked label) (suc inside.requests) said standing =
+      subst (λ (c : List ℕ). Asks inside.board c (suc inside.requests) said standing) there (rw add-one at asks) in
+      subst (λ (s : PlayState). AddsText old new (λ said. (line : List ℕ) → line ≡ decimal label → AsksAfterLine s.board s.at s.requests line said standing)) same (
+        at_line space written ++ said,
         text,
-        λ line spelled. inl (asked, label, said, (best, legal, spelled), next, ap (λ c. at_line inside.board c ++ said) there),
+        λ line spelled. inl (
+          asked,
+          label,
+          said,
+          (best, legal, spelled),
+          next,
+          ap (λ (b : PlainBoard). at_line b written ++ said) of_board
+              ∙ ap (λ (c : List ℕ). at_line inside.board c ++ said) (same_places ∙ there),
+        ),
       )
 
 -- ---- other lines
 
 module _ (seat : PlayState) where
-  pub stop_asked : IsResponseToMeaning (PersonAnswers seat.board) (Going (at seat) seat.requests) Quit (stopped_line seat.requests) (Over (Stopped seat.requests))
+  pub stop_asked : IsResponseToMeaning (PersonAnswers seat.board) (Going seat.at seat.requests) Quit (stopped_line seat.requests) (Over (Stopped seat.requests))
   stop_asked line spells = inr (inl (spells, refl, refl))
 
   pub no_legal_number : (number : ℕ) → seat.board.labels ≤ MAX_LABELS → ((IsLegalAt seat number → ⊥) ⊎ (seat.board.labels ≤ number))
-      → IsResponseToMeaning (PersonAnswers seat.board) (Going (at seat) seat.requests) (Number number) no_answer_line (Going (at seat) seat.requests)
+      → IsResponseToMeaning (PersonAnswers seat.board) (Going seat.at seat.requests) (Number number) no_answer_line (Going seat.at seat.requests)
   no_legal_number number few none line spells =
       inr (inr (
         (
@@ -150,7 +154,7 @@ module _ (seat : PlayState) where
         refl,
       ))
 
-  pub no_label : seat.board.labels ≤ MAX_LABELS → IsResponseToMeaning (PersonAnswers seat.board) (Going (at seat) seat.requests) Other no_answer_line (Going (at seat) seat.requests)
+  pub no_label : seat.board.labels ≤ MAX_LABELS → IsResponseToMeaning (PersonAnswers seat.board) (Going seat.at seat.requests) Other no_answer_line (Going seat.at seat.requests)
   no_label few line spells = inr (inr ((spells.0, λ pebble label legal. spells.1 label (omega (arith, legal.1.is_label, few)) legal.2), refl, refl))
 
 -- a text with one property has each property that follows from it
@@ -169,55 +173,47 @@ some_request board configuration number None has none =
     let same : Finite number ≡ Forever = same_value board configuration (Finite number) Forever has (none refl) in absurd cc
 
 -- from a finite value the opening has the first request
-pub opens_with : (space board : PlainBoard) (start number : ℕ) (following : Next) (request : Request) (old middle new : List ℕ) → space ≡ board → IsConfiguration board board.start
-    → start ≡ rank_of board board.start → HasValue board (configuration_at board start) (Finite number) → IsRequestAt board (configuration_at board start) request
-    → middle ≡ old ++ opening_lines space (Finite number) (configuration_at space start) → AddsText middle new (HasAsked request 0 following)
-    → AddsText old new (λ said. (to : Standing) × BeginsPlay (PersonAnswers board) said to × IsStandingAfter board (configuration_at board start) 0 following to)
-opens_with space board start number following request old middle new of_board is start_is has is_request first asked =
-    let there : configuration_at board start ≡ board.start = ap (configuration_at board) start_is ∙ configuration_at-rank_of board board.start is in
-    let opening : List ℕ = opening_lines board (Finite number) (configuration_at board start) in
-    let text : new ≡ old ++ (opening ++ asked.0) =
-    asked.1 ∙ ap (λ l. l ++ asked.0) (subst (λ b. middle ≡ old ++ opening_lines b (Finite number) (configuration_at b start)) of_board first) ∙ append_assoc old opening asked.0 in
-    by following asked.2 text
+pub opens_with : (space board : PlainBoard) (number : ℕ) (following : Next) (request : Request) (old middle new : List ℕ)
+    → space ≡ board → HasValue board board.start (Finite number) → IsRequestAt board board.start request
+    → middle ≡ old ++ opening_lines space (Finite number) space.start → AddsText middle new (HasAsked request 0 following)
+    → AddsText old new (λ said. (to : Standing) × BeginsPlay (PersonAnswers board) said to × IsStandingAfter board board.start 0 following to)
+opens_with space board number following request old middle new of_board has is_request first asked =
+    let opening : middle ≡ old ++ opening_lines board (Finite number) board.start =
+    subst (λ (b : PlainBoard). middle ≡ old ++ opening_lines b (Finite number) b.start) of_board first in
+    by following asked.2
+    (asked.1 ∙ ap (λ (l : List ℕ). l ++ asked.0) opening ∙ append_assoc old (opening_lines board (Finite number) board.start) asked.0)
   where
-    opened : (asked_text : List ℕ) (to : Standing) → Asks board (configuration_at board start) 0 asked_text to → BeginsPlay (PersonAnswers board) (opening_lines board (Finite number) (configuration_at board start) ++ asked_text) to
-    opened asked_text to asks =
-        let there : configuration_at board start ≡ board.start = ap (configuration_at board) start_is ∙ configuration_at-rank_of board board.start is in
-        inr (number, asked_text, subst (λ c. HasValue board c (Finite number)) there has, ap (λ c. opening_lines board (Finite number) c ++ asked_text) there, subst (λ c. Asks board c 0 asked_text to) there asks)
+    opened : (asked_text : List ℕ) (to : Standing) → Asks board board.start 0 asked_text to
+        → BeginsPlay (PersonAnswers board) (opening_lines board (Finite number) board.start ++ asked_text) to
+    opened asked_text to asks = inr (number, asked_text, has, refl, asks)
 
-    by : (following : Next) → HasAsked request 0 following asked.0 → new ≡ old ++ (opening_lines board (Finite number) (configuration_at board start) ++ asked.0)
-        → AddsText old new (λ said. (to : Standing) × BeginsPlay (PersonAnswers board) said to × IsStandingAfter board (configuration_at board start) 0 following to)
+    by : (following : Next) → HasAsked request 0 following asked.0 → new ≡ old ++ (opening_lines board (Finite number) board.start ++ asked.0)
+        → AddsText old new (λ said. (to : Standing) × BeginsPlay (PersonAnswers board) said to × IsStandingAfter board board.start 0 following to)
     by (next.Asks pebble) h text = (
-      opening_lines board (Finite number) (configuration_at board start) ++ asked.0,
+      opening_lines board (Finite number) board.start ++ asked.0,
       text,
       (
-        Going (configuration_at board start) 0,
-        opened asked.0 (Going (configuration_at board start) 0) (asks_on board (configuration_at board start) request 0 pebble asked.0 is_request h),
-        (subst (IsBestRequest board (configuration_at board start)) (sym h.1) is_request.best, refl),
+        Going board.start 0,
+        opened asked.0 (Going board.start 0) (asks_on board board.start request 0 pebble asked.0 is_request h),
+        (subst (IsBestRequest board board.start) (sym h.1) is_request.best, refl),
       ),
     )
     by (next.Ends end) h text = (
-      opening_lines board (Finite number) (configuration_at board start) ++ asked.0,
+      opening_lines board (Finite number) board.start ++ asked.0,
       text,
-      (
-        Over end,
-        opened asked.0 (Over end) (asks_last board (configuration_at board start) request 0 end asked.0 is_request h),
-        refl,
-      ),
+      (Over end, opened asked.0 (Over end) (asks_last board board.start request 0 end asked.0 is_request h), refl),
     )
 
 -- from a value of forever the opening says that there is no strategy
-pub opens_without : (space board : PlainBoard) (start : ℕ) (old middle new : List ℕ) → space ≡ board → IsConfiguration board board.start
-    → start ≡ rank_of board board.start → HasValue board (configuration_at board start) Forever
-    → middle ≡ old ++ opening_lines space Forever (configuration_at space start) → new ≡ middle ++ no_strategy_line
-    → AddsText old new (λ said. (to : Standing) × BeginsPlay (PersonAnswers board) said to × IsStandingAfter board (configuration_at board start) 0 (next.Ends NoStrategy) to)
-opens_without space board start old middle new of_board is start_is has first last =
-    let there : configuration_at board start ≡ board.start = ap (configuration_at board) start_is ∙ configuration_at-rank_of board board.start is in (
-      opening_lines board Forever board.start ++ no_strategy_line,
-      last ∙ ap (λ l. l ++ no_strategy_line) (subst (λ b. middle ≡ old ++ opening_lines b Forever (configuration_at b start)) of_board first)
-          ∙ ap (λ c. (old ++ opening_lines board Forever c) ++ no_strategy_line) there ∙ append_assoc old (opening_lines board Forever board.start) no_strategy_line,
-      (Over NoStrategy, inl (subst (λ c. HasValue board c Forever) there has, refl, refl), refl),
-    )
+pub opens_without : (space board : PlainBoard) (old middle new : List ℕ) → space ≡ board → HasValue board board.start Forever
+    → middle ≡ old ++ opening_lines space Forever space.start → new ≡ middle ++ no_strategy_line
+    → AddsText old new (λ said. (to : Standing) × BeginsPlay (PersonAnswers board) said to × IsStandingAfter board board.start 0 (next.Ends NoStrategy) to)
+opens_without space board old middle new of_board has first last = (
+  opening_lines board Forever board.start ++ no_strategy_line,
+  last ∙ ap (λ (l : List ℕ). l ++ no_strategy_line) (subst (λ (b : PlainBoard). middle ≡ old ++ opening_lines b Forever b.start) of_board first)
+      ∙ append_assoc old (opening_lines board Forever board.start) no_strategy_line,
+  (Over NoStrategy, inl (has, refl, refl), refl),
+)
 
 -- a text that opens the play, and the state of the play after it
 pub record HasOpening (board : PlainBoard) : Type 0 where

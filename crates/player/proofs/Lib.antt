@@ -2,8 +2,12 @@ pub mod LineBuffer
 pub mod CutLines
 pub mod ReadLines
 pub mod WrittenPlay
+pub mod ShownTexts
+pub mod MoreTexts
+pub mod ListedLabels
+pub mod ChoiceLines
 pub mod OpeningLines
-pub mod MovedRanks
+pub mod AppendedLines
 pub mod RequestLines
 pub mod AnswerLines
 pub mod PlayLengths
@@ -12,3 +16,4 @@ pub mod NestedTrees
 pub mod NestedTexts
 pub mod SomeTranscript
 pub mod MemoryPlays
+pub mod Cited

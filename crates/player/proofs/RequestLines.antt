@@ -5,20 +5,17 @@ use Rattle.std.specs.Fmt.{decimal}
 use Rattle.std.specs.Str.Parse.{AllDigits}
 use Rattle.std.proofs.lemmas.Fmt.{decimal_is_IsNumeral, decimal_injective}
 use Rattle.std.proofs.lemmas.Str.Parse.{tells_digits}
-use Rattle.board_text.specs.PlainBoard.{PlainBoard, IsConfiguration}
-use Rattle.positions.specs.Ranks.{configurations, configuration_at, rank_of}
+use Rattle.board_text.specs.PlainBoard.{PlainBoard}
+use Rattle.positions.specs.Game.{Legal, moved}
 use Rattle.positions.specs.Value.{HasValue}
 use Rattle.positions.specs.declared.value.Value.{Value}
-use Rattle.positions.proofs.Cited.{configuration_at-rank_of}
-use Rattle.positions.specs.Game.{Legal, moved}
 use Rattle.strategies.specs.Best.{IsBestAnswer}
 use Rattle.player.specs.Words.{quit_line}
 use Rattle.player.specs.Inside.Words.{Spells}
 use Rattle.player.specs.Transcript.{Standing, Going, Over, PersonAsks, BeginsPlay, RepliesToLine, Replies, opening_lines, no_request_line}
 use Rattle.player.specs.Transcript.{stuck_line, takes_line, at_line}
-use Rattle.player.specs.Inside.PlayState.{PlayState, at}
+use Rattle.player.specs.Inside.PlayState.{PlayState}
 use Rattle.player.specs.Inside.Steps.{AddsText}
-use Rattle.player.proofs.MovedRanks.{moved_at}
 use Rattle.player.specs.declared.line_meaning.LineMeaning.TheVariants.{Number}
 use Rattle.player.specs.declared.end.PlayEnd.TheVariants.{Stuck}
 
@@ -47,27 +44,30 @@ no_pebble pebbles Answers there requests number outside line spells =
 
 module _ (inside seat : PlayState) (same : inside ≡ seat) where
   -- the pebble was put on the label of the best answer
-  pub reply_said : (space : PlainBoard) (to pebble label : ℕ) (old new : List ℕ) → space ≡ inside.board → inside.rank < configurations inside.board → IsBestAnswer inside.board (at inside) pebble label
-      → to ≡ rank_of space (moved (configuration_at space inside.rank) pebble label) → new ≡ old ++ (takes_line pebble (decimal label) ++ at_line space (configuration_at space to))
-      → AddsText old new (λ said. Replies seat.board (at seat) seat.requests pebble said (Going (configuration_at inside.board to) (inside.requests + 1)))
-  reply_said space to pebble label old new of_board within best to_is said =
-      let there : configuration_at inside.board to ≡ moved (at inside) pebble label = moved_at inside.board inside.rank to pebble label within best.0.legal.is_label
-      (subst (λ b. to ≡ rank_of b (moved (configuration_at b inside.rank) pebble label)) of_board to_is) in
-      subst (λ s. AddsText old new (λ said. Replies s.board (at s) s.requests pebble said (Going (configuration_at inside.board to) (inside.requests + 1)))) same (
-        takes_line pebble (decimal label) ++ at_line inside.board (configuration_at inside.board to),
-        subst (λ b. new ≡ old ++ (takes_line pebble (decimal label) ++ at_line b (configuration_at b to))) of_board said,
-        inl (label, best, ap (λ c. takes_line pebble (decimal label) ++ at_line inside.board c) there, rw (there, add-one) refl),
+  pub reply_said : (space : PlainBoard) (pebble label : ℕ) (after written old new : List ℕ) → space ≡ inside.board
+      → IsBestAnswer inside.board inside.at pebble label → after ≡ moved inside.at pebble label → written ≡ after
+      → new ≡ old ++ (takes_line pebble (decimal label) ++ at_line space written)
+      → AddsText old new (λ said. Replies seat.board seat.at seat.requests pebble said (Going after (inside.requests + 1)))
+  reply_said space pebble label after written old new of_board best there same_places said =
+      subst (λ (s : PlayState). AddsText old new (λ said. Replies s.board s.at s.requests pebble said (Going after (inside.requests + 1)))) same (
+        takes_line pebble (decimal label) ++ at_line space written,
+        said,
+        inl (
+          label,
+          best,
+          ap (λ (b : PlainBoard). takes_line pebble (decimal label) ++ at_line b written) of_board
+              ∙ ap (λ (c : List ℕ). takes_line pebble (decimal label) ++ at_line inside.board c) (same_places ∙ there),
+          rw (there, add-one) refl,
+        ),
       )
 
   -- no label is legal
-  pub no_reply_said : (pebble : ℕ) (old new : List ℕ) → ((label : ℕ) → Legal inside.board (at inside) pebble label → ⊥) → new ≡ old ++ stuck_line pebble inside.requests
-      → AddsText old new (λ said. Replies seat.board (at seat) seat.requests pebble said (Over (Stuck inside.requests)))
+  pub no_reply_said : (pebble : ℕ) (old new : List ℕ) → ((label : ℕ) → Legal inside.board inside.at pebble label → ⊥) → new ≡ old ++ stuck_line pebble inside.requests
+      → AddsText old new (λ said. Replies seat.board seat.at seat.requests pebble said (Over (Stuck inside.requests)))
   no_reply_said pebble old new none said =
-      subst (λ s. AddsText old new (λ said. Replies s.board (at s) s.requests pebble said (Over (Stuck inside.requests)))) same (stuck_line pebble inside.requests, said, inr (none, refl, refl))
+      subst (λ (s : PlayState). AddsText old new (λ said. Replies s.board s.at s.requests pebble said (Over (Stuck inside.requests)))) same (stuck_line pebble inside.requests, said, inr (none, refl, refl))
 
 -- the play begins at the start
-pub begins : (board : PlainBoard) (rank : ℕ) (value : Value) → IsConfiguration board board.start → rank ≡ rank_of board board.start → HasValue board (configuration_at board rank) value
-    → BeginsPlay (PersonAsks board) (opening_lines board value (configuration_at board rank)) (Going (configuration_at board rank) 0)
-begins board rank value is rank_is has =
-    let same : configuration_at board rank ≡ board.start = ap (configuration_at board) rank_is ∙ configuration_at-rank_of board board.start is in
-    subst (λ c. BeginsPlay (PersonAsks board) (opening_lines board value c) (Going c 0)) (sym same) (value, subst (λ c. HasValue board c value) same has, refl, refl)
+pub begins : (board : PlainBoard) (value : Value) → HasValue board board.start value
+    → BeginsPlay (PersonAsks board) (opening_lines board value board.start) (Going board.start 0)
+begins board value has = (value, has, refl, refl)

@@ -5,3 +5,4 @@ pub mod Transcript
 pub mod Steps
 pub mod Words
 pub mod Faults
+pub mod Prompts

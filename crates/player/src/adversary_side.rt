@@ -1,10 +1,10 @@
 //! Plays in which the person is the adversary.
 
-ghost use Rattle.std.specs.Prelude.{◌≡◌, ◌+◌, ◌<◌, ◌≤◌, ◌^◌, false, None, IfOk, IfErr, string_bytes};
-ghost use Rattle.positions.specs.Ranks.{configurations};
+ghost use Rattle.std.specs.Prelude.{◌≡◌, ◌+◌, ◌<◌, ◌≤◌, ◌^◌, ℕ, List, false, None, IfOk, IfErr, string_bytes};
 ghost use Rattle.player.specs.Laws.{KeepsToValue};
 ghost use Rattle.player.specs.Play.{HasEnded, BreaksOff, TellsStreams};
-ghost use Rattle.player.specs.Inside.PlayState.{at};
+ghost use Rattle.player.specs.Prompts.{ArePrompts};
+ghost use Rattle.player.specs.Showing.{IsMore};
 ghost use Rattle.player.specs.Transcript.{IsPlayed, PersonAsks, Replies};
 ghost use Rattle.player.specs.Inside.Transcript.{standing_of};
 ghost use Rattle.player.specs.Inside.Steps.{AddsText};
@@ -12,12 +12,13 @@ ghost use Rattle.player.specs.Inside.Steps.{AddsText};
 use crate::end::{PlayEnd, PlayFault};
 use crate::line_meaning::LineMeaning;
 use crate::play::{Play, flush, play_on};
+use crate::prompts::{PEBBLES_GREETING, write_pebble_choices};
 use crate::writing::{end_stopped, say_no_request, write_opening, write_reply, write_stuck};
-use board_text::{Board, Sink, Source};
-use solver::Values;
+use board_text::{Board, Sink, Source, Through};
+use solver::{NumberedValues, Values};
 use std::alloc::{AllocError, Global};
 use std::marker::Model;
-use strategies::BestMoves;
+use strategies::{Configuration, NumberedMoves};
 
 /// Plays with a person who is the adversary: each line names a pebble, which is put on the label of
 /// the best answer.
@@ -46,49 +47,126 @@ pub fn play_adversary_side<R: Source, W: Sink>(
     ensures value { IfOk result (KeepsToValue (PersonAsks board.now)) }
     ensures streams { TellsStreams result (R.has_failed reader.new) (W.has_failed writer.new) }
 {
+    play_adversary(alloc, board, values.numbered(), reader, writer)
+}
+
+/// Plays as `play_adversary_side` does, and prompts the person as `play_adversary_with_prompts` does.
+pub fn play_adversary_side_with_prompts<R: Source, W: Sink, E: Sink>(
+    alloc: Global,
+    board: &Board,
+    values: &Values,
+    reader: &mut R,
+    writer: &mut W,
+    shows: bool,
+    errors: &mut E,
+) -> Result<PlayEnd, PlayFault>
+    requires same_board { values.now ≡ board.now }
+    requires reader_ready { R.has_failed reader.old ≡ false }
+    requires reader_unended { R.has_ended reader.old ≡ false }
+    requires writer_ready { W.has_failed writer.old ≡ false }
+    ensures ok { IfOk result (HasEnded (IsPlayed (PersonAsks board.now)) (R.remaining reader.old) (R.remaining reader.new)
+        (W.contents writer.old) (W.contents writer.new)) }
+    ensures fault { IfErr result (BreaksOff (IsPlayed (PersonAsks board.now)) (R.remaining reader.old) (R.remaining reader.new)
+        (W.contents writer.old) (W.contents writer.new)) }
+    ensures value { IfOk result (KeepsToValue (PersonAsks board.now)) }
+    ensures streams { TellsStreams result (R.has_failed reader.new) (W.has_failed writer.new) }
+    ensures prompts { (told : List ℕ) × ArePrompts shows (PersonAsks board.now) told
+        × IsMore E.contents E.has_failed errors.old errors.new told }
+{
+    let values = values.numbered();
+    play_adversary_with_prompts(alloc, board, values, reader, writer, shows, errors)
+}
+
+/// Plays as `play_adversary_side` does, by the values of a board that may have too many
+/// configurations for ranks.
+pub fn play_adversary<R: Source, W: Sink>(
+    alloc: Global,
+    board: &Board,
+    values: &NumberedValues,
+    reader: &mut R,
+    writer: &mut W,
+) -> Result<PlayEnd, PlayFault>
+    requires same_board { values.now.board ≡ board.now }
+    requires reader_ready { R.has_failed reader.old ≡ false }
+    requires reader_unended { R.has_ended reader.old ≡ false }
+    requires writer_ready { W.has_failed writer.old ≡ false }
+    ensures ok { IfOk result (HasEnded (IsPlayed (PersonAsks board.now)) (R.remaining reader.old) (R.remaining reader.new)
+        (W.contents writer.old) (W.contents writer.new)) }
+    ensures fault { IfErr result (BreaksOff (IsPlayed (PersonAsks board.now)) (R.remaining reader.old) (R.remaining reader.new)
+        (W.contents writer.old) (W.contents writer.new)) }
+    ensures value { IfOk result (KeepsToValue (PersonAsks board.now)) }
+    ensures streams { TellsStreams result (R.has_failed reader.new) (W.has_failed writer.new) }
+{
+    let mut nobody = Through::new(Vec::new(alloc));
+    play_adversary_with_prompts(alloc, board, values, reader, writer, false, &mut nobody)
+}
+
+/// Plays as `play_adversary` does, and if `shows` says so, prompts the person by lines on `errors`: a
+/// greeting before the first line is read, and after the answer to each wrong line the
+/// pebbles that can be asked for.
+///
+/// If `errors` fails, or has failed before, nothing more is written there, and the play goes on.
+pub fn play_adversary_with_prompts<R: Source, W: Sink, E: Sink>(
+    alloc: Global,
+    board: &Board,
+    values: &NumberedValues,
+    reader: &mut R,
+    writer: &mut W,
+    shows: bool,
+    errors: &mut E,
+) -> Result<PlayEnd, PlayFault>
+    requires same_board { values.now.board ≡ board.now }
+    requires reader_ready { R.has_failed reader.old ≡ false }
+    requires reader_unended { R.has_ended reader.old ≡ false }
+    requires writer_ready { W.has_failed writer.old ≡ false }
+    ensures ok { IfOk result (HasEnded (IsPlayed (PersonAsks board.now)) (R.remaining reader.old) (R.remaining reader.new)
+        (W.contents writer.old) (W.contents writer.new)) }
+    ensures fault { IfErr result (BreaksOff (IsPlayed (PersonAsks board.now)) (R.remaining reader.old) (R.remaining reader.new)
+        (W.contents writer.old) (W.contents writer.new)) }
+    ensures value { IfOk result (KeepsToValue (PersonAsks board.now)) }
+    ensures streams { TellsStreams result (R.has_failed reader.new) (W.has_failed writer.new) }
+    ensures prompts { (told : List ℕ) × ArePrompts shows (PersonAsks board.now) told
+        × IsMore E.contents E.has_failed errors.old errors.new told }
+{
     let mut text = String::new(alloc);
-    let moves = BestMoves::new(board, values);
-    let start = moves.start();
-    let Ok(()) = write_opening(&mut text, moves.space(), moves.value(start), start) else {
+    let moves = NumberedMoves::new(board, values);
+    let Ok(()) = write_opening(&mut text, board, moves.value(board.start())) else {
         return Err(PlayFault::Memory);
     };
     flush(&mut text, writer)?;
-    let mut play = AdversarySide::new(moves, start);
-    play_on(&mut play, &mut text, reader, writer)
+    let mut play = AdversarySide::new(moves);
+    play_on(&mut play, &mut text, reader, writer, shows, errors)
 }
 
 /// A play in which the person is the adversary.
 #[derive(Drop)]
 struct AdversarySide<'a> {
-    moves: BestMoves<'a>,
-    /// The rank of the configuration.
-    rank: u32,
+    moves: NumberedMoves<'a>,
+    configuration: Configuration,
     /// The number of answered requests.
     requests: u32,
 }
 
 impl<'a> Model for AdversarySide<'a> {
-    ghost use Rattle.std.specs.Prelude.{◌<◌};
-    ghost use Rattle.positions.specs.Ranks.{configurations};
+    ghost use Rattle.board_text.specs.PlainBoard.{IsConfiguration};
     ghost use Rattle.player.specs.Inside.PlayState.{PlayState};
 
     ghost Value = { PlayState };
 
-    ghost view = { λ s. record { board = s.moves; rank = s.rank; requests = s.requests } };
+    ghost view = { λ s. record { board = s.moves; at = s.configuration; requests = s.requests } };
 
-    ghost invariant = { λ s. s.rank < configurations s.moves };
+    ghost invariant = { λ s. IsConfiguration s.moves s.configuration };
 }
 
 impl<'a> AdversarySide<'a> {
-    /// A play in which no request was answered yet, and the pebbles are at the configuration of
-    /// `rank`.
-    fn new(moves: BestMoves<'a>, rank: u32) -> AdversarySide<'a>
-        requires { rank < configurations moves }
-        ensures { result ≡ record { board = moves.entry; rank = rank; requests = 0 } }
+    /// A play at the start, in which no request was answered yet.
+    fn new(moves: NumberedMoves<'a>) -> AdversarySide<'a>
+        ensures { result ≡ record { board = moves.entry; at = moves.entry.start; requests = 0 } }
     {
+        let configuration = Configuration::of(moves.board().start());
         AdversarySide {
             moves,
-            rank,
+            configuration,
             requests: 0,
         }
     }
@@ -100,14 +178,14 @@ impl<'a> AdversarySide<'a> {
         ensures board { self.new.board ≡ self.old.board }
         ensures count { self.new.requests ≤ self.old.requests + 1 }
         ensures said { IfOk result (λ end. AddsText (string_bytes text.old) (string_bytes text.new)
-            (λ said. Replies self.old.board (at self.old) self.old.requests pebble said (standing_of end (at self.new) self.new.requests))) }
+            (λ said. Replies self.old.board self.old.at self.old.requests pebble said (standing_of end self.new.at self.new.requests))) }
     {
-        let space = self.moves.space();
-        match self.moves.answer(self.rank, pebble) {
+        let board = self.moves.board();
+        match self.moves.answer(self.configuration.as_slice(), pebble) {
             Some(label) => {
-                self.rank = space.with(self.rank, pebble, label);
+                self.configuration = self.configuration.with(pebble, label);
                 self.requests += 1;
-                write_reply(text, space, pebble, label, self.rank)?;
+                write_reply(text, board, pebble, label, self.configuration.as_slice())?;
                 Ok(None)
             }
             None => {
@@ -123,7 +201,7 @@ impl<'a> AdversarySide<'a> {
 impl Play for AdversarySide<'_> {
     ghost game = { λ s. PersonAsks s.board };
 
-    ghost at = { at };
+    ghost at = { λ s. s.at };
 
     ghost requests = { λ s. s.requests };
 
@@ -132,7 +210,7 @@ impl Play for AdversarySide<'_> {
         meaning: LineMeaning,
         text: &mut String,
     ) -> Result<Option<PlayEnd>, AllocError> {
-        let pebbles = u32::from(self.moves.space().pebbles());
+        let pebbles = u32::from(self.moves.board().pebbles());
         match meaning {
             LineMeaning::Number(number) => {
                 if number < pebbles {
@@ -148,5 +226,13 @@ impl Play for AdversarySide<'_> {
 
     fn requests(&self) -> u32 {
         self.requests
+    }
+
+    fn greeting(&self) -> &'static str {
+        PEBBLES_GREETING
+    }
+
+    fn write_choices(&self, text: &mut String) -> Result<(), AllocError> {
+        write_pebble_choices(text, self.moves.board().pebbles())
     }
 }

@@ -1,10 +1,12 @@
 //! Plays on nested boards that are never built, with a person who is the adversary.
 
-ghost use Rattle.std.specs.Prelude.{◌≡◌, ◌+◌, ◌<◌, ◌^◌, replicate, false, IfOk, IfErr, string_bytes};
+ghost use Rattle.std.specs.Prelude.{◌≡◌, ◌+◌, ◌<◌, ◌^◌, ℕ, List, replicate, false, IfOk, IfErr, string_bytes};
 ghost use Rattle.board_text.specs.Ranges.{InRange};
 ghost use Rattle.nested_cycles.specs.NestedGame.{plain_game};
 ghost use Rattle.player.specs.Laws.{KeepsToValue};
 ghost use Rattle.player.specs.Play.{HasEnded, BreaksOff, TellsStreams};
+ghost use Rattle.player.specs.Prompts.{ArePrompts};
+ghost use Rattle.player.specs.Showing.{IsMore};
 ghost use Rattle.player.specs.Transcript.{IsPlayed, NestedReplies, PersonClimbs};
 ghost use Rattle.player.specs.Inside.Transcript.{standing_of};
 ghost use Rattle.player.specs.Inside.Steps.{AddsText};
@@ -13,8 +15,9 @@ use crate::end::{PlayEnd, PlayFault};
 use crate::line_meaning::LineMeaning;
 use crate::nested_writing::{write_levels, write_nested_reply};
 use crate::play::{Play, flush, play_on};
+use crate::prompts::{PEBBLES_GREETING, write_pebble_choices};
 use crate::writing::{end_stopped, say_no_request};
-use board_text::{Memory, Sink, Source};
+use board_text::{Memory, Sink, Source, Through};
 use nested_cycles::{MAX_LEVELS, NestedGame};
 use std::alloc::{AllocError, Global};
 
@@ -42,6 +45,36 @@ pub fn play_nested<R: Source, W: Sink>(
     ensures value { IfOk result (KeepsToValue (PersonClimbs levels)) }
     ensures streams { TellsStreams result (R.has_failed reader.new) (W.has_failed writer.new) }
 {
+    let mut nobody = Through::new(Vec::new(alloc));
+    play_nested_with_prompts(alloc, levels, reader, writer, false, &mut nobody)
+}
+
+/// Plays as `play_nested` does, and if `shows` says so, prompts the person by lines on `errors`: a
+/// greeting before the first line is read, and after the answer to each wrong line the pebbles that
+/// can be asked for.
+///
+/// If `errors` fails, or has failed before, nothing more is written there, and the play goes on.
+pub fn play_nested_with_prompts<R: Source, W: Sink, E: Sink>(
+    alloc: Global,
+    levels: u8,
+    reader: &mut R,
+    writer: &mut W,
+    shows: bool,
+    errors: &mut E,
+) -> Result<PlayEnd, PlayFault>
+    requires level { InRange 1 MAX_LEVELS levels }
+    requires reader_ready { R.has_failed reader.old ≡ false }
+    requires reader_unended { R.has_ended reader.old ≡ false }
+    requires writer_ready { W.has_failed writer.old ≡ false }
+    ensures ok { IfOk result (HasEnded (IsPlayed (PersonClimbs levels)) (R.remaining reader.old) (R.remaining reader.new)
+        (W.contents writer.old) (W.contents writer.new)) }
+    ensures fault { IfErr result (BreaksOff (IsPlayed (PersonClimbs levels)) (R.remaining reader.old) (R.remaining reader.new)
+        (W.contents writer.old) (W.contents writer.new)) }
+    ensures value { IfOk result (KeepsToValue (PersonClimbs levels)) }
+    ensures streams { TellsStreams result (R.has_failed reader.new) (W.has_failed writer.new) }
+    ensures prompts { (told : List ℕ) × ArePrompts shows (PersonClimbs levels) told
+        × IsMore E.contents E.has_failed errors.old errors.new told }
+{
     let Ok(mut play) = Climb::new(alloc, levels) else {
         return Err(PlayFault::Memory);
     };
@@ -50,7 +83,7 @@ pub fn play_nested<R: Source, W: Sink>(
         return Err(PlayFault::Memory);
     };
     flush(&mut text, writer)?;
-    play_on(&mut play, &mut text, reader, writer)
+    play_on(&mut play, &mut text, reader, writer, shows, errors)
 }
 
 /// A play on a nested board.
@@ -121,5 +154,13 @@ impl Play for Climb {
 
     fn requests(&self) -> u32 {
         self.requests
+    }
+
+    fn greeting(&self) -> &'static str {
+        PEBBLES_GREETING
+    }
+
+    fn write_choices(&self, text: &mut String) -> Result<(), AllocError> {
+        write_pebble_choices(text, self.nested.levels())
     }
 }

@@ -1,13 +1,17 @@
 //! Plays in which the person is the labeller.
 
-ghost use Rattle.std.specs.Prelude.{◌≡◌, ◌↔◌, ◌+◌, ◌<◌, ◌≤◌, ◌^◌, ◌++◌, ℕ, List, false, None, IfOk, IfErr, IsTrue, string_bytes};
+ghost use Rattle.std.specs.Prelude.{◌≡◌, ◌↔◌, ◌+◌, ◌<◌, ◌≤◌, ◌^◌, ◌++◌, ℕ, List, false, None, IfOk, IfErr, OnOk, IsTrue, string_bytes};
 ghost use Rattle.std.specs.Fmt.{decimal};
-ghost use Rattle.positions.specs.Ranks.{configurations, configuration_at, rank_of};
+ghost use Rattle.board_text.specs.PlainBoard.{IsBoard, IsConfiguration};
 ghost use Rattle.positions.specs.Value.{HasValue};
 ghost use Rattle.positions.specs.declared.value.Value.TheVariants.{Finite};
+ghost use Rattle.strategies.specs.Best.{IsBestRequest};
 ghost use Rattle.player.specs.Laws.{KeepsToValue};
 ghost use Rattle.player.specs.Play.{HasEnded, BreaksOff, TellsStreams};
-ghost use Rattle.player.specs.Inside.PlayState.{HasAsked, IsRequestAt, IsStandingAfter, IsLegalAt, IsPlayState, at};
+ghost use Rattle.player.specs.Inside.PlayState.{HasAsked, IsRequestAt, IsStandingAfter, IsLegalAt, IsPlayState};
+ghost use Rattle.player.specs.Inside.Prompts.{AddsLegalLabels};
+ghost use Rattle.player.specs.Prompts.{ArePrompts};
+ghost use Rattle.player.specs.Showing.{IsMore};
 ghost use Rattle.player.specs.Transcript.{Standing, IsPlayed, BeginsPlay, PersonAnswers, AsksAfterLine, no_answer_line};
 ghost use Rattle.player.specs.Inside.Transcript.{standing_of};
 ghost use Rattle.player.specs.Inside.Steps.{AddsText};
@@ -15,14 +19,15 @@ ghost use Rattle.player.specs.Inside.Steps.{AddsText};
 use crate::end::{PlayEnd, PlayFault};
 use crate::line_meaning::LineMeaning;
 use crate::play::{Play, flush, play_on};
+use crate::prompts::LABELS_GREETING;
 use crate::writing::{end_stopped, write_at, write_opening, write_stuck};
-use board_text::{Board, Sink, Source};
+use board_text::{Board, Sink, Source, Through, write_number};
 use positions::Value;
-use solver::Values;
+use solver::{NumberedValues, Values};
 use std::alloc::{AllocError, Global};
 use std::fmt::Write;
 use std::marker::Model;
-use strategies::BestMoves;
+use strategies::{Configuration, NumberedMoves};
 
 /// Plays with a person who is the labeller: best requests are made, and each line answers one with
 /// a label.
@@ -51,17 +56,97 @@ pub fn play_labeller_side<R: Source, W: Sink>(
     ensures value { IfOk result (KeepsToValue (PersonAnswers board.now)) }
     ensures streams { TellsStreams result (R.has_failed reader.new) (W.has_failed writer.new) }
 {
+    play_labeller(alloc, board, values.numbered(), reader, writer)
+}
+
+/// Plays as `play_labeller_side` does, and prompts the person as `play_labeller_with_prompts` does.
+pub fn play_labeller_side_with_prompts<R: Source, W: Sink, E: Sink>(
+    alloc: Global,
+    board: &Board,
+    values: &Values,
+    reader: &mut R,
+    writer: &mut W,
+    shows: bool,
+    errors: &mut E,
+) -> Result<PlayEnd, PlayFault>
+    requires same_board { values.now ≡ board.now }
+    requires reader_ready { R.has_failed reader.old ≡ false }
+    requires reader_unended { R.has_ended reader.old ≡ false }
+    requires writer_ready { W.has_failed writer.old ≡ false }
+    ensures ok { IfOk result (HasEnded (IsPlayed (PersonAnswers board.now)) (R.remaining reader.old) (R.remaining reader.new)
+        (W.contents writer.old) (W.contents writer.new)) }
+    ensures fault { IfErr result (BreaksOff (IsPlayed (PersonAnswers board.now)) (R.remaining reader.old) (R.remaining reader.new)
+        (W.contents writer.old) (W.contents writer.new)) }
+    ensures value { IfOk result (KeepsToValue (PersonAnswers board.now)) }
+    ensures streams { TellsStreams result (R.has_failed reader.new) (W.has_failed writer.new) }
+    ensures prompts { (told : List ℕ) × ArePrompts shows (PersonAnswers board.now) told
+        × IsMore E.contents E.has_failed errors.old errors.new told }
+{
+    let values = values.numbered();
+    play_labeller_with_prompts(alloc, board, values, reader, writer, shows, errors)
+}
+
+/// Plays as `play_labeller_side` does, by the values of a board that may have too many
+/// configurations for ranks.
+pub fn play_labeller<R: Source, W: Sink>(
+    alloc: Global,
+    board: &Board,
+    values: &NumberedValues,
+    reader: &mut R,
+    writer: &mut W,
+) -> Result<PlayEnd, PlayFault>
+    requires same_board { values.now.board ≡ board.now }
+    requires reader_ready { R.has_failed reader.old ≡ false }
+    requires reader_unended { R.has_ended reader.old ≡ false }
+    requires writer_ready { W.has_failed writer.old ≡ false }
+    ensures ok { IfOk result (HasEnded (IsPlayed (PersonAnswers board.now)) (R.remaining reader.old) (R.remaining reader.new)
+        (W.contents writer.old) (W.contents writer.new)) }
+    ensures fault { IfErr result (BreaksOff (IsPlayed (PersonAnswers board.now)) (R.remaining reader.old) (R.remaining reader.new)
+        (W.contents writer.old) (W.contents writer.new)) }
+    ensures value { IfOk result (KeepsToValue (PersonAnswers board.now)) }
+    ensures streams { TellsStreams result (R.has_failed reader.new) (W.has_failed writer.new) }
+{
+    let mut nobody = Through::new(Vec::new(alloc));
+    play_labeller_with_prompts(alloc, board, values, reader, writer, false, &mut nobody)
+}
+
+/// Plays as `play_labeller` does, and if `shows` says so, prompts the person by lines on `errors`: a
+/// greeting before the first line is read, and after the answer to each wrong line the
+/// labels that are legal for the pebble that is asked for.
+///
+/// If `errors` fails, or has failed before, nothing more is written there, and the play goes on.
+pub fn play_labeller_with_prompts<R: Source, W: Sink, E: Sink>(
+    alloc: Global,
+    board: &Board,
+    values: &NumberedValues,
+    reader: &mut R,
+    writer: &mut W,
+    shows: bool,
+    errors: &mut E,
+) -> Result<PlayEnd, PlayFault>
+    requires same_board { values.now.board ≡ board.now }
+    requires reader_ready { R.has_failed reader.old ≡ false }
+    requires reader_unended { R.has_ended reader.old ≡ false }
+    requires writer_ready { W.has_failed writer.old ≡ false }
+    ensures ok { IfOk result (HasEnded (IsPlayed (PersonAnswers board.now)) (R.remaining reader.old) (R.remaining reader.new)
+        (W.contents writer.old) (W.contents writer.new)) }
+    ensures fault { IfErr result (BreaksOff (IsPlayed (PersonAnswers board.now)) (R.remaining reader.old) (R.remaining reader.new)
+        (W.contents writer.old) (W.contents writer.new)) }
+    ensures value { IfOk result (KeepsToValue (PersonAnswers board.now)) }
+    ensures streams { TellsStreams result (R.has_failed reader.new) (W.has_failed writer.new) }
+    ensures prompts { (told : List ℕ) × ArePrompts shows (PersonAnswers board.now) told
+        × IsMore E.contents E.has_failed errors.old errors.new told }
+{
     let mut text = String::new(alloc);
-    let moves = BestMoves::new(board, values);
-    let start = moves.start();
-    let Ok(next) = open(&mut text, &moves, start) else {
+    let moves = NumberedMoves::new(board, values);
+    let Ok(next) = open(&mut text, &moves) else {
         return Err(PlayFault::Memory);
     };
     flush(&mut text, writer)?;
     match next {
         Next::Asks(pebble) => {
-            let mut play = LabellerSide::new(moves, start, pebble);
-            play_on(&mut play, &mut text, reader, writer)
+            let mut play = LabellerSide::new(moves, pebble);
+            play_on(&mut play, &mut text, reader, writer, shows, errors)
         }
         Next::Ends(end) => Ok(end),
     }
@@ -84,19 +169,19 @@ struct Request {
     is_stuck: bool,
 }
 
-/// Appends the value and the labels of the start, and the first request or that there is no
+/// Appends the value of the start and its places, and the first request or that there is no
 /// strategy; returns the next turn.
-fn open(text: &mut String, moves: &BestMoves<'_>, start: u32) -> Result<Next, AllocError>
-    requires start { start ≡ rank_of moves.now moves.now.start }
-    requires rank { start < configurations moves.now }
-    ensures { IfOk result (λ next. AddsText (string_bytes text.old) (string_bytes text.new)
+fn open(text: &mut String, moves: &NumberedMoves<'_>) -> Result<Next, AllocError>
+    ensures is_board { IsBoard moves.now }
+    ensures said { IfOk result (λ next. AddsText (string_bytes text.old) (string_bytes text.new)
         (λ said. (to : Standing) × BeginsPlay (PersonAnswers moves.now) said to
-        × IsStandingAfter moves.now (configuration_at moves.now start) 0 next to)) }
+        × IsStandingAfter moves.now moves.now.start 0 next to)) }
 {
-    let value = moves.value(start);
-    write_opening(text, moves.space(), value, start)?;
+    let board = moves.board();
+    let value = moves.value(board.start());
+    write_opening(text, board, value)?;
     match value {
-        Value::Finite(_) => write_request(text, request_at(moves, start), 0),
+        Value::Finite(_) => write_request(text, request_at(moves, board.start()), 0),
         Value::Forever => {
             text.push_str("no strategy\n")?;
             Ok(Next::Ends(PlayEnd::NoStrategy))
@@ -104,14 +189,14 @@ fn open(text: &mut String, moves: &BestMoves<'_>, start: u32) -> Result<Next, Al
     }
 }
 
-/// The best request at the configuration of `rank`, whose value is finite.
-fn request_at(moves: &BestMoves<'_>, rank: u32) -> Request
-    requires rank { rank < configurations moves.now }
-    requires finite { (number : ℕ) × HasValue moves.now (configuration_at moves.now rank) (Finite number) }
-    ensures { IsRequestAt moves.now (configuration_at moves.now rank) result }
+/// The best request at the configuration `held`, whose value is finite.
+fn request_at(moves: &NumberedMoves<'_>, held: &[u16]) -> Request
+    requires held { IsConfiguration moves.now held.now }
+    requires finite { (number : ℕ) × HasValue moves.now held.now (Finite number) }
+    ensures { IsRequestAt moves.now held.now result }
 {
-    let pebble = moves.request(rank).unwrap();
-    let is_stuck = moves.answer(rank, pebble).is_none();
+    let pebble = moves.request(held).unwrap();
+    let is_stuck = moves.answer(held, pebble).is_none();
     Request { pebble, is_stuck }
 }
 
@@ -130,9 +215,8 @@ fn write_request(text: &mut String, request: Request, requests: u32) -> Result<N
 /// A play in which the person is the labeller.
 #[derive(Drop)]
 struct LabellerSide<'a> {
-    moves: BestMoves<'a>,
-    /// The rank of the configuration.
-    rank: u32,
+    moves: NumberedMoves<'a>,
+    configuration: Configuration,
     /// The pebble that is asked for, which is the best request.
     asked: u8,
     /// The number of answered requests.
@@ -144,21 +228,21 @@ impl<'a> Model for LabellerSide<'a> {
 
     ghost Value = { PlayState };
 
-    ghost view = { λ s. record { board = s.moves; rank = s.rank; requests = s.requests } };
+    ghost view = { λ s. record { board = s.moves; at = s.configuration; requests = s.requests } };
 
-    ghost invariant = { λ s. IsPlayState s.moves s.rank s.asked };
+    ghost invariant = { λ s. IsPlayState s.moves s.configuration s.asked };
 }
 
 impl<'a> LabellerSide<'a> {
-    /// A play in which no request was answered yet, and pebble `asked` is asked for at the
-    /// configuration of `rank`.
-    fn new(moves: BestMoves<'a>, rank: u32, asked: u8) -> LabellerSide<'a>
-        requires { IsPlayState moves rank asked }
-        ensures { result ≡ record { board = moves.entry; rank = rank; requests = 0 } }
+    /// A play at the start, in which no request was answered yet and pebble `asked` is asked for.
+    fn new(moves: NumberedMoves<'a>, asked: u8) -> LabellerSide<'a>
+        requires { IsBestRequest moves moves.start asked }
+        ensures { result ≡ record { board = moves.entry; at = moves.entry.start; requests = 0 } }
     {
+        let configuration = Configuration::of(moves.board().start());
         LabellerSide {
             moves,
-            rank,
+            configuration,
             asked,
             requests: 0,
         }
@@ -169,7 +253,21 @@ impl<'a> LabellerSide<'a> {
         requires { label < self.now.board.labels }
         ensures { IsTrue result ↔ IsLegalAt self.now label }
     {
-        self.moves.is_legal(self.rank, self.asked, label)
+        self.moves
+            .is_legal(self.configuration.as_slice(), self.asked, label)
+    }
+
+    /// Appends the labels that are legal for the pebble that is asked for, each with a space before
+    /// it.
+    fn write_legal_labels(&self, text: &mut String) -> Result<(), AllocError>
+        ensures { OnOk result (AddsLegalLabels self.now (string_bytes text.old) (string_bytes text.new)) }
+    {
+        for label in 0..self.moves.board().labels() {
+            if self.is_legal(label) {
+                write_number(text, u32::from(label))?;
+            }
+        }
+        Ok(())
     }
 
     /// Puts the pebble that is asked for on the legal `label`, and makes the next request.
@@ -183,17 +281,17 @@ impl<'a> LabellerSide<'a> {
         ensures board { self.new.board ≡ self.old.board }
         ensures count { self.new.requests ≤ self.old.requests + 1 }
         ensures said { IfOk result (λ end. AddsText (string_bytes text.old) (string_bytes text.new)
-            (λ said. (line : List ℕ) → line ≡ decimal label → AsksAfterLine self.old.board (at self.old) self.old.requests line said
-            (standing_of end (at self.new) self.new.requests))) }
+            (λ said. (line : List ℕ) → line ≡ decimal label → AsksAfterLine self.old.board self.old.at self.old.requests line said
+            (standing_of end self.new.at self.new.requests))) }
     {
-        let space = self.moves.space();
-        let rank = space.with(self.rank, self.asked, label);
-        let request = request_at(&self.moves, rank);
+        let board = self.moves.board();
+        let configuration = self.configuration.with(self.asked, label);
+        let request = request_at(&self.moves, configuration.as_slice());
         let requests = self.requests + 1;
-        write_at(text, space, rank)?;
+        write_at(text, board, configuration.as_slice())?;
         match write_request(text, request, requests)? {
             Next::Asks(pebble) => {
-                self.rank = rank;
+                self.configuration = configuration;
                 self.asked = pebble;
                 self.requests = requests;
                 Ok(None)
@@ -206,7 +304,7 @@ impl<'a> LabellerSide<'a> {
 impl Play for LabellerSide<'_> {
     ghost game = { λ s. PersonAnswers s.board };
 
-    ghost at = { at };
+    ghost at = { λ s. s.at };
 
     ghost requests = { λ s. s.requests };
 
@@ -215,7 +313,7 @@ impl Play for LabellerSide<'_> {
         meaning: LineMeaning,
         text: &mut String,
     ) -> Result<Option<PlayEnd>, AllocError> {
-        let labels = u32::from(self.moves.space().labels());
+        let labels = u32::from(self.moves.board().labels());
         match meaning {
             LineMeaning::Number(number) => {
                 if number < labels && self.is_legal(number as u16) {
@@ -231,6 +329,16 @@ impl Play for LabellerSide<'_> {
 
     fn requests(&self) -> u32 {
         self.requests
+    }
+
+    fn greeting(&self) -> &'static str {
+        LABELS_GREETING
+    }
+
+    fn write_choices(&self, text: &mut String) -> Result<(), AllocError> {
+        write!(text, "labels that pebble {} can take:", self.asked)?;
+        self.write_legal_labels(text)?;
+        text.push_str("; type one, or quit")
     }
 }
 

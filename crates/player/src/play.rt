@@ -5,6 +5,8 @@ ghost use Rattle.std.specs.Io.KnownBytes.{Appends};
 ghost use Rattle.board_text.specs.Streams.{AppendsPrefix};
 ghost use Rattle.player.specs.Transcript.{Game, Standing, Going, AreResponses, stopped_line};
 ghost use Rattle.player.specs.Inside.Transcript.{standing_of};
+ghost use Rattle.player.specs.Prompts.{AreChoices};
+ghost use Rattle.player.specs.Showing.{AreForPerson, IsMore};
 ghost use Rattle.player.specs.Play.{HasEnded, BreaksOff, TellsStreams};
 ghost use Rattle.player.specs.Inside.Steps.{IsResponseToMeaning, AddsText, Writes, FailsToWrite};
 ghost use Rattle.player.specs.declared.end.PlayEnd.TheVariants.{Stopped};
@@ -13,6 +15,7 @@ ghost use Rattle.player.specs.declared.end.PlayFault.TheVariants.{Write};
 use crate::end::{PlayEnd, PlayFault};
 use crate::line_meaning::LineMeaning;
 use crate::lines::Lines;
+use crate::prompts::{greet, prompt};
 use crate::writing::write_stopped;
 use board_text::{Failed, Sink, Source, write_all};
 use std::alloc::AllocError;
@@ -48,15 +51,28 @@ pub(crate) trait Play {
     /// The number of answered requests.
     fn requests(&self) -> u32
         ensures { result ≡ requests self.now };
+
+    /// The words that greet the person.
+    fn greeting(&self) -> &'static str;
+
+    /// Appends the words for what can be typed now.
+    fn write_choices(&self, text: &mut String) -> Result<(), AllocError>
+        ensures { OnOk result (AddsText (string_bytes text.old) (string_bytes text.new)
+            (AreChoices (game self.now) (at self.now))) };
 }
 
 /// Plays on with the lines of `reader` until the play or the input ends. Each answer is written
 /// before the next line is read.
-pub(crate) fn play_on<P: Play, R: Source, W: Sink>(
+///
+/// If `shows` says that there is a person to see it, a greeting is written to `errors` before a
+/// line is read, and the choices after the answer to each wrong line.
+pub(crate) fn play_on<P: Play, R: Source, W: Sink, E: Sink>(
     play: &mut P,
     text: &mut String,
     reader: &mut R,
     writer: &mut W,
+    shows: bool,
+    errors: &mut E,
 ) -> Result<PlayEnd, PlayFault>
     requires fresh { P.requests play.old ≡ 0 }
     requires empty { string_bytes text.old ≡ [] }
@@ -68,15 +84,20 @@ pub(crate) fn play_on<P: Play, R: Source, W: Sink>(
     ensures fault { IfErr result (BreaksOff (AreResponses (P.game play.old) (Going (P.at play.old) 0))
         (R.remaining reader.old) (R.remaining reader.new) (W.contents writer.old) (W.contents writer.new)) }
     ensures streams { TellsStreams result (R.has_failed reader.new) (W.has_failed writer.new) }
+    ensures told { (told : List ℕ) × AreForPerson shows told
+        × IsMore E.contents E.has_failed errors.old errors.new told }
 {
+    greet(play, shows, errors);
     let mut lines = Lines::new();
     for _ in 0..MOST_LINES {
         let Some(meaning) = lines.next(reader)? else {
             return end_play(play, text, writer);
         };
+        let answered = play.requests();
         if let Some(end) = answer_line(play, meaning, text, writer)? {
             return Ok(end);
         }
+        prompt(play, answered, text, shows, errors);
     }
     Err(PlayFault::Limit)
 }

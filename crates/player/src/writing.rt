@@ -1,57 +1,53 @@
 //! The lines that a play writes.
 
-ghost use Rattle.std.specs.Prelude.{◌≡◌, ◌<◌, ◌++◌, None, Some, IfOk, OnOk, string_bytes};
+ghost use Rattle.std.specs.Prelude.{◌≡◌, ◌++◌, None, Some, IfOk, OnOk, string_bytes};
 ghost use Rattle.std.specs.Fmt.{decimal};
-ghost use Rattle.positions.specs.Ranks.{configurations, configuration_at};
 ghost use Rattle.player.specs.Transcript.{at_line, no_request_line, opening_lines, stopped_line, stuck_line, takes_line};
 ghost use Rattle.player.specs.declared.end.PlayEnd.TheVariants.{Stopped};
 
 use crate::end::PlayEnd;
-use positions::{Claim, Space, Value, write_labels};
+use board_text::{Board, write_places};
+use positions::{Claim, Value};
 use proof_text::write_claim;
 use std::alloc::AllocError;
 use std::fmt::Write;
 
-/// Appends the `value` and the labels of the start.
+/// Appends the `value` of the start, and its places.
 pub(crate) fn write_opening(
     text: &mut String,
-    space: &Space,
+    board: &Board,
     value: Value,
-    start: u32,
 ) -> Result<(), AllocError>
-    requires { start < configurations space.now }
     ensures { OnOk result (string_bytes text.new ≡ string_bytes text.old
-        ++ opening_lines space.now value (configuration_at space.now start)) }
+        ++ opening_lines board.now value board.now.start) }
 {
     write_claim(text, Claim::from(value))?;
     text.push_str("\n")?;
-    write_at(text, space, start)
+    write_at(text, board, board.start())
 }
 
-/// Appends the labels of the configuration of `rank`.
-pub(crate) fn write_at(text: &mut String, space: &Space, rank: u32) -> Result<(), AllocError>
-    requires { rank < configurations space.now }
-    ensures { OnOk result (string_bytes text.new ≡ string_bytes text.old ++ at_line space.now (configuration_at space.now rank)) }
+/// Appends the places `held` of the pebbles.
+pub(crate) fn write_at(text: &mut String, board: &Board, held: &[u16]) -> Result<(), AllocError>
+    ensures { OnOk result (string_bytes text.new ≡ string_bytes text.old ++ at_line board.now held.now) }
 {
     text.push_str("at")?;
-    write_labels(text, space, rank)?;
+    write_places(text, board.labels(), held)?;
     text.push_str("\n")
 }
 
-/// Appends the `label` that `pebble` takes, and the labels of the configuration of `rank`.
+/// Appends the `label` that `pebble` takes, and the places `held` of the pebbles after that.
 pub(crate) fn write_reply(
     text: &mut String,
-    space: &Space,
+    board: &Board,
     pebble: u8,
     label: u16,
-    rank: u32,
+    held: &[u16],
 ) -> Result<(), AllocError>
-    requires { rank < configurations space.now }
     ensures { OnOk result (string_bytes text.new ≡ string_bytes text.old
-        ++ (takes_line pebble (decimal label) ++ at_line space.now (configuration_at space.now rank))) }
+        ++ (takes_line pebble (decimal label) ++ at_line board.now held.now)) }
 {
     write!(text, "pebble {pebble} takes {label}\n")?;
-    write_at(text, space, rank)
+    write_at(text, board, held)
 }
 
 /// Appends that no label is legal for `pebble`, after `requests` answered requests.

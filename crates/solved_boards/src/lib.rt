@@ -3,4 +3,7 @@
 
 mod solved;
 
-pub use solved::{class_solver_of, solver_of, value, values_by_classes, values_of, values_over};
+pub use solved::{
+    class_solver_of, numbered_values_of, solver_of, value, values_by_classes, values_of,
+    values_over,
+};

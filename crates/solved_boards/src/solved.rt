@@ -10,7 +10,7 @@ ghost use Rattle.solver.specs.Solving.{IsSolving};
 use board_text::Board;
 use index_lists::{ListStore, PlainLists};
 use positions::{MAX_CONFIGURATIONS, Value, is_small};
-use solver::{SolveFault, Solver, Values};
+use solver::{NumberedValues, SolveFault, Solver, Values};
 use std::alloc::Global;
 
 /// The answer of `Solver::open`, which is asked once more if it was refused memory.
@@ -64,8 +64,15 @@ pub fn values_by_classes(alloc: Global, board: &Board) -> Option<Values>
     if !is_small(board) {
         return None;
     }
+    Some(Values::new(numbered_values_of(alloc, board)?, board))
+}
+
+/// The values of a board that hasn't too many classes, which may be one without ranks.
+pub fn numbered_values_of(alloc: Global, board: &Board) -> Option<NumberedValues>
+    ensures { IfSome result (λ values. values.board ≡ board.now) }
+{
     let solver = class_solver_of::<PlainLists>(alloc, board).ok()?;
-    Some(Values::new(solver.solve_numbered(), board))
+    Some(solver.solve_numbered())
 }
 
 /// The value of the configuration of `rank`, if the board has one of this rank.

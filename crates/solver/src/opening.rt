@@ -97,7 +97,8 @@ fn zero_members(words: &mut [u32], graph: &Graph, gap: u32)
     requires words { length words.old ≡ (graph_of graph.now).configurations }
     ensures { AreZeroed (graph_of graph.now) gap (graph_of graph.now).places words.old words.new }
 {
+    let members = graph.members(gap);
     for place in 0..graph.places() {
-        words[graph.member(gap, place) as usize] = 0;
+        words[members[place as usize] as usize] = 0;
     }
 }

@@ -69,8 +69,9 @@ impl<S: ListStore> Stage<S> {
         requires filed { IsFiled self.old }
         ensures { Closes self.old gap self.new }
     {
+        let members = self.graph.members(gap);
         for place in 0..self.graph.places() {
-            let rank = self.graph.member(gap, place);
+            let rank = members[place as usize];
             if self.values[rank as usize] == OPEN {
                 self.file(rank);
             }

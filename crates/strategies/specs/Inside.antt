@@ -1,5 +1,6 @@
 -- Definitions that clauses of this crate's own functions cite, and no public contract.
 pub mod GapBest
+pub mod Configuration
 pub mod MovesAt
 pub mod Marks
 pub mod Side

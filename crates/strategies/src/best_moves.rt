@@ -10,21 +10,22 @@ ghost use Rattle.positions.specs.declared.value.Value.TheVariants.{Forever};
 ghost use Rattle.strategies.specs.Best.{HasGreatestResult, LowersValue};
 ghost use Rattle.strategies.specs.Inside.MovesAt.{position};
 
+use crate::configuration::Configuration;
 use crate::gap_best::GapBest;
 use crate::moves_at::MovesAt;
+use crate::numbered_moves::NumberedMoves;
 use board_text::Board;
 use positions::{MAX_CONFIGURATIONS, Space, Value};
 use solver::Values;
 use std::marker::Model;
 
-/// The best moves on a board, by its values.
+/// The best moves on a board, by its values, at configurations given by their ranks.
 ///
 /// Contracts see the board.
 #[derive(Drop)]
 pub struct BestMoves<'a> {
-    board: &'a Board,
     values: &'a Values,
-    best: GapBest<'a>,
+    moves: NumberedMoves<'a>,
 }
 
 impl<'a> Model for BestMoves<'a> {
@@ -33,9 +34,9 @@ impl<'a> Model for BestMoves<'a> {
 
     ghost Value = { PlainBoard };
 
-    ghost view = { λ m. m.board.now };
+    ghost view = { λ m. m.moves };
 
-    ghost invariant = { λ m. (m.values.now ≡ m.board.now) × (m.best.board ≡ m.board.now) };
+    ghost invariant = { λ m. m.values.now ≡ m.moves };
 }
 
 impl<'a> BestMoves<'a> {
@@ -54,9 +55,8 @@ impl<'a> BestMoves<'a> {
         ensures { result ≡ board.now }
     {
         BestMoves {
-            board,
             values,
-            best,
+            moves: NumberedMoves::by(board, best),
         }
     }
 
@@ -73,7 +73,7 @@ impl<'a> BestMoves<'a> {
     pub fn board(&self) -> &'a Board
         ensures { result.now ≡ self.now }
     {
-        self.board
+        self.moves.board()
     }
 
     /// The values of the board.
@@ -90,7 +90,7 @@ impl<'a> BestMoves<'a> {
         ensures is_board { IsBoard self.now }
         ensures few { configurations self.now ≤ MAX_CONFIGURATIONS }
     {
-        self.space().rank(self.board.start())
+        self.space().rank(self.board().start())
     }
 
     /// The value of the configuration of `rank`.
@@ -119,8 +119,7 @@ impl<'a> BestMoves<'a> {
         ensures best { IsSmallest (HasGreatestResult self.now (configuration_at self.now rank) pebble) result }
         ensures none { (result ≡ None) ↔ ((label : ℕ) → Legal self.now (configuration_at self.now rank) pebble label → ⊥) }
     {
-        let best = self.at(rank).answer(pebble)?;
-        Some(best.label)
+        self.at(rank).label(pebble)
     }
 
     /// The best request at the configuration of `rank`, if its value is finite: the smallest pebble
@@ -136,9 +135,10 @@ impl<'a> BestMoves<'a> {
     /// The best moves at the configuration of `rank`.
     pub(crate) fn at(&self, rank: u32) -> MovesAt<'_>
         requires { rank < configurations self.now }
-        ensures { result ≡ position self.now rank }
+        ensures { result ≡ position self.now (configuration_at self.now rank) }
     {
-        MovesAt::new(self.space(), &self.best, rank)
+        self.moves
+            .at_configuration(Configuration::at(self.space(), rank))
     }
 }
 

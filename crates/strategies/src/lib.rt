@@ -2,18 +2,21 @@
 #![tactic(auto)]
 
 mod best_moves;
+mod configuration;
 mod documents;
 mod gap_best;
 mod laws;
 mod laws_of_documents;
 mod marks;
 mod moves_at;
+mod numbered_moves;
 mod reached;
 mod reached_ranks;
 mod rows;
 mod sections;
 
 pub use best_moves::{BestMoves, best_answer, best_request};
+pub use configuration::Configuration;
 pub use documents::document;
 pub use laws::{best_answers_last, best_requests_end, one_best_answer, one_best_request};
 pub use laws_of_documents::{
@@ -21,3 +24,4 @@ pub use laws_of_documents::{
     documents_mean_their_value, documents_of_small_boards, documents_show_their_claim,
     each_board_has_a_document, one_document_of_a_board,
 };
+pub use numbered_moves::NumberedMoves;

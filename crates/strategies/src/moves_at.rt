@@ -1,29 +1,28 @@
 //! The best moves at one configuration.
 
-ghost use Rattle.std.specs.Prelude.{◌≡◌, ◌<◌, ◌↔◌, None, IsTrue};
-ghost use Rattle.board_text.specs.PlainBoard.{IsBoard};
+ghost use Rattle.std.specs.Prelude.{◌≡◌, ◌<◌, ◌↔◌, ℕ, None, IsTrue};
+ghost use Rattle.board_text.specs.PlainBoard.{IsBoard, IsConfiguration};
 ghost use Rattle.positions.specs.Counts.{IsSmallest};
 ghost use Rattle.positions.specs.Game.{Legal};
 ghost use Rattle.positions.specs.Value.{HasValue};
-ghost use Rattle.positions.specs.Ranks.{configurations};
 ghost use Rattle.positions.specs.declared.value.Value.TheVariants.{Forever};
 ghost use Rattle.solver.specs.GapRequests.{IsRequestIn};
-ghost use Rattle.strategies.specs.Best.{LowersValue};
+ghost use Rattle.strategies.specs.Best.{HasGreatestResult, LowersValue};
 ghost use Rattle.strategies.specs.Inside.GapBest.{IsBestFor, LeadsBelow};
-ghost use Rattle.strategies.specs.Inside.MovesAt.{held, position, IsStanding};
+ghost use Rattle.strategies.specs.Inside.MovesAt.{position};
 
+use crate::configuration::Configuration;
 use crate::gap_best::{Best, GapBest};
 use classes::Standing;
-use positions::{Space, Value};
+use positions::Value;
 use solver::Results;
 use std::marker::Model;
 
-/// The best moves at one configuration. Contracts see the board and the configuration's rank.
+/// The best moves at one configuration. Contracts see the board and the configuration.
 #[derive(Drop)]
 pub(crate) struct MovesAt<'a> {
-    space: &'a Space,
     best: &'a GapBest<'a>,
-    rank: u32,
+    configuration: Configuration,
     standing: Standing,
 }
 
@@ -32,48 +31,38 @@ impl<'a> Model for MovesAt<'a> {
 
     ghost Value = { Position };
 
-    ghost view = { λ s. position s.space.now s.rank };
+    ghost view = { λ s. position s.best.now.board s.configuration };
 
-    ghost invariant = { λ s. IsStanding s.best.now s.space.now s.rank s.standing };
+    ghost invariant = { λ s. IsStanding s.best.now s.configuration s.standing };
 }
 
 impl<'a> MovesAt<'a> {
-    /// The best moves at the configuration of `rank`, by `best`.
-    pub(crate) fn new(space: &'a Space, best: &'a GapBest<'a>, rank: u32) -> MovesAt<'a>
-        requires same_board { best.now.board ≡ space.now }
-        requires is_board { IsBoard space.now }
-        requires rank { rank < configurations space.now }
-        ensures { result ≡ position space.now rank }
+    /// The best moves at `configuration`, by `best`.
+    pub(crate) fn new(best: &'a GapBest<'a>, configuration: Configuration) -> MovesAt<'a>
+        requires is_board { IsBoard best.now.board }
+        requires is_configuration { IsConfiguration best.now.board configuration }
+        ensures { result ≡ position best.now.board configuration }
     {
-        let held = space.places_at(rank);
-        let standing = best.values().standing(&held[..space.pebbles() as usize]);
+        let standing = best.values().standing(configuration.as_slice());
         MovesAt {
-            space,
             best,
-            rank,
+            configuration,
             standing,
         }
     }
 
-    /// The rank of the configuration.
-    pub(crate) fn rank(&self) -> u32
-        ensures value { result ≡ self.now.rank }
-        ensures below { result < configurations self.now.board }
-    {
-        self.rank
-    }
-
-    /// The configurations and gaps of the board.
-    pub(crate) fn space(&self) -> &'a Space
-        ensures value { result.now ≡ self.now.board }
+    /// The number of pebbles.
+    pub(crate) fn pebbles(&self) -> u8
+        ensures value { result ≡ self.now.board.pebbles }
         ensures is_board { IsBoard self.now.board }
+        ensures is_configuration { IsConfiguration self.now.board self.now.held }
     {
-        self.space
+        self.configuration.pebbles()
     }
 
     /// The value of the configuration.
     pub(crate) fn value(&self) -> Value
-        ensures { HasValue self.now.board (held self.now) result }
+        ensures { HasValue self.now.board self.now.held result }
     {
         self.best.values().value(self.standing.number)
     }
@@ -82,15 +71,25 @@ impl<'a> MovesAt<'a> {
     pub(crate) fn is_legal(&self, pebble: u8, label: u16) -> bool
         requires pebble { pebble < self.now.board.pebbles }
         requires label { label < self.now.board.labels }
-        ensures { IsTrue result ↔ Legal self.now.board (held self.now) pebble label }
+        ensures { IsTrue result ↔ Legal self.now.board self.now.held pebble label }
     {
         self.results(pebble).is_answer(label)
+    }
+
+    /// The label of the best answer to a request of `pebble`, if a label is legal.
+    pub(crate) fn label(&self, pebble: u8) -> Option<u16>
+        requires { pebble < self.now.board.pebbles }
+        ensures best { IsSmallest (HasGreatestResult self.now.board self.now.held pebble) result }
+        ensures none { (result ≡ None) ↔ ((label : ℕ) → Legal self.now.board self.now.held pebble label → ⊥) }
+    {
+        let best = self.answer(pebble)?;
+        Some(best.label)
     }
 
     /// The best answer to a request of `pebble`, with the value of its result, if a label is legal.
     pub(crate) fn answer(&self, pebble: u8) -> Option<Best>
         requires { pebble < self.now.board.pebbles }
-        ensures { IsBestFor self.now.board (held self.now) pebble result }
+        ensures { IsBestFor self.now.board self.now.held pebble result }
     {
         self.best.of(self.standing.gaps[pebble as usize])
     }
@@ -98,11 +97,11 @@ impl<'a> MovesAt<'a> {
     /// The best request, if the value of the configuration is finite: the smallest pebble all of
     /// whose legal results have a smaller value.
     pub(crate) fn request(&self) -> Option<u8>
-        ensures best { IsSmallest (LowersValue self.now.board (held self.now)) result }
-        ensures none { (result ≡ None) ↔ HasValue self.now.board (held self.now) Forever }
+        ensures best { IsSmallest (LowersValue self.now.board self.now.held) result }
+        ensures none { (result ≡ None) ↔ HasValue self.now.board self.now.held Forever }
     {
         let value = self.value();
-        for pebble in 0..self.space.pebbles() {
+        for pebble in 0..self.pebbles() {
             if leads_below(self.answer(pebble), value) {
                 return Some(pebble);
             }
@@ -114,7 +113,7 @@ impl<'a> MovesAt<'a> {
     pub(crate) fn results(&self, pebble: u8) -> Results<'a>
         requires { pebble < self.now.board.pebbles }
         ensures board { result.game.board ≡ self.now.board }
-        ensures request { IsRequestIn result (held self.now) pebble }
+        ensures request { IsRequestIn result self.now.held pebble }
     {
         self.best
             .values()

@@ -45,7 +45,7 @@ impl SectionRow for LabellerRow {
         }
         let mut index = 0;
         while let Some(rank) = reached.at(index) {
-            moves.at(rank).add_answers(&mut reached)?;
+            moves.add_answers(rank, &mut reached)?;
             index += 1;
         }
         Ok(reached)
@@ -54,7 +54,7 @@ impl SectionRow for LabellerRow {
     fn at(moves: &BestMoves<'_>, start: Value, rank: u32) -> Option<LabellerRow> {
         let here = moves.at(rank);
         let mut take = [0; MAX_PEBBLES];
-        for pebble in 0..here.space().pebbles() {
+        for pebble in 0..here.pebbles() {
             if let Some(best) = here.answer(pebble) {
                 take[pebble as usize] = best.label;
             }
@@ -78,7 +78,7 @@ impl SectionRow for AdversaryRow {
         reached.add(moves.start())?;
         let mut index = 0;
         while let Some(rank) = reached.at(index) {
-            moves.at(rank).add_results(&mut reached, &mut expanded)?;
+            moves.add_results(rank, &mut reached, &mut expanded)?;
             index += 1;
         }
         Ok(reached)

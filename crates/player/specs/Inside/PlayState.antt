@@ -1,7 +1,6 @@
 -- The state of a play with a person, and the request in it.
-use Rattle.std.specs.Prelude.{◌≡◌, ℕ, ◌<◌, true, false, List, ◌++◌}
-use Rattle.board_text.specs.PlainBoard.{PlainBoard}
-use Rattle.positions.specs.Ranks.{configurations, configuration_at}
+use Rattle.std.specs.Prelude.{◌≡◌, ℕ, true, false, List, ◌++◌}
+use Rattle.board_text.specs.PlainBoard.{PlainBoard, IsConfiguration}
 use Rattle.positions.specs.Game.{Legal}
 use Rattle.strategies.specs.Best.{IsBestRequest}
 use Rattle.player.specs.Transcript.{Standing, Going, Over, ask_line, stuck_line}
@@ -10,19 +9,15 @@ use Rattle.player.specs.declared.labeller_side.Next.{Next}
 use Rattle.player.specs.declared.labeller_side.Next.TheVariants as next
 use Rattle.player.specs.declared.labeller_side.Request.{Request}
 
--- a board, the rank of a configuration, and the number of answered requests
+-- a board, one of its configurations, and the number of answered requests
 pub record PlayState : Type 0 where
   pub board : PlainBoard
-  pub rank : ℕ
+  pub at : List ℕ
   pub requests : ℕ
-
--- the configuration
-abbrev pub at : PlayState → List ℕ
-at seat = configuration_at seat.board seat.rank
 
 -- the label is legal for the pebble of the best request
 abbrev pub IsLegalAt : PlayState → ℕ → Type 0
-IsLegalAt seat label = (pebble : ℕ) × IsBestRequest seat.board (at seat) pebble × Legal seat.board (at seat) pebble label
+IsLegalAt seat label = (pebble : ℕ) × IsBestRequest seat.board seat.at pebble × Legal seat.board seat.at pebble label
 
 -- the best request, and whether no label is legal for it
 pub record IsRequestAt (board : PlainBoard) (configuration : List ℕ) (request : Request) : Type 0 where
@@ -43,7 +38,7 @@ IsStandingAfter board configuration requests (next.Asks pebble) to = IsBestReque
     × (to ≡ Going configuration requests)
 IsStandingAfter board configuration requests (next.Ends end) to = to ≡ Over end
 
--- the pebble is the best request at the configuration of the rank
-pub record IsPlayState (board : PlainBoard) (rank asked : ℕ) : Type 0 where
-  pub inside : rank < configurations board
-  pub best : IsBestRequest board (configuration_at board rank) asked
+-- the pebble is the best request at the configuration
+pub record IsPlayState (board : PlainBoard) (at : List ℕ) (asked : ℕ) : Type 0 where
+  pub is_configuration : IsConfiguration board at
+  pub best : IsBestRequest board at asked

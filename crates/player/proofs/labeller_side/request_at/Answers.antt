@@ -1,4 +1,3 @@
-use Rattle.positions.specs.Ranks.{configuration_at}
 use Rattle.player.proofs.AnswerLines.{request_is, some_request}
 use Rattle.player.proofs.labeller_side.request_at.Goals as goal
 
@@ -7,5 +6,5 @@ unwrap-pebble-requires c = some_request c.args.moves.now _ c.requires.finite.0 c
 
 pub returns : goal.returns
 returns c =
-    request_is c.args.moves.now (configuration_at c.args.moves.now c.args.rank) c.unwrap-pebble.result c.answer.result c.is_none-is_stuck.result
+    request_is c.args.moves.now c.args.held.now c.unwrap-pebble.result c.answer.result c.is_none-is_stuck.result
     (rw c.unwrap-pebble.ensures at c.request.ensures.best) c.answer.ensures.best c.answer.ensures.none c.is_none-is_stuck.ensures

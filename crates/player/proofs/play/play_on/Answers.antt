@@ -2,6 +2,7 @@ use Rattle.std.proofs.Common.{refl, [], ◌++◌, ◌+◌, ◌∷◌, ap, ◌∙
 use Rattle.std.proofs.lemmas.List.{length_push}
 use Rattle.std.proofs.lemmas.Result.{err_from_is_err_and}
 use Rattle.board_text.proofs.Cited.{Appends-trans}
+use Rattle.player.proofs.MoreTexts.{then_told}
 use Rattle.player.proofs.ReadLines.{none_yet, line_came, all_came, came_of}
 use Rattle.player.proofs.WrittenPlay.{brings_more, no_line, stopped, not_stopped, ended, broken, Appends-none}
 use Rattle.player.proofs.play.play_on.Goals as goal
@@ -20,6 +21,7 @@ loop-init g c = record {
   reader = c.requires.reader_ready;
   ended = rw c.new-lines.ensures c.requires.reader_unended;
   writer = c.requires.writer_ready;
+  told = c.greet.ensures;
 }
 
 pub returns-in_err-meaning-clause-fault : goal.returns-in_err-meaning-clause-fault
@@ -76,10 +78,11 @@ loop-preserved g c =
       written = Appends-trans _ _ _ i.text wrote.0 i.written wrote.1;
       same = c.in_ok-end.ensures.game ∙ i.same;
       requests = omega (arith, length_push i.said next.line, i.requests, c.in_ok-end.ensures.count);
-      empty = c.in_ok-end.ensures.empty;
+      empty = c.prompt.ensures.empty;
       reader = c.in_ok-meaning.ensures.unfailed;
       ended = c.in_ok-meaning.ensures.ended;
       writer = c.in_ok-end.ensures.unfailed;
+      told = then_told g.E.Sink.contents g.E.Sink.has_failed c.args.shows c.args.errors.now c.loop.errors c.prompt.new.errors i.told c.prompt.ensures.told;
     }
 
 pub returns-clause-fault : goal.returns-clause-fault

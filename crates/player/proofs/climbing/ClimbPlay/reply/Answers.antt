@@ -3,7 +3,7 @@ use Rattle.player.specs.Transcript.{NestedReplies, no_request_line, PersonClimbs
 use Rattle.player.specs.Inside.Transcript.{standing_of}
 use Rattle.player.specs.Inside.Steps.{IsResponseToMeaning}
 use Rattle.player.proofs.RequestLines.{no_pebble}
-use Rattle.player.proofs.MovedRanks.{says_line}
+use Rattle.player.proofs.AppendedLines.{says_line}
 use Rattle.player.proofs.climbing.ClimbPlay.reply.Goals as goal
 
 pub returns-else-number-pebbles-clause-said : goal.returns-else-number-pebbles-clause-said

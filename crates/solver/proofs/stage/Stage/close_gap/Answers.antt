@@ -22,17 +22,19 @@ loop-place-preserved g c =
     let to_close = known s _ c.args.gap c.self.view_is c.self.invariant.0 c.requires.gap_in in
     let places_is = ap (λ (v : PlainStage). (graph_of v.game).places) c.self.view_is in
     let inside : c.loop-place.place < (graph_of s.game).places = omega (arith, c.loop-place-test.true, c.places-place-end.ensures, places_is) in
-    let game_is : c.self-in-loop-place.inside.graph ≡ s.game = ap (λ (v : PlainStage). v.game) c.self-in-loop-place.view_is ∙ c.loop-place.invariant.kept.game_is in
-    let rank_is : (graph_of s.game).member c.args.gap c.loop-place.place ≡ c.member-rank.result
-    = sym (c.member-rank.ensures.member ∙ ap (λ (t : Numbered). (graph_of t).member c.args.gap c.loop-place.place) game_is) in
+    let game_is : c.self.inside.graph ≡ s.game = ap (λ (v : PlainStage). v.game) c.self.view_is in
+    let rank : ℕ = slice_index c.members-members.result c.loop-place.place in
+    let there : c.loop-place.place < (graph_of c.self.inside.graph).places = omega (arith, c.loop-place-test.true, c.places-place-end.ensures) in
+    let rank_is : (graph_of s.game).member c.args.gap c.loop-place.place ≡ rank
+    = sym (c.members-members.ensures.members c.loop-place.place there ∙ ap (λ (t : Numbered). (graph_of t).member c.args.gap c.loop-place.place) game_is) in
     let words : c.self-in-loop-place.inside.values.items ≡ now.values = ap (λ (v : PlainStage). v.values) c.self-in-loop-place.view_is in
-    let low = in_words s c.args.gap c.loop-place.place c.member-rank.result now to_close inside rank_is c.loop-place.invariant in
-    let word = get_or_read now.values c.member-rank.result c.index.result.now low (rw words at c.index.ensures) 0 in
+    let low = in_words s c.args.gap c.loop-place.place rank now to_close inside rank_is c.loop-place.invariant in
+    let word = get_or_read now.values rank c.index.result.now low (rw words at c.index.ensures) 0 in
     elim c.if-index.branch [
       | then-index w ↦ rw (w.self-is, w.file.ensures)
-          (gap-takes s c.args.gap c.loop-place.place c.member-rank.result now to_close inside rank_is c.loop-place.invariant (same_is (slice_index now.values c.member-rank.result) OPEN (sym word ∙ w.if-index.true)))
+          (gap-takes s c.args.gap c.loop-place.place rank now to_close inside rank_is c.loop-place.invariant (same_is (slice_index now.values rank) OPEN (sym word ∙ w.if-index.true)))
       | else-index w ↦ rw w.self-is
-          (gap-skips s c.args.gap c.loop-place.place c.member-rank.result now to_close inside rank_is c.loop-place.invariant (valued_word now.values c.member-rank.result (λ e. w.if-index.false (word ∙ e))))
+          (gap-skips s c.args.gap c.loop-place.place rank now to_close inside rank_is c.loop-place.invariant (valued_word now.values rank (λ e. w.if-index.false (word ∙ e))))
     ]
 
 pub returns : goal.returns

@@ -1,19 +1,4 @@
-use Rattle.std.proofs.Common.{Some, None}
-use Rattle.positions.specs.Ranks.{configuration_at}
-use Rattle.strategies.proofs.GapAnswers.{best_is_none}
 use Rattle.strategies.proofs.best_moves.BestMoves.answer.Goals as goal
 
-pub returns-in_err-best : goal.returns-in_err-best
-returns-in_err-best c =
-    let b = c.args.self.now in
-    let is = rw c.at.ensures at c.in_err-best.ensures in
-    rw c.from_residual.ensures (record {
-      best = λ other greatest. is other greatest.legal;
-      none = best_is_none b (configuration_at b c.args.rank) c.args.pebble None is;
-    })
-
-pub returns : goal.returns
-returns c =
-    let b = c.args.self.now in
-    let is = rw c.at.ensures at c.in_ok-best.ensures in
-    record { best = is.0; none = best_is_none b (configuration_at b c.args.rank) c.args.pebble (Some c.in_ok-best.best) is }
+pub returns-clause-none : goal.returns-clause-none
+returns-clause-none c = rw c.at.ensures at c.label.ensures.none

@@ -2,7 +2,6 @@ use Rattle.std.proofs.Common.{◌↔◌, IsTrue, subst}
 use Rattle.board_text.specs.PlainBoard.{PlainBoard}
 use Rattle.board_text.proofs.Cited.{label_is_place}
 use Rattle.positions.specs.Game.{Legal}
-use Rattle.strategies.specs.Inside.MovesAt.{held}
 use Rattle.strategies.proofs.moves_at.MovesAt.is_legal.Goals as goal
 
 pub is_answer-requires : goal.is_answer-requires
@@ -10,5 +9,6 @@ is_answer-requires c = rw c.results.ensures.board (label_is_place c.args.self.no
 
 pub returns : goal.returns
 returns c =
-    subst (λ (b : PlainBoard). IsTrue c.is_answer.result ↔ Legal b (held c.args.self.now) c.args.pebble c.args.label) c.results.ensures.board
+    let held = c.args.self.now.held in
+    subst (λ (b : PlainBoard). IsTrue c.is_answer.result ↔ Legal b held c.args.pebble c.args.label) c.results.ensures.board
     (c.is_answer.ensures _ c.args.pebble c.results.ensures.request)

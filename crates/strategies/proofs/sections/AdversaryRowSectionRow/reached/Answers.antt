@@ -19,8 +19,8 @@ loop-rank-init c =
           (λ rank starts. starts.1));
     }
 
-pub at-requires-in-Some : goal.at-requires-in-Some
-at-requires-in-Some c = spread_below _ _ _ _ _ _ _ c.loop-rank.invariant.spread (sym c.in-Some.ensures.rank)
+pub add_results-requires-clause-rank : goal.add_results-requires-clause-rank
+add_results-requires-clause-rank c = spread_below _ _ _ _ _ _ _ c.loop-rank.invariant.spread (sym c.in-Some.ensures.rank)
 
 pub overflow_add-index : goal.overflow_add-index
 overflow_add-index c =
@@ -37,10 +37,10 @@ loop-rank-preserved c =
     let is = c.start.ensures.is_board in
     record {
       size = c.in_ok-add_results.ensures.size ∙ c.loop-rank.invariant.size;
-      expanded = rw c.at-in-Some.ensures at c.in_ok-add_results.ensures.expanded;
+      expanded = c.in_ok-add_results.ensures.expanded;
       spread = spread_more c.args.moves.now _ _ _ is.start (request_moves c.args.moves.now) c.loop-rank.index c.in-Some.rank _ _
           c.loop-rank.invariant.spread (sym c.in-Some.ensures.rank)
-          (rw c.at-in-Some.ensures at c.in_ok-add_results.ensures.added);
+          c.in_ok-add_results.ensures.added;
     }
 
 pub returns-clause-reached : goal.returns-clause-reached

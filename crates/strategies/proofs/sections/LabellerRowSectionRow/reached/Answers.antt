@@ -32,8 +32,8 @@ loop-rank-init c =
       })
     ]
 
-pub at-requires-in-Some : goal.at-requires-in-Some
-at-requires-in-Some c = spread_below _ _ _ _ _ _ _ c.loop-rank.invariant.spread (sym c.in-Some.ensures.rank)
+pub add_answers-requires-clause-rank : goal.add_answers-requires-clause-rank
+add_answers-requires-clause-rank c = spread_below _ _ _ _ _ _ _ c.loop-rank.invariant.spread (sym c.in-Some.ensures.rank)
 
 pub overflow_add-index : goal.overflow_add-index
 overflow_add-index c =
@@ -50,7 +50,7 @@ loop-rank-preserved c = record {
   size = c.in_ok-add_answers.ensures.size ∙ c.loop-rank.invariant.size;
   spread = spread_more c.args.moves.now _ _ _ c.start-start.ensures.is_board.start (answer_moves c.args.moves.now) c.loop-rank.index c.in-Some.rank _ _
       c.loop-rank.invariant.spread (sym c.in-Some.ensures.rank)
-      (rw c.at-in-Some.ensures at c.in_ok-add_answers.ensures.added);
+      c.in_ok-add_answers.ensures.added;
 }
 
 pub returns-clause-reached : goal.returns-clause-reached

@@ -1,0 +1,127 @@
+//! Best moves at configurations given by their places, also on a board that has no ranks.
+
+ghost use Rattle.std.specs.Prelude.{◌≡◌};
+
+use crate::assertions::{assert_same, board_of};
+use board_text::Board;
+use fakes::boards::CYCLE_WITHOUT_LABELS;
+use fakes::{Shape, is_configuration, shaped};
+use positions::Value;
+use solved_boards::numbered_values_of;
+use std::alloc::Global;
+use std::process::Abort;
+use strategies::NumberedMoves;
+
+/// The value of a configuration of three pebbles, the best answer to each request, and the best
+/// request.
+#[derive(Clone, Copy, Debug, PartialEq, Eq)]
+struct Best {
+    value: Value,
+    answers: [Option<u16>; 3],
+    request: Option<u8>,
+}
+
+/// The best moves at a configuration, if it is one and has three pebbles.
+fn best_at(moves: &NumberedMoves<'_>, held: [u16; 3]) -> Option<Best> {
+    let board = moves.board();
+    if board.pebbles() != 3 || !is_configuration(board, &held) {
+        return None;
+    }
+    Some(Best {
+        value: moves.value(&held),
+        answers: [
+            moves.answer(&held, 0),
+            moves.answer(&held, 1),
+            moves.answer(&held, 2),
+        ],
+        request: moves.request(&held),
+    })
+}
+
+/// Whether a label is legal for a pebble at a configuration, if they are ones.
+fn legal_at(moves: &NumberedMoves<'_>, held: &[u16], pebble: u8, label: u16) -> Option<bool> {
+    let board = moves.board();
+    if pebble < board.pebbles() && label < board.labels() && is_configuration(board, held) {
+        Some(moves.is_legal(held, pebble, label))
+    } else {
+        None
+    }
+}
+
+/// Asserts the best moves at a configuration of three pebbles.
+fn assert_best(
+    rt: &impl Abort,
+    moves: &NumberedMoves<'_>,
+    held: [u16; 3],
+    value: u32,
+    answers: [Option<u16>; 3],
+    request: u8,
+) {
+    let wanted = Best {
+        value: Value::Finite(value),
+        answers,
+        request: Some(request),
+    };
+    assert_same(rt, held, best_at(moves, held), Some(wanted));
+}
+
+#[test]
+fn best_in_an_order_without_ranks(rt: HostRuntime) {
+    // 1,092,727 configurations, and 187,460 classes. An answer is greater than the labels of both
+    // other pebbles, and the adversary asks one that doesn't hold the greatest label.
+    let board = shaped(rt.alloc(), Shape::Order, 103, 3).expect(&rt, "a board");
+    let values = numbered_values_of(rt.alloc(), &board).expect(&rt, "values");
+    let moves = NumberedMoves::new(&board, &values);
+    assert_best(&rt, &moves, [0, 0, 0], 102, [Some(1), Some(1), Some(1)], 0);
+    assert_best(&rt, &moves, [1, 0, 0], 101, [Some(1), Some(2), Some(2)], 1);
+    assert_best(&rt, &moves, [1, 2, 0], 100, [Some(3), Some(2), Some(3)], 0);
+    assert_best(&rt, &moves, [5, 5, 5], 97, [Some(6), Some(6), Some(6)], 0);
+    assert_best(&rt, &moves, [102, 0, 7], 0, [Some(8), None, None], 1);
+    assert_same(
+        &rt,
+        "2 on 2",
+        legal_at(&moves, &[1, 2, 0], 0, 2),
+        Some(false),
+    );
+    assert_same(
+        &rt,
+        "3 on 2",
+        legal_at(&moves, &[1, 2, 0], 0, 3),
+        Some(true),
+    );
+    assert_same(
+        &rt,
+        "2 on 1",
+        legal_at(&moves, &[1, 2, 0], 1, 2),
+        Some(true),
+    );
+}
+
+/// The best answer to a request of pebble 0 or 1 at a configuration of two, if it is one, and its
+/// value.
+fn answer_at(
+    moves: &NumberedMoves<'_>,
+    held: [u16; 2],
+    pebble: bool,
+) -> Option<(Value, Option<u16>)> {
+    let board = moves.board();
+    if board.pebbles() == 2 && is_configuration(board, &held) {
+        Some((moves.value(&held), moves.answer(&held, u8::from(pebble))))
+    } else {
+        None
+    }
+}
+
+#[test]
+fn best_at_places_without_a_label(rt: HostRuntime) {
+    let board = board_of(&rt, rt.alloc(), CYCLE_WITHOUT_LABELS);
+    let values = numbered_values_of(rt.alloc(), &board).expect(&rt, "values");
+    let moves = NumberedMoves::new(&board, &values);
+    for (held, answers) in [([3, 3], [0, 0]), ([3, 0], [1, 0]), ([2, 3], [0, 0])] {
+        let [first, second] = answers;
+        let found = answer_at(&moves, held, false);
+        assert_same(&rt, held, found, Some((Value::Forever, Some(first))));
+        let found = answer_at(&moves, held, true);
+        assert_same(&rt, held, found, Some((Value::Forever, Some(second))));
+    }
+}

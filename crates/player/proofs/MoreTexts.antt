@@ -1,0 +1,125 @@
+-- Texts that are written one after the other are one text.
+use Rattle.std.proofs.Common.{◌≡◌, ℕ, Bool, not, true, false, List, [], ◌∷◌, ◌++◌, refl, sym, ap, subst, ◌∙◌, inl, inr, arith}
+use Rattle.std.proofs.lemmas.List.{append-nil, length-append, map-append, take-append-le}
+use Rattle.std.proofs.lemmas.List.Concat.{flat_map-append}
+use Rattle.std.proofs.lemmas.List.Elements.{All-append, All-cons, All-nil}
+use Rattle.std.specs.Prelude.{Option}
+use Rattle.std.specs.Io.KnownBytes.{Appends}
+use Rattle.std.specs.List.{flat_map}
+use Rattle.board_text.specs.LineForms.{with_line_feed}
+use Rattle.board_text.specs.Streams.{AppendsPrefix}
+use Rattle.board_text.proofs.Cited.{Appends-trans}
+use Rattle.player.specs.Showing.{AreForPerson, HasNoControl, IsMore, IsTaken, shown, shown_byte}
+use Rattle.player.specs.Inside.Prompts.{TellsChoices}
+use Rattle.player.specs.Transcript.{Game}
+use Rattle.player.proofs.ShownTexts.{plain_if_shown}
+use Rattle.player.proofs.WrittenPlay.{Appends-none, front_behind}
+
+wider : (a b : Option (List ℕ)) (s t : List ℕ) → AppendsPrefix a b s → AppendsPrefix a b (s ++ t)
+wider a b s t (n, low, part) =
+    (n, omega (arith, low, length-append s t), subst (Appends a b) (sym (take-append-le n s t low)) part)
+
+nothing : (s t : List ℕ) → s ++ t ≡ [] → (s ≡ []) × (t ≡ [])
+nothing [] t none = (refl, none)
+nothing (x ∷ s) t none = cc
+
+module _ {W : Type 0} (known : W → Option (List ℕ)) (failed : W → Bool) where
+  -- from a writer that hadn't failed
+  abbrev between : W → W → List ℕ → Type 0
+  between before after text = IsTaken (known before) (known after) (failed after ≡ true) text × (text ≡ [] → after ≡ before)
+
+  after_written : (a b c : W) (s t : List ℕ) (was : Bool) → failed b ≡ was → between a b s → IsMore known failed b c
+      t → between a c (s ++ t)
+  after_written a b c s t true is ((inl (sound, all)), kept) more = absurd (sound is)
+  after_written a b c s t false is ((inl (sound, all)), kept) (same, more) =
+      let next = more is in (
+        elim next.0 [
+          | inl done ↦ inl (done.0, Appends-trans (known a) (known b) (known c) s t all done.1)
+          | inr cut ↦ inr (cut.0, front_behind (known a) (known b) (known c) s t all cut.1)
+        ],
+        (λ none. let parts = nothing s t none in next.1 parts.1 ∙ kept parts.0),
+      )
+  after_written a b c s t was is ((inr (broke, front)), kept) (same, more) =
+      let rest : c ≡ b = same broke in (
+        inr (
+          ap failed rest ∙ broke,
+          subst (λ (o : Option (List ℕ)). AppendsPrefix (known a) o (s ++ t)) (sym (ap
+              known rest)) (wider (known a) (known b) s t front),
+        ),
+        (λ none. rest ∙ kept (nothing s t none).0),
+      )
+
+  -- a text and then another
+  pub then_more : (a b c : W) (s t : List ℕ) → IsMore known failed a b s → IsMore known failed b c t → IsMore known
+      failed a c (s ++ t)
+  then_more a b c s t (same, first) second = (
+    (λ broke. let rest : b ≡ a = same broke in second.0 (ap failed rest ∙ broke) ∙ rest),
+    (λ sound. after_written a b c s t (failed b) refl (first sound) second),
+  )
+
+  -- no text
+  pub none_more : (a : W) → IsMore known failed a a []
+  none_more a = (
+    (λ broke. refl),
+    (λ sound. (
+      inl ((λ broke. let bad : true ≡ false = sym broke ∙ sound in cc), Appends-none (known a)),
+      (λ none.
+          refl),
+    )),
+  )
+
+-- two texts for a person, one after the other
+pub then_shown : {W : Type 0} (known : W → Option (List ℕ)) (failed : W → Bool) (a b c : W) (s t : List ℕ)
+    → IsMore known failed a b (shown s) → IsMore known failed b c (shown t) → IsMore known failed a c (shown (s ++ t))
+then_shown known failed a b c s t first second =
+    subst (IsMore known failed a c) (sym (map-append shown_byte s t))
+    (then_more known failed a b c (shown s) (shown t) first second)
+
+-- ---- lines for a person
+
+-- one line
+pub line_for_person : (words : List ℕ) → HasNoControl words → AreForPerson true (with_line_feed words)
+line_for_person words plain = (words ∷ [], All-cons HasNoControl words [] plain (All-nil HasNoControl), sym (append-nil (with_line_feed words)))
+
+pub shown_line : (words : List ℕ) → AreForPerson true (with_line_feed (shown words))
+shown_line words = line_for_person (shown words) (plain_if_shown words)
+
+-- no line
+pub nothing_for_person : (shows : Bool) → AreForPerson shows []
+nothing_for_person true = ([], All-nil HasNoControl, refl)
+nothing_for_person false = refl
+
+-- lines and then lines
+pub then_for_person : (shows : Bool) (s t : List ℕ) → AreForPerson shows s → AreForPerson shows t → AreForPerson shows (s ++ t)
+then_for_person true s t (first, plain, is) (second, plain_too, is_too) = (
+  first ++ second,
+  All-append HasNoControl first second plain plain_too,
+  ap (λ (l : List ℕ). l ++ t) is ∙ ap (λ (l : List ℕ). flat_map with_line_feed first ++ l) is_too
+      ∙ sym (flat_map-append with_line_feed first second),
+)
+then_for_person false s t first second = ap (λ (l : List ℕ). l ++ t) first ∙ second
+
+pub was_true : (b : Bool) → not b ≡ false → b ≡ true
+was_true true is = refl
+was_true false is = cc
+
+-- lines for a person who is there
+pub for_person_there : (shows : Bool) (text : List ℕ) → shows ≡ true → AreForPerson true text → AreForPerson shows text
+for_person_there shows text is lines = subst (λ b. AreForPerson b text) (sym is) lines
+
+module _ {W : Type 0} (known : W → Option (List ℕ)) (failed : W → Bool) where
+  -- what was told, and then no more
+  abbrev pub Told : Bool → W → W → Type 0
+  Told shows before after = (told : List ℕ) × AreForPerson shows told × IsMore known failed before after told
+
+  pub nothing_told : (shows : Bool) (a : W) → Told shows a a
+  nothing_told shows a = ([], nothing_for_person shows, none_more known failed a)
+
+  pub then_told : (shows : Bool) (a b c : W) → Told shows a b → Told shows b c → Told shows a c
+  then_told shows a b c (s, for, more) (t, for_too, more_too) =
+      (s ++ t, then_for_person shows s t for for_too, then_more known failed a b c s t more more_too)
+
+-- the choices are a line for a person
+pub choices_for_person : (game : Game) (at told : List ℕ) → TellsChoices game at told → AreForPerson true told
+choices_for_person game at told (inl none) = subst (AreForPerson true) (sym none) (nothing_for_person true)
+choices_for_person game at told (inr (words, are, is)) = subst (AreForPerson true) (sym is) (shown_line words)

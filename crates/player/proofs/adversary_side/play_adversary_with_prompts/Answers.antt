@@ -1,0 +1,52 @@
+use Rattle.std.proofs.Common.{◌++◌, ap, ◌∙◌, inr, subst}
+use Rattle.std.proofs.lemmas.Result.{IfOk-weaker, IfErr-weaker, err_from_is_err_and}
+use Rattle.std.specs.Io.KnownBytes.{Appends}
+use Rattle.board_text.specs.Streams.{AppendsPrefix}
+use Rattle.player.specs.Transcript.{PersonAsks, opening_lines}
+use Rattle.player.proofs.RequestLines.{begins}
+use Rattle.player.proofs.PlayLengths.{keeps_to_value}
+use Rattle.player.proofs.OpeningLines.{has_ended, breaks_off, unopened, unshown_opening, Keeps-same}
+use Rattle.player.proofs.adversary_side.play_adversary_with_prompts.Goals as goal
+
+pub returns-in_default-clause-fault : goal.returns-in_default-clause-fault
+returns-in_default-clause-fault g c =
+    let board = c.args.board.now in
+    let value = rw (c.new-moves.ensures, c.start.ensures.value) at c.value.ensures in
+    let opens = begins board c.value.result value in
+    unopened (PersonAsks board) _ _ opens _ _ _ (Keeps-same _)
+
+pub returns-in_err-flush-clause-fault : goal.returns-in_err-flush-clause-fault
+returns-in_err-flush-clause-fault g c =
+    let board = c.args.board.now in
+    let value = rw (c.new-moves.ensures, c.start.ensures.value) at c.value.ensures in
+    let opens = begins board c.value.result value in
+    let text = c.in-Ok.ensures ∙ ap (λ l. l ++ opening_lines board c.value.result board.start) c.new-text.ensures.bytes in
+    let p = err_from_is_err_and c.from_residual.result c.from_residual.ensures.1 in
+    rw (p.1, p.2, c.in_err-flush.ensures.fault.0) (unshown_opening (PersonAsks board) _ _ opens _ _ _ (subst (AppendsPrefix _ _) text c.in_err-flush.ensures.front))
+
+pub returns-clause-ok : goal.returns-clause-ok
+returns-clause-ok g c =
+    let board = c.args.board.now in
+    let value = rw (c.new-moves.ensures, c.start.ensures.value) at c.value.ensures in
+    let opens = begins board c.value.result value in
+    let text = c.in-Ok.ensures ∙ ap (λ l. l ++ opening_lines board c.value.result board.start) c.new-text.ensures.bytes in
+    IfOk-weaker c.play_on.result _ _ (λ end h. has_ended (PersonAsks board) _ _ opens _ _ _ (g.W.Sink.contents c.flush.new.writer) _ (subst (Appends _ _) text c.in_ok-flush.ensures.written) end h) (rw (c.new-play.ensures, c.new-moves.ensures) at c.play_on.ensures.ok)
+
+pub returns-clause-fault : goal.returns-clause-fault
+returns-clause-fault g c =
+    let board = c.args.board.now in
+    let value = rw (c.new-moves.ensures, c.start.ensures.value) at c.value.ensures in
+    let opens = begins board c.value.result value in
+    let text = c.in-Ok.ensures ∙ ap (λ l. l ++ opening_lines board c.value.result board.start) c.new-text.ensures.bytes in
+    IfErr-weaker c.play_on.result _ _ (λ fault h. breaks_off (PersonAsks board) _ _ opens _ _ _ (g.W.Sink.contents c.flush.new.writer) _ (subst (Appends _ _) text c.in_ok-flush.ensures.written) fault h) (rw (c.new-play.ensures, c.new-moves.ensures) at c.play_on.ensures.fault)
+
+pub returns-clause-value : goal.returns-clause-value
+returns-clause-value g c = IfOk-weaker c.play_on.result _ _ (λ end. keeps_to_value (PersonAsks c.args.board.now) _ _ _ _ end) (returns-clause-ok g c)
+
+pub returns-clause-prompts : goal.returns-clause-prompts
+returns-clause-prompts g c =
+    let board = c.args.board.now in
+    let value = rw (c.new-moves.ensures, c.start.ensures.value) at c.value.ensures in
+    let opens = begins board c.value.result value in
+    let told = c.play_on.ensures.told in
+    (told.0, inr ((_, _, opens), told.1), told.2)

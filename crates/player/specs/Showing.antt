@@ -1,0 +1,41 @@
+-- Texts that a person is shown, by a writer that may fail.
+use Rattle.std.specs.Prelude.{◌≡◌, ℕ, ◌⊎◌, ◌||◌, Bool, true, false, List, [], Option, map}
+use Rattle.std.specs.Prelude.{All, cond, nat_eq, nat_lt}
+use Rattle.std.specs.Io.KnownBytes.{Appends}
+use Rattle.std.specs.List.{flat_map}
+use Rattle.board_text.specs.LineForms.{with_line_feed}
+use Rattle.board_text.specs.Streams.{AppendsPrefix}
+
+-- a control byte, as a line feed is
+abbrev pub is_control : ℕ → Bool
+is_control byte = nat_lt byte 32 || nat_eq byte 127
+
+-- no control byte is among the bytes
+abbrev pub HasNoControl : List ℕ → Type 0
+HasNoControl bytes = All (λ byte. is_control byte ≡ false) bytes
+
+-- bytes as a person is shown them: a question mark for each control byte
+abbrev pub shown_byte : ℕ → ℕ
+shown_byte byte = cond (is_control byte) 63 byte
+
+abbrev pub shown : List ℕ → List ℕ
+shown bytes = map shown_byte bytes
+
+-- lines without control bytes, if there is a person to see them; else nothing
+abbrev pub AreForPerson : Bool → List ℕ → Type 0
+AreForPerson true text = (lines : List (List ℕ)) × All HasNoControl lines × (text ≡ flat_map with_line_feed lines)
+AreForPerson false text = text ≡ []
+
+-- the text was written, and nothing else; or a prefix of it, and then the writer failed
+abbrev pub IsTaken : Option (List ℕ) → Option (List ℕ) → Type 0 → List ℕ → Type 0
+IsTaken taken_old taken_new HasFailed text =
+    ((HasFailed → ⊥) × Appends taken_old taken_new text)
+    ⊎ (HasFailed × AppendsPrefix taken_old taken_new text)
+
+-- the text was written, unless the writer had failed; if it had, or if the text is empty, the
+-- writer is as it was
+abbrev pub IsMore : {W : Type 0} → (W → Option (List ℕ)) → (W → Bool) → W → W → List ℕ → Type 0
+IsMore known has_failed before after text =
+    (has_failed before ≡ true → after ≡ before)
+    × (has_failed before ≡ false → IsTaken (known before) (known after) (has_failed after ≡ true) text
+    × (text ≡ [] → after ≡ before))

@@ -1,0 +1,66 @@
+//! Writing words for a person, as the lines of a terminal.
+
+ghost use Rattle.std.specs.Prelude.{◌≡◌, ◌<◌, ◌++◌, ◌∷◌, MatchOption, length};
+ghost use Rattle.board_text.specs.LineForms.{with_line_feed};
+ghost use Rattle.player.specs.Showing.{IsMore, is_control, shown};
+
+use board_text::{Sink, write_all};
+
+/// Writes `text`, unless the writer has failed before. Nothing else is done after a failure.
+pub fn write_more<W: Sink>(writer: &mut W, text: &str)
+    ensures { IsMore W.contents W.has_failed writer.old writer.new text.now }
+{
+    write_bytes(writer, text.as_bytes());
+}
+
+/// Writes the bytes, unless the writer has failed before.
+fn write_bytes<W: Sink>(writer: &mut W, bytes: &[u8])
+    ensures { IsMore W.contents W.has_failed writer.old writer.new bytes.now }
+{
+    if !writer.failed() && !bytes.is_empty() {
+        let _ = write_all(writer, bytes);
+    }
+}
+
+/// Writes `words` as one line, as `write_shown` does.
+pub fn write_line<E: Sink>(errors: &mut E, words: &str)
+    ensures { IsMore E.contents E.has_failed errors.old errors.new (with_line_feed (shown words.now)) }
+{
+    write_shown(errors, words);
+    write_more(errors, "\n");
+}
+
+/// Writes `text` with a question mark for each of its control bytes, unless the writer has failed
+/// before. So a path can't begin another line or command the terminal.
+pub fn write_shown<E: Sink>(errors: &mut E, text: &str)
+    ensures { IsMore E.contents E.has_failed errors.old errors.new (shown text.now) }
+{
+    let mut rest = text.as_bytes();
+    while let Some((plain, later)) = around_control(rest) {
+        write_bytes(errors, plain);
+        write_more(errors, "?");
+        rest = later;
+    }
+    write_bytes(errors, rest);
+}
+
+/// The bytes before the first control byte, and those after it, if there is one.
+fn around_control(bytes: &[u8]) -> Option<(&[u8], &[u8])>
+    ensures { MatchOption result (shown bytes.now ≡ bytes.now)
+        (λ parts. (shown bytes.now ≡ parts.0.now ++ 63 ∷ shown parts.1.now)
+        × (length parts.1.now < length bytes.now)) }
+{
+    for at in 0..bytes.len() {
+        if is_control(bytes[at]) {
+            return Some((&bytes[..at], &bytes[at + 1..]));
+        }
+    }
+    None
+}
+
+/// Whether the byte is a control byte.
+fn is_control(byte: u8) -> bool
+    ensures { result ≡ is_control byte }
+{
+    byte < 32 || byte == 127
+}

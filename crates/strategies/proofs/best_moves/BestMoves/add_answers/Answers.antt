@@ -1,0 +1,47 @@
+use Rattle.std.proofs.Common.{◌≡◌, ◌<◌, ◌≤◌, ◌∙◌, ap, arith, rules}
+use Rattle.strategies.specs.Inside.MovesAt.{Position}
+use Rattle.strategies.specs.Inside.ReachedRanks.{IsAnswerStep, AnswerLeads}
+use Rattle.strategies.proofs.AddedRanks.{Below, added_more, added_same, below_all}
+use Rattle.strategies.proofs.AddedSteps.{no_answer_added, worthless_not_added, answer_added}
+use Rattle.strategies.proofs.best_moves.BestMoves.add_answers.Goals as goal
+use Rattle.strategies.proofs.best_moves.BestMoves.add_answers.Goals.{in-Some+then-lt+in_ok-add, in-Some+else-lt, in_default}
+use Rattle.strategies.proofs.best_moves.BestMoves.add_answers.Goals.{After-pebbles-pebble-end}
+
+pebbles : (c : After-pebbles-pebble-end) → c.pebbles-pebble-end.result ≡ c.args.self.now.pebbles
+pebbles c = c.pebbles-pebble-end.ensures.value ∙ ap (λ (p : Position). p.board.pebbles) c.at-here.ensures
+
+pub loop-pebble-preserved : goal.loop-pebble-preserved
+loop-pebble-preserved c =
+    let b = c.args.self.now in
+    let rank = c.args.rank in
+    let step = IsAnswerStep b rank in
+    let pebble = c.loop-pebble.pebble in
+    let is_pebble : pebble < b.pebbles = omega (arith, pebbles (goal.at.loop-pebble-preserved c).After-pebbles-pebble-end, c.loop-pebble-test.true) in
+    elim c.match-answer.branch [
+      | in-Some+then-lt+in_ok-add w ↦ rw w.reached-is (record {
+        size = w.in_ok-add.ensures.size ∙ c.loop-pebble.invariant.size;
+        added = added_more _ _ _ step pebble c.loop-pebble.invariant.added
+            (answer_added b rank pebble _ w.in-Some.best w.with.result _ (rw c.at-here.ensures at w.in-Some.ensures) (search rules)
+            is_pebble
+            (rw w.space.ensures.value at w.with.ensures.rank) w.in_ok-add.ensures.added);
+      })
+      | in-Some+else-lt w ↦ rw w.reached-is (record {
+        size = c.loop-pebble.invariant.size;
+        added = added_more _ _ _ step pebble c.loop-pebble.invariant.added
+            (worthless_not_added b rank pebble _ w.in-Some.best (rw c.at-here.ensures at w.in-Some.ensures) (search rules));
+      })
+      | in_default w ↦ rw w.reached-is (record {
+        size = c.loop-pebble.invariant.size;
+        added = added_more _ _ _ step pebble c.loop-pebble.invariant.added
+            (no_answer_added b rank pebble _ (rw c.at-here.ensures at w.in_default.ensures));
+      })
+    ]
+
+pub returns-clause-added : goal.returns-clause-added
+returns-clause-added c =
+    let b = c.args.self.now in
+    let step = IsAnswerStep b c.args.rank in
+    let end : b.pebbles ≤ c.loop-pebble.pebble =
+    omega (arith, pebbles (goal.at.returns-clause-added c).After-pebbles-pebble-end, c.loop-pebble-test.false) in
+    added_same _ _ (Below step c.loop-pebble.pebble) (AnswerLeads b c.args.rank)
+    (λ to. below_all step c.loop-pebble.pebble to (λ pebble is. let low : pebble < b.pebbles = is.is_pebble in omega arith)) c.loop-pebble.invariant.added
