@@ -8,14 +8,14 @@ def text(version, labels, start, pairs):
     return '\n'.join([*lines, 'end', '']).encode()
 
 
-def chain(labels):
-    """Labels in a transitive order, with two pebbles."""
-    return text(1, labels, [0, 0], [(x, y) for x in range(labels) for y in range(x)])
+def chain(labels, pebbles=2):
+    """Labels in a transitive order, with all pebbles on the lowest."""
+    return text(1, labels, [0] * pebbles, [(x, y) for x in range(labels) for y in range(x)])
 
 
-def empty(labels):
-    """Labels of which none dominates another, with four pebbles."""
-    return text(1, labels, [0, 0, 0, 0], [])
+def empty(labels, pebbles=4):
+    """Labels of which none dominates another."""
+    return text(1, labels, [0] * pebbles, [])
 
 
 def layers(labels):

@@ -5,7 +5,7 @@ import subprocess
 from dataclasses import dataclass, field
 from functools import partial
 
-from board_texts import empty, text as board_text
+from board_texts import chain, empty, text as board_text
 from harness import BOARDS, PROGRAM, TOP, Check
 from program import LONGEST, Ran, fault, shown, written
 
@@ -157,6 +157,14 @@ def of_boards(work):
     few = written(work, 'mistake-few-labels.board', board_text(1, 20, [0] * 5, []))
     yield Mistake('a board that is too large and has few labels', ['solve', few], fault(1, 'board too large'), few,
                   'at most 16 labels; no start of this board lasts for ever')
+    long_chain = written(work, 'mistake-long-chain.board', chain(17, 5))
+    for words in ['report'], ['play', '--side', 'adversary']:
+        yield Mistake(f'a board that is too large for {words[0]}', [*words, long_chain], fault(1, 'board too large'), long_chain,
+                      '1419857 configurations, and the most is 1048576; but its 20349 classes are few enough for `--large`')
+    wider = written(work, 'mistake-wider.board', empty(256))
+    for words in ['report'], ['report', '--large'], ['play', '--side', 'labeller'], ['play', '--large', '--side', 'adversary']:
+        yield Mistake(f'a board with too many classes ({" ".join(words)})', [*words, wider], fault(1, 'board too large'), wider,
+                      '183181376 classes, each the labels held, whichever pebble holds which, and the most is 16777216, with `--large`')
     blank = written(work, 'mistake-large-blank.board', board_text(2, 32, ['-'] + [0] * 3, []))
     yield Mistake('a board 2 that is too large', ['solve', blank], fault(1, 'board too large'), blank, 'at most 31 labels')
     long = written(work, 'mistake-long.board', b'board 1\n' + b' ' * 1_048_576)
@@ -300,13 +308,14 @@ def of_words(work):
     """Words of no command: the message is clap's."""
     wrong = Ran(2, b'', b'error: ..')
     general, path, workers = '`pebbles --help` lists', 'the name of a command comes before a path', '`--workers` comes with a number'
-    options, version = 'the only options are', '`--version` stands alone'
+    options, version, large = 'the only options are', '`--version` stands alone', 'only `report` and `play` have `--large`'
     told = [(['--workers', '0'], workers), (['slove', 'board'], general), ([CHAIN], path), (['c.board'], path), (['check', CHAIN], general),
             (['solve', '-w', '4', CHAIN], options), (['solve', '--json', CHAIN], options), (['solve', '-q', CHAIN], options),
             (['solve', '-j', '4', CHAIN], options), (['solve', '--version'], version), (['solve', '--workers', 'x', CHAIN], workers),
             (['solve', '--workers', CHAIN], workers), (['solve', CHAIN, 'extra'], general), (['solve', '--workers', '4', CHAIN, 'extra'], general),
             (['solve', '--workers', '17', CHAIN], workers), (['solve', '--workers'], workers), (['report', '--workers', '4', '-q', CHAIN], options), (['play', 'labeller', CHAIN], general),
-            (['play', '--side', 'both', CHAIN], general), (['nested', '7', '3'], general), (['climb', '25'], general), (['help', 'solv'], general)]
+            (['solve', '--large', CHAIN], large), (['check', CHAIN, CHAIN, '--large'], large), (['report', '--large', '--large', CHAIN], general),
+            (['play', '--large', CHAIN], general), (['play', '--side', 'both', CHAIN], general), (['nested', '7', '3'], general), (['climb', '25'], general), (['help', 'solv'], general)]
     for words, says in told:
         yield Mistake(f'the words {" ".join(os.path.basename(word) for word in words)}', words, wrong, 'pebbles', says)
     text = fault(2, 'error: a word on the command line is not text')

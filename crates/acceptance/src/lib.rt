@@ -2,6 +2,8 @@
 #![tactic(auto)]
 
 #[cfg(test)]
+mod large_boards;
+#[cfg(test)]
 mod outcomes;
 #[cfg(test)]
 mod runs_of_checks;

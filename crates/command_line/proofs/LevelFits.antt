@@ -13,12 +13,13 @@ use Rattle.clap.specs.ValueTests.{is_signed_in, is_unsigned_in}
 use Rattle.clap.specs.Walk.{Held, Names, Row, Rule, Step, Text, Waiting, Walk, action_of, after_step, arg_by_id, arg_by_index, default_rows, finished, first_of, has_row, idle, is_empty, is_pending, long_or_other, next, nothing_held, one_of, option, positional, positional_held, reading_by, rows_after, settled, subcommand, subcommand_met, subcommand_or_other, takes_several, to_positional, trailing, value, walk, walk_from, walked, walked_from, with_default, word_met}
 use Rattle.clap.specs.Simple.{Shape}
 use Rattle.clap.specs.Takes.{default_passes, flag_word_passes, is_valid, level_passes, other_passes, positional_passes, settle_passes, step_passes, turn_passes, value_passes, values_pass, walk_passes, word_passes}
-use Rattle.clap.specs.declared.builder.value_parser.Reading.TheVariants.{WithoutMinus}
+use Rattle.clap.specs.declared.builder.value_parser.Reading.TheVariants.{AsWritten, WithoutMinus}
 use Rattle.clap.specs.declared.builder.value_parser.ValueParser.TheVariants as vp
 use Rattle.clap.specs.declared.parser.matches.ValueSource.TheVariants.{DefaultValue}
 use Rattle.std.proofs.lemmas.Bool.{eqb-true}
 use Rattle.clap.proofs.ValueTestLemmas.{accepts-Accepts, Accepts-accepts}
 use Rattle.clap.proofs.WalkLemmas.{both}
+use Rattle.command_line.specs.Inside.Reading.{has_flag, is_flag_text}
 use Rattle.command_line.proofs.RowFacts.{Each, Fits, GoodRule, either, found_each, some_first, with_fits}
 use Rattle.command_line.proofs.Defaults.{HasRow}
 use Rattle.command_line.proofs.WalkFits.{Good, IsNoCommand, RowsFit, long_no_command, long_word_fits, settled_fits}
@@ -183,6 +184,15 @@ pub choice_there : (c : List Rule) (a : Rule) (id : Text) (is_choice : Text → 
 choice_there c a id is_choice rows each known passes there =
     let got = fitting_value c a id rows each known there in
     rw (got.3, got.4) (passes got.1 got.5)
+
+pub flag_there : (c : List Rule) (a : Rule) (id : Text) (rows : List Row) → Each (Fits c) rows → arg_by_id c id ≡ Some a
+    → reading_by a ≡ AsWritten → ((t : Text) → value_passes a t ≡ true → is_flag_text t ≡ true) → HasRow id rows
+    → has_flag rows id ≡ true
+flag_there c a id rows each known how passes there =
+    let got = fitting_value c a id rows each known there in
+    let reads : got.0.reading ≡ AsWritten = got.6 ∙ how in
+    let one : one_of id rows ≡ Some got.1 = rw (got.3, got.4, reads) refl in
+    ap (λ (o : Option Text). option_map_or is_flag_text o false) one ∙ passes got.1 got.5
 
 without_minus-cond : (t : List ℕ) → without_minus t ≡ cond (starts_with_minus t) (drop 1 t) t
 without_minus-cond [] = refl

@@ -1,5 +1,5 @@
 -- Words ask for help or the version, or are used wrongly, and not both.
-use Rattle.std.proofs.Common.{◌≡◌, ◌≢◌, ◌∙◌, ◌+◌, ◌⊎◌, ◌&&◌, ◌||◌, not, ℕ, Bool, true, false, true≢false, List, [], ◌∷◌}
+use Rattle.std.proofs.Common.{◌≡◌, ◌∙◌, ◌+◌, ◌⊎◌, ◌&&◌, ◌||◌, not, ℕ, Bool, true, false, true≢false, List, [], ◌∷◌}
 use Rattle.std.proofs.Common.{length, Option, Some, None, inl, inr, drop, codes, is_some, refl, sym, ap, cond, subst}
 use Rattle.std.specs.Prelude.{⊤, ◌==◌, nat_lt, zero, suc, slice_get, encode_utf8, find, min, option_map}
 use Rattle.std.specs.List.{list_any}
@@ -30,7 +30,7 @@ use Rattle.clap.specs.Walk.{bundle_met}
 use Rattle.clap.specs.Walk.{bundle_step, count_of, has_long, has_row, has_short, idle, is_empty}
 use Rattle.clap.specs.Walk.{is_pending}
 use Rattle.clap.specs.Walk.{long_or_other, most_values, next, nothing_held, option, plain, positional}
-use Rattle.clap.specs.Walk.{reacted, refused}
+use Rattle.clap.specs.Walk.{reacted}
 use Rattle.clap.specs.Walk.{settled, short_or_plain, subcommand, subcommand_met, subcommand_or_other, takes_several}
 use Rattle.clap.specs.Walk.{takes_values}
 use Rattle.clap.specs.Walk.{to_positional, trailing, value, values_or_missing, walk, walk_from, walked, walked_from}

@@ -1,12 +1,18 @@
 -- The results of the getters of the matches.
 use Rattle.std.proofs.Common.{◌≡◌, ◌<◌, ◌^◌, ◌⊎◌, ℕ, Bool, true, false, List, Option, Some, None, Result, Ok, Err, refl, sym, ap, arith, inl, inr, option_map}
 use Rattle.std.specs.Option.{option_map_or}
-use Rattle.std.specs.Str.Parse.{ParsesUnsigned, digits_value, without_leading_plus}
+use Rattle.std.specs.Prelude.{MatchOption, codes}
+use Rattle.std.specs.Str.{bytes_eq}
+use Rattle.std.specs.Str.Parse.{ParsesBool, ParsesUnsigned, digits_value, without_leading_plus}
+use Rattle.std.proofs.lemmas.Slice.Eq.{bytes_eq-Decides}
+use Rattle.clap.specs.Values.{bool_text}
 use Rattle.clap.specs.Walk.{Text}
 use Rattle.clap.specs.Matches.{ReadsOne}
 use Rattle.clap.specs.ValueTests.{is_unsigned_in}
 use Rattle.clap.specs.declared.builder.value_parser.ValueParser.TheVariants as vp
 use Rattle.clap.proofs.ValueTestLemmas.{accepts-Accepts}
+use Rattle.command_line.specs.Inside.Reading.{is_flag_text}
+use Rattle.command_line.proofs.RowFacts.{either}
 
 pub false_if : (b : Bool) → (b ≡ true → ⊥) → b ≡ false
 false_if true h = absurd (h refl)
@@ -41,6 +47,23 @@ outside n most (Some t) e out = false_if _ (λ yes.
     elim out [
       | inl low ↦ omega (arith, a.2, is)
       | inr high ↦ omega (arith, a.3, is)
+    ])
+
+-- the text of a flag is read as what it says, and other text isn't read
+pub flag_read : {E : Type 0} (G : List ℕ → Result Bool E → Type 0) (o : Option Text) (result : Option Bool)
+    → ((u : Text) (x : Result Bool E) → G u x → ParsesBool u x) → (o ≡ None → result ≡ None)
+    → ((t : Text) → o ≡ Some t → ReadsOne G t result)
+    → MatchOption result (option_map_or is_flag_text o false ≡ false) (λ b. o ≡ Some (bool_text b))
+flag_read G None None only none some = refl
+flag_read G None (Some b) only none some = let e = none refl in cc
+flag_read G (Some t) (Some true) only none some = ap Some (only t (Ok true) (some t refl))
+flag_read G (Some t) (Some false) only none some = ap Some (only t (Ok false) (some t refl))
+flag_read G (Some t) None only none some =
+    let read = some t refl in
+    let other = only t (Err read.0) read.1 in
+    false_if (is_flag_text t) (λ yes. elim (either (bytes_eq t (codes "true")) (bytes_eq t (codes "false")) yes) [
+      | inl is_true ↦ other.0 ((bytes_eq-Decides t (codes "true")).0 is_true)
+      | inr is_false ↦ other.1 ((bytes_eq-Decides t (codes "false")).0 is_false)
     ])
 
 -- a value whose two halves agree with those of a pair is that pair

@@ -37,10 +37,11 @@ some_first x y e = cc
 abbrev pub Fits : List Rule → Row → Type 0
 Fits c r = (a : Rule) × (arg_by_id c r.id ≡ Some a) × (0 < length r.values) × (values_pass a r.values ≡ true) × (r.reading ≡ reading_by a)
 
--- the argument is the first of its id, and takes a value or asks for a text
+-- the argument is the first of its id, and takes a value, is given or not, or asks for a text
 abbrev pub GoodRule : List Rule → Rule → Type 0
 GoodRule c a = (arg_by_id c a.id ≡ Some a)
-    × (((action_of a ≡ Set) × (1 ≤ (unwrap_or_range a.range).start_inclusive)) ⊎ (is_request (action_of a) ≡ true))
+    × (((action_of a ≡ Set) × (1 ≤ (unwrap_or_range a.range).start_inclusive))
+    ⊎ ((action_of a ≡ SetTrue) × (0 < length a.missing)) ⊎ (is_request (action_of a) ≡ true))
 
 pub either : (a b : Bool) → (a || b) ≡ true → (a ≡ true) ⊎ (b ≡ true)
 either true b e = inl refl
@@ -86,6 +87,16 @@ used_set c a [] rows found set some pass each = absurd (omega arith)
 used_set c a (v ∷ vs) rows found set some pass each =
     rw set (with_fits c a CommandLine (v ∷ vs) (without a.id rows) found some pass (without_fits c a.id rows each))
 
+used_flag : (c : List Rule) (a : Rule) (values : List Text) (rows : List Row) → arg_by_id c a.id ≡ Some a
+    → action_of a ≡ SetTrue
+    → 0 < length a.missing → values_pass a (values_or_missing a values) ≡ true → Each (Fits c) rows
+    → Each (Fits c) (used a values rows)
+used_flag c a [] rows found flag some pass each =
+    rw flag (with_fits c a CommandLine a.missing (without a.id rows) found some pass (without_fits c a.id rows each))
+used_flag c a (v ∷ vs) rows found flag some pass each =
+    rw flag (with_fits c a CommandLine (v ∷ vs) (without a.id rows) found (omega arith) pass
+    (without_fits c a.id rows each))
+
 no_request : (x : ArgAction) (again : Bool) (a : Rule) (values : List Text) (rows : List Row) → is_request x ≡ true
     → action_passes x again a values rows ≡ true → ⊥
 no_request Set again a values rows e pass = absurd (true≢false (sym e))
@@ -110,5 +121,9 @@ used_fits c again a values rows good pass each =
           subst (λ (x : ArgAction). action_passes x again a (values_or_missing a values) rows ≡ true) set.0 rest.1 in
           let least = leb-true _ _ parts.0 in
           used_set c a values rows good.0 set.0 (omega (arith, least, set.1)) (both _ _ passed).1 each
-      | inr request ↦ absurd (no_request (action_of a) again a (values_or_missing a values) rows request rest.1)
+      | inr (inl flag) ↦
+          let passed : action_passes SetTrue again a (values_or_missing a values) rows ≡ true =
+          subst (λ (x : ArgAction). action_passes x again a (values_or_missing a values) rows ≡ true) flag.0 rest.1 in
+          used_flag c a values rows good.0 flag.0 flag.1 (both _ _ passed).1 each
+      | inr (inr request) ↦ absurd (no_request (action_of a) again a (values_or_missing a values) rows request rest.1)
     ]

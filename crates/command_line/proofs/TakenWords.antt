@@ -6,22 +6,22 @@ use Rattle.std.specs.Borrow.{Bor}
 use Rattle.std.specs.List.{list_all, list_any}
 use Rattle.std.specs.Option.{option_map_or}
 use Rattle.std.specs.Str.{bytes_eq}
-use Rattle.std.proofs.lemmas.Bool.{eqb-true}
 use Rattle.std.proofs.lemmas.Slice.Eq.{bytes_eq-Decides}
 use Rattle.clap.specs.Facts.{parser_of_value}
 use Rattle.clap.specs.Values.{reading_of}
 use Rattle.clap.specs.ValueTests.{accepts}
 use Rattle.clap.specs.Walk.{Held, Names, Row, Rule, Step, Text, Waiting, Walk, action_of, after_step, answers_to, arg_by_id}
-use Rattle.clap.specs.Walk.{arg_by_index, finished, is_empty, long_or_other, next, nothing_held, rows_after, settled, subcommand}
+use Rattle.clap.specs.Walk.{arg_by_index, finished, long_or_other, next, nothing_held, rows_after, settled, subcommand}
 use Rattle.clap.specs.Walk.{subcommand_met, subcommand_or_other, to_positional, trailing, value, walk, walk_from, walked}
 use Rattle.clap.specs.Walk.{walked_from, with_default, word_met}
 use Rattle.clap.specs.Lexer.{long_of}
-use Rattle.clap.specs.Simple.{Shape, built, built_leaf, default_of, entered, filled, filled_from, help_rule, help_shape}
+use Rattle.clap.specs.Simple.{Shape, built, built_leaf, entered, filled, filled_from, help_rule, help_shape}
 use Rattle.clap.specs.Simple.{index_after, inherited, is_simple, label_of, names_of, parser_for, rows_at, subcommand_of}
 use Rattle.clap.specs.Simple.{with_action, with_index}
 use Rattle.clap.specs.Faults.{is_simple_and_free}
 use Rattle.clap.specs.Takes.{built_takes, default_passes, entered_passes, is_given, is_valid, level_passes, other_passes}
 use Rattle.clap.specs.Takes.{settle_passes, step_passes, takes, turn_passes, walk_passes, word_passes}
+use Rattle.clap.specs.declared.builder.action.ArgAction.TheVariants.{SetTrue}
 use Rattle.clap.specs.declared.builder.value_parser.ValueParser.{ValueParser}
 use Rattle.clap.specs.declared.builder.value_parser.ValueParser.TheVariants as vp
 use Rattle.board_text.specs.declared.board.TheConstants.{MAX_PEBBLES}
@@ -32,13 +32,12 @@ use Rattle.clap.proofs.OnLiterals.{clap_on_literals}
 use Rattle.clap.proofs.WalkLemmas.{both}
 use Rattle.command_line.specs.Commands as rows
 use Rattle.command_line.specs.Commands.{command, commands, program, program_among, side_words, sides}
-use Rattle.command_line.specs.Inside.Reading.{has_value, has_values, is_among, is_read}
-use Rattle.command_line.proofs.ReadingLemmas.{false_if}
+use Rattle.command_line.specs.Inside.Reading.{has_flag, has_value, has_value_by, has_values, is_among, is_read}
 use Rattle.command_line.proofs.RowFacts.{Each, Fits, GoodRule, either}
 use Rattle.command_line.proofs.Defaults.{HasRow, default_row, given_row}
 use Rattle.command_line.proofs.SameProgram.{below}
 use Rattle.command_line.proofs.WalkFits.{Good, IsNoCommand, long_no_command}
-use Rattle.command_line.proofs.LevelFits.{choice_there, level_fits, number_there, text_there}
+use Rattle.command_line.proofs.LevelFits.{choice_there, flag_there, level_fits, number_there, text_there}
 
 pub simple : (words : Bor (List (Bor Text))) → is_simple (program_among words) ≡ true
 unfolding clap_on_literals
@@ -50,13 +49,15 @@ simple_and_free words = refl
 
 -- ---- any command
 
--- the argument is a number up to a limit, one of some words, or any word
+-- the argument's value is a number up to a limit, one of some words, or any word
 abbrev IsKind : Option ValueParser → Type 0
 IsKind parser = (parser ≡ None) ⊎ ((most : ℕ) × (parser ≡ Some (vp.Signed (pos 1) (pos most))))
     ⊎ (parser ≡ Some (vp.Names sides))
 
+-- the argument has such a value, or is given or not
 abbrev IsArgument : Rule → Type 0
-IsArgument a = ((a.required ≡ true) ⊎ (0 < length a.defaults)) × (a.ignore_case ≡ false) × IsKind a.parser
+IsArgument a = ((a.required ≡ true) ⊎ (0 < length (filled a).defaults)) × (a.ignore_case ≡ false)
+    × (((a.action ≡ None) × IsKind a.parser) ⊎ ((a.action ≡ Some SetTrue) × (a.parser ≡ None)))
 
 -- the rules that clap makes from those of a command
 abbrev made_from : ℕ → List Rule → List Rule
@@ -68,18 +69,12 @@ pub record IsCommand (s : Shape) : Type 0 where
   pub good : Good (made_from 1 s.rules)
   pub arguments : Each IsArgument s.rules
 
-defaults_stay : (i : ℕ) (a : Rule) → 0 < length a.defaults → (with_index i (filled a)).defaults ≡ a.defaults
-defaults_stay i a some =
-    ap (λ (b : Bool). cond b (default_of (action_of (with_action a))) a.defaults)
-    (false_if (is_empty a.defaults) (λ none. let empty = eqb-true _ _ none in omega (arith, empty, some)))
-
 one_has_row : (a : Rule) (i : ℕ) (rest : List Rule) (rows end : List Row) → fold with_default rows (with_index i (filled a) ∷ rest) ≡ end
     → IsArgument a → (not a.required || is_given a.id end) ≡ true → HasRow a.id end
 one_has_row a i rest rows end is argument given =
     elim argument.0 [
       | inl required ↦ given_row a.id end (rw required at given)
-      | inr some ↦ subst (HasRow a.id) is
-          (default_row (with_index i (filled a)) rest rows (subst (λ (d : List Text). 0 < length d) (sym (defaults_stay i a some)) some))
+      | inr some ↦ subst (HasRow a.id) is (default_row (with_index i (filled a)) rest rows some)
     ]
 
 have_rows : (rules : List Rule) (i : ℕ) (rows end : List Row) → fold with_default rows (made_from i rules) ≡ end
@@ -95,7 +90,7 @@ have_rows (a ∷ rules) i rows end is arguments given =
 
 kind_there : (c : List Rule) (a : Rule) (i : ℕ) (rows : List Row) → Each (Fits c) rows
     → arg_by_id c a.id ≡ Some (with_index i (filled a)) → a.ignore_case ≡ false → IsKind a.parser → HasRow a.id rows
-    → has_value rows a.id a.parser ≡ true
+    → has_value_by rows a.id a.parser ≡ true
 kind_there c a i rows each known exact kind there =
     let made = with_index i (filled a) in
     elim kind [
@@ -114,12 +109,30 @@ kind_there c a i rows each known exact kind there =
           (subst (λ (b : Bool). accepts b (parser_of_value made.parser) t ≡ true) exact e)) there)
     ]
 
+word_there : (c : List Rule) (a : Rule) (i : ℕ) (rows : List Row) → Each (Fits c) rows
+    → arg_by_id c a.id ≡ Some (with_index i (filled a)) → a.action ≡ Some SetTrue → a.parser ≡ None → HasRow a.id rows
+    → has_flag rows a.id ≡ true
+word_there c a i rows each known flag none there =
+    let made = with_index i (filled a) in
+    let parser : made.parser ≡ Some vp.Bool = rw (none, flag) refl in
+    flag_there c made a.id rows each known (ap (λ (o : Option ValueParser). reading_of (parser_of_value o)) parser)
+    (λ t e. subst (λ (o : Option ValueParser). accepts made.ignore_case (parser_of_value o) t ≡ true) parser e) there
+
+value_there : (c : List Rule) (a : Rule) (i : ℕ) (rows : List Row) → Each (Fits c) rows
+    → arg_by_id c a.id ≡ Some (with_index i (filled a)) → IsArgument a → HasRow a.id rows
+    → has_value rows a.id a.action a.parser ≡ true
+value_there c a i rows each known argument there =
+    elim argument.2 [
+      | inl kind ↦ rw kind.0 (kind_there c a i rows each known argument.1 kind.1 there)
+      | inr flag ↦ rw flag.0 (word_there c a i rows each known flag.0 flag.1 there)
+    ]
+
 kinds_there : (c : List Rule) (rules : List Rule) (i : ℕ) (rows : List Row) → Each (Fits c) rows
     → Each (GoodRule c) (made_from i rules) → Each IsArgument rules → Each (λ a. HasRow a.id rows) rules
-    → list_all (λ a. has_value rows a.id a.parser) rules ≡ true
+    → list_all (λ a. has_value rows a.id a.action a.parser) rules ≡ true
 kinds_there c [] i rows each good arguments there = refl
 kinds_there c (a ∷ rules) i rows each good arguments there =
-    let first = kind_there c a i rows each good.0.0 arguments.0.1 arguments.0.2 there.0 in
+    let first = value_there c a i rows each good.0.0 arguments.0 there.0 in
     rw first (kinds_there c rules (index_after i a) rows each good.1 arguments.1 there.1)
 
 -- a command as clap builds it below the program
@@ -146,48 +159,79 @@ command_read s words is pass =
 
 -- ---- the commands, a row each
 
-solving_row : (name : Text) → IsCommand (rows.solving name)
-solving_row name = record {
+solve_row : IsCommand rows.solve
+solve_row = record {
   plain = refl;
-  good = ((refl, inl (refl, omega arith)), ((refl, inl (refl, omega arith)), ((refl, inr refl), tt)));
-  arguments = ((inr (omega arith), refl, inr (inl (MAX_WORKERS, refl))), ((inl refl, refl, inl refl), tt));
+  good = ((refl, inl (refl, omega arith)), ((refl, inl (refl, omega arith)), ((refl, inr (inr refl)), tt)));
+  arguments = (
+    (inr (omega arith), refl, inl (refl, inr (inl (MAX_WORKERS, refl)))),
+    ((inl refl, refl, inl (refl, inl refl)), tt),
+  );
 }
 
 check_row : IsCommand rows.check
 check_row = record {
   plain = refl;
-  good = ((refl, inl (refl, omega arith)), ((refl, inl (refl, omega arith)), ((refl, inr refl), tt)));
-  arguments = ((inl refl, refl, inl refl), ((inl refl, refl, inl refl), tt));
+  good = ((refl, inl (refl, omega arith)), ((refl, inl (refl, omega arith)), ((refl, inr (inr refl)), tt)));
+  arguments = ((inl refl, refl, inl (refl, inl refl)), ((inl refl, refl, inl (refl, inl refl)), tt));
+}
+
+report_row : IsCommand rows.report
+report_row = record {
+  plain = refl;
+  good = (
+    (refl, inl (refl, omega arith)),
+    (
+      (refl, inr (inl (refl, omega arith))),
+      ((refl, inl (refl, omega arith)), ((refl, inr (inr refl)), tt)),
+    ),
+  );
+  arguments = (
+    (inr (omega arith), refl, inl (refl, inr (inl (MAX_WORKERS, refl)))),
+    ((inr (omega arith), refl, inr (refl, refl)), ((inl refl, refl, inl (refl, inl refl)), tt)),
+  );
 }
 
 nested_row : IsCommand rows.nested
 nested_row = record {
   plain = refl;
-  good = ((refl, inl (refl, omega arith)), ((refl, inl (refl, omega arith)), ((refl, inr refl), tt)));
-  arguments = ((inl refl, refl, inr (inl (MAX_BOARD_LEVELS, refl))), ((inl refl, refl, inr (inl (MAX_PEBBLES, refl))), tt));
+  good = ((refl, inl (refl, omega arith)), ((refl, inl (refl, omega arith)), ((refl, inr (inr refl)), tt)));
+  arguments = (
+    (inl refl, refl, inl (refl, inr (inl (MAX_BOARD_LEVELS, refl)))),
+    ((inl refl, refl, inl (refl, inr (inl (MAX_PEBBLES, refl)))), tt),
+  );
 }
 
 play_row : IsCommand (rows.play_among sides)
 play_row = record {
   plain = refl;
-  good = ((refl, inl (refl, omega arith)), ((refl, inl (refl, omega arith)), ((refl, inr refl), tt)));
-  arguments = ((inl refl, refl, inr (inr refl)), ((inl refl, refl, inl refl), tt));
+  good = (
+    (refl, inl (refl, omega arith)),
+    (
+      (refl, inr (inl (refl, omega arith))),
+      ((refl, inl (refl, omega arith)), ((refl, inr (inr refl)), tt)),
+    ),
+  );
+  arguments = (
+    (inl refl, refl, inl (refl, inr (inr refl))),
+    ((inr (omega arith), refl, inr (refl, refl)), ((inl refl, refl, inl (refl, inl refl)), tt)),
+  );
 }
 
 climb_row : IsCommand rows.climb
 climb_row = record {
   plain = refl;
-  good = ((refl, inl (refl, omega arith)), ((refl, inr refl), tt));
-  arguments = ((inl refl, refl, inr (inl (MAX_LEVELS, refl))), tt);
+  good = ((refl, inl (refl, omega arith)), ((refl, inr (inr refl)), tt));
+  arguments = ((inl refl, refl, inl (refl, inr (inl (MAX_LEVELS, refl)))), tt);
 }
 
 are_commands : Each IsCommand commands
 are_commands = (
-  solving_row (codes "solve"),
+  solve_row,
   (
     check_row,
     (
-      solving_row (codes "report"),
+      report_row,
       (
         nested_row,
         (

@@ -3,6 +3,7 @@ use Rattle.std.specs.Prelude.{ℕ, [], ◌∷◌, List, Some, true, false, codes
 use Rattle.std.specs.Borrow.{Bor}
 use Rattle.clap.specs.Walk.{Rule, Text}
 use Rattle.clap.specs.Simple.{App, Shape, new_rule, new_shape}
+use Rattle.clap.specs.declared.builder.action.ArgAction.TheVariants.{SetTrue}
 use Rattle.clap.specs.declared.builder.value_parser.ValueParser.TheVariants as vp
 use Rattle.board_text.specs.declared.board.TheConstants.{MAX_PEBBLES}
 use Rattle.nested_cycles.specs.declared.nested_boards.TheConstants.{MAX_BOARD_LEVELS}
@@ -29,21 +30,21 @@ workers = record (new_rule (codes "workers")) {
   parser = Some (vp.Signed (pos 1) (pos MAX_WORKERS));
 }
 
+-- the word after which larger boards are taken
+abbrev pub large : Rule
+large = record (new_rule (codes "large")) { long = Some (codes "large"); action = Some SetTrue }
+
 abbrev pub command : Text → List Rule → Shape
 command name rules = record (new_shape name) { rules = rules }
 
--- a command that solves a board
-abbrev pub solving : Text → Shape
-solving name = command name (workers ∷ path (codes "board") ∷ [])
-
 abbrev pub solve : Shape
-solve = solving (codes "solve")
+solve = command (codes "solve") (workers ∷ path (codes "board") ∷ [])
 
 abbrev pub check : Shape
 check = command (codes "check") (path (codes "board") ∷ path (codes "proof") ∷ [])
 
 abbrev pub report : Shape
-report = solving (codes "report")
+report = command (codes "report") (workers ∷ large ∷ path (codes "board") ∷ [])
 
 abbrev pub nested : Shape
 nested = command (codes "nested") (number (codes "levels") MAX_BOARD_LEVELS ∷ number (codes "pebbles") MAX_PEBBLES ∷ [])
@@ -62,7 +63,7 @@ side_among words = record (new_rule (codes "side")) {
 }
 
 abbrev pub play_among : Bor (List (Bor Text)) → Shape
-play_among words = command (codes "play") (side_among words ∷ path (codes "board") ∷ [])
+play_among words = command (codes "play") (side_among words ∷ large ∷ path (codes "board") ∷ [])
 
 abbrev pub climb : Shape
 climb = command (codes "climb") (number (codes "levels") MAX_LEVELS ∷ [])

@@ -7,6 +7,7 @@ use Rattle.std.specs.Str.{bytes_eq}
 use Rattle.std.specs.Str.Parse.{digits_value, without_leading_plus}
 use Rattle.clap.specs.Faults.{fault_of}
 use Rattle.clap.specs.Kinds.{IsAmong}
+use Rattle.clap.specs.Values.{bool_text}
 use Rattle.clap.specs.Walk.{Row, Text, first_of, one_of}
 use Rattle.clap.specs.declared.error.kind.ErrorKind.{ErrorKind}
 use Rattle.clap.specs.declared.error.kind.ErrorKind.TheVariants as kinds
@@ -34,6 +35,11 @@ abbrev pub side_word : Side → Text
 side_word Labeller = codes "labeller"
 side_word Adversary = codes "adversary"
 
+-- the word for the id was given exactly if this is true: the matches have `true` for it if it was,
+-- and else `false`
+abbrev pub HasFlag : List Row → Text → Bool → Type 0
+HasFlag rows id is_given = one_of id rows ≡ Some (bool_text is_given)
+
 -- the command that was named, with its matches, asks for the job
 abbrev pub AsksFor : Text → List Row → Job → Type 0
 AsksFor name rows jobs.Joined = ⊥
@@ -45,11 +51,13 @@ AsksFor name rows (jobs.Nested levels pebbles) = (name ≡ codes "nested")
 AsksFor name rows (jobs.Solve workers board) = (name ≡ codes "solve")
     × HasNumber rows (codes "workers") MAX_WORKERS workers
     × (first_of (codes "board") rows ≡ Some board.now)
-AsksFor name rows (jobs.Report workers board) = (name ≡ codes "report")
+AsksFor name rows (jobs.Report workers large board) = (name ≡ codes "report")
     × HasNumber rows (codes "workers") MAX_WORKERS workers
+    × HasFlag rows (codes "large") large
     × (first_of (codes "board") rows ≡ Some board.now)
-AsksFor name rows (jobs.Play side board) = (name ≡ codes "play")
+AsksFor name rows (jobs.Play side large board) = (name ≡ codes "play")
     × (first_of (codes "side") rows ≡ Some (side_word side))
+    × HasFlag rows (codes "large") large
     × (first_of (codes "board") rows ≡ Some board.now)
 AsksFor name rows (jobs.Climb levels) = (name ≡ codes "climb") × HasNumber rows (codes "levels") MAX_LEVELS levels
 
@@ -65,8 +73,8 @@ IsInRange jobs.Joined = Unit {0}
 IsInRange (jobs.Check board proof) = Unit {0}
 IsInRange (jobs.Nested levels pebbles) = (1 ≤ levels) × (levels ≤ MAX_BOARD_LEVELS) × (1 ≤ pebbles) × (pebbles ≤ MAX_PEBBLES)
 IsInRange (jobs.Solve workers board) = (1 ≤ workers) × (workers ≤ MAX_WORKERS)
-IsInRange (jobs.Report workers board) = (1 ≤ workers) × (workers ≤ MAX_WORKERS)
-IsInRange (jobs.Play side board) = Unit {0}
+IsInRange (jobs.Report workers large board) = (1 ≤ workers) × (workers ≤ MAX_WORKERS)
+IsInRange (jobs.Play side large board) = Unit {0}
 IsInRange (jobs.Climb levels) = (1 ≤ levels) × (levels ≤ MAX_LEVELS)
 
 -- the word after the program's name is `help`

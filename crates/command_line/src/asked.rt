@@ -15,20 +15,41 @@ pub enum Job<'a> {
     /// Check the strategy document that follows a board on standard input.
     Joined,
     /// Check the strategy document for the board. Both are paths.
-    Check { board: &'a str, proof: &'a str },
+    Check {
+        board: &'a str,
+        proof: &'a str,
+    },
     /// Write the nested board with 1 to `MAX_BOARD_LEVELS` levels and 1 to `MAX_PEBBLES` pebbles.
-    Nested { levels: u8, pebbles: u8 },
+    Nested {
+        levels: u8,
+        pebbles: u8,
+    },
     /// Solve the board, a path, with 1 to `MAX_WORKERS` workers, and write its strategy document.
-    Solve { workers: u8, board: &'a str },
+    Solve {
+        workers: u8,
+        board: &'a str,
+    },
     /// Solve the board, a path, with 1 to `MAX_WORKERS` workers, and write the number of
-    /// configurations of each value.
-    Report { workers: u8, board: &'a str },
+    /// configurations of each value. A `large` board is limited by its classes and not by its
+    /// configurations.
+    Report {
+        workers: u8,
+        large: bool,
+        board: &'a str,
+    },
     /// Play on the board, a path. The person plays this side, by lines of standard input, and the
-    /// program the other one.
-    Play { side: Side, board: &'a str },
+    /// program the other one. A `large` board is limited by its classes and not by its
+    /// configurations.
+    Play {
+        side: Side,
+        large: bool,
+        board: &'a str,
+    },
     /// Play on the nested board with 1 to `MAX_LEVELS` levels, and as many pebbles. The person is
     /// the adversary, by lines of standard input.
-    Climb { levels: u8 },
+    Climb {
+        levels: u8,
+    },
 }
 
 /// Why words give no job.

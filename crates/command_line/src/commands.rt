@@ -7,7 +7,7 @@ ghost use Rattle.command_line.specs.Commands as commands;
 
 use crate::asked::MAX_WORKERS;
 use board_text::MAX_PEBBLES;
-use clap::{Arg, Command, value_parser};
+use clap::{Arg, ArgAction, Command, value_parser};
 use nested_cycles::{MAX_BOARD_LEVELS, MAX_LEVELS};
 use positions::MAX_CONFIGURATIONS;
 use std::alloc::{AllocError, Global};
@@ -45,7 +45,8 @@ const _: () = prove!(MAX_CONFIGURATIONS == 1_048_576);
 /// The help of `solve`.
 const ABOUT_SOLVING: &str =
     "Writes the strategy document of the board, which `check` accepts. It is the same for every \
-    number of workers.\n\n\
+    number of workers. Documents list configurations, so `solve` has no --large, as `report` and \
+    `play` have.\n\n\
     Common faults:\n  \
     board fault line 1 Version  not a board: Windows line ends, or a strategy document\n  \
     board fault line 4 Start    as many labels as pebbles are wanted, each below the number of labels\n  \
@@ -65,7 +66,7 @@ const ABOUT_REPORTING: &str = "The report is the same for every number of worker
     them\n  \
     board fault line N Order    the pairs are not sorted as numbers, or one is there twice\n  \
     board too large             more than 1048576 configurations: labels to the power of \
-    pebbles\n\n\
+    pebbles; --large takes more\n\n\
     Example:\n  \
     pebbles report chain.board";
 
@@ -97,7 +98,7 @@ const ABOUT_PLAYING: &str =
     labels\n  \
     board fault line N Order    the pairs are not sorted as numbers, or one is there twice\n  \
     board too large             more than 1048576 configurations: labels to the power of \
-    pebbles\n  \
+    pebbles; --large takes more\n  \
     input too long              a line of yours has more than 64 bytes\n\n\
     Example:\n  \
     pebbles play --side adversary chain.board";
@@ -189,6 +190,7 @@ fn report<'a>(alloc: Global) -> Result<Command<'a>, AllocError>
         .about("Reads a board, and writes how many configurations have each value")
         .after_help(ABOUT_REPORTING)
         .arg(workers(alloc))?
+        .arg(large(alloc))?
         .arg(board)
 }
 
@@ -229,6 +231,7 @@ fn play<'a>(alloc: Global, sides: &'a [&'a str]) -> Result<Command<'a>, AllocErr
         .about("Plays against you on a board, with best requests or best answers")
         .after_help(ABOUT_PLAYING)
         .arg(side(alloc, sides))?
+        .arg(large(alloc))?
         .arg(board)
 }
 
@@ -283,6 +286,20 @@ fn count<'a>(alloc: Global, id: &'a str, name: &'a str, most: u8, help: &'a str)
         .required(true)
         .value_parser(value_parser!(u8).range(1..=most as i64))
         .help(help)
+}
+
+/// The word after which a board is limited by its classes and not by its configurations.
+fn large<'a>(alloc: Global) -> Arg<'a>
+    ensures rule { rule_of result ≡ commands.large }
+    ensures local { result.global ≡ false }
+{
+    Arg::new(alloc, "large")
+        .long("large")
+        .action(ArgAction::SetTrue)
+        .help(
+            "The board may be larger: up to 16777216 classes, each the labels held, whichever \
+            pebble holds which",
+        )
 }
 
 /// The option for the number of workers, 1 to `MAX_WORKERS`; 1 if it isn't given.

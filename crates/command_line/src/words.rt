@@ -5,11 +5,12 @@ ghost use Rattle.std.specs.Prelude.{length, codes, option_map};
 ghost use Rattle.clap.specs.Words.{fault_of, first_of, found_of, kind_of, rows_of, subcommand_of, subcommand_rows_of, takes};
 ghost use Rattle.clap.specs.Walk.{texts};
 ghost use Rattle.command_line.specs.Commands as commands;
-ghost use Rattle.command_line.specs.Reading.{HasNumber, IsInRange, IsReadAs, Shows, ShowsKind};
+ghost use Rattle.command_line.specs.Reading.{HasFlag, HasNumber, IsInRange, IsReadAs, Shows};
+ghost use Rattle.command_line.specs.Reading.{ShowsKind};
 ghost use Rattle.command_line.specs.Reading.{AsksForHelpBy, Names, NamesCommands};
 ghost use Rattle.command_line.specs.Reading.{asks_for_help, has_topic, is_topic, side_word};
 ghost use Rattle.command_line.specs.Inside.Reading.{MisusesBy, Reads, ShowsHelp};
-ghost use Rattle.command_line.specs.Inside.Reading.{has_number, has_side, is_read};
+ghost use Rattle.command_line.specs.Inside.Reading.{has_flag, has_number, has_side, is_read};
 
 use crate::asked::{Job, JobFault, MAX_WORKERS};
 use crate::commands::{VERSION, program};
@@ -214,8 +215,13 @@ fn report_job<'a>(values: &ArgMatches<'a>) -> Option<Job<'a>>
     ensures numbers { IfSome result IsInRange }
 {
     let workers = number(values, "workers", MAX_WORKERS)?;
+    let large = flag(values, "large")?;
     let board = text(values, "board")?;
-    Some(Job::Report { workers, board })
+    Some(Job::Report {
+        workers,
+        large,
+        board,
+    })
 }
 
 fn nested_job<'a>(values: &ArgMatches<'a>) -> Option<Job<'a>>
@@ -232,8 +238,9 @@ fn play_job<'a>(values: &ArgMatches<'a>) -> Option<Job<'a>>
     ensures numbers { IfSome result IsInRange }
 {
     let side = side(values)?;
+    let large = flag(values, "large")?;
     let board = text(values, "board")?;
-    Some(Job::Play { side, board })
+    Some(Job::Play { side, large, board })
 }
 
 fn climb_job<'a>(values: &ArgMatches<'a>) -> Option<Job<'a>>
@@ -253,6 +260,13 @@ fn side(matches: &ArgMatches<'_>) -> Option<Side>
         "adversary" => Some(Side::Adversary),
         _ => None,
     }
+}
+
+fn flag(matches: &ArgMatches<'_>, id: &str) -> Option<bool>
+    ensures { MatchOption result (has_flag (rows_of (found_of matches.now)) id.now ≡ false)
+        (HasFlag (rows_of (found_of matches.now)) id.now) }
+{
+    matches.get_one(id)
 }
 
 fn text<'a>(matches: &ArgMatches<'a>, id: &str) -> Option<&'a str>

@@ -96,36 +96,67 @@ fn solving(rt: HostRuntime) {
 
 #[test]
 fn reports(rt: HostRuntime) {
-    for (words, workers, board) in [
-        (["pebbles", "report", "a"].as_slice(), 1, "a"),
-        (["pebbles", "report", "--workers=3", "b"].as_slice(), 3, "b"),
+    for (words, workers, large, board) in [
+        (["pebbles", "report", "a"].as_slice(), 1, false, "a"),
         (
-            ["pebbles", "report", "--", "--workers"].as_slice(),
+            ["pebbles", "report", "--workers=3", "b"].as_slice(),
+            3,
+            false,
+            "b",
+        ),
+        (
+            ["pebbles", "report", "--large", "b"].as_slice(),
             1,
-            "--workers",
+            true,
+            "b",
+        ),
+        (
+            ["pebbles", "report", "b", "--large", "--workers=3"].as_slice(),
+            3,
+            true,
+            "b",
+        ),
+        (
+            ["pebbles", "report", "--", "--large"].as_slice(),
+            1,
+            false,
+            "--large",
         ),
     ] {
-        assert_asks(&rt, rt.alloc(), words, Job::Report { workers, board });
+        let wanted = Job::Report {
+            workers,
+            large,
+            board,
+        };
+        assert_asks(&rt, rt.alloc(), words, wanted);
     }
 }
 
 #[test]
 fn plays(rt: HostRuntime) {
-    for (words, side) in [
+    for (words, side, large) in [
         (
             ["pebbles", "play", "--side", "labeller", "a"].as_slice(),
             Side::Labeller,
+            false,
         ),
         (
             ["pebbles", "play", "--side=adversary", "a"].as_slice(),
             Side::Adversary,
+            false,
         ),
         (
-            ["pebbles", "play", "a", "--side", "adversary"].as_slice(),
+            ["pebbles", "play", "a", "--large", "--side", "adversary"].as_slice(),
             Side::Adversary,
+            true,
         ),
     ] {
-        assert_asks(&rt, rt.alloc(), words, Job::Play { side, board: "a" });
+        let wanted = Job::Play {
+            side,
+            large,
+            board: "a",
+        };
+        assert_asks(&rt, rt.alloc(), words, wanted);
     }
 }
 
@@ -159,6 +190,7 @@ fn wrong_words_of_checks_and_nested_boards(rt: HostRuntime) {
         ["pebbles", "check", "a", "b", "c"].as_slice(),
         ["pebbles", "check", "-x", "b"].as_slice(),
         ["pebbles", "check", "--workers=2", "a", "b"].as_slice(),
+        ["pebbles", "check", "--large", "a", "b"].as_slice(),
         ["pebbles", "nested", "3"].as_slice(),
         ["pebbles", "nested", "0", "1"].as_slice(),
         ["pebbles", "nested", "7", "1"].as_slice(),
@@ -167,6 +199,7 @@ fn wrong_words_of_checks_and_nested_boards(rt: HostRuntime) {
         ["pebbles", "nested", "-1", "2"].as_slice(),
         ["pebbles", "nested", "1 ", "2"].as_slice(),
         ["pebbles", "nested", "99999999999999999999", "2"].as_slice(),
+        ["pebbles", "nested", "--large", "1", "2"].as_slice(),
     ] {
         assert_usage(&rt, rt.alloc(), words);
     }
@@ -182,7 +215,11 @@ fn wrong_words_of_solving_and_reports(rt: HostRuntime) {
         ["pebbles", "solve", "--workers=17", "a"].as_slice(),
         ["pebbles", "solve", "--workers=", "a"].as_slice(),
         ["pebbles", "solve", "--workers=2", "--workers=2", "a"].as_slice(),
+        ["pebbles", "solve", "--large", "a"].as_slice(),
         ["pebbles", "report"].as_slice(),
+        ["pebbles", "report", "--large"].as_slice(),
+        ["pebbles", "report", "--large=true", "a"].as_slice(),
+        ["pebbles", "report", "--large", "--large", "a"].as_slice(),
         ["pebbles", "report", "--workers", "17", "a"].as_slice(),
     ] {
         assert_usage(&rt, rt.alloc(), words);
@@ -205,6 +242,7 @@ fn wrong_words_of_plays_and_climbs(rt: HostRuntime) {
         ["pebbles", "climb", "three"].as_slice(),
         ["pebbles", "climb", "3", "3"].as_slice(),
         ["pebbles", "climb", "--side=labeller", "3"].as_slice(),
+        ["pebbles", "climb", "--large", "3"].as_slice(),
     ] {
         assert_usage(&rt, rt.alloc(), words);
     }
@@ -223,6 +261,7 @@ fn help_and_the_version(rt: HostRuntime) {
         (["pebbles", "nested", "-h"].as_slice(), "<LEVELS> <PEBBLES>"),
         (["pebbles", "solve", "--help"].as_slice(), "[default: 1]"),
         (["pebbles", "help", "report"].as_slice(), "--workers <N>"),
+        (["pebbles", "help", "play"].as_slice(), "--large"),
         (["pebbles", "climb", "--help"].as_slice(), "<LEVELS>"),
     ] {
         assert_help(&rt, rt.alloc(), words, within);

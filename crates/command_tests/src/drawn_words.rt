@@ -18,21 +18,62 @@ enum Other {
 const WORDS: &str =
     "solve check report nested play climb help -h --version  -- chek a - 0 1 6 7 16 17 24 25 02 +3 \
     99999999999999999999 -1 --help -V --workers --workers=0 --workers=16 --workers=17 --workers= \
-    --side --side=labeller --side=person labeller adversary";
+    --side --side=labeller --side=person labeller adversary --large --large=true";
 
 fn word(place: u32) -> &'static str {
     WORDS.split(' ').nth(place as usize).unwrap_or("")
 }
 
-/// The option of a command, or `none`, the number of its words, and their most, or 0 for paths.
-fn form_of(command: &str) -> Option<(&'static str, usize, u8)> {
-    match command {
-        "check" => Some(("none", 2, 0)),
-        "solve" | "report" => Some(("--workers", 1, 0)),
-        "nested" => Some(("none", 2, 6)),
-        "play" => Some(("--side", 1, 0)),
-        "climb" => Some(("none", 1, 24)),
-        _ => None,
+/// The words that a command still takes: an option with a value, or `none`; `--large`, if it is
+/// taken; and a number of words, each at most `most`, or 0 for paths.
+#[derive(Clone, Copy)]
+struct Form {
+    option: &'static str,
+    takes_large: bool,
+    wants: usize,
+    most: u8,
+}
+
+impl Form {
+    fn new(option: &'static str, takes_large: bool, wants: usize, most: u8) -> Form {
+        Form {
+            option,
+            takes_large,
+            wants,
+            most,
+        }
+    }
+
+    fn of(command: &str) -> Option<Form> {
+        match command {
+            "check" => Some(Form::new("none", false, 2, 0)),
+            "solve" => Some(Form::new("--workers", false, 1, 0)),
+            "report" => Some(Form::new("--workers", true, 1, 0)),
+            "nested" => Some(Form::new("none", false, 2, 6)),
+            "play" => Some(Form::new("--side", true, 1, 0)),
+            "climb" => Some(Form::new("none", false, 1, 24)),
+            _ => None,
+        }
+    }
+
+    fn without_option(self) -> Form {
+        Form {
+            option: "none",
+            ..self
+        }
+    }
+
+    fn without_large(self) -> Form {
+        Form {
+            takes_large: false,
+            ..self
+        }
+    }
+
+    /// The same after one of the words that are wanted, if one more is.
+    fn after_word(self) -> Option<Form> {
+        let wants = self.wants.checked_sub(1)?;
+        Some(Form { wants, ..self })
     }
 }
 
@@ -55,21 +96,28 @@ fn is_both(option: &str, word: &str) -> bool {
     value.is_some_and(|value| is_value(option, value))
 }
 
-/// Ok if the words of a command are right. Its option is `none` after it was read.
-fn read(words: &[&str], option: &str, wants: usize, most: u8) -> Result<(), Other> {
+/// Ok if the words of a command of this form are right.
+fn read(words: &[&str], form: Form) -> Result<(), Other> {
+    let Form {
+        option,
+        takes_large,
+        wants,
+        most,
+    } = form;
     match words {
         [] if wants == 0 && option != "--side" => Ok(()),
         ["--", rest @ ..] if rest.len() != wants || option == "--side" => Err(Other::Wrong),
         ["--", rest @ ..] if rest.iter().all(|word| fits(word, most)) => Ok(()),
         ["--help" | "-h", ..] => Err(Other::Help),
-        [word, rest @ ..] if *word == "-" || !word.starts_with('-') => match wants.checked_sub(1) {
-            Some(wants) if fits(word, most) => read(rest, option, wants, most),
+        [word, rest @ ..] if *word == "-" || !word.starts_with('-') => match form.after_word() {
+            Some(form) if fits(word, most) => read(rest, form),
             _ => Err(Other::Wrong),
         },
-        [word, rest @ ..] if is_both(option, word) => read(rest, "none", wants, most),
-        [word, value, rest @ ..] if *word == option && is_value(option, value) => read(
-            rest, "none", wants, most,
-        ),
+        ["--large", rest @ ..] if takes_large => read(rest, form.without_large()),
+        [word, rest @ ..] if is_both(option, word) => read(rest, form.without_option()),
+        [word, value, rest @ ..] if *word == option && is_value(option, value) => {
+            read(rest, form.without_option())
+        }
         _ => Err(Other::Wrong),
     }
 }
@@ -80,10 +128,9 @@ fn asked<'a>(words: &[&'a str]) -> Result<&'a str, Other> {
         [] => Ok("joined"),
         ["--help" | "-h", ..] | ["help"] | ["help", "help"] => Err(Other::Help),
         ["--version" | "-V", ..] => Err(Other::Version),
-        ["help", topic] if form_of(topic).is_some() => Err(Other::Help),
+        ["help", topic] if Form::of(topic).is_some() => Err(Other::Help),
         [name, rest @ ..] => {
-            let (option, wants, most) = form_of(name).ok_or(Other::Wrong)?;
-            read(rest, option, wants, most)?;
+            read(rest, Form::of(name).ok_or(Other::Wrong)?)?;
             Ok(*name)
         }
     }
@@ -125,7 +172,7 @@ fn thousands_of_lines(rt: HostRuntime) {
     for _ in 0..8_000 {
         let mut line = ["pebbles", word(draws.below(12)), "", "", ""];
         for place in 2..5 {
-            line[place] = word(draws.below(38));
+            line[place] = word(draws.below(40));
         }
         let line = &line[..=draws.below(5) as usize];
         let wanted = Some(asked(&line[1..]));

@@ -1,5 +1,5 @@
 -- A check accepts the document that was printed for a board.
-use Rattle.std.proofs.Common.{◌≡◌, ◌≤◌, ◌++◌, ◌∙◌, ℕ, List, [], Option, Some, None, append-nil, ap, arith, refl, subst, sym}
+use Rattle.std.proofs.Common.{◌≡◌, ◌≤◌, ◌++◌, ◌∙◌, ℕ, List, [], Option, Some, None, append-nil, ap, refl, subst, sym}
 use Rattle.board_text.specs.Streams.{GaveAll}
 use Rattle.board_text.specs.PlainBoard.{PlainBoard, IsBoard}
 use Rattle.board_text.specs.BoardText.{board_text}
@@ -19,7 +19,11 @@ use Rattle.runs.specs.CheckRun.{RanCheck}
 use Rattle.runs.specs.Verdicts.{IsChecked, IsVerdict}
 use Rattle.runs.specs.Run.{Bytes, Ran}
 use Rattle.runs.specs.SolveRun.{IsSolution, IsSolved}
-use Rattle.runs.specs.Texts.{HasNoBoard, HasNoProof, IsMemory, IsSmallBoard, IsWrongBoard}
+use Rattle.runs.specs.Texts.{HasNoBoard, HasNoProof, IsBoardWithin, IsMemory, IsSmallBoard, IsWrongWithin}
+use Rattle.graphs.specs.Numbered.{IsFewBy}
+use Rattle.graphs.specs.declared.graph.Numbering.{Numbering}
+use Rattle.graphs.specs.declared.graph.Numbering.TheVariants.{Ordered}
+use Rattle.runs.proofs.BoardLimits.{few_configurations}
 use Rattle.runs.specs.declared.fault.RunFault.{RunFault}
 use Rattle.runs.specs.declared.fault.RunFault.TheVariants.{Board, TooLarge, Proof, Memory, Worker, Read, Write, Limit}
 use Rattle.runs.specs.declared.verdicts.Verdict.{Verdict}
@@ -44,20 +48,21 @@ module _ (board : PlainBoard) (value : Value) (text : List ℕ) (is_board : IsBo
       let claim : proof.claim ≡ claim_of value = ap (λ (p : PlainProof). p.claim) (sym same) ∙ found.claim ∙ ap claim_of same_worth in
       verdict_of board proof value verdict rules claim is
 
--- the text of a small board isn't wrong
-pub not_wrong : (text : List ℕ) (board : PlainBoard) → IsSmallBoard text board → (fault : RunFault) → IsWrongBoard text fault → ⊥
-not_wrong text board small (Board fault) wrong =
+-- the text of a board within the limit isn't wrong
+pub not_wrong : (limit : Numbering) (text : List ℕ) (board : PlainBoard) → IsBoardWithin limit text board
+    → (fault : RunFault)
+    → IsWrongWithin limit text fault → ⊥
+not_wrong limit text board small (Board fault) wrong =
     wrong.1 (faultless_board text fault.line fault.kind board small.is_board small.spelled wrong.0)
-not_wrong text board small TooLarge (other, is, spelled, many) =
+not_wrong limit text board small TooLarge (other, is, spelled, many) =
     let same : board ≡ other = one_board board other small.is_board is (sym small.spelled ∙ spelled) in
-    let few : configurations other ≤ MAX_CONFIGURATIONS = subst (λ b. configurations b ≤ MAX_CONFIGURATIONS) same small.few in
-    absurd (omega (arith, few, many))
-not_wrong text board small Memory wrong = wrong
-not_wrong text board small (Proof fault) wrong = wrong
-not_wrong text board small Worker wrong = wrong
-not_wrong text board small Read wrong = wrong
-not_wrong text board small Write wrong = wrong
-not_wrong text board small Limit wrong = wrong
+    many (subst (IsFewBy limit) same small.few)
+not_wrong limit text board small Memory wrong = wrong
+not_wrong limit text board small (Proof fault) wrong = wrong
+not_wrong limit text board small Worker wrong = wrong
+not_wrong limit text board small Read wrong = wrong
+not_wrong limit text board small Write wrong = wrong
+not_wrong limit text board small Limit wrong = wrong
 
 module _ (text written : List ℕ) (value : Value) (solution : IsSolution text value written) where
   -- the text is that of one board
@@ -65,8 +70,8 @@ module _ (text written : List ℕ) (value : Value) (solution : IsSolution text v
   same_board board is spelled = one_board solution.0 board solution.1.is_board is (sym solution.1.spelled ∙ spelled)
 
   pub no_fault_of_board : (fault : RunFault) → HasNoBoard text fault → IsMemory fault
-  no_fault_of_board (Board fault) wrong = absurd (not_wrong text solution.0 solution.1 (Board fault) wrong)
-  no_fault_of_board TooLarge wrong = absurd (not_wrong text solution.0 solution.1 TooLarge wrong)
+  no_fault_of_board (Board fault) wrong = absurd (not_wrong Ordered text solution.0 solution.1 (Board fault) wrong)
+  no_fault_of_board TooLarge wrong = absurd (not_wrong Ordered text solution.0 solution.1 TooLarge wrong)
   no_fault_of_board Memory wrong = refl
   no_fault_of_board (Proof fault) wrong = absurd wrong
   no_fault_of_board Worker wrong = absurd wrong
@@ -81,12 +86,14 @@ module _ (text written : List ℕ) (value : Value) (solution : IsSolution text v
     pub accepts_text : (verdict : Verdict) (line : List ℕ) → IsChecked board written verdict line
         → verdict ≡ Accepted (record { claim = claim_of value })
     accepts_text verdict line is =
-        accepts board value written small.is_board small.few solved is.proof verdict is.is_proof is.text_is is.verdict_is
+        accepts board value written small.is_board
+        (few_configurations board small.few) solved is.proof verdict is.is_proof is.text_is is.verdict_is
 
     pub no_fault_of_document : (fault : RunFault) → HasNoProof board written fault → IsMemory fault
     no_fault_of_document (Proof fault) wrong =
         absurd (wrong.1 (faultless_document board written fault.line fault.kind solved.document small.is_board
-        (is_formed board solved.document small.is_board.start small.few solved.is_document) solved.text_is wrong.0))
+        (is_formed board solved.document small.is_board.start (few_configurations board small.few) solved.is_document)
+        solved.text_is wrong.0))
     no_fault_of_document Memory wrong = refl
     no_fault_of_document (Board fault) wrong = absurd wrong
     no_fault_of_document TooLarge wrong = absurd wrong

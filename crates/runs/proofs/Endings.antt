@@ -1,17 +1,18 @@
 -- The outcomes of runs, by their results.
-use Rattle.std.proofs.Common.{◌≡◌, ◌≢◌, ◌↔◌, ℕ, List, sym, ap, ◌∙◌, inl, inr}
+use Rattle.std.proofs.Common.{◌≡◌, ◌≢◌, ◌↔◌, ℕ, Bool, List, sym, ap, ◌∙◌, inl, inr}
 use Rattle.std.proofs.lemmas.Result.{MatchResult-from_both, IfErr-at_err, IfErr-weaker}
 use Rattle.std.specs.Prelude.{Result, Ok, Err, IfOk, IfErr}
 use Rattle.player.specs.declared.end.PlayEnd.{PlayEnd}
 use Rattle.positions.specs.declared.side.Side.{Side}
 use Rattle.runs.specs.CheckRun.{CheckFails, RanCheck}
 use Rattle.runs.specs.Folders.{File, Opens}
-use Rattle.runs.specs.Jobs.{Checks, Opening, Plays, WritesWhole}
+use Rattle.runs.specs.Jobs.{Checks, Opening, Plays, WritesWhole, limit_of}
 use Rattle.runs.specs.Outcomes.{EndsAs, outcome_of_check, outcome_of_run}
 use Rattle.runs.specs.PlayRun.{PlayFails, RanPlay}
 use Rattle.runs.specs.Run.{Bytes, Fails, Ran, Stream}
 use Rattle.runs.specs.SolveRun.{CannotSolve}
-use Rattle.runs.specs.Texts.{HasNoBoard}
+use Rattle.runs.specs.Texts.{HasNoneWithin}
+use Rattle.graphs.specs.declared.graph.Numbering.{Numbering}
 use Rattle.runs.specs.declared.checking.TheConstants.{MAX_PROOF_BYTES}
 use Rattle.runs.specs.declared.reading.TheConstants.{MAX_BOARD_BYTES}
 use Rattle.runs.specs.declared.fault.RunFault.{RunFault}
@@ -65,45 +66,46 @@ check_untouched board_limit proof_limit Old New to board proof written fault (in
 check_untouched board_limit proof_limit Old New to board proof written fault (inr rest) = inr rest
 
 -- a fault of one worker is one that several workers can give
-pub any_worker : (workers : ℕ) (text : List ℕ) (fault : RunFault) → HasNoBoard text fault
-    → CannotSolve workers text fault
-any_worker workers text Memory h = tt
-any_worker workers text (Board fault) h = h
-any_worker workers text TooLarge h = h
-any_worker workers text (Proof fault) h = absurd h
-any_worker workers text Worker h = absurd h
-any_worker workers text Read h = absurd h
-any_worker workers text Write h = absurd h
-any_worker workers text Limit h = absurd h
+pub any_worker : (limit : Numbering) (workers : ℕ) (text : List ℕ) (fault : RunFault) → HasNoneWithin limit text fault
+    → CannotSolve limit workers text fault
+any_worker limit workers text Memory h = tt
+any_worker limit workers text (Board fault) h = h
+any_worker limit workers text TooLarge h = h
+any_worker limit workers text (Proof fault) h = absurd h
+any_worker limit workers text Worker h = absurd h
+any_worker limit workers text Read h = absurd h
+any_worker limit workers text Write h = absurd h
+any_worker limit workers text Limit h = absurd h
 
 -- a fault of several workers is one that they can give
-pub these_workers : (workers : ℕ) (text : List ℕ) (fault : RunFault) → CannotSolve workers text fault
-    → CannotSolve workers text fault
-these_workers workers text fault h = h
+pub these_workers : (limit : Numbering) (workers : ℕ) (text : List ℕ) (fault : RunFault)
+    → CannotSolve limit workers text fault
+    → CannotSolve limit workers text fault
+these_workers limit workers text fault h = h
 
 -- ---- jobs over files that were opened
 
 module _ {A : Type 0} (P : List ℕ → A → List ℕ → Type 0)
-    (Nothing : List ℕ → RunFault → Type 0) (workers : ℕ)
-    (more : (text : List ℕ) (fault : RunFault) → Nothing text fault → CannotSolve workers text fault)
+    (Nothing : List ℕ → RunFault → Type 0) (limit : Numbering) (workers : ℕ)
+    (more : (text : List ℕ) (fault : RunFault) → Nothing text fault → CannotSolve limit workers text fault)
     (file : File) (read : Bytes) (opens : Opens file read.old) (output : Stream)
     (r : Result A RunFault) (outcome : Outcome) (is : outcome ≡ outcome_of_run r) where
   pub opened_board : IfOk r (Ran P MAX_BOARD_BYTES read output.bytes)
       → IfErr r (Fails P Nothing MAX_BOARD_BYTES read output.bytes)
       → IfErr r (λ fault. fault ≢ Write → output.IsKept)
       → Opening file output.IsKept (λ bytes. EndsAs outcome_of_run (Ran P MAX_BOARD_BYTES bytes output.bytes)
-      (Fails P (CannotSolve workers) MAX_BOARD_BYTES bytes output.bytes)) outcome
+      (Fails P (CannotSolve limit workers) MAX_BOARD_BYTES bytes output.bytes)) outcome
       × WritesWhole output outcome
   opened_board ok fault unwritten = (
     inr (
       read,
       opens,
       ends outcome_of_run r (Ran P MAX_BOARD_BYTES read output.bytes)
-          (Fails P (CannotSolve workers) MAX_BOARD_BYTES read output.bytes)
+          (Fails P (CannotSolve limit workers) MAX_BOARD_BYTES read output.bytes)
           outcome is ok
           (IfErr-weaker r (Fails P Nothing MAX_BOARD_BYTES read output.bytes)
-          (Fails P (CannotSolve workers) MAX_BOARD_BYTES read output.bytes)
-          (λ f h. fails_wider P Nothing (CannotSolve workers) more read output.bytes MAX_BOARD_BYTES f h) fault),
+          (Fails P (CannotSolve limit workers) MAX_BOARD_BYTES read output.bytes)
+          (λ f h. fails_wider P Nothing (CannotSolve limit workers) more read output.bytes MAX_BOARD_BYTES f h) fault),
     ),
     whole outcome_of_run broken_run r outcome is output.IsKept unwritten,
   )
@@ -129,14 +131,16 @@ module _ (board proof : File) (b p : Bytes) (opens : Opens board b.old) (opens_t
     whole outcome_of_check broken_check r outcome is output.IsKept unwritten,
   )
 
-module _ (side : Side) (file : File) (read : Bytes) (opens : Opens file read.old) (input output : Stream)
+module _ (large : Bool) (side : Side) (file : File) (read : Bytes) (opens : Opens file read.old) (input output : Stream)
     (r : Result PlayEnd RunFault) (outcome : Outcome) (is : outcome ≡ outcome_of_run r) where
-  pub opened_play : IfOk r (RanPlay side MAX_BOARD_BYTES read input.bytes output.bytes)
-      → IfErr r (PlayFails side MAX_BOARD_BYTES (input.IsKept × output.IsKept) read input.bytes output.bytes)
-      → Plays side file input output outcome
+  pub opened_play : IfOk r (RanPlay (limit_of large) side MAX_BOARD_BYTES read input.bytes output.bytes)
+      → IfErr r (PlayFails (limit_of large) side MAX_BOARD_BYTES
+      (input.IsKept × output.IsKept) read input.bytes output.bytes)
+      → Plays side large file input output outcome
   opened_play ok fault = inr (
     read,
     opens,
-    ends outcome_of_run r (RanPlay side MAX_BOARD_BYTES read input.bytes output.bytes)
-        (PlayFails side MAX_BOARD_BYTES (input.IsKept × output.IsKept) read input.bytes output.bytes) outcome is ok fault,
+    ends outcome_of_run r (RanPlay (limit_of large) side MAX_BOARD_BYTES read input.bytes output.bytes)
+        (PlayFails (limit_of large) side MAX_BOARD_BYTES (input.IsKept × output.IsKept) read input.bytes output.bytes)
+        outcome is ok fault,
   )

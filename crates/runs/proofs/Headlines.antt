@@ -11,6 +11,7 @@ use Rattle.strategies.specs.Meaning.{Means}
 use Rattle.strategies.proofs.Cited.{is_formed, breaks_no_rule, means_value}
 use Rattle.runs.specs.Headline.{ShowsValue, IsAccepted, Solution}
 use Rattle.runs.specs.SolveRun.{IsSolution}
+use Rattle.runs.proofs.BoardLimits.{few_configurations}
 
 pub accepted : (text : List ℕ) (value : Value) (written : List ℕ) → IsSolution text value written → IsAccepted text value written
 accepted text value written (board, small, solved) =
@@ -20,7 +21,7 @@ accepted text value written (board, small, solved) =
       board = board;
       document = solved.document;
       is_board = small.is_board;
-      is_proof = is_formed board solved.document start small.few is;
+      is_proof = is_formed board solved.document start (few_configurations board small.few) is;
       text_is = small.spelled;
       written_is = solved.text_is;
       rules = breaks_no_rule board solved.document start is;

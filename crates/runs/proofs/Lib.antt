@@ -1,4 +1,5 @@
 pub mod EndLines
+pub mod BoardLimits
 pub mod SolverFaults
 pub mod WrittenWords
 pub mod FailedRuns

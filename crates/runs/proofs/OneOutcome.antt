@@ -15,7 +15,9 @@ use Rattle.solver.specs.Sizes.{HasCount}
 use Rattle.strategies.proofs.Cited.{one_document}
 use Rattle.runs.specs.Report.{Report, AreCounts, IsReport, IsReportOf, report_text_alone, IsReportOfText}
 use Rattle.runs.specs.SolveRun.{IsSolution, IsSolved}
-use Rattle.runs.specs.Texts.{IsSmallBoard, IsWrongBoard}
+use Rattle.runs.specs.Texts.{IsBoardWithin, IsWrongWithin}
+use Rattle.graphs.specs.declared.graph.Numbering.{Numbering}
+use Rattle.graphs.specs.declared.graph.Numbering.TheVariants.{Ordered}
 use Rattle.runs.specs.declared.fault.RunFault.{RunFault}
 use Rattle.runs.specs.declared.fault.RunFault.TheVariants.{Board, TooLarge, Proof, Memory, Worker, Read, Write, Limit}
 
@@ -49,13 +51,18 @@ same_report board first second one other =
 
 module _ (text : List ℕ) where
   -- the text is that of one board at most
-  same_board : (first second : PlainBoard) → IsSmallBoard text first → IsSmallBoard text second → second ≡ first
-  same_board first second one other = one_board second first other.is_board one.is_board (sym other.spelled ∙ one.spelled)
+  same_board : (limit more : Numbering) (first second : PlainBoard) → IsBoardWithin limit text first
+      → IsBoardWithin more text second
+      → second ≡ first
+  same_board limit more first second one other =
+      one_board second first other.is_board one.is_board (sym other.spelled ∙ one.spelled)
 
-  pub one_report : (first second : List ℕ) → IsReportOfText text first → IsReportOfText text second → first ≡ second
-  one_report first second one other =
+  pub one_report : (limit more : Numbering) (first second : List ℕ) → IsReportOfText limit text first
+      → IsReportOfText more text second → first ≡ second
+  one_report limit more first second one other =
       let board : PlainBoard = one.0 in
-      let is : IsReportOf board second = subst (λ (b : PlainBoard). IsReportOf b second) (same_board board other.0 one.1 other.1) other.2 in
+      let is : IsReportOf board second = subst (λ (b : PlainBoard). IsReportOf b second)
+      (same_board limit more board other.0 one.1 other.1) other.2 in
       let same : one.2.report ≡ is.report = same_report board one.2.report is.report one.2.is_report is.is_report in
       one.2.text_is ∙ ap (report_text_alone board) same ∙ sym is.text_is
 
@@ -64,16 +71,19 @@ module _ (text : List ℕ) where
   one_solution value worth first second one other =
       let board : PlainBoard = one.0 in
       let solved : IsSolved board worth second =
-      subst (λ (b : PlainBoard). IsSolved b worth second) (same_board board other.0 one.1 other.1) other.2 in
+      subst (λ (b : PlainBoard). IsSolved b worth second)
+      (same_board Ordered Ordered board other.0 one.1 other.1) other.2 in
       let document : one.2.document ≡ solved.document =
       one_document board one.2.document solved.document one.2.is_document solved.is_document in (
         same_value board board.start value worth one.2.has_value solved.has_value,
         one.2.text_is ∙ ap (proof_text board) document ∙ sym solved.text_is,
       )
 
+module _ (limit : Numbering) (text : List ℕ) where
   -- a fault of a text is one of the board's text, or that the board is too large
-  wrong_is : (fault : RunFault) → IsWrongBoard text fault
-      → ((told : BoardFault) × (fault ≡ Board told) × IsWrongBoard text (Board told)) ⊎ ((fault ≡ TooLarge) × IsWrongBoard text TooLarge)
+  wrong_is : (fault : RunFault) → IsWrongWithin limit text fault
+      → ((told : BoardFault) × (fault ≡ Board told) × IsWrongWithin limit text (Board told)) ⊎
+      ((fault ≡ TooLarge) × IsWrongWithin limit text TooLarge)
   wrong_is (Board told) wrong = inl (told, refl, wrong)
   wrong_is TooLarge wrong = inr (refl, wrong)
   wrong_is Memory wrong = absurd wrong
@@ -83,16 +93,18 @@ module _ (text : List ℕ) where
   wrong_is Write wrong = absurd wrong
   wrong_is Limit wrong = absurd wrong
 
-  faulty_or_large : (told : BoardFault) → IsWrongBoard text (Board told) → IsWrongBoard text TooLarge → ⊥
+  faulty_or_large : (told : BoardFault) → IsWrongWithin limit text (Board told) → IsWrongWithin limit text TooLarge → ⊥
   faulty_or_large told wrong (board, is_board, spelled, many) = not_both text told.line told.kind board is_board spelled wrong.1 wrong.0
 
-  same_told : (first second : BoardFault) → IsWrongBoard text (Board first) → IsWrongBoard text (Board second) → first ≡ second
+  same_told : (first second : BoardFault) → IsWrongWithin limit text (Board first)
+      → IsWrongWithin limit text (Board second) → first ≡ second
   same_told first second wrong also =
       let same = one_fault text first.line second.line first.kind second.kind wrong.1 also.1 wrong.0 also.0 in
       let told : ◌≡◌ {A = BoardFault} (record { line = first.line; kind = first.kind }) second = rw (same.0, same.1) refl in
       told
 
-  pub one_wrong : (fault other : RunFault) → IsWrongBoard text fault → IsWrongBoard text other → fault ≡ other
+  pub one_wrong : (fault other : RunFault) → IsWrongWithin limit text fault → IsWrongWithin limit text other
+      → fault ≡ other
   one_wrong fault other wrong also = elim (wrong_is fault wrong) [
     | inl (told, is, faulty) ↦ elim (wrong_is other also) [
       | inl (too, is_too, faulty_too) ↦ is ∙ ap Board (same_told told too faulty faulty_too) ∙ sym is_too

@@ -8,7 +8,7 @@ use Rattle.clap.specs.declared.error.kind.ErrorKind.{ErrorKind}
 use Rattle.clap.specs.declared.error.kind.ErrorKind.TheVariants as kinds
 use Rattle.std.specs.Str.{bytes_eq}
 use Rattle.std.proofs.lemmas.Slice.Eq.{bytes_eq-Decides}
-use Rattle.clap.specs.Walk.{Row, Text, texts}
+use Rattle.clap.specs.Walk.{Row, Text, one_of, texts}
 use Rattle.clap.specs.Words.{fault_of, subcommand_of}
 use Rattle.board_text.specs.PlainBoard.{PlainBoard, IsBoard}
 use Rattle.board_text.specs.LineForms.{with_line_feed}
@@ -22,7 +22,7 @@ use Rattle.proof_text.specs.ProofText.{proof_text}
 use Rattle.runs.proofs.EndLines.{one_length}
 use Rattle.std.proofs.Common.{take}
 use Rattle.command_line.specs.Commands.{program}
-use Rattle.command_line.specs.Reading.{AsksFor, AsksForVersion, HasNumber, IsReadAs, Shows, side_word}
+use Rattle.command_line.specs.Reading.{AsksFor, AsksForVersion, HasFlag, HasNumber, IsReadAs, Shows, side_word}
 use Rattle.command_line.specs.declared.asked.Job.{Job}
 use Rattle.command_line.specs.declared.asked.Job.TheVariants as jobs
 use Rattle.command_line.specs.declared.asked.JobFault.{JobFault}
@@ -54,7 +54,7 @@ use Rattle.runs.specs.Folders.{CanFail, Closed, File, Holds, Unknown}
 use Rattle.runs.specs.FaultLines.{line_of_fault}
 use Rattle.runs.specs.Headline.{Solution}
 use Rattle.runs.specs.Jobs.{Checks, ChecksJoined, Climbs, Counts, IsDone, Opening, Plays, Solves}
-use Rattle.runs.specs.Jobs.{WritesNested, WritesWhole}
+use Rattle.runs.specs.Jobs.{WritesNested, WritesWhole, limit_of}
 use Rattle.runs.specs.NestedText.{IsNestedText}
 use Rattle.runs.specs.Outcomes.{EndsAs, outcome_of_check, outcome_of_run, status_of}
 use Rattle.runs.specs.Output.{line_of}
@@ -65,7 +65,11 @@ use Rattle.runs.specs.Serving.{IsGreeting, IsRefusedWith, IsWritten}
 use Rattle.runs.specs.Serving.{Serves, ServesWords, is_typed, lacks_input}
 use Rattle.runs.specs.Servings.{AreKnown, HaveOwnText}
 use Rattle.runs.specs.SolveRun.{CannotSolve}
-use Rattle.runs.specs.Texts.{HasNoBoard, HasNoProof, IsSmallBoard, IsWrongBoard, IsWrongProof}
+use Rattle.runs.specs.Texts.{HasNoneWithin, HasNoProof, IsBoardWithin, IsSmallBoard, IsWrongBoard, IsWrongProof}
+use Rattle.runs.specs.Texts.{IsWrongWithin}
+use Rattle.graphs.specs.declared.graph.Numbering.{Numbering}
+use Rattle.graphs.specs.declared.graph.Numbering.TheVariants.{Ordered}
+use Rattle.runs.proofs.BoardLimits.{is_small}
 use Rattle.runs.specs.Verdicts.{BeginsWithBoard, CannotAnswer, IsAnswered, IsChecked, IsVerdict, IsWrongText}
 use Rattle.runs.specs.declared.checking.TheConstants.{MAX_JOINED_BYTES, MAX_PROOF_BYTES}
 use Rattle.runs.specs.declared.reading.TheConstants.{MAX_BOARD_BYTES}
@@ -93,26 +97,28 @@ check_breaks fault = refl
 
 -- ---- the texts of a run
 
-wrong_solving : (workers : ℕ) (text : List ℕ) (fault : RunFault) → CannotSolve workers text fault
-    → (fault ≡ Memory) ⊎ (fault ≡ Worker) ⊎ IsWrongBoard text fault
-wrong_solving workers text Memory h = inl refl
-wrong_solving workers text Worker h = inr (inl refl)
-wrong_solving workers text (Board fault) h = inr (inr h)
-wrong_solving workers text TooLarge h = inr (inr h)
-wrong_solving workers text (Proof fault) h = absurd h
-wrong_solving workers text Read h = absurd h
-wrong_solving workers text Write h = absurd h
-wrong_solving workers text Limit h = absurd h
+wrong_solving : (limit : Numbering) (workers : ℕ) (text : List ℕ) (fault : RunFault)
+    → CannotSolve limit workers text fault
+    → (fault ≡ Memory) ⊎ (fault ≡ Worker) ⊎ IsWrongWithin limit text fault
+wrong_solving limit workers text Memory h = inl refl
+wrong_solving limit workers text Worker h = inr (inl refl)
+wrong_solving limit workers text (Board fault) h = inr (inr h)
+wrong_solving limit workers text TooLarge h = inr (inr h)
+wrong_solving limit workers text (Proof fault) h = absurd h
+wrong_solving limit workers text Read h = absurd h
+wrong_solving limit workers text Write h = absurd h
+wrong_solving limit workers text Limit h = absurd h
 
-wrong_board : (text : List ℕ) (fault : RunFault) → HasNoBoard text fault → (fault ≡ Memory) ⊎ IsWrongBoard text fault
-wrong_board text Memory h = inl refl
-wrong_board text (Board fault) h = inr h
-wrong_board text TooLarge h = inr h
-wrong_board text (Proof fault) h = absurd h
-wrong_board text Worker h = absurd h
-wrong_board text Read h = absurd h
-wrong_board text Write h = absurd h
-wrong_board text Limit h = absurd h
+wrong_board : (limit : Numbering) (text : List ℕ) (fault : RunFault) → HasNoneWithin limit text fault
+    → (fault ≡ Memory) ⊎ IsWrongWithin limit text fault
+wrong_board limit text Memory h = inl refl
+wrong_board limit text (Board fault) h = inr h
+wrong_board limit text TooLarge h = inr h
+wrong_board limit text (Proof fault) h = absurd h
+wrong_board limit text Worker h = absurd h
+wrong_board limit text Read h = absurd h
+wrong_board limit text Write h = absurd h
+wrong_board limit text Limit h = absurd h
 
 wrong_proof : (board : PlainBoard) (text : List ℕ) (fault : RunFault) → HasNoProof board text fault
     → (fault ≡ Memory) ⊎ (fault ≡ Worker) ⊎ IsWrongProof board text fault
@@ -224,22 +230,25 @@ one_pair E one Unknown second outcome other text line is also = absurd is
 one_pair E one (Holds bytes) second outcome other text line is also =
     one_file (E bytes) (one bytes) second outcome other text line is also
 
-module _ {Answer : Type 0} (Says : List ℕ → Answer → List ℕ → Type 0) (workers : ℕ) (output : Stream) (taken : List ℕ)
+module _ {Answer : Type 0} (Says : List ℕ → Answer → List ℕ → Type 0) (limit : Numbering) (workers : ℕ)
+    (output : Stream)
+    (taken : List ℕ)
     (had : Had output taken)
     (outcome : Outcome) (fair : IsFair outcome) (whole : WritesWhole output outcome) where
   abbrev Ended : File → Type 0
-  Ended file = EndsBy output taken (FileEnds (Ends outcome_of_run Says IsWrongBoard MAX_BOARD_BYTES) file) outcome
+  Ended file = EndsBy output taken (FileEnds (Ends outcome_of_run Says (IsWrongWithin limit) MAX_BOARD_BYTES) file)
+      outcome
 
   opened : (file : File) → file ≢ Unknown → (outcome ≡ Broken Read → CanFail file)
       → Opening file output.IsKept (λ read. EndsAs outcome_of_run (Ran Says MAX_BOARD_BYTES read output.bytes)
-      (Fails Says (CannotSolve workers) MAX_BOARD_BYTES read output.bytes)) outcome → Ended file
+      (Fails Says (CannotSolve limit workers) MAX_BOARD_BYTES read output.bytes)) outcome → Ended file
   opened Unknown known unread opens = absurd (known refl)
   opened Closed known unread (inl (can, kept, same)) = ([], stayed output taken had kept, (same, refl))
   opened Closed known unread (inr (read, opens, then)) = absurd opens
   opened (Holds bytes) known unread (inl (can, kept, same)) = absurd can
   opened (Holds bytes) known unread (inr (read, opens, then)) =
-      ends outcome_of_run (run_breaks Answer) Says (CannotSolve workers) IsWrongBoard
-      (wrong_solving workers) MAX_BOARD_BYTES read bytes opens output
+      ends outcome_of_run (run_breaks Answer) Says (CannotSolve limit workers) (IsWrongWithin limit)
+      (wrong_solving limit workers) MAX_BOARD_BYTES read bytes opens output
       taken had outcome (plain_of outcome fair unread) whole then
 
 -- ---- a check of two files
@@ -259,10 +268,12 @@ one_check_end b p outcome other text line (inl one) (inr (inl two)) = absurd (om
 one_check_end b p outcome other text line (inl one) (inr (inr two)) = absurd (omega (arith, one.0, two.0))
 one_check_end b p outcome other text line (inr (inl one)) (inl two) = absurd (omega (arith, one.0, two.0))
 one_check_end b p outcome other text line (inr (inl one)) (inr (inl two)) =
-    (one.3 ∙ ap Broken (one_wrong b one.1 two.1 one.2 two.2) ∙ sym two.3, one.4 ∙ sym two.4)
-one_check_end b p outcome other text line (inr (inl one)) (inr (inr two)) = absurd (not_wrong b two.1 two.2 one.1 one.2)
+    (one.3 ∙ ap Broken (one_wrong Ordered b one.1 two.1 one.2 two.2) ∙ sym two.3, one.4 ∙ sym two.4)
+one_check_end b p outcome other text line (inr (inl one)) (inr (inr two)) =
+    absurd (not_wrong Ordered b two.1 two.2 one.1 one.2)
 one_check_end b p outcome other text line (inr (inr one)) (inl two) = absurd (omega (arith, one.0, two.0))
-one_check_end b p outcome other text line (inr (inr one)) (inr (inl two)) = absurd (not_wrong b one.1 one.2 two.1 two.2)
+one_check_end b p outcome other text line (inr (inr one)) (inr (inl two)) =
+    absurd (not_wrong Ordered b one.1 one.2 two.1 two.2)
 one_check_end b p outcome other text line (inr (inr one)) (inr (inr (inside, board, small, two))) =
     let same : one.1 ≡ board = one_board one.1 board one.2.is_board small.is_board
     (sym one.2.spelled ∙ small.spelled) in
@@ -283,7 +294,7 @@ module _ (output : Stream) (taken : List ℕ) (had : Had output taken) (outcome 
     abbrev Checked : Type 0
     Checked = EndsBy output taken (CheckEnds board_bytes proof_bytes) outcome
 
-    with_board : (board : PlainBoard) → GaveBoard MAX_BOARD_BYTES b board
+    with_board : (board : PlainBoard) → GaveBoard Ordered MAX_BOARD_BYTES b board
         → EndsAs outcome_of_check (Ran (IsChecked board) MAX_PROOF_BYTES p output.bytes)
         (Fails (IsChecked board) (HasNoProof board) MAX_PROOF_BYTES p output.bytes) outcome → Checked
     with_board board (text, gave, small) run =
@@ -302,11 +313,11 @@ module _ (output : Stream) (taken : List ℕ) (had : Had output taken) (outcome 
           )),
         )
 
-    without_board : (fault : RunFault) → outcome ≡ Broken fault → GaveNoBoard MAX_BOARD_BYTES b fault → Checked
+    without_board : (fault : RunFault) → outcome ≡ Broken fault → GaveNoBoard Ordered MAX_BOARD_BYTES b fault → Checked
     without_board fault same (inl unread) =
         let over = unread_is MAX_BOARD_BYTES b board_bytes fault outcome old (plain_of outcome fair read) same unread in
         ([], kept_by Limit (λ e. cc) over.1, inl (over.0, over.1, refl))
-    without_board fault same (inr (text, gave, none)) = elim (wrong_board text fault none) [
+    without_board fault same (inr (text, gave, none)) = elim (wrong_board Ordered text fault none) [
       | inl memory ↦ absurd (fair.memory (same ∙ ap Broken memory))
       | inr bad ↦
           let all : text ≡ board_bytes = gave_all b board_bytes text old gave.0 in (
@@ -390,7 +401,7 @@ module _ (text : List ℕ) where
 
   small_front : (verdict : Verdict) (line : List ℕ) (is : IsAnswered text verdict line) → IsSmallBoard
       (board_text is.board) is.board
-  small_front verdict line is = record { is_board = is.is_board; few = is.few; spelled = refl }
+  small_front verdict line is = record { is_board = is.is_board; few = is_small is.board is.few; spelled = refl }
 
   one_joined : (verdict other : Verdict) (line more : List ℕ) → IsAnswered text verdict line
       → IsAnswered text other more
@@ -603,48 +614,53 @@ module _ (game : Game) (input output : Stream) (bytes taken : List ℕ) (old : i
       go (Err fault) (why, breaks, told) same = play_broken why (same ∙ ap Broken told) breaks
 
 -- the outcome and the transcript for the texts of a board and of a play
-abbrev BoardPlayEnds : Side → List ℕ → List ℕ → Outcome → List ℕ → Type 0
-BoardPlayEnds side lines board_bytes outcome text =
+abbrev BoardPlayEnds : Numbering → Side → List ℕ → List ℕ → Outcome → List ℕ → Type 0
+BoardPlayEnds limit side lines board_bytes outcome text =
     ((MAX_BOARD_BYTES < length board_bytes) × (outcome ≡ Broken Limit) × (text ≡ []))
-    ⊎ ((length board_bytes ≤ MAX_BOARD_BYTES) × (fault : RunFault) × IsWrongBoard board_bytes fault ×
+    ⊎ ((length board_bytes ≤ MAX_BOARD_BYTES) × (fault : RunFault) × IsWrongWithin limit board_bytes fault ×
     (outcome ≡ Broken fault) × (text ≡ []))
-    ⊎ ((length board_bytes ≤ MAX_BOARD_BYTES) × (board : PlainBoard) × IsSmallBoard board_bytes board
+    ⊎ ((length board_bytes ≤ MAX_BOARD_BYTES) × (board : PlainBoard) × IsBoardWithin limit board_bytes board
     × PlayEnds (game_of side board) lines outcome text)
 
 is_game : (side : Side) (board : PlainBoard) → IsBoard board → IsGame (game_of side board)
 is_game Labeller board is = is
 is_game Adversary board is = is
 
-one_board_play : (side : Side) (lines b : List ℕ) → IsOne (BoardPlayEnds side lines b)
-one_board_play side lines b outcome other text line (inl one) (inl two) = (one.1 ∙ sym two.1, one.2 ∙ sym two.2)
-one_board_play side lines b outcome other text line (inl one) (inr (inl two)) = absurd (omega (arith, one.0, two.0))
-one_board_play side lines b outcome other text line (inl one) (inr (inr two)) = absurd (omega (arith, one.0, two.0))
-one_board_play side lines b outcome other text line (inr (inl one)) (inl two) = absurd (omega (arith, one.0, two.0))
-one_board_play side lines b outcome other text line (inr (inl one)) (inr (inl two)) =
-    (one.3 ∙ ap Broken (one_wrong b one.1 two.1 one.2 two.2) ∙ sym two.3, one.4 ∙ sym two.4)
-one_board_play side lines b outcome other text line (inr (inl one)) (inr (inr two)) =
-    absurd (not_wrong b two.1 two.2 one.1 one.2)
-one_board_play side lines b outcome other text line (inr (inr one)) (inl two) = absurd (omega (arith, one.0, two.0))
-one_board_play side lines b outcome other text line (inr (inr one)) (inr (inl two)) =
-    absurd (not_wrong b one.1 one.2 two.1 two.2)
-one_board_play side lines b outcome other text line (inr (inr (inside, board, small, one)))
+one_board_play : (limit : Numbering) (side : Side) (lines b : List ℕ) → IsOne (BoardPlayEnds limit side lines b)
+one_board_play limit side lines b outcome other text line (inl one) (inl two) = (one.1 ∙ sym two.1, one.2 ∙ sym two.2)
+one_board_play limit side lines b outcome other text line (inl one) (inr (inl two)) =
+    absurd (omega (arith, one.0, two.0))
+one_board_play limit side lines b outcome other text line (inl one) (inr (inr two)) =
+    absurd (omega (arith, one.0, two.0))
+one_board_play limit side lines b outcome other text line (inr (inl one)) (inl two) =
+    absurd (omega (arith, one.0, two.0))
+one_board_play limit side lines b outcome other text line (inr (inl one)) (inr (inl two)) =
+    (one.3 ∙ ap Broken (one_wrong limit b one.1 two.1 one.2 two.2) ∙ sym two.3, one.4 ∙ sym two.4)
+one_board_play limit side lines b outcome other text line (inr (inl one)) (inr (inr two)) =
+    absurd (not_wrong limit b two.1 two.2 one.1 one.2)
+one_board_play limit side lines b outcome other text line (inr (inr one)) (inl two) =
+    absurd (omega (arith, one.0, two.0))
+one_board_play limit side lines b outcome other text line (inr (inr one)) (inr (inl two)) =
+    absurd (not_wrong limit b one.1 one.2 two.1 two.2)
+one_board_play limit side lines b outcome other text line (inr (inr (inside, board, small, one)))
     (inr (inr (inside_too, second, small_too, two))) =
     let same : board ≡ second = one_board board second small.is_board small_too.is_board
     (sym small.spelled ∙ small_too.spelled) in
     one_play (game_of side second) (is_game side second small_too.is_board) lines outcome other text line
     (subst (λ (d : PlainBoard). PlayEnds (game_of side d) lines outcome text) same one) two
 
-module _ (side : Side) (input output : Stream) (lines taken : List ℕ) (old : input.bytes.old ≡ Some lines)
+module _ (large : Bool) (side : Side) (input output : Stream) (lines taken : List ℕ)
+    (old : input.bytes.old ≡ Some lines)
     (kept : input.IsKept → input.bytes.new ≡ input.bytes.old)
     (had : Had output taken) (outcome : Outcome) (fair : IsFair outcome) where
   abbrev BoardPlayed : File → Type 0
-  BoardPlayed file = EndsBy output taken (FileEnds (BoardPlayEnds side lines) file) outcome
+  BoardPlayed file = EndsBy output taken (FileEnds (BoardPlayEnds (limit_of large) side lines) file) outcome
 
   module _ (read : Bytes) (bytes : List ℕ) (board_old : read.old ≡ Some bytes) (plain : IsPlain outcome) where
     abbrev OnBoard : Type 0
-    OnBoard = EndsBy output taken (BoardPlayEnds side lines bytes) outcome
+    OnBoard = EndsBy output taken (BoardPlayEnds (limit_of large) side lines bytes) outcome
 
-    play_on : (board : PlainBoard) → GaveBoard MAX_BOARD_BYTES read board
+    play_on : (board : PlainBoard) → GaveBoard (limit_of large) MAX_BOARD_BYTES read board
         → EndsAs outcome_of_run (IsOver (game_of side board) input.bytes output.bytes)
         (IsBrokenOff (game_of side board) input.bytes output.bytes) outcome
         → OnBoard
@@ -657,17 +673,18 @@ module _ (side : Side) (input output : Stream) (lines taken : List ℕ) (old : i
             subst (λ t. length t ≤ MAX_BOARD_BYTES) all gave.1,
             board,
             subst
-                (λ t. IsSmallBoard t board) all small,
+                (λ t. IsBoardWithin (limit_of large) t board) all small,
             end.2,
           )),
         )
 
-    no_play : (fault : RunFault) → outcome ≡ Broken fault → GaveNoBoard MAX_BOARD_BYTES read fault → output.IsKept
+    no_play : (fault : RunFault) → outcome ≡ Broken fault → GaveNoBoard (limit_of large) MAX_BOARD_BYTES read fault
+        → output.IsKept
         → OnBoard
     no_play fault same (inl unread) stays =
         let over = unread_is MAX_BOARD_BYTES read bytes fault outcome board_old plain same unread in
         ([], stayed output taken had stays, inl (over.0, over.1, refl))
-    no_play fault same (inr (text, gave, none)) stays = elim (wrong_board text fault none) [
+    no_play fault same (inr (text, gave, none)) stays = elim (wrong_board (limit_of large) text fault none) [
       | inl memory ↦ absurd (fair.memory (same ∙ ap Broken memory))
       | inr bad ↦
           let all : text ≡ bytes = gave_all read bytes text board_old gave.0 in (
@@ -677,20 +694,22 @@ module _ (side : Side) (input output : Stream) (lines taken : List ℕ) (old : i
               subst (λ t. length t ≤ MAX_BOARD_BYTES) all gave.1,
               fault,
               subst
-                  (λ t. IsWrongBoard t fault) all bad,
+                  (λ t. IsWrongWithin (limit_of large) t fault) all bad,
               same,
               refl,
             )),
           )
     ]
 
-    played : EndsAs outcome_of_run (RanPlay side MAX_BOARD_BYTES read input.bytes output.bytes)
-        (PlayFails side MAX_BOARD_BYTES (input.IsKept × output.IsKept) read input.bytes output.bytes) outcome → OnBoard
+    played : EndsAs outcome_of_run (RanPlay (limit_of large) side MAX_BOARD_BYTES read input.bytes output.bytes)
+        (PlayFails (limit_of large) side MAX_BOARD_BYTES (input.IsKept × output.IsKept) read input.bytes output.bytes)
+        outcome → OnBoard
     played (result, match, same) = go result match same
       where
         go : (result : Result PlayEnd RunFault) → MatchResult result
-            (RanPlay side MAX_BOARD_BYTES read input.bytes output.bytes)
-            (PlayFails side MAX_BOARD_BYTES (input.IsKept × output.IsKept) read input.bytes output.bytes)
+            (RanPlay (limit_of large) side MAX_BOARD_BYTES read input.bytes output.bytes)
+            (PlayFails (limit_of large) side MAX_BOARD_BYTES
+            (input.IsKept × output.IsKept) read input.bytes output.bytes)
             → outcome ≡ outcome_of_run result → OnBoard
         go (Ok end) (board, gave, over) same = play_on board gave (Ok end, over, same)
         go (Err fault) (inl (none, stays)) same = no_play fault same none stays.1
@@ -698,7 +717,7 @@ module _ (side : Side) (input output : Stream) (lines taken : List ℕ) (old : i
 
   opened_play : (file : File) → file ≢ Unknown → (outcome ≡ Broken Read → CanFail file ⊎ input.HasFailed) →
       (input.HasFailed → ⊥)
-      → Plays side file input output outcome → BoardPlayed file
+      → Plays side large file input output outcome → BoardPlayed file
   opened_play Unknown known unread sound opens = absurd (known refl)
   opened_play Closed known unread sound (inl (can, stays, same)) = ([], stayed output taken had stays.1, (same, refl))
   opened_play Closed known unread sound (inr (read, opens, then)) = absurd opens
@@ -730,10 +749,10 @@ solving_one text answer other line more is also = (
   (one_solution text answer other line more is.solution also.solution).1,
 )
 
-reporting_one : (text : List ℕ) → (answer other : Unit {0}) (line more : List ℕ) → Reports text answer line
-    → Reports text other more
+reporting_one : (limit : Numbering) (text : List ℕ) → (answer other : Unit {0}) (line more : List ℕ)
+    → Reports limit text answer line → Reports limit text other more
     → (outcome_of_run (Ok answer) ≡ outcome_of_run (Ok other)) × (line ≡ more)
-reporting_one text answer other line more is also = (refl, one_report text line more is also)
+reporting_one limit text answer other line more is also = (refl, one_report text limit limit line more is also)
 
 module _ (at : List ℕ → File) (known : AreKnown at) (input output other_input other_output : Stream) (taken : List ℕ)
     (lines : List ℕ) (had : Had output taken) (had_too : Had other_output taken) (had_lines : Had input lines)
@@ -746,34 +765,38 @@ module _ (at : List ℕ → File) (known : AreKnown at) (input output other_inpu
   two_solved workers more path second same unread unread_too is also =
       alike (FileEnds (Ends outcome_of_run Solution IsWrongBoard MAX_BOARD_BYTES) (at second))
       (one_file (Ends outcome_of_run Solution IsWrongBoard MAX_BOARD_BYTES)
-      (λ bytes. one_end outcome_of_run Solution IsWrongBoard MAX_BOARD_BYTES bytes (solving_one bytes) (one_wrong bytes)
-      (λ answer line fault says wrong. not_wrong bytes says.solution.0 says.solution.1 fault wrong)) (at second))
+      (λ bytes. one_end outcome_of_run Solution IsWrongBoard MAX_BOARD_BYTES bytes (solving_one bytes)
+      (one_wrong Ordered bytes)
+      (λ answer line fault says wrong. not_wrong Ordered bytes says.solution.0 says.solution.1 fault wrong))
+      (at second))
       outcome other output other_output taken
-      (opened Solution workers output taken had outcome fair is.1 (at second) (known second)
+      (opened Solution Ordered workers output taken had outcome fair is.1 (at second) (known second)
       (λ e. subst (λ p. CanFail (at p)) same (unread e))
       (subst (λ p. Opening (at p) output.IsKept (λ read. EndsAs outcome_of_run
       (Ran Solution MAX_BOARD_BYTES read output.bytes)
-      (Fails Solution (CannotSolve workers) MAX_BOARD_BYTES read output.bytes)) outcome) same is.0))
-      (opened Solution more other_output taken had_too other fair_too also.1 (at second)
+      (Fails Solution (CannotSolve Ordered workers) MAX_BOARD_BYTES read output.bytes)) outcome) same is.0))
+      (opened Solution Ordered more other_output taken had_too other fair_too also.1 (at second)
       (known second) unread_too also.0)
 
-  two_counted : (workers more : ℕ) (path second : List ℕ) → path ≡ second → (outcome ≡ Broken Read → CanFail (at path))
-      → (other ≡ Broken Read → CanFail (at second))
-      → Counts workers (at path) output outcome → Counts more (at second) other_output other
+  two_counted : (workers more : ℕ) (large : Bool) (path second : List ℕ) → path ≡ second
+      → (outcome ≡ Broken Read → CanFail (at path)) → (other ≡ Broken Read → CanFail (at second))
+      → Counts workers large (at path) output outcome → Counts more large (at second) other_output other
       → AreAlike outcome other output other_output
-  two_counted workers more path second same unread unread_too is also =
-      alike (FileEnds (Ends outcome_of_run Reports IsWrongBoard MAX_BOARD_BYTES) (at second))
-      (one_file (Ends outcome_of_run Reports IsWrongBoard MAX_BOARD_BYTES)
-      (λ bytes. one_end outcome_of_run Reports IsWrongBoard MAX_BOARD_BYTES bytes (reporting_one bytes)
-      (one_wrong bytes)
-      (λ answer line fault says wrong. not_wrong bytes says.0 says.1 fault wrong)) (at second))
+  two_counted workers more large path second same unread unread_too is also =
+      let limit = limit_of large in
+      alike (FileEnds (Ends outcome_of_run (Reports limit) (IsWrongWithin limit) MAX_BOARD_BYTES) (at second))
+      (one_file (Ends outcome_of_run (Reports limit) (IsWrongWithin limit) MAX_BOARD_BYTES)
+      (λ bytes. one_end outcome_of_run (Reports limit) (IsWrongWithin limit) MAX_BOARD_BYTES bytes
+      (reporting_one limit bytes)
+      (one_wrong limit bytes)
+      (λ answer line fault says wrong. not_wrong limit bytes says.0 says.1 fault wrong)) (at second))
       outcome other output other_output taken
-      (opened Reports workers output taken had outcome fair is.1 (at second) (known second)
+      (opened (Reports limit) limit workers output taken had outcome fair is.1 (at second) (known second)
       (λ e. subst (λ p. CanFail (at p)) same (unread e))
       (subst (λ p. Opening (at p) output.IsKept (λ read. EndsAs outcome_of_run
-      (Ran Reports MAX_BOARD_BYTES read output.bytes)
-      (Fails Reports (CannotSolve workers) MAX_BOARD_BYTES read output.bytes)) outcome) same is.0))
-      (opened Reports more other_output taken had_too other fair_too also.1 (at second)
+      (Ran (Reports limit) MAX_BOARD_BYTES read output.bytes)
+      (Fails (Reports limit) (CannotSolve limit workers) MAX_BOARD_BYTES read output.bytes)) outcome) same is.0))
+      (opened (Reports limit) limit more other_output taken had_too other fair_too also.1 (at second)
       (known second) unread_too also.0)
 
   two_checked : (path second document paper : List ℕ) → path ≡ second → document ≡ paper
@@ -800,20 +823,21 @@ module _ (at : List ℕ → File) (known : AreKnown at) (input output other_inpu
       (nested levels pebbles output taken outcome had fair is)))
       (nested more others other_output taken other had_too fair_too also)
 
-  two_played : (side next : Side) (path second : List ℕ) → side ≡ next → path ≡ second
+  two_played : (large : Bool) (side next : Side) (path second : List ℕ) → side ≡ next → path ≡ second
       → (outcome ≡ Broken Read → CanFail (at path) ⊎ input.HasFailed) →
       (other ≡ Broken Read → CanFail (at second) ⊎ other_input.HasFailed)
-      → Plays side (at path) input output outcome → Plays next (at second) other_input other_output other
+      → Plays side large (at path) input output outcome → Plays next large (at second) other_input other_output other
       → AreAlike outcome other output other_output
-  two_played side next path second same same_too unread unread_too is also =
-      alike (FileEnds (BoardPlayEnds next lines) (at second))
-      (one_file (BoardPlayEnds next lines) (one_board_play next lines) (at second))
+  two_played large side next path second same same_too unread unread_too is also =
+      alike (FileEnds (BoardPlayEnds (limit_of large) next lines) (at second))
+      (one_file (BoardPlayEnds (limit_of large) next lines) (one_board_play (limit_of large) next lines) (at second))
       outcome other output other_output taken
-      (subst (λ s. EndsBy output taken (FileEnds (BoardPlayEnds s lines) (at second)) outcome) same
-      (subst (λ p. EndsBy output taken (FileEnds (BoardPlayEnds side lines) (at p)) outcome) same_too
-      (opened_play side input output lines taken had_lines.old had_lines.kept had outcome fair (at path)
+      (subst (λ s. EndsBy output taken (FileEnds (BoardPlayEnds (limit_of large) s lines) (at second)) outcome) same
+      (subst (λ p. EndsBy output taken (FileEnds (BoardPlayEnds (limit_of large) side lines) (at p)) outcome) same_too
+      (opened_play large side input output lines taken had_lines.old had_lines.kept had outcome fair (at path)
       (known path) unread had_lines.sound is)))
-      (opened_play next other_input other_output lines taken had_lines_too.old had_lines_too.kept had_too other fair_too
+      (opened_play large next other_input other_output lines taken had_lines_too.old had_lines_too.kept had_too other
+      fair_too
       (at second) (known second)
       unread_too had_lines_too.sound also)
 
@@ -859,6 +883,17 @@ module _ (at : List ℕ → File) (known : AreKnown at) (input output other_inpu
   same_path : (o : Option Text) (path second : Text) → o ≡ Some path → o ≡ Some second → path ≡ second
   same_path o path second is also = let same = sym is ∙ also in cc
 
+  same_flag : (rows : List Row) (id : Text) (is_given given : Bool) → HasFlag rows id is_given → HasFlag rows id given
+      → is_given ≡ given
+  same_flag rows id true true is also = refl
+  same_flag rows id false false is also = refl
+  same_flag rows id true false is also =
+      absurd (names_differ (codes "true") (codes "false") refl
+      (same_path (one_of id rows) (codes "true") (codes "false") is also))
+  same_flag rows id false true is also =
+      absurd (names_differ (codes "false") (codes "true") refl
+      (same_path (one_of id rows) (codes "false") (codes "true") is also))
+
   two_done : (name : Text) (rows : List Row) (job more : Job) → AsksFor name rows job → AsksFor name rows more
       → IsDone at input output job outcome → IsDone at other_input other_output more other
       → AreAlike outcome other output other_output
@@ -872,9 +907,9 @@ module _ (at : List ℕ → File) (known : AreKnown at) (input output other_inpu
       absurd (names_differ (codes "check") (codes "nested") refl (sym asks.0 ∙ asks_too.0))
   two_done name rows (jobs.Check b p) (jobs.Solve ow ob) asks asks_too is also =
       absurd (names_differ (codes "check") (codes "solve") refl (sym asks.0 ∙ asks_too.0))
-  two_done name rows (jobs.Check b p) (jobs.Report ow ob) asks asks_too is also =
+  two_done name rows (jobs.Check b p) (jobs.Report ow og ob) asks asks_too is also =
       absurd (names_differ (codes "check") (codes "report") refl (sym asks.0 ∙ asks_too.0))
-  two_done name rows (jobs.Check b p) (jobs.Play os ob) asks asks_too is also =
+  two_done name rows (jobs.Check b p) (jobs.Play os og ob) asks asks_too is also =
       absurd (names_differ (codes "check") (codes "play") refl (sym asks.0 ∙ asks_too.0))
   two_done name rows (jobs.Check b p) (jobs.Climb ol) asks asks_too is also =
       absurd (names_differ (codes "check") (codes "climb") refl (sym asks.0 ∙ asks_too.0))
@@ -887,9 +922,9 @@ module _ (at : List ℕ → File) (known : AreKnown at) (input output other_inpu
       is.does.0 also.does.0
   two_done name rows (jobs.Nested l q) (jobs.Solve ow ob) asks asks_too is also =
       absurd (names_differ (codes "nested") (codes "solve") refl (sym asks.0 ∙ asks_too.0))
-  two_done name rows (jobs.Nested l q) (jobs.Report ow ob) asks asks_too is also =
+  two_done name rows (jobs.Nested l q) (jobs.Report ow og ob) asks asks_too is also =
       absurd (names_differ (codes "nested") (codes "report") refl (sym asks.0 ∙ asks_too.0))
-  two_done name rows (jobs.Nested l q) (jobs.Play os ob) asks asks_too is also =
+  two_done name rows (jobs.Nested l q) (jobs.Play os og ob) asks asks_too is also =
       absurd (names_differ (codes "nested") (codes "play") refl (sym asks.0 ∙ asks_too.0))
   two_done name rows (jobs.Nested l q) (jobs.Climb ol) asks asks_too is also =
       absurd (names_differ (codes "nested") (codes "climb") refl (sym asks.0 ∙ asks_too.0))
@@ -901,39 +936,44 @@ module _ (at : List ℕ → File) (known : AreKnown at) (input output other_inpu
   two_done name rows (jobs.Solve w b) (jobs.Solve ow ob) asks asks_too is also =
       two_solved w ow b.now ob.now
       (same_path _ b.now ob.now asks.2 asks_too.2) is.unread also.unread is.does.0 also.does.0
-  two_done name rows (jobs.Solve w b) (jobs.Report ow ob) asks asks_too is also =
+  two_done name rows (jobs.Solve w b) (jobs.Report ow og ob) asks asks_too is also =
       absurd (names_differ (codes "solve") (codes "report") refl (sym asks.0 ∙ asks_too.0))
-  two_done name rows (jobs.Solve w b) (jobs.Play os ob) asks asks_too is also =
+  two_done name rows (jobs.Solve w b) (jobs.Play os og ob) asks asks_too is also =
       absurd (names_differ (codes "solve") (codes "play") refl (sym asks.0 ∙ asks_too.0))
   two_done name rows (jobs.Solve w b) (jobs.Climb ol) asks asks_too is also =
       absurd (names_differ (codes "solve") (codes "climb") refl (sym asks.0 ∙ asks_too.0))
-  two_done name rows (jobs.Report w b) jobs.Joined asks asks_too is also = absurd asks_too
-  two_done name rows (jobs.Report w b) (jobs.Check ob op) asks asks_too is also =
+  two_done name rows (jobs.Report w g b) jobs.Joined asks asks_too is also = absurd asks_too
+  two_done name rows (jobs.Report w g b) (jobs.Check ob op) asks asks_too is also =
       absurd (names_differ (codes "report") (codes "check") refl (sym asks.0 ∙ asks_too.0))
-  two_done name rows (jobs.Report w b) (jobs.Nested ol oq) asks asks_too is also =
+  two_done name rows (jobs.Report w g b) (jobs.Nested ol oq) asks asks_too is also =
       absurd (names_differ (codes "report") (codes "nested") refl (sym asks.0 ∙ asks_too.0))
-  two_done name rows (jobs.Report w b) (jobs.Solve ow ob) asks asks_too is also =
+  two_done name rows (jobs.Report w g b) (jobs.Solve ow ob) asks asks_too is also =
       absurd (names_differ (codes "report") (codes "solve") refl (sym asks.0 ∙ asks_too.0))
-  two_done name rows (jobs.Report w b) (jobs.Report ow ob) asks asks_too is also =
-      two_counted w ow b.now ob.now
-      (same_path _ b.now ob.now asks.2 asks_too.2) is.unread also.unread is.does.0 also.does.0
-  two_done name rows (jobs.Report w b) (jobs.Play os ob) asks asks_too is also =
+  two_done name rows (jobs.Report w g b) (jobs.Report ow og ob) asks asks_too is also =
+      two_counted w ow og b.now ob.now (same_path _ b.now ob.now asks.3 asks_too.3) is.unread also.unread
+      (subst (λ l. Counts w l (at b.now) output outcome)
+      (same_flag rows (codes "large") g og asks.2 asks_too.2) is.does.0)
+      also.does.0
+  two_done name rows (jobs.Report w g b) (jobs.Play os og ob) asks asks_too is also =
       absurd (names_differ (codes "report") (codes "play") refl (sym asks.0 ∙ asks_too.0))
-  two_done name rows (jobs.Report w b) (jobs.Climb ol) asks asks_too is also =
+  two_done name rows (jobs.Report w g b) (jobs.Climb ol) asks asks_too is also =
       absurd (names_differ (codes "report") (codes "climb") refl (sym asks.0 ∙ asks_too.0))
-  two_done name rows (jobs.Play s b) jobs.Joined asks asks_too is also = absurd asks_too
-  two_done name rows (jobs.Play s b) (jobs.Check ob op) asks asks_too is also =
+  two_done name rows (jobs.Play s g b) jobs.Joined asks asks_too is also = absurd asks_too
+  two_done name rows (jobs.Play s g b) (jobs.Check ob op) asks asks_too is also =
       absurd (names_differ (codes "play") (codes "check") refl (sym asks.0 ∙ asks_too.0))
-  two_done name rows (jobs.Play s b) (jobs.Nested ol oq) asks asks_too is also =
+  two_done name rows (jobs.Play s g b) (jobs.Nested ol oq) asks asks_too is also =
       absurd (names_differ (codes "play") (codes "nested") refl (sym asks.0 ∙ asks_too.0))
-  two_done name rows (jobs.Play s b) (jobs.Solve ow ob) asks asks_too is also =
+  two_done name rows (jobs.Play s g b) (jobs.Solve ow ob) asks asks_too is also =
       absurd (names_differ (codes "play") (codes "solve") refl (sym asks.0 ∙ asks_too.0))
-  two_done name rows (jobs.Play s b) (jobs.Report ow ob) asks asks_too is also =
+  two_done name rows (jobs.Play s g b) (jobs.Report ow og ob) asks asks_too is also =
       absurd (names_differ (codes "play") (codes "report") refl (sym asks.0 ∙ asks_too.0))
-  two_done name rows (jobs.Play s b) (jobs.Play os ob) asks asks_too is also =
-      two_played s os b.now ob.now (same_side s os (same_path _ (side_word s) (side_word os) asks.1 asks_too.1))
-      (same_path _ b.now ob.now asks.2 asks_too.2) is.unread also.unread is.does also.does
-  two_done name rows (jobs.Play s b) (jobs.Climb ol) asks asks_too is also =
+  two_done name rows (jobs.Play s g b) (jobs.Play os og ob) asks asks_too is also =
+      two_played og s os b.now ob.now (same_side s os (same_path _ (side_word s) (side_word os) asks.1 asks_too.1))
+      (same_path _ b.now ob.now asks.3 asks_too.3) is.unread also.unread
+      (subst (λ l. Plays s l (at b.now) input output outcome)
+      (same_flag rows (codes "large") g og asks.2 asks_too.2) is.does)
+      also.does
+  two_done name rows (jobs.Play s g b) (jobs.Climb ol) asks asks_too is also =
       absurd (names_differ (codes "play") (codes "climb") refl (sym asks.0 ∙ asks_too.0))
   two_done name rows (jobs.Climb l) jobs.Joined asks asks_too is also = absurd asks_too
   two_done name rows (jobs.Climb l) (jobs.Check ob op) asks asks_too is also =
@@ -942,9 +982,9 @@ module _ (at : List ℕ → File) (known : AreKnown at) (input output other_inpu
       absurd (names_differ (codes "climb") (codes "nested") refl (sym asks.0 ∙ asks_too.0))
   two_done name rows (jobs.Climb l) (jobs.Solve ow ob) asks asks_too is also =
       absurd (names_differ (codes "climb") (codes "solve") refl (sym asks.0 ∙ asks_too.0))
-  two_done name rows (jobs.Climb l) (jobs.Report ow ob) asks asks_too is also =
+  two_done name rows (jobs.Climb l) (jobs.Report ow og ob) asks asks_too is also =
       absurd (names_differ (codes "climb") (codes "report") refl (sym asks.0 ∙ asks_too.0))
-  two_done name rows (jobs.Climb l) (jobs.Play os ob) asks asks_too is also =
+  two_done name rows (jobs.Climb l) (jobs.Play os og ob) asks asks_too is also =
       absurd (names_differ (codes "climb") (codes "play") refl (sym asks.0 ∙ asks_too.0))
   two_done name rows (jobs.Climb l) (jobs.Climb ol) asks asks_too is also =
       two_climbed l ol (same_number rows (codes "levels") _ l ol asks.1 asks_too.1)
@@ -1064,8 +1104,8 @@ typed_by_name name rows jobs.Joined asks = absurd asks
 typed_by_name name rows (jobs.Check b p) asks = rw asks.0 refl
 typed_by_name name rows (jobs.Nested l p) asks = rw asks.0 refl
 typed_by_name name rows (jobs.Solve w b) asks = rw asks.0 refl
-typed_by_name name rows (jobs.Report w b) asks = rw asks.0 refl
-typed_by_name name rows (jobs.Play s b) asks = rw asks.0 refl
+typed_by_name name rows (jobs.Report w g b) asks = rw asks.0 refl
+typed_by_name name rows (jobs.Play s g b) asks = rw asks.0 refl
 typed_by_name name rows (jobs.Climb l) asks = rw asks.0 refl
 
 typed_as_read : (found : Option (Text × List Row)) (job more : Job) → IsReadAs found job → IsReadAs found more

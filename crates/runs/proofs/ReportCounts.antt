@@ -1,6 +1,5 @@
 -- The counts of a report, value by value.
 use Rattle.std.proofs.Common.{◌≡◌, ℕ, suc, ◌+◌, ◌<◌, ◌≤◌, inl, inr, List, [], ◌∷◌, ◌++◌, length, slice_index, Some, None, sym, ap, ◌∙◌, subst, arith}
-use Rattle.std.proofs.Common.{Fits, w32}
 use Rattle.std.proofs.lemmas.Bool.{cases_lt}
 use Rattle.std.proofs.lemmas.List.{length-append, get_or_append_left, get_or_push, append_assoc, append-nil}
 use Rattle.board_text.specs.PlainBoard.{PlainBoard}
@@ -8,9 +7,6 @@ use Rattle.positions.specs.Value.{HasValue}
 use Rattle.positions.specs.declared.value.Value.{Value}
 use Rattle.positions.specs.declared.value.Value.TheVariants.{Finite, Forever}
 use Rattle.positions.specs.Laws.{Occurs}
-use Rattle.positions.specs.Ranks.{configurations}
-use Rattle.positions.specs.declared.space.TheConstants.{MAX_CONFIGURATIONS}
-use Rattle.round_workers.proofs.Cited.{value_few}
 use Rattle.solver.specs.Sizes.{HasCount, IsGreatest}
 use Rattle.runs.specs.Report.{AreCounts, IsCountOfValues, IsReportOf, head_lines, start_value_line, count_line, count_lines, end_lines}
 
@@ -65,9 +61,6 @@ values_to board greatest is value = (
 
 pub no_values : (board : PlainBoard) → IsGreatest (Occurs board) None → IsCountOfValues board 0
 no_values board none value = (λ inside. absurd (omega arith), λ above. absurd (none above.0 above.2))
-
-pub value_fits : (board : PlainBoard) (greatest : ℕ) → IsGreatest (Occurs board) (Some greatest) → configurations board ≤ MAX_CONFIGURATIONS → Fits w32 (greatest + 1)
-value_fits board greatest is few = let low = value_few board is.0.0 greatest is.0.1 is.0.2 in omega (arith, low, few)
 
 -- the parts of a report, one after the other
 pub whole_report : (board : PlainBoard) (start : Value) (counts : List ℕ) (forever : ℕ) (empty head begun counted whole : List ℕ)

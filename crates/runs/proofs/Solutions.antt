@@ -3,7 +3,6 @@ use Rattle.std.proofs.Common.{◌≡◌, ℕ, suc, ◌<◌, ◌≤◌, ◌↔◌
 use Rattle.std.proofs.lemmas.Bool.{cases_lt}
 use Rattle.board_text.specs.PlainBoard.{PlainBoard, IsConfiguration}
 use Rattle.board_text.proofs.Cited.{board_or_fault}
-use Rattle.positions.specs.declared.space.TheConstants.{MAX_CONFIGURATIONS}
 use Rattle.positions.specs.declared.value.Value.{Value}
 use Rattle.positions.specs.declared.value.Value.TheVariants.{Finite, Forever}
 use Rattle.positions.specs.Counts.{HasSize}
@@ -19,7 +18,10 @@ use Rattle.strategies.specs.Best.{IsLess}
 use Rattle.strategies.proofs.Cited.{cases_value, IsLess-irrefl, document_exists, least, each_number}
 use Rattle.runs.specs.Report.{Report, IsReport, IsReportOf, IsCountOfValues, report_text_alone, IsReportOfText}
 use Rattle.runs.specs.SolveRun.{IsSolution, IsSolved}
-use Rattle.runs.specs.Texts.{IsSmallBoard, IsWrongBoard}
+use Rattle.runs.specs.Texts.{IsBoardWithin, IsSmallBoard, IsWrongBoard, IsWrongWithin}
+use Rattle.graphs.specs.declared.graph.Numbering.{Numbering}
+use Rattle.graphs.specs.declared.graph.Numbering.TheVariants.{Ordered}
+use Rattle.runs.proofs.BoardLimits.{within_or_beyond}
 use Rattle.runs.specs.declared.fault.RunFault.{RunFault}
 use Rattle.runs.specs.declared.fault.RunFault.TheVariants.{Board, TooLarge}
 
@@ -134,22 +136,29 @@ module _ (text : List ℕ) where
       record { has_value = value.1; document = document.0; is_document = document.1; text_is = refl } in
       (value.0, proof_text board document.0, (board, small, solved))
 
-  pub report_of_text_exists : (board : PlainBoard) → IsSmallBoard text board → (written : List ℕ) × IsReportOfText text written
-  report_of_text_exists board small =
-      let report = report_exists board small.is_board.start in (report.0, (board, small, report.1))
+  pub report_of_text_exists : (limit : Numbering) (board : PlainBoard) → IsBoardWithin limit text board
+      → (written : List ℕ) × IsReportOfText limit text written
+  report_of_text_exists limit board within =
+      let report = report_exists board within.is_board.start in (report.0, (board, within, report.1))
 
-  board_or_wrong : ((board : PlainBoard) × IsSmallBoard text board) ⊎ ((fault : RunFault) × IsWrongBoard text fault)
-  board_or_wrong = elim (board_or_fault text) [
+  board_or_wrong : (limit : Numbering) → ((board : PlainBoard) × IsBoardWithin limit text board)
+      ⊎ ((fault : RunFault) × IsWrongWithin limit text fault)
+  board_or_wrong limit = elim (board_or_fault text) [
     | inr (line, kind, no_memory, has) ↦ inr (Board (record { line = line; kind = kind }), (has, no_memory))
-    | inl (board, is, spelled) ↦ elim (cases_lt MAX_CONFIGURATIONS (configurations board)) [
-      | inl many ↦ inr (TooLarge, (board, is, spelled, many))
-      | inr few ↦ inl (board, record { is_board = is; few = few; spelled = spelled })
+    | inl (board, is, spelled) ↦ elim (within_or_beyond limit board) [
+      | inr many ↦ inr (TooLarge, (board, is, spelled, many))
+      | inl few ↦ inl (board, record { is_board = is; few = few; spelled = spelled })
     ]
   ]
 
   pub solution_or_wrong : ((value : Value) × (written : List ℕ) × IsSolution text value written)
       ⊎ ((fault : RunFault) × IsWrongBoard text fault)
-  solution_or_wrong = elim board_or_wrong [ inl small ↦ inl (solution_exists small.0 small.1) | inr wrong ↦ inr wrong ]
+  solution_or_wrong = elim (board_or_wrong Ordered)
+      [ inl small ↦ inl (solution_exists small.0 small.1) | inr wrong ↦ inr wrong ]
 
-  pub report_or_wrong : ((written : List ℕ) × IsReportOfText text written) ⊎ ((fault : RunFault) × IsWrongBoard text fault)
-  report_or_wrong = elim board_or_wrong [ inl small ↦ inl (report_of_text_exists small.0 small.1) | inr wrong ↦ inr wrong ]
+  pub report_or_wrong : (limit : Numbering) → ((written : List ℕ) × IsReportOfText limit text written)
+      ⊎ ((fault : RunFault) × IsWrongWithin limit text fault)
+  report_or_wrong limit = elim (board_or_wrong limit) [
+    | inl within ↦ inl (report_of_text_exists limit within.0 within.1)
+    | inr wrong ↦ inr wrong
+  ]

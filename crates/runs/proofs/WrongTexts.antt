@@ -2,6 +2,7 @@
 use Rattle.std.proofs.Common.{◌≡◌, ℕ, List, ◌++◌, take, drop, sym, ap, ◌∙◌, take-append-drop}
 use Rattle.board_text.specs.PlainBoard.{PlainBoard, IsBoard}
 use Rattle.board_text.specs.BoardText.{board_text}
+use Rattle.runs.proofs.BoardLimits.{few_configurations, many_configurations}
 use Rattle.runs.specs.Verdicts.{CannotAnswer, BeginsWithBoard}
 use Rattle.runs.specs.Joined.{IsBoardLength}
 use Rattle.runs.specs.Texts.{HasNoBoard, HasNoProof, IsSmallBoard}
@@ -18,7 +19,7 @@ pub no_board : (text front rest : List ℕ) (size : ℕ) (fault : RunFault) → 
 no_board text front rest size (Board fault) first is whole (has, no_memory) = (size, first, rw (← is) has, no_memory)
 no_board text front rest size Memory first is whole h = tt
 no_board text front rest size TooLarge first is whole (board, is_board, spelled, many) =
-    (board, rest, begins_with text front rest board is_board whole spelled, many)
+    (board, rest, begins_with text front rest board is_board whole spelled, many_configurations board many)
 no_board text front rest size (Proof fault) first is whole h = absurd h
 no_board text front rest size Worker first is whole h = absurd h
 no_board text front rest size Read first is whole h = absurd h
@@ -27,8 +28,15 @@ no_board text front rest size Limit first is whole h = absurd h
 
 pub no_proof : (text front rest : List ℕ) (board : PlainBoard) (fault : RunFault) → IsSmallBoard front board → text ≡ front ++ rest
     → HasNoProof board rest fault → CannotAnswer text fault
-no_proof text front rest board (Proof fault) small whole (has, no_memory) =
-    (board, rest, begins_with text front rest board small.is_board whole small.spelled, small.few, has, no_memory)
+no_proof text front rest board (Proof fault) small whole (has, no_memory) = (
+  board,
+  rest,
+  begins_with text front rest board small.is_board whole small.spelled,
+  few_configurations board
+      small.few,
+  has,
+  no_memory,
+)
 no_proof text front rest board Memory small whole h = tt
 no_proof text front rest board TooLarge small whole h = absurd h
 no_proof text front rest board (Board fault) small whole h = absurd h

@@ -1,8 +1,10 @@
 -- Jobs: from the files and standard input to standard output.
-use Rattle.std.specs.Prelude.{◌≡◌, ◌≢◌, ℕ, ◌⊎◌, ◌↔◌, List}
+use Rattle.std.specs.Prelude.{◌≡◌, ◌≢◌, ℕ, ◌⊎◌, ◌↔◌, Bool, true, false, List}
 use Rattle.command_line.specs.declared.asked.Job.{Job}
 use Rattle.command_line.specs.declared.asked.Job.TheVariants.{Joined, Check, Nested, Solve, Report}
 use Rattle.command_line.specs.declared.asked.Job.TheVariants.{Play, Climb}
+use Rattle.graphs.specs.declared.graph.Numbering.{Numbering}
+use Rattle.graphs.specs.declared.graph.Numbering.TheVariants.{Ordered, Classes}
 use Rattle.player.specs.Transcript.{PersonClimbs}
 use Rattle.positions.specs.declared.side.Side.{Side}
 use Rattle.runs.specs.CheckRun.{RanCheck, CheckFails}
@@ -62,23 +64,29 @@ abbrev pub Solves : ℕ → File → Stream → Outcome → Type 0
 Solves workers board output outcome =
     Opening board output.IsKept (λ read. EndsAs outcome_of_run
     (Ran Solution MAX_BOARD_BYTES read output.bytes)
-    (Fails Solution (CannotSolve workers) MAX_BOARD_BYTES read output.bytes)) outcome
+    (Fails Solution (CannotSolve Ordered workers) MAX_BOARD_BYTES read output.bytes)) outcome
     × WritesWhole output outcome
 
+-- a large board is limited by its classes, any other by its configurations
+abbrev pub limit_of : Bool → Numbering
+limit_of true = Classes
+limit_of false = Ordered
+
 -- the values of the board were counted by this number of workers
-abbrev pub Counts : ℕ → File → Stream → Outcome → Type 0
-Counts workers board output outcome =
+abbrev pub Counts : ℕ → Bool → File → Stream → Outcome → Type 0
+Counts workers large board output outcome =
     Opening board output.IsKept (λ read. EndsAs outcome_of_run
-    (Ran Reports MAX_BOARD_BYTES read output.bytes)
-    (Fails Reports (CannotSolve workers) MAX_BOARD_BYTES read output.bytes)) outcome
+    (Ran (Reports (limit_of large)) MAX_BOARD_BYTES read output.bytes)
+    (Fails (Reports (limit_of large)) (CannotSolve (limit_of large) workers)
+    MAX_BOARD_BYTES read output.bytes)) outcome
     × WritesWhole output outcome
 
 -- a play on the board, with a person who is this side
-abbrev pub Plays : Side → File → Stream → Stream → Outcome → Type 0
-Plays side board input output outcome =
+abbrev pub Plays : Side → Bool → File → Stream → Stream → Outcome → Type 0
+Plays side large board input output outcome =
     Opening board (input.IsKept × output.IsKept) (λ read. EndsAs outcome_of_run
-    (RanPlay side MAX_BOARD_BYTES read input.bytes output.bytes)
-    (PlayFails side MAX_BOARD_BYTES (input.IsKept × output.IsKept)
+    (RanPlay (limit_of large) side MAX_BOARD_BYTES read input.bytes output.bytes)
+    (PlayFails (limit_of large) side MAX_BOARD_BYTES (input.IsKept × output.IsKept)
     read input.bytes output.bytes)) outcome
 
 -- a play on the nested board of the level
@@ -104,8 +112,9 @@ module _ (at : List ℕ → File) (input output : Stream) where
       Checks (at board.now) (at proof.now) output outcome × input.IsKept
   Does (Nested levels pebbles) outcome = WritesNested levels pebbles output outcome × input.IsKept
   Does (Solve workers board) outcome = Solves workers (at board.now) output outcome × input.IsKept
-  Does (Report workers board) outcome = Counts workers (at board.now) output outcome × input.IsKept
-  Does (Play side board) outcome = Plays side (at board.now) input output outcome
+  Does (Report workers large board) outcome =
+      Counts workers large (at board.now) output outcome × input.IsKept
+  Does (Play side large board) outcome = Plays side large (at board.now) input output outcome
   Does (Climb levels) outcome = Climbs levels input output outcome
 
   -- an input of the job has failed, or can fail: standard input, or a file whose bytes aren't known
@@ -114,8 +123,8 @@ module _ (at : List ℕ → File) (input output : Stream) where
   CanBeUnread (Check board proof) = CanFail (at board.now) ⊎ CanFail (at proof.now)
   CanBeUnread (Nested levels pebbles) = ⊥
   CanBeUnread (Solve workers board) = CanFail (at board.now)
-  CanBeUnread (Report workers board) = CanFail (at board.now)
-  CanBeUnread (Play side board) = CanFail (at board.now) ⊎ input.HasFailed
+  CanBeUnread (Report workers large board) = CanFail (at board.now)
+  CanBeUnread (Play side large board) = CanFail (at board.now) ⊎ input.HasFailed
   CanBeUnread (Climb levels) = input.HasFailed
 
   -- the same; the streams have failed if the outcome says so, and only then; and no read fault is

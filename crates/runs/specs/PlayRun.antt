@@ -1,6 +1,7 @@
 -- Runs of plays: the bytes read, the answer, and the bytes written.
 use Rattle.std.specs.Prelude.{◌≡◌, ℕ}
 use Rattle.board_text.specs.PlainBoard.{PlainBoard}
+use Rattle.graphs.specs.declared.graph.Numbering.{Numbering}
 use Rattle.player.specs.Transcript.{Game, PersonAsks, PersonAnswers, IsPlayed}
 use Rattle.player.specs.Laws.{KeepsToValue}
 use Rattle.player.specs.Play.{HasEnded, BreaksOff}
@@ -27,13 +28,14 @@ abbrev pub IsBrokenOff : Game → Bytes → Bytes → RunFault → Type 0
 IsBrokenOff game lines written fault =
     (why : PlayFault) × BreaksOff (IsPlayed game) lines.old lines.new written.old written.new why × (fault ≡ fault_of_play why)
 
--- a small board was read, and the play on it is over
-abbrev pub RanPlay : Side → ℕ → Bytes → Bytes → Bytes → PlayEnd → Type 0
-RanPlay side limit board lines written end =
-    RanOn limit board (λ b. IsOver (game_of side b) lines written end)
+-- a board within the limit was read, and the play on it is over
+abbrev pub RanPlay : Numbering → Side → ℕ → Bytes → Bytes → Bytes → PlayEnd → Type 0
+RanPlay limit side most_bytes board lines written end =
+    RanOn limit most_bytes board (λ b. IsOver (game_of side b) lines written end)
 
 -- the faults of a play: there is no board, or no memory for its values, and nothing else is
 -- touched; or the play was broken off
-abbrev pub PlayFails : Side → ℕ → Type 0 → Bytes → Bytes → Bytes → RunFault → Type 0
-PlayFails side limit IsUntouched board lines written fault =
-    FailsOn limit board IsUntouched (λ b. IsBrokenOff (game_of side b) lines written) fault
+abbrev pub PlayFails : Numbering → Side → ℕ → Type 0 → Bytes → Bytes → Bytes → RunFault → Type 0
+PlayFails limit side most_bytes IsUntouched board lines written fault =
+    FailsOn limit most_bytes board IsUntouched
+    (λ b. IsBrokenOff (game_of side b) lines written) fault

@@ -3,6 +3,7 @@ use Rattle.std.specs.Prelude.{◌≡◌, ℕ, suc, ◌<◌, ◌≤◌, ◌↔◌
 use Rattle.std.specs.Fmt.{decimal}
 use Rattle.board_text.specs.LineForms.{with_line_feed}
 use Rattle.board_text.specs.PlainBoard.{PlainBoard}
+use Rattle.graphs.specs.declared.graph.Numbering.{Numbering}
 use Rattle.positions.specs.declared.value.Value.{Value}
 use Rattle.positions.specs.declared.value.Value.TheVariants.{Finite, Forever}
 use Rattle.positions.specs.Laws.{Occurs}
@@ -11,7 +12,7 @@ use Rattle.positions.specs.Value.{HasValue}
 use Rattle.proof_text.specs.ProofText.{claim_words}
 use Rattle.solver.specs.Sizes.{HasCount}
 use Rattle.positions.specs.Claim.{claim_of}
-use Rattle.runs.specs.Texts.{IsSmallBoard}
+use Rattle.runs.specs.Texts.{IsBoardWithin}
 
 -- the value of the start, how many configurations have each finite value from 0 on, and how many
 -- last forever
@@ -77,10 +78,11 @@ pub record IsReportOf (board : PlainBoard) (text : List ℕ) : Type 0 where
 
 -- ---- the report of a text
 
--- the text is a small board's, and the bytes written are its report
-abbrev pub IsReportOfText : List ℕ → List ℕ → Type 0
-IsReportOfText text written = (board : PlainBoard) × IsSmallBoard text board × IsReportOf board written
+-- the text is that of a board within the limit, and the bytes written are its report
+abbrev pub IsReportOfText : Numbering → List ℕ → List ℕ → Type 0
+IsReportOfText limit text written = (board : PlainBoard) × IsBoardWithin limit text board
+    × IsReportOf board written
 
 -- the same, of a run, which answers nothing else
-abbrev pub Reports : List ℕ → Unit {0} → List ℕ → Type 0
-Reports text answer written = IsReportOfText text written
+abbrev pub Reports : Numbering → List ℕ → Unit {0} → List ℕ → Type 0
+Reports limit text answer written = IsReportOfText limit text written

@@ -62,7 +62,7 @@ IsEnding terminal (Broken fault) said = IsExplained terminal (line_of_fault faul
 -- the job reads standard input, with lines that a person may type
 abbrev pub is_typed : Job → Bool
 is_typed Joined = true
-is_typed (Play side board) = true
+is_typed (Play side large board) = true
 is_typed (Climb levels) = true
 is_typed job = false
 

@@ -12,6 +12,7 @@ use crate::reading::{MAX_BOARD_BYTES, read_board, read_text};
 use crate::verdicts::{Verdict, check_joined_text, check_text};
 use crate::writing::write_text;
 use board_text::{Sink, Source};
+use graphs::Numbering;
 use std::alloc::Global;
 use std::thread::Threads;
 
@@ -129,7 +130,7 @@ pub fn run_check<B: Source, P: Source, W: Sink>(
         ((B.has_failed board.new ≡ true) ⊎ (P.has_failed proof.new ≡ true))
         (stream_of W.contents W.has_failed writer.old writer.new) }
 {
-    let board = read_board(alloc, board)?;
+    let board = read_board(alloc, Numbering::Ordered, board)?;
     let text = read_text(alloc, proof, MAX_PROOF_BYTES)?;
     let answer = check_text(rt, alloc, &board, text.as_slice())?;
     write_text(writer, &answer.line)?;

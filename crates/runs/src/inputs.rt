@@ -24,19 +24,48 @@ pub(crate) enum Given {
     Joined,
 }
 
+/// The boards that a job takes.
+#[derive(Clone, Copy, PartialEq, Eq)]
+pub(crate) enum Taken {
+    /// Those with few enough configurations.
+    Small,
+    /// The same; after the word `--large` those with few enough classes.
+    SmallUnlessLarge,
+    /// Those with few enough classes.
+    Large,
+}
+
+impl Taken {
+    /// The boards that a job takes which has the word `--large`, and was given it if `large` is
+    /// true.
+    pub(crate) fn large_if(large: bool) -> Taken {
+        if large {
+            Taken::Large
+        } else {
+            Taken::SmallUnlessLarge
+        }
+    }
+}
+
 /// The inputs of a job: the board, and the document or the lines of a play.
 #[derive(Clone, Copy)]
 pub(crate) struct Inputs<'a, 'h> {
     pub(crate) given: Given,
+    pub(crate) taken: Taken,
     pub(crate) board: Origin<'a, 'h>,
     pub(crate) other: Origin<'a, 'h>,
 }
 
 impl<'a, 'h> Inputs<'a, 'h> {
-    /// A board in a file, and what else is read.
-    pub(crate) fn alone(board: Origin<'a, 'h>, other: Origin<'a, 'h>) -> Inputs<'a, 'h> {
+    /// A board in a file, one of those that are `taken`, and what else is read.
+    pub(crate) fn alone(
+        taken: Taken,
+        board: Origin<'a, 'h>,
+        other: Origin<'a, 'h>,
+    ) -> Inputs<'a, 'h> {
         Inputs {
             given: Given::Alone,
+            taken,
             board,
             other,
         }
@@ -46,6 +75,7 @@ impl<'a, 'h> Inputs<'a, 'h> {
     pub(crate) fn apart(board: Origin<'a, 'h>, other: Origin<'a, 'h>) -> Inputs<'a, 'h> {
         Inputs {
             given: Given::Apart,
+            taken: Taken::Small,
             board,
             other,
         }
@@ -58,6 +88,7 @@ impl<'h> Inputs<'static, 'h> {
         let (board, document) = input.text.split_at(board_length(input.text));
         Inputs {
             given: Given::Joined,
+            taken: Taken::Small,
             board: Origin {
                 text: board,
                 ..input

@@ -10,16 +10,17 @@ ghost use Rattle.runs.specs.Folders.{CanFail};
 ghost use Rattle.runs.specs.Jobs.{TellsReads, TellsWrites, WritesNested};
 ghost use Rattle.runs.specs.Run.{stream_of};
 
+use crate::boards::limit_of;
 use crate::checking::{JoinedRun, MAX_PROOF_BYTES, run_check, run_keeping_text};
 use crate::fault::RunFault;
 use crate::folder::{Folder, Trouble};
-use crate::inputs::{INPUT_PATH, Inputs, Origin};
+use crate::inputs::{INPUT_PATH, Inputs, Origin, Taken};
 use crate::nesting::run_nested;
 use crate::notes::{BOARD_LIMITS, LINE_LIMITS, Note, PROOF_LIMITS, unread};
 use crate::outcome::Outcome;
-use crate::playing::{run_climb, run_play};
+use crate::playing::{run_climb, run_play_within};
 use crate::reading::MAX_BOARD_BYTES;
-use crate::reporting::{run_report, run_report_alone};
+use crate::reporting::run_report_within;
 use crate::solving::{run_solve, run_solve_alone};
 use crate::watched::Watched;
 use board_text::{MAX_PEBBLES, Sink, Source};
@@ -48,9 +49,10 @@ fn unopened<'a, F: Folder>(folder: &F, path: &'a str) -> Ended<'a>
     }
 }
 
-/// The end of a job that reads the board at `path` alone.
+/// The end of a job that reads the board at `path` alone, and takes such boards.
 fn on_board<'a, F: Folder>(
     outcome: Outcome,
+    taken: Taken,
     folder: &F,
     path: &'a str,
     reader: &Watched<F::Reader>,
@@ -60,7 +62,7 @@ fn on_board<'a, F: Folder>(
     let text = file(folder, path, reader, MAX_BOARD_BYTES, BOARD_LIMITS);
     Ended {
         outcome,
-        note: Note::of(outcome, &Inputs::alone(text, text)),
+        note: Note::of(outcome, &Inputs::alone(taken, text, text)),
     }
 }
 
@@ -121,10 +123,14 @@ pub fn carry_out<'a, F: Folder, I: Source, O: Sink>(
         Job::Check { board, proof } => check(rt, alloc, explains, folder, board, proof, output),
         Job::Nested { levels, pebbles } => write_nested(alloc, levels, pebbles, output),
         Job::Solve { workers, board } => solve(rt, alloc, explains, folder, workers, board, output),
-        Job::Report { workers, board } => {
-            report(rt, alloc, explains, folder, workers, board, output)
+        Job::Report {
+            workers,
+            large,
+            board,
+        } => report(rt, alloc, explains, folder, workers, large, board, output),
+        Job::Play { side, large, board } => {
+            play(alloc, explains, folder, side, large, board, input, output)
         }
-        Job::Play { side, board } => play(alloc, explains, folder, side, board, input, output),
         Job::Climb { levels } => climb(alloc, folder, levels, input, output),
     }
 }
@@ -238,25 +244,27 @@ fn solve<'a, F: Folder, O: Sink>(
     let mut reader = Watched::new(alloc, file_of_board, explains);
     if workers == 1 {
         let outcome = Outcome::of_run(run_solve_alone(alloc, &mut reader, output));
-        return on_board(outcome, folder, board, &reader);
+        return on_board(outcome, Taken::Small, folder, board, &reader);
     }
     let outcome = Outcome::of_run(run_solve(rt, alloc, workers, &mut reader, output));
-    on_board(outcome, folder, board, &reader)
+    on_board(outcome, Taken::Small, folder, board, &reader)
 }
 
-/// Reports on the board at a path, by this number of workers. One is this thread.
+/// Reports on the board at a path, which may be `large`, by this number of workers. One is this
+/// thread.
 fn report<'a, F: Folder, O: Sink>(
     rt: &(impl Threads + Wait + Sync),
     alloc: Global,
     explains: bool,
     folder: &F,
     workers: u8,
+    large: bool,
     board: &'a str,
     output: &mut O,
 ) -> Ended<'a>
     requires workers { InRange 1 MAX_WORKERS workers }
     requires output_ready { O.has_failed output.old ≡ false }
-    ensures done { Counts workers (F.at folder.now board.now)
+    ensures done { Counts workers large (F.at folder.now board.now)
         (stream_of O.contents O.has_failed output.old output.new) result.outcome }
     ensures writes { TellsWrites (stream_of O.contents O.has_failed output.old output.new)
         result.outcome }
@@ -266,20 +274,20 @@ fn report<'a, F: Folder, O: Sink>(
         return unopened(folder, board);
     };
     let mut reader = Watched::new(alloc, file_of_board, explains);
-    if workers == 1 {
-        let outcome = Outcome::of_run(run_report_alone(alloc, &mut reader, output));
-        return on_board(outcome, folder, board, &reader);
-    }
-    let outcome = Outcome::of_run(run_report(rt, alloc, workers, &mut reader, output));
-    on_board(outcome, folder, board, &reader)
+    let limit = limit_of(large);
+    let done = run_report_within(rt, alloc, limit, workers, &mut reader, output);
+    let outcome = Outcome::of_run(done);
+    on_board(outcome, Taken::large_if(large), folder, board, &reader)
 }
 
-/// Plays on the board at a path with a person, who is this side and writes to standard input.
+/// Plays on the board at a path, which may be `large`, with a person, who is this side and writes
+/// to standard input.
 fn play<'a, F: Folder, I: Source, O: Sink>(
     alloc: Global,
     explains: bool,
     folder: &F,
     side: Side,
+    large: bool,
     board: &'a str,
     input: &mut I,
     output: &mut O,
@@ -287,7 +295,7 @@ fn play<'a, F: Folder, I: Source, O: Sink>(
     requires input_ready { I.has_failed input.old ≡ false }
     requires input_unended { I.has_ended input.old ≡ false }
     requires output_ready { O.has_failed output.old ≡ false }
-    ensures done { Plays side (F.at folder.now board.now)
+    ensures done { Plays side large (F.at folder.now board.now)
         (stream_of I.remaining I.has_failed input.old input.new)
         (stream_of O.contents O.has_failed output.old output.new) result.outcome }
     ensures writes { TellsWrites (stream_of O.contents O.has_failed output.old output.new)
@@ -300,12 +308,14 @@ fn play<'a, F: Folder, I: Source, O: Sink>(
         return unopened(folder, board);
     };
     let mut reader = Watched::new(alloc, file_of_board, explains);
-    let outcome = Outcome::of_run(run_play(alloc, side, &mut reader, input, output));
+    let limit = limit_of(large);
+    let done = run_play_within(alloc, limit, side, &mut reader, input, output);
+    let outcome = Outcome::of_run(done);
     let text = file(folder, board, &reader, MAX_BOARD_BYTES, BOARD_LIMITS);
     let lines = Origin::standard_input(trouble_of_input(folder, input), LINE_LIMITS);
     Ended {
         outcome,
-        note: Note::of(outcome, &Inputs::alone(text, lines)),
+        note: Note::of(outcome, &Inputs::alone(Taken::large_if(large), text, lines)),
     }
 }
 

@@ -15,7 +15,10 @@ ghost use Rattle.strategies.specs.Meaning.{Means};
 ghost use Rattle.runs.specs.Report.{Report as CountReport, IsReport, IsReportOf, IsReportOfText};
 ghost use Rattle.runs.specs.Run.{Bytes, Ran};
 ghost use Rattle.runs.specs.SolveRun.{IsSolution, IsSolved};
+ghost use Rattle.graphs.specs.declared.graph.Numbering.{Numbering as Limit};
+ghost use Rattle.graphs.specs.declared.graph.Numbering.TheVariants.{Ordered, Classes};
 ghost use Rattle.runs.specs.Texts.{HasNoBoard, HasNoProof, IsMemory, IsSmallBoard, IsWrongBoard};
+ghost use Rattle.runs.specs.Texts.{IsWrongWithin};
 ghost use Rattle.runs.specs.CheckRun.{RanCheck};
 ghost use Rattle.runs.specs.Meaning.{AcceptsLeast, CanAnswer};
 ghost use Rattle.runs.specs.declared.fault.RunFault.{RunFault as Fault};
@@ -41,14 +44,21 @@ pub fn solution_or_fault()
         → IsSolution text value written → IsWrongBoard text fault → ⊥ }
 {}
 
-/// Each board has a report. Each text of a small board has one, any other text has a fault, and no
-/// text has both.
+/// Each board has a report. Each text of a board within a limit has one, which is the same for both
+/// limits; any other text has a fault, and no text has both. What has a report within the limit of
+/// configurations has one within that of classes.
 pub fn report_or_fault()
     ensures report { (board : PlainBoard) → IsConfiguration board board.start → (text : List ℕ) × IsReportOf board text }
-    ensures one { (text : List ℕ) → (written : List ℕ) → (other : List ℕ) → IsReportOfText text written → IsReportOfText text other
-        → written ≡ other }
-    ensures either { (text : List ℕ) → ((written : List ℕ) × IsReportOfText text written) ⊎ ((fault : Fault) × IsWrongBoard text fault) }
-    ensures not_both { (text : List ℕ) → (written : List ℕ) → (fault : Fault) → IsReportOfText text written → IsWrongBoard text fault → ⊥ }
+    ensures one { (limit : Limit) → (more : Limit) → (text : List ℕ) → (written : List ℕ)
+        → (other : List ℕ)
+        → IsReportOfText limit text written → IsReportOfText more text other → written ≡ other }
+    ensures either { (limit : Limit) → (text : List ℕ)
+        → ((written : List ℕ) × IsReportOfText limit text written) ⊎
+        ((fault : Fault) × IsWrongWithin limit text fault) }
+    ensures not_both { (limit : Limit) → (text : List ℕ) → (written : List ℕ) → (fault : Fault)
+        → IsReportOfText limit text written → IsWrongWithin limit text fault → ⊥ }
+    ensures larger { (text : List ℕ) → (written : List ℕ) → IsReportOfText Ordered text written
+        → IsReportOfText Classes text written }
 {}
 
 /// If a text was answered with `accepted least k`, the labeller can answer k requests from the

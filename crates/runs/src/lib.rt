@@ -32,7 +32,7 @@ mod verdicts;
 mod watched;
 mod writing;
 
-pub use boards::small_board;
+pub use boards::{board_within, small_board};
 pub use checking::{MAX_JOINED_BYTES, MAX_PROOF_BYTES, run_check, run_joined};
 pub use fault::RunFault;
 pub use fault_lines::{FaultLine, MAX_LINE_BYTES, fault_line};
@@ -47,9 +47,12 @@ pub use nesting::{nested_text, run_nested};
 pub use notes::Note;
 pub use outcome::Outcome;
 pub use parts::{Part, Parts};
-pub use playing::{run_climb, run_play};
+pub use playing::{run_climb, run_play, run_play_within};
 pub use reading::MAX_BOARD_BYTES;
-pub use reporting::{report_text, report_text_alone, run_report, run_report_alone};
+pub use reporting::{
+    report_text, report_text_alone, report_text_within, run_report, run_report_alone,
+    run_report_within,
+};
 pub use serving::{Terminals, Words, serve};
 pub use serving_laws::one_serving;
 pub use solving::{Solved, run_solve, run_solve_alone, solve_text, solve_text_alone};

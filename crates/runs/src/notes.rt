@@ -8,13 +8,14 @@ use crate::checking::{MAX_JOINED_BYTES, MAX_PROOF_BYTES};
 use crate::fault::RunFault;
 use crate::folder::Trouble;
 use crate::hints::board_hint;
-use crate::inputs::{Inputs, Origin, STANDARD_INPUT};
+use crate::inputs::{Inputs, Origin, STANDARD_INPUT, Taken};
 use crate::outcome::Outcome;
 use crate::parts::{Part, Parts, around, two_words, words};
 use crate::proof_hints::{proof_hint, refusal_hint};
 use crate::reading::MAX_BOARD_BYTES;
 use crate::sizes::Sizes;
 use crate::verdicts::Verdict;
+use classes::MAX_CLASSES;
 use command_line::Job;
 use positions::{MAX_CONFIGURATIONS, Side};
 
@@ -26,6 +27,8 @@ const _: () = prove!(MAX_PROOF_BYTES == 134_217_728);
 const _: () = prove!(MAX_JOINED_BYTES == 134_217_728);
 
 const _: () = prove!(MAX_CONFIGURATIONS == 1_048_576);
+
+const _: () = prove!(MAX_CLASSES == 16_777_216);
 
 /// The limits of a board, in words.
 pub(crate) const BOARD_LIMITS: &str = "a board has at most 1048576 bytes";
@@ -87,7 +90,7 @@ impl Note<'static> {
     /// may have this trouble.
     pub(crate) fn without_files(outcome: Outcome, trouble: Option<Trouble>) -> Note<'static> {
         let input = Origin::standard_input(trouble, LINE_LIMITS);
-        Note::of(outcome, &Inputs::alone(input, input))
+        Note::of(outcome, &Inputs::alone(Taken::Small, input, input))
     }
 
     /// The explanation of a job that reads standard input, which is closed.
@@ -110,7 +113,7 @@ fn explain<'a>(fault: RunFault, inputs: &Inputs<'a, '_>) -> Note<'a> {
         },
         RunFault::TooLarge => Note {
             about: board.name,
-            parts: too_large_hint(board.text),
+            parts: too_large_hint(inputs.taken, board.text),
         },
         RunFault::Proof(fault) => Note {
             about: other.name,
@@ -172,28 +175,69 @@ fn trouble_hint(name: &str, trouble: Trouble) -> Parts {
     }
 }
 
-/// The words for a board with these first bytes that has too many configurations.
-fn too_large_hint(board: &[u8]) -> Parts {
-    match Sizes::of(board) {
-        Some(sizes) => [
-            Part::Number(sizes.configurations()),
-            Part::Words(
-                " configurations, and the most is 1048576; with as many pebbles a board has at \
-                most ",
-            ),
-            Part::Number(sizes.most_labels()),
-            Part::Words(" labels"),
-            Part::Words(if sizes.has_few_labels() {
-                "; no start of this board lasts for ever, since n pebbles need 2^n - 1 labels"
-            } else {
-                ""
-            }),
-            Part::Words(""),
-        ],
-        None => words(
+/// The words for a board with these first bytes that is too large for a job which takes such
+/// boards.
+fn too_large_hint(taken: Taken, board: &[u8]) -> Parts {
+    let Some(sizes) = Sizes::of(board) else {
+        return words(
             "it has more configurations than 1048576: labels to the power of pebbles, in `board 2` \
             with one label more",
+        );
+    };
+    match taken {
+        Taken::Small => with_many_configurations(sizes),
+        Taken::SmallUnlessLarge if sizes.has_few_classes() => with_few_classes(sizes),
+        Taken::SmallUnlessLarge | Taken::Large => with_many_classes(sizes),
+    }
+}
+
+/// The words for a board with too many configurations.
+fn with_many_configurations(sizes: Sizes) -> Parts {
+    [
+        Part::Number(sizes.configurations()),
+        Part::Words(
+            " configurations, and the most is 1048576; with as many pebbles a board has at most ",
         ),
+        Part::Number(sizes.most_labels()),
+        Part::Words(" labels"),
+        Part::Words(ending_hint(sizes)),
+        Part::Words(""),
+    ]
+}
+
+/// The words for a board with too many configurations, whose classes are few enough.
+fn with_few_classes(sizes: Sizes) -> Parts {
+    [
+        Part::Number(sizes.configurations()),
+        Part::Words(" configurations, and the most is 1048576; but its "),
+        Part::Number(sizes.classes()),
+        Part::Words(" classes are few enough for `--large`"),
+        Part::Words(ending_hint(sizes)),
+        Part::Words(""),
+    ]
+}
+
+/// The words for a board with too many classes.
+fn with_many_classes(sizes: Sizes) -> Parts {
+    [
+        Part::Number(sizes.classes()),
+        Part::Words(
+            " classes, each the labels held, whichever pebble holds which, and the most is \
+            16777216, with `--large`",
+        ),
+        Part::Words(ending_hint(sizes)),
+        Part::Words(""),
+        Part::Words(""),
+        Part::Words(""),
+    ]
+}
+
+/// What is known of a board that is too large, if it has few labels.
+fn ending_hint(sizes: Sizes) -> &'static str {
+    if sizes.has_few_labels() {
+        "; no start of this board lasts for ever, since n pebbles need 2^n - 1 labels"
+    } else {
+        ""
     }
 }
 

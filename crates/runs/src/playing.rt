@@ -10,13 +10,14 @@ ghost use Rattle.runs.specs.Run.{TellsFailures, bytes_of, stream_of};
 
 use crate::fault::RunFault;
 use crate::reading::{MAX_BOARD_BYTES, read_board};
-use crate::solving::values_of;
-use board_text::{Sink, Source};
+use crate::solving::numbered_of;
+use board_text::{Board, Sink, Source};
+use graphs::Numbering;
 use nested_cycles::MAX_LEVELS;
-use player::{PlayEnd, PlayFault, play_adversary_side, play_labeller_side, play_nested};
+use player::{PlayEnd, PlayFault, play_adversary, play_labeller, play_nested};
 use positions::Side;
+use solver::NumberedValues;
 use std::alloc::Global;
-use strategies::BestMoves;
 
 /// Reads a board, finds its values and plays on it with a person, who is this `side` and writes
 /// lines.
@@ -37,17 +38,45 @@ pub fn run_play<B: Source, L: Source, W: Sink>(
     requires lines_ready { L.has_failed lines.old ≡ false }
     requires lines_unended { L.has_ended lines.old ≡ false }
     requires writer_ready { W.has_failed writer.old ≡ false }
-    ensures ok { IfOk result (RanPlay side MAX_BOARD_BYTES (bytes_of B.remaining board.old board.new)
+    ensures ok { IfOk result (RanPlay Numbering.Ordered side MAX_BOARD_BYTES
+        (bytes_of B.remaining board.old board.new)
         (bytes_of L.remaining lines.old lines.new) (bytes_of W.contents writer.old writer.new)) }
-    ensures fault { IfErr result (PlayFails side MAX_BOARD_BYTES ((lines.new ≡ lines.old) × (writer.new ≡ writer.old))
+    ensures fault { IfErr result (PlayFails Numbering.Ordered side MAX_BOARD_BYTES
+        ((lines.new ≡ lines.old) × (writer.new ≡ writer.old))
         (bytes_of B.remaining board.old board.new) (bytes_of L.remaining lines.old lines.new) (bytes_of W.contents writer.old writer.new)) }
     ensures streams { TellsFailures result ((B.has_failed board.new ≡ true) ⊎ (L.has_failed lines.new ≡ true))
         (stream_of W.contents W.has_failed writer.old writer.new) }
 {
-    let board = read_board(alloc, board)?;
-    let values = values_of(alloc, &board)?;
-    let moves = BestMoves::new(&board, &values);
-    Ok(play(alloc, side, &moves, lines, writer)?)
+    run_play_within(alloc, Numbering::Ordered, side, board, lines, writer)
+}
+
+/// The same as `run_play`, on a board that may have as many configurations, or classes, as the
+/// `limit` allows.
+pub fn run_play_within<B: Source, L: Source, W: Sink>(
+    alloc: Global,
+    limit: Numbering,
+    side: Side,
+    board: &mut B,
+    lines: &mut L,
+    writer: &mut W,
+) -> Result<PlayEnd, RunFault>
+    requires board_ready { B.has_failed board.old ≡ false }
+    requires board_unended { B.has_ended board.old ≡ false }
+    requires lines_ready { L.has_failed lines.old ≡ false }
+    requires lines_unended { L.has_ended lines.old ≡ false }
+    requires writer_ready { W.has_failed writer.old ≡ false }
+    ensures ok { IfOk result (RanPlay limit side MAX_BOARD_BYTES
+        (bytes_of B.remaining board.old board.new)
+        (bytes_of L.remaining lines.old lines.new) (bytes_of W.contents writer.old writer.new)) }
+    ensures fault { IfErr result (PlayFails limit side MAX_BOARD_BYTES
+        ((lines.new ≡ lines.old) × (writer.new ≡ writer.old))
+        (bytes_of B.remaining board.old board.new) (bytes_of L.remaining lines.old lines.new) (bytes_of W.contents writer.old writer.new)) }
+    ensures streams { TellsFailures result ((B.has_failed board.new ≡ true) ⊎ (L.has_failed lines.new ≡ true))
+        (stream_of W.contents W.has_failed writer.old writer.new) }
+{
+    let board = read_board(alloc, limit, board)?;
+    let values = numbered_of(alloc, &board)?;
+    Ok(play(alloc, side, &board, &values, lines, writer)?)
 }
 
 /// Plays on the nested board of a level, 1 to `MAX_LEVELS`, with a person, who asks by lines.
@@ -74,28 +103,30 @@ pub fn run_climb<L: Source, W: Sink>(
     Ok(play_nested(alloc, levels, lines, writer)?)
 }
 
-/// Plays with a person who is this `side` on the board of `moves`.
+/// Plays with a person who is this `side` on `board`, whose values these are.
 fn play<L: Source, W: Sink>(
     alloc: Global,
     side: Side,
-    moves: &BestMoves<'_>,
+    board: &Board,
+    values: &NumberedValues,
     lines: &mut L,
     writer: &mut W,
 ) -> Result<PlayEnd, PlayFault>
+    requires same_board { values.now.board ≡ board.now }
     requires lines_ready { L.has_failed lines.old ≡ false }
     requires lines_unended { L.has_ended lines.old ≡ false }
     requires writer_ready { W.has_failed writer.old ≡ false }
-    ensures ok { IfOk result (HasEnded (IsPlayed (game_of side moves.now)) (L.remaining lines.old) (L.remaining lines.new)
+    ensures ok { IfOk result (HasEnded (IsPlayed (game_of side board.now)) (L.remaining lines.old)
+        (L.remaining lines.new)
         (W.contents writer.old) (W.contents writer.new)) }
-    ensures fault { IfErr result (BreaksOff (IsPlayed (game_of side moves.now)) (L.remaining lines.old) (L.remaining lines.new)
+    ensures fault { IfErr result (BreaksOff (IsPlayed (game_of side board.now))
+        (L.remaining lines.old) (L.remaining lines.new)
         (W.contents writer.old) (W.contents writer.new)) }
-    ensures value { IfOk result (KeepsToValue (game_of side moves.now)) }
+    ensures value { IfOk result (KeepsToValue (game_of side board.now)) }
     ensures streams { TellsStreams result (L.has_failed lines.new) (W.has_failed writer.new) }
 {
-    let board = moves.board();
-    let values = moves.values();
     match side {
-        Side::Adversary => play_adversary_side(alloc, board, values, lines, writer),
-        Side::Labeller => play_labeller_side(alloc, board, values, lines, writer),
+        Side::Adversary => play_adversary(alloc, board, values, lines, writer),
+        Side::Labeller => play_labeller(alloc, board, values, lines, writer),
     }
 }

@@ -5,9 +5,10 @@ ghost use Rattle.runs.specs.BoardRun.{GaveBoard, GaveNoBoard};
 ghost use Rattle.runs.specs.Run.{Gave, IsUnread, bytes_of};
 ghost use Rattle.runs.specs.declared.fault.RunFault.TheVariants.{Read, Write};
 
-use crate::boards::small_board;
+use crate::boards::board_within;
 use crate::fault::RunFault;
 use board_text::{Board, Source, read_all};
+use graphs::Numbering;
 use std::alloc::Global;
 
 /// The most bytes of a board.
@@ -29,16 +30,21 @@ pub(crate) fn read_text<R: Source>(
     Ok(read_all(alloc, reader, limit)?)
 }
 
-/// The small board whose text the reader gives.
-pub(crate) fn read_board<R: Source>(alloc: Global, reader: &mut R) -> Result<Board, RunFault>
+/// The board within the `limit` whose text the reader gives.
+pub(crate) fn read_board<R: Source>(
+    alloc: Global,
+    limit: Numbering,
+    reader: &mut R,
+) -> Result<Board, RunFault>
     requires ready { R.has_failed reader.old ≡ false }
     requires unended { R.has_ended reader.old ≡ false }
-    ensures found { IfOk result (GaveBoard MAX_BOARD_BYTES
+    ensures found { IfOk result (GaveBoard limit MAX_BOARD_BYTES
         (bytes_of R.remaining reader.old reader.new)) }
-    ensures fault { IfErr result (GaveNoBoard MAX_BOARD_BYTES (bytes_of R.remaining reader.old reader.new)) }
+    ensures fault { IfErr result (GaveNoBoard limit MAX_BOARD_BYTES
+        (bytes_of R.remaining reader.old reader.new)) }
     ensures read { (R.has_failed reader.new ≡ true) ↔ (result ≡ Err Read) }
     ensures unwritten { result ≢ Err Write }
 {
     let text = read_text(alloc, reader, MAX_BOARD_BYTES)?;
-    small_board(alloc, text.as_slice())
+    board_within(alloc, limit, text.as_slice())
 }

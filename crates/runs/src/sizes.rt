@@ -2,6 +2,7 @@
 
 use board_text::line_reader::LineReader;
 use board_text::{MAX_LABELS, MAX_PEBBLES};
+use classes::MAX_CLASSES;
 use positions::MAX_CONFIGURATIONS;
 
 // The largest numbers of places for three to six pebbles.
@@ -35,14 +36,32 @@ impl Sizes {
         })
     }
 
-    /// The number of configurations.
-    pub(crate) fn configurations(self) -> u64 {
-        let places = if self.version == 2 {
+    /// How many values the place of a pebble can have.
+    fn places(self) -> u64 {
+        if self.version == 2 {
             u64::from(self.labels) + 1
         } else {
             u64::from(self.labels)
-        };
-        places.saturating_pow(self.pebbles)
+        }
+    }
+
+    /// The number of configurations.
+    pub(crate) fn configurations(self) -> u64 {
+        self.places().saturating_pow(self.pebbles)
+    }
+
+    /// The number of classes: the ways to choose as many places as there are pebbles, in no order.
+    pub(crate) fn classes(self) -> u64 {
+        let mut ways: u64 = 1;
+        for pebble in 0..u64::from(self.pebbles) {
+            ways = ways.saturating_mul(self.places().saturating_add(pebble)) / (pebble + 1);
+        }
+        ways
+    }
+
+    /// Whether there are no more classes than can be numbered.
+    pub(crate) fn has_few_classes(self) -> bool {
+        self.classes() <= u64::from(MAX_CLASSES)
     }
 
     /// The most labels of a board with as many pebbles, of the same version.

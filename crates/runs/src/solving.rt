@@ -2,6 +2,8 @@
 
 ghost use Rattle.std.specs.Prelude.{◌≡◌, ◌≤◌, true, false, IfOk, IfErr, string_bytes};
 ghost use Rattle.board_text.specs.Ranges.{InRange};
+ghost use Rattle.classes.specs.Numbers.{class_count};
+ghost use Rattle.graphs.specs.Numbered.{numbered};
 ghost use Rattle.positions.specs.Ranks.{configurations};
 ghost use Rattle.positions.specs.Value.{HasValue};
 ghost use Rattle.runs.specs.Headline.{Solution};
@@ -15,11 +17,13 @@ use crate::fault::RunFault;
 use crate::reading::{MAX_BOARD_BYTES, read_text};
 use crate::writing::write_text;
 use board_text::{Board, Memory, Sink, Source};
+use classes::MAX_CLASSES;
+use graphs::Numbering;
 use index_lists::PlainLists;
 use positions::{MAX_CONFIGURATIONS, Value};
 use proof_text::{print, print_in_parts};
 use round_workers::{MAX_WORKERS, NoGate, solve_classes};
-use solver::{Solver, Values};
+use solver::{NumberedValues, Solver, Values};
 use std::alloc::Global;
 use std::sync::Wait;
 use std::thread::Threads;
@@ -70,7 +74,8 @@ pub fn run_solve<R: Source, W: Sink>(
     requires writer_ready { W.has_failed writer.old ≡ false }
     ensures ok { IfOk result (Ran Solution MAX_BOARD_BYTES
         (bytes_of R.remaining reader.old reader.new) (bytes_of W.contents writer.old writer.new)) }
-    ensures fault { IfErr result (Fails Solution (CannotSolve workers) MAX_BOARD_BYTES
+    ensures fault { IfErr result (Fails Solution
+        (CannotSolve Numbering.Ordered workers) MAX_BOARD_BYTES
         (bytes_of R.remaining reader.old reader.new) (bytes_of W.contents writer.old writer.new)) }
     ensures streams { TellsStreams result (R.has_failed reader.new ≡ true)
         (stream_of W.contents W.has_failed writer.old writer.new) }
@@ -109,7 +114,7 @@ pub fn solve_text(
 ) -> Result<Solved, RunFault>
     requires workers { InRange 1 MAX_WORKERS workers }
     ensures ok { IfOk result (λ solved. Solution text.now solved.value (string_bytes solved.text)) }
-    ensures fault { IfErr result (CannotSolve workers text.now) }
+    ensures fault { IfErr result (CannotSolve Numbering.Ordered workers text.now) }
 {
     let board = small_board(alloc, text)?;
     let values = values_by(rt, alloc, workers, &board)?;
@@ -153,8 +158,8 @@ fn start_value(moves: &BestMoves<'_>) -> Value
     moves.value(moves.start())
 }
 
-/// The values of a small board, by this number of workers. One is this thread, and shares nothing.
-pub(crate) fn values_by(
+/// The values of a small board by its ranks, by this number of workers.
+fn values_by(
     rt: &(impl Threads + Wait + Sync),
     alloc: Global,
     workers: u8,
@@ -165,19 +170,43 @@ pub(crate) fn values_by(
     ensures values { IfOk result (λ values. values ≡ board.now) }
     ensures refused { IfErr result (IsRefused workers) }
 {
-    if workers == 1 {
-        return values_of(alloc, board);
-    }
-    let numbered = solve_classes(rt, alloc, board, workers as u32, &NoGate)?;
-    Ok(Values::new(numbered, board))
+    let values = numbered_by(rt, alloc, workers, board)?;
+    Ok(Values::new(values, board))
 }
 
-/// The values of a small board, by as many rounds as it takes.
-pub(crate) fn values_of(alloc: Global, board: &Board) -> Result<Values, RunFault>
+/// The values of a small board by its ranks, by as many rounds as it takes.
+fn values_of(alloc: Global, board: &Board) -> Result<Values, RunFault>
     requires { configurations board.now ≤ MAX_CONFIGURATIONS }
     ensures values { IfOk result (λ values. values ≡ board.now) }
     ensures memory { IfErr result IsMemory }
 {
+    Ok(Values::new(numbered_of(alloc, board)?, board))
+}
+
+/// The values of a board, by this number of workers. One is this thread, and shares nothing.
+pub(crate) fn numbered_by(
+    rt: &(impl Threads + Wait + Sync),
+    alloc: Global,
+    workers: u8,
+    board: &Board,
+) -> Result<NumberedValues, RunFault>
+    requires few { class_count board.now ≤ MAX_CLASSES }
+    requires workers { InRange 1 MAX_WORKERS workers }
+    ensures values { IfOk result (λ values. values ≡ numbered board.now Numbering.Classes) }
+    ensures refused { IfErr result (IsRefused workers) }
+{
+    if workers == 1 {
+        return numbered_of(alloc, board);
+    }
+    Ok(solve_classes(rt, alloc, board, workers as u32, &NoGate)?)
+}
+
+/// The values of a board, by as many rounds as it takes.
+pub(crate) fn numbered_of(alloc: Global, board: &Board) -> Result<NumberedValues, RunFault>
+    requires { class_count board.now ≤ MAX_CLASSES }
+    ensures values { IfOk result (λ values. values ≡ numbered board.now Numbering.Classes) }
+    ensures memory { IfErr result IsMemory }
+{
     let solver = Solver::<PlainLists>::of_classes(alloc, board)?;
-    Ok(Values::new(solver.solve_numbered(), board))
+    Ok(solver.solve_numbered())
 }

@@ -22,9 +22,12 @@ pub(crate) fn usage_hint(words: &[&str]) -> &'static str {
         if is_version(word) {
             return "`--version` stands alone, as in `pebbles --version`; ";
         }
+        if word == "--large" && words[1] != "report" && words[1] != "play" {
+            return "only `report` and `play` have `--large`, since documents list configurations; ";
+        }
         if is_unknown_option(word) {
             return "the only options are `--workers` of `solve` and `report`, `--side` of `play`, \
-                `--help` and `--version`; ";
+                `--large` of `report` and `play`, `--help` and `--version`; ";
         }
     }
     ""
@@ -55,6 +58,7 @@ fn is_unknown_option(word: &str) -> bool {
         || word == "--help"
         || word == "-h"
         || word == "--workers"
-        || word == "--side";
+        || word == "--side"
+        || word == "--large";
     word.starts_with("-") && !is_known
 }

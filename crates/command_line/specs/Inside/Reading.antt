@@ -1,11 +1,14 @@
 -- Definitions that this crate's own functions cite beside `Reading`.
-use Rattle.std.specs.Prelude.{◌≡◌, ◌≢◌, ◌⊎◌, MatchOption, ℕ, ℤ, pos, negsuc, Bool, ◌&&◌, true, false, List, Option, Some, None, is_some, string_bytes}
+use Rattle.std.specs.Prelude.{◌≡◌, ◌≢◌, ◌⊎◌, MatchOption, ℕ, ℤ, pos, negsuc, Bool, ◌&&◌, ◌||◌}
+use Rattle.std.specs.Prelude.{true, false, List, Option, Some, None, is_some, codes, string_bytes}
 use Rattle.std.specs.Str.{bytes_eq}
 use Rattle.std.specs.List.{list_all, list_any}
 use Rattle.std.specs.Option.{option_map_or}
 use Rattle.clap.specs.Simple.{Shape}
 use Rattle.clap.specs.ValueTests.{is_unsigned_in}
 use Rattle.clap.specs.Walk.{Row, Text, first_of, one_of}
+use Rattle.clap.specs.declared.builder.action.ArgAction.{ArgAction}
+use Rattle.clap.specs.declared.builder.action.ArgAction.TheVariants.{SetTrue}
 use Rattle.clap.specs.declared.builder.value_parser.ValueParser.{ValueParser}
 use Rattle.clap.specs.declared.builder.value_parser.ValueParser.TheVariants as vp
 use Rattle.clap.specs.declared.error.kind.ErrorKind.{ErrorKind}
@@ -27,15 +30,28 @@ abbrev pub most_of : ℤ → ℕ
 most_of (pos number) = number
 most_of (negsuc number) = 0
 
+-- the matches say whether the word for the id was given
+abbrev pub is_flag_text : Text → Bool
+is_flag_text text = bytes_eq text (codes "true") || bytes_eq text (codes "false")
+
+abbrev pub has_flag : List Row → Text → Bool
+has_flag rows id = option_map_or is_flag_text (one_of id rows) false
+
 -- the matches give a value for the id, of the kind that an argument with this parser asks for
-abbrev pub has_value : List Row → Text → Option ValueParser → Bool
-has_value rows id (Some (vp.Signed low high)) = has_number rows id (most_of high)
-has_value rows id (Some (vp.Names names)) = has_side rows id
-has_value rows id _ = is_some (first_of id rows)
+abbrev pub has_value_by : List Row → Text → Option ValueParser → Bool
+has_value_by rows id (Some (vp.Signed low high)) = has_number rows id (most_of high)
+has_value_by rows id (Some (vp.Names names)) = has_side rows id
+has_value_by rows id _ = is_some (first_of id rows)
+
+-- the same, of the kind that the argument asks for: a word that stands alone is given or not
+abbrev pub has_value : List Row → Text → Option ArgAction → Option ValueParser → Bool
+has_value rows id (Some SetTrue) parser = has_flag rows id
+has_value rows id _ parser = has_value_by rows id parser
 
 -- the matches give a value for each argument of the command
 abbrev pub has_values : List Row → Shape → Bool
-has_values rows command = list_all (λ rule. has_value rows rule.id rule.parser) command.rules
+has_values rows command = list_all (λ rule. has_value rows rule.id rule.action rule.parser)
+    command.rules
 
 -- the job that the command is asked for; none if the matches lack one of its values
 abbrev pub Reads : Shape → List Row → Option Job → Type 0

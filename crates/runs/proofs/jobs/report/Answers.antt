@@ -1,27 +1,28 @@
 use Rattle.std.proofs.Common.{refl, ◌∙◌}
+use Rattle.runs.specs.Jobs.{limit_of}
 use Rattle.runs.specs.Run.{stream_of}
 use Rattle.runs.specs.Outcomes.{outcome_of_run}
 use Rattle.runs.specs.Report.{Reports}
-use Rattle.runs.specs.Texts.{HasNoBoard}
+use Rattle.runs.specs.SolveRun.{CannotSolve}
 use Rattle.runs.specs.declared.fault.RunFault.TheVariants.{Read}
-use Rattle.runs.proofs.Endings.{any_worker, broken_run, opened_board, told_as}
+use Rattle.runs.proofs.Endings.{broken_run, opened_board, these_workers, told_as}
 use Rattle.runs.proofs.jobs.report.Goals as goal
 
-pub returns-then-workers-eq1-clause-done : goal.returns-then-workers-eq1-clause-done
-returns-then-workers-eq1-clause-done g c =
-    opened_board Reports HasNoBoard c.args.workers (any_worker c.args.workers)
+pub returns-clause-done : goal.returns-clause-done
+returns-clause-done g c =
+    let limit = limit_of c.args.large in
+    opened_board (Reports limit) (CannotSolve limit c.args.workers) limit c.args.workers
+    (these_workers limit c.args.workers)
     (g.F.Folder.at c.args.folder.now c.args.board.now) _ (rw c.new-reader.ensures c.in-Ok.ensures.opened)
-    (stream_of g.O.Sink.contents g.O.Sink.has_failed c.args.output.now c.run_report_alone.new.writer)
-    c.run_report_alone.result c.on_board.result.outcome (c.on_board.ensures ∙ c.of_run-outcome.ensures)
-    c.run_report_alone.ensures.ok c.run_report_alone.ensures.fault c.run_report_alone.ensures.streams.unwritten
-
-pub returns-then-workers-eq1-clause-unread : goal.returns-then-workers-eq1-clause-unread
-returns-then-workers-eq1-clause-unread g c broke =
-    c.in-Ok.ensures.sound _ ((told_as outcome_of_run broken_run c.run_report_alone.result c.on_board.result.outcome
-    (c.on_board.ensures ∙ c.of_run-outcome.ensures) Read refl _
-    c.run_report_alone.ensures.streams.failures.read).1 broke)
+    (stream_of g.O.Sink.contents g.O.Sink.has_failed c.args.output.now c.run_report_within-done.new.writer)
+    c.run_report_within-done.result c.on_board.result.outcome (c.on_board.ensures ∙ c.of_run-outcome.ensures)
+    (rw c.limit_of-limit.ensures at c.run_report_within-done.ensures.ok)
+    (rw c.limit_of-limit.ensures at c.run_report_within-done.ensures.fault)
+    c.run_report_within-done.ensures.streams.unwritten
 
 pub returns-clause-unread : goal.returns-clause-unread
 returns-clause-unread g c broke =
-    c.in-Ok.ensures.sound _ ((told_as outcome_of_run broken_run c.run_report.result c.on_board-2.result.outcome
-    (c.on_board-2.ensures ∙ c.of_run-outcome-2.ensures) Read refl _ c.run_report.ensures.streams.failures.read).1 broke)
+    c.in-Ok.ensures.sound _ ((told_as outcome_of_run broken_run c.run_report_within-done.result
+    c.on_board.result.outcome
+    (c.on_board.ensures ∙ c.of_run-outcome.ensures) Read refl _
+    c.run_report_within-done.ensures.streams.failures.read).1 broke)

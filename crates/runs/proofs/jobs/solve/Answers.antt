@@ -1,4 +1,5 @@
 use Rattle.std.proofs.Common.{refl, ◌∙◌}
+use Rattle.graphs.specs.declared.graph.Numbering.TheVariants.{Ordered}
 use Rattle.runs.specs.Run.{stream_of}
 use Rattle.runs.specs.Headline.{Solution}
 use Rattle.runs.specs.Outcomes.{outcome_of_run}
@@ -10,7 +11,7 @@ use Rattle.runs.proofs.jobs.solve.Goals as goal
 
 pub returns-then-workers-eq1-clause-done : goal.returns-then-workers-eq1-clause-done
 returns-then-workers-eq1-clause-done g c =
-    opened_board Solution HasNoBoard c.args.workers (any_worker c.args.workers)
+    opened_board Solution HasNoBoard Ordered c.args.workers (any_worker Ordered c.args.workers)
     (g.F.Folder.at c.args.folder.now c.args.board.now) _ (rw c.new-reader.ensures c.in-Ok.ensures.opened)
     (stream_of g.O.Sink.contents g.O.Sink.has_failed c.args.output.now c.run_solve_alone.new.writer)
     c.run_solve_alone.result c.on_board.result.outcome (c.on_board.ensures ∙ c.of_run-outcome.ensures)
@@ -29,7 +30,8 @@ returns-clause-unread g c broke =
 
 pub returns-clause-done : goal.returns-clause-done
 returns-clause-done g c =
-    opened_board Solution (CannotSolve c.args.workers) c.args.workers (these_workers c.args.workers)
+    opened_board Solution (CannotSolve Ordered c.args.workers) Ordered c.args.workers
+    (these_workers Ordered c.args.workers)
     (g.F.Folder.at c.args.folder.now c.args.board.now) _ (rw c.new-reader.ensures c.in-Ok.ensures.opened)
     (stream_of g.O.Sink.contents g.O.Sink.has_failed c.args.output.now c.run_solve.new.writer)
     c.run_solve.result c.on_board-2.result.outcome (c.on_board-2.ensures ∙ c.of_run-outcome-2.ensures)

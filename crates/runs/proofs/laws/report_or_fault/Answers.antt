@@ -1,4 +1,5 @@
 use Rattle.runs.proofs.AcceptedDocuments.{not_wrong}
+use Rattle.runs.proofs.BoardLimits.{within_classes}
 use Rattle.runs.proofs.Solutions.{report_exists, report_or_wrong}
 use Rattle.runs.proofs.OneOutcome.{one_report}
 use Rattle.runs.proofs.laws.report_or_fault.Goals as goal
@@ -6,7 +7,16 @@ use Rattle.runs.proofs.laws.report_or_fault.Goals as goal
 pub returns : goal.returns
 returns c = record {
   report = report_exists;
-  one = one_report;
-  either = report_or_wrong;
-  not_both = λ text written fault report. not_wrong text report.0 report.1 fault;
+  one = λ limit more text. one_report text limit more;
+  either = λ limit text. report_or_wrong text limit;
+  not_both = λ limit text written fault report. not_wrong limit text report.0 report.1 fault;
+  larger = λ text written report. (
+    report.0,
+    record {
+      is_board = report.1.is_board;
+      few = within_classes report.0 report.1.few;
+      spelled = report.1.spelled;
+    },
+    report.2,
+  );
 }

@@ -1,4 +1,5 @@
 use Rattle.std.proofs.lemmas.Result.{err_from_is_err_and}
+use Rattle.graphs.specs.declared.graph.Numbering.TheVariants.{Ordered}
 use Rattle.runs.specs.Run.{bytes_of}
 use Rattle.runs.specs.Headline.{Solution}
 use Rattle.runs.specs.SolveRun.{CannotSolve}
@@ -11,7 +12,7 @@ returns-in_err-solved-clause-fault g c =
     let p = err_from_is_err_and c.from_residual-in_err-solved.result c.from_residual-in_err-solved.ensures.1 in
     let read = bytes_of g.R.Source.remaining c.args.reader.now c.read_text.new.reader in
     let written = bytes_of g.W.Sink.contents c.args.writer.now c.args.writer.now in
-    rw (p.1, p.2) (nothing_to_write Solution (CannotSolve c.args.workers) MAX_BOARD_BYTES read written
+    rw (p.1, p.2) (nothing_to_write Solution (CannotSolve Ordered c.args.workers) MAX_BOARD_BYTES read written
     c.in_ok-text.text.items c.in_ok-text.ensures.ok c.in_err-solved.field-0.0 (rw c.as_slice.ensures.value at c.in_err-solved.ensures.fault))
 
 pub returns-in_err-write_text-clause-fault : goal.returns-in_err-write_text-clause-fault
@@ -19,7 +20,8 @@ returns-in_err-write_text-clause-fault g c =
     let p = err_from_is_err_and c.from_residual-in_err-write_text.result c.from_residual-in_err-write_text.ensures.1 in
     let read = bytes_of g.R.Source.remaining c.args.reader.now c.read_text.new.reader in
     let written = bytes_of g.W.Sink.contents c.args.writer.now c.write_text.new.writer in
-    rw (p.1, p.2, c.in_err-write_text.ensures.fault) (cut_short Solution (CannotSolve c.args.workers) MAX_BOARD_BYTES read written
+    rw (p.1, p.2, c.in_err-write_text.ensures.fault)
+    (cut_short Solution (CannotSolve Ordered c.args.workers) MAX_BOARD_BYTES read written
     c.in_ok-text.text.items c.in_ok-text.ensures.ok c.in_ok-solved.solved.value _
     (rw c.as_slice.ensures.value at c.in_ok-solved.ensures.ok) (rw c.deref.ensures at c.in_err-write_text.ensures.prefix))
 

@@ -1,13 +1,7 @@
-use Rattle.std.proofs.Common.{Err, ap, arith}
-use Rattle.std.proofs.lemmas.Result.{err_from_is_err_and}
+use Rattle.std.proofs.Common.{rules}
 use Rattle.classes.proofs.Cited.{few-of-small}
-use Rattle.runs.proofs.SolverFaults.{refused_some}
 use Rattle.runs.proofs.solving.values_by.Goals as goal
 
-pub returns-in_err-numbered-clause-refused : goal.returns-in_err-numbered-clause-refused
-returns-in_err-numbered-clause-refused g c =
-    let few = few-of-small c.args.board.now c.requires.few in
-    let refused = err_from_is_err_and c.from_residual.result c.from_residual.ensures.1 in
-    rw refused.1 (refused_some c.args.workers c.in_err-numbered.field-0.0 refused.0 refused.2
-    (λ large. let many = c.in_err-numbered.ensures.too_large.0 (ap Err large) in omega (arith, many, few))
-    (λ several. c.in_err-numbered.ensures.worker (ap Err several)))
+pub numbered_by-requires : goal.numbered_by-requires
+numbered_by-requires g c =
+    (search rules, (few-of-small c.args.board.now c.requires.few, c.requires.workers))

@@ -4,19 +4,23 @@ use Rattle.runs.specs.Run.{bytes_of}
 use Rattle.runs.specs.SolveRun.{CannotSolve}
 use Rattle.runs.specs.declared.reading.TheConstants.{MAX_BOARD_BYTES}
 use Rattle.runs.proofs.FailedRuns.{cut_short_last, nothing_to_write}
-use Rattle.runs.proofs.reporting.run_report.Goals as goal
+use Rattle.runs.proofs.reporting.run_report_within.Goals as goal
 
 pub returns-in_err-report-clause-fault : goal.returns-in_err-report-clause-fault
 returns-in_err-report-clause-fault g c =
     let p = err_from_is_err_and c.from_residual-in_err-report.result c.from_residual-in_err-report.ensures.1 in
     let read = bytes_of g.R.Source.remaining c.args.reader.now c.read_text.new.reader in
     let written = bytes_of g.W.Sink.contents c.args.writer.now c.args.writer.now in
-    rw (p.1, p.2) (nothing_to_write Reports (CannotSolve c.args.workers) MAX_BOARD_BYTES read written
-    c.in_ok-text.text.items c.in_ok-text.ensures.ok c.in_err-report.field-0.0 (rw c.as_slice.ensures.value at c.in_err-report.ensures.fault))
+    rw (p.1, p.2) (nothing_to_write (Reports c.args.limit)
+    (CannotSolve c.args.limit c.args.workers) MAX_BOARD_BYTES read written
+    c.in_ok-text.text.items c.in_ok-text.ensures.ok c.in_err-report.field-0.0
+    (rw c.as_slice.ensures.value at c.in_err-report.ensures.fault))
 
 pub returns-clause-fault : goal.returns-clause-fault
 returns-clause-fault g c =
     let read = bytes_of g.R.Source.remaining c.args.reader.now c.read_text.new.reader in
     let written = bytes_of g.W.Sink.contents c.args.writer.now c.write_text.new.writer in
-    cut_short_last Reports (CannotSolve c.args.workers) MAX_BOARD_BYTES read written c.in_ok-text.text.items c.in_ok-text.ensures.ok
-    c.write_text.result tt _ (rw c.as_slice.ensures.value at c.in_ok-report.ensures.report) (rw c.deref.ensures at c.write_text.ensures.prefix) c.write_text.ensures.fault
+    cut_short_last (Reports c.args.limit) (CannotSolve c.args.limit c.args.workers) MAX_BOARD_BYTES read written
+    c.in_ok-text.text.items c.in_ok-text.ensures.ok
+    c.write_text.result tt _ (rw c.as_slice.ensures.value at c.in_ok-report.ensures.report)
+    (rw c.deref.ensures at c.write_text.ensures.prefix) c.write_text.ensures.fault

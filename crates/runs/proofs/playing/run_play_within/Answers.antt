@@ -2,13 +2,17 @@ use Rattle.std.proofs.Common.{inl, inr, refl, sym, ap, ◌∙◌}
 use Rattle.std.specs.Prelude.{Err}
 use Rattle.runs.proofs.PlayFaults.{lines-told, ok_or_err, same_run_fault, writer-told}
 use Rattle.std.proofs.lemmas.Result.{err_from_is_err_and}
-use Rattle.runs.proofs.playing.run_play.Goals as goal
+use Rattle.runs.proofs.BoardLimits.{few_classes}
+use Rattle.runs.proofs.playing.run_play_within.Goals as goal
+
+pub numbered_of-requires : goal.numbered_of-requires
+numbered_of-requires g c = few_classes c.args.limit c.in_ok-board.board c.in_ok-board.ensures.found.2.few
 
 pub returns-clause-ok : goal.returns-clause-ok
 returns-clause-ok g c = (
   c.in_ok-board.board,
   c.in_ok-board.ensures.found,
-  (rw c.new-moves.ensures at c.in_ok-play.ensures.ok, rw c.new-moves.ensures at c.in_ok-play.ensures.value),
+  (c.in_ok-play.ensures.ok, c.in_ok-play.ensures.value),
 )
 
 pub returns-in_err-play-clause-fault : goal.returns-in_err-play-clause-fault
@@ -17,7 +21,7 @@ returns-in_err-play-clause-fault g c =
     rw (p.1, p.2) (inr (
       c.in_ok-board.board,
       c.in_ok-board.ensures.found,
-      (_, rw c.new-moves.ensures at c.in_err-play.ensures.fault, refl),
+      (_, c.in_err-play.ensures.fault, refl),
     ))
 
 pub returns-in_err-play-clause-streams : goal.returns-in_err-play-clause-streams
