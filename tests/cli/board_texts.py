@@ -18,6 +18,31 @@ def empty(labels, pebbles=4):
     return text(1, labels, [0] * pebbles, [])
 
 
+def residues(prime):
+    """A domain: the number of its labels, and the pairs of which the first dominates the second. Here the difference is a square modulo
+    the prime; modulo 3 that is the three-cycle."""
+    squares = {x * x % prime for x in range(1, prime)}
+    return prime, {(x, y) for x in range(prime) for y in range(prime) if (x - y) % prime in squares}
+
+
+def product(outer, inner):
+    """The domain of the labels x * size + y: the outer domain decides, and the inner one, of this size, between equal x."""
+    (copies, over), (size, under) = outer, inner
+    pairs = {(x * size + y, u * size + v) for x, u in over for y in range(size) for v in range(size)}
+    return copies * size, pairs | {(x * size + y, x * size + v) for x in range(copies) for y, v in under}
+
+
+def nested(level):
+    """The three-cycle, each of its labels replaced by the domain of one level less."""
+    return product(residues(3), nested(level - 1)) if level > 1 else (1, set())
+
+
+def domain_text(domain, pebbles):
+    """The board of a domain, with all pebbles on the label 0."""
+    labels, pairs = domain
+    return text(1, labels, [0] * pebbles, pairs)
+
+
 def layers(labels):
     """Labels of which each of the first half dominates each of the second, with three pebbles: seven eighths of the classes have value 0."""
     half = labels // 2

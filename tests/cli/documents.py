@@ -1,6 +1,4 @@
-"""What solve, check, report and nested write of stored boards, and of boards that are too long to be stored; and the reports of large
-boards, and the plays on them, which are limited by their classes.
-"""
+"""What solve, check, report and nested write of stored boards, and of boards that are too long to be stored."""
 import hashlib
 import os
 import re
@@ -8,7 +6,7 @@ import subprocess
 from functools import partial
 
 import board_texts
-from program import BOARDS, Check, Ran, board, check, fault, leaves, run, shown, stored, strategy, text_of, written
+from program import BOARDS, Check, Ran, board, check, fault, run, shown, stored, strategy, text_of, written
 
 # the claims of stored boards
 CLAIMS = {
@@ -57,10 +55,6 @@ NESTED_SIX = '99e3d4fd93bc36598f8d3ffb62b223fb984699a8e9c5a4f0f51b5b23fbf76a55'
 EMPTY_REPORT = b'report 1\nlabels 32\npebbles 4\nconfigurations 1048576\nstart value 0\nvalue 0: 1048576\nforever: 0\nend\n'
 NESTED_REPORT = b'report 1\nlabels 9\npebbles 3\nconfigurations 729\nstart forever\nforever: 729\nend\n'
 TOO_LARGE = fault(1, 'board too large')
-# labels and pebbles of a chain with more than 1048576 configurations
-LONG_CHAIN = 17, 5
-# a board of 2829056 classes, each of value 0
-WIDE_REPORT = b'report 1\nlabels 256\npebbles 3\nconfigurations 16777216\nstart value 0\nvalue 0: 16777216\nforever: 0\nend\n'
 
 
 # ---- what a check asks of a board
@@ -89,19 +83,6 @@ def counts_add_up(got):
     if (got.status, got.errors) == (0, b'') and total and int(total[1]) == sum(counts):
         return None
     return f'{shown(got)}; and not counts that add up, but {sum(counts)}'
-
-
-def is_counted_alike(path):
-    """None if the report of the board is the same after the word --large."""
-    return leaves(Ran(output=run(['report', path]).output), ['report', '--large', path])
-
-
-def lasts_for_ever(path):
-    """None if a large board lasts for ever from its start, and its counts add up."""
-    got = run(['report', '--large', '--workers', '4', path])
-    if b'\nstart forever\n' in got.output:
-        return counts_add_up(got)
-    return f'{shown(got)}; and not a start that lasts for ever'
 
 
 def has_lines(level, lines):
@@ -202,50 +183,11 @@ def made_boards(work):
         yield check(f'{command} of a board that is too large (five)', TOO_LARGE, [command, five])
 
 
-def chain_report(labels, pebbles):
-    """The report of a chain. A label above all others is an answer, so the value is that of the greatest label held, counted from above."""
-    counts = [(labels - value) ** pebbles - (labels - value - 1) ** pebbles for value in range(labels)]
-    lines = ['report 1', f'labels {labels}', f'pebbles {pebbles}', f'configurations {labels ** pebbles}', f'start value {labels - 1}']
-    lines += [f'value {value}: {count}' for value, count in enumerate(counts)]
-    return '\n'.join([*lines, 'forever: 0', 'end', '']).encode()
-
-
-# a play of each side on the long chain: what is typed, and what is written
-LARGE_PLAYS = {
-    'adversary': (b'0\n1\nquit\n',
-                  b'value 16\nat 0 0 0 0 0\npebble 0 takes 1\nat 1 0 0 0 0\npebble 1 takes 2\nat 1 2 0 0 0\nstopped after 2 requests\n'),
-    'labeller': (b'1\n16\n', b'value 16\nat 0 0 0 0 0\nask 0\nat 1 0 0 0 0\nask 1\nat 1 16 0 0 0\nask 0\nno label for pebble 0 after 2 requests\n'),
-}
-
-
-def large_boards(work):
-    """Reports of boards that are limited by their classes and plays on them, and reports of boards that are within both limits."""
-    chain = written(work, 'long-chain.board', board_texts.chain(*LONG_CHAIN))
-    yield check('the report of a long chain', TOO_LARGE, ['report', chain])
-    for workers in '1', '16':
-        yield check(f'the report of a long chain, as a large board, with {workers} workers', Ran(output=chain_report(*LONG_CHAIN)),
-                    ['report', '--large', '--workers', workers, chain])
-    for side, (lines, transcript) in LARGE_PLAYS.items():
-        yield check(f'a play on a long chain as the {side}', TOO_LARGE, ['play', '--side', side, chain], input=lines)
-        yield check(f'a play on a long chain as the {side}, as a large board', Ran(output=transcript),
-                    ['play', '--large', '--side', side, chain], input=lines)
-    wide, wider = (written(work, f'wide-{pebbles}.board', board_texts.empty(256, pebbles)) for pebbles in (3, 4))
-    yield check('the report of a wide board, as a large board', Ran(output=WIDE_REPORT), ['report', '--large', wide])
-    yield check('the report of a wider board, as a large board', TOO_LARGE, ['report', '--large', wider])
-    twice, nineteen = (board(name) for name in BEYOND)
-    yield Check(f'the report of {BEYOND[0]}, as a large board', partial(lasts_for_ever, twice))
-    yield check(f'the report of {BEYOND[1]}, as a large board', TOO_LARGE, ['report', '--large', nineteen])
-    for name in stored('.board'):
-        if name not in BEYOND:
-            yield Check(f'the report of {name}, as a large board', partial(is_counted_alike, board(name)))
-
-
 def checks(work):
     """Those of stored documents and boards, of boards that are made, and of the texts of large nested boards."""
     yield from stored_documents()
     yield from stored_boards(work)
     yield from made_boards(work)
-    yield from large_boards(work)
     yield Check('nested 5 5', partial(has_lines, '5', 3245))
     yield Check('nested 6 6', partial(has_lines, '6', 29408))
     yield Check('the digest of nested 6 6', partial(has_digest, '6', NESTED_SIX))

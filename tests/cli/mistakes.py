@@ -2,12 +2,13 @@
 import os
 import pty
 import subprocess
+from contextlib import contextmanager, suppress
 from dataclasses import dataclass, field
 from functools import partial
 
 from board_texts import chain, empty, text as board_text
 from harness import BOARDS, PROGRAM, TOP, Check
-from program import LONGEST, Ran, fault, shown, written
+from program import LONGEST, Ran, board, differs, fault, shown, written
 
 CHAIN = os.path.join(BOARDS, 'chain-of-three.board')
 CHAIN_PROOF = os.path.join(BOARDS, 'chain-of-three.proof')
@@ -55,8 +56,9 @@ def run_at_terminal(mistake):
     ours, theirs = pty.openpty()
     with subprocess.Popen([*mistake.before, PROGRAM, *mistake.words], stdin=subprocess.PIPE, stdout=subprocess.PIPE, stderr=theirs) as started:
         os.close(theirs)
-        started.stdin.write(mistake.given)
-        started.stdin.close()
+        with suppress(BrokenPipeError):
+            started.stdin.write(mistake.given)
+            started.stdin.close()
         output = started.stdout.read()
         errors = read_all(ours)
         status = started.wait(LONGEST)
@@ -82,21 +84,81 @@ def explained(mistake):
     return None if is_same and is_note else f'at a terminal {shown(told)}'
 
 
+# ---- typed lines
+
+# the greetings of plays
+ASKING = 'type the number of a pebble, of which the first is 0; `quit` or Ctrl-D ends the play'
+ANSWERING = 'type a label for the pebble that is asked for; `quit` or Ctrl-D ends the play'
+
+
+@contextmanager
+def at_terminals(words):
+    """A run whose standard input and standard error are terminals, with the end that types and the end that is shown the errors.
+
+    They are two, so that no typed line is echoed among the errors.
+    """
+    typing, keyboard = pty.openpty()
+    screen, errors = pty.openpty()
+    with subprocess.Popen([PROGRAM, *words], stdin=keyboard, stdout=subprocess.PIPE, stderr=errors) as started:
+        os.close(keyboard)
+        os.close(errors)
+        yield started, typing, screen
+    os.close(typing)
+    os.close(screen)
+
+
+def run_at_terminals(words, given):
+    """What a run leaves for which these bytes are typed. One that asks for none may be over before."""
+    with at_terminals(words) as (started, typing, screen):
+        with suppress(OSError):
+            os.write(typing, given)
+        output = started.stdout.read()
+        return Ran(started.wait(LONGEST), output, read_all(screen))
+
+
+def quiet(words, given):
+    """What a run on these bytes leaves without a terminal."""
+    return run_in_pipes(Mistake('', words, Ran(), '', '', given=given))
+
+
+def prompted(words, given, told):
+    """None where a person who types this is told these lines, and all else is as without a terminal, where nothing is told."""
+    piped = quiet(words, given)
+    lines = ''.join(f'{line}\n' for line in told).encode()
+    at_one = run_at_terminal(Mistake('', words, Ran(), '', '', given=given))
+    return differs(run_at_terminals(words, given), Ran(piped.status, piped.output, lines)) or differs(at_one, Ran(piped.status, piped.output))
+
+
+def prompted_in_turn(words, told):
+    """None where a wrong line is answered, and then the choices are told, before another line is typed."""
+    with at_terminals(words) as (started, typing, screen):
+        os.write(typing, b'x\n')
+        lines = b''
+        while told.encode() not in lines:
+            lines += os.read(screen, 4096)
+        answer = os.read(started.stdout.fileno(), 4096)
+        os.write(typing, b'quit\n')
+        started.stdout.read()
+    return None if b'\nnot a' in answer else f'{lines!r} before {answer!r}'
+
+
+def ungreeted(words):
+    """None where a run at a terminal begins with the fault line that it has without one."""
+    piped, told = quiet(words, b''), run_at_terminals(words, b'')
+    return None if piped.errors and told.errors.startswith(piped.errors) else f'{shown(told)}; and without a terminal {shown(piped)}'
+
+
 def greeted(words, says, given):
     """None where a run at a terminal begins with a line that says what can be typed, and without one says nothing of it."""
-    ours, theirs = pty.openpty()
-    with subprocess.Popen([PROGRAM, *words], stdin=theirs, stdout=subprocess.PIPE, stderr=theirs) as started:
-        os.close(theirs)
+    with at_terminals(words) as (started, typing, screen):
         told = b''
         while b'\n' not in told:
-            told += os.read(ours, 4096)
-        os.write(ours, given)
+            told += os.read(screen, 4096)
+        os.write(typing, given)
         started.stdout.read()
-        started.wait(LONGEST)
-    os.close(ours)
     first = told.replace(b'\r\n', b'\n').split(b'\n')[0].decode()
-    quiet = run_in_pipes(Mistake('', words, Ran(), '', '', given=given))
-    return None if says in first and says.encode() not in quiet.errors else f'{first!r}, and without a terminal {shown(quiet)}'
+    piped = quiet(words, given)
+    return None if says in first and says.encode() not in piped.errors else f'{first!r}, and without a terminal {shown(piped)}'
 
 
 # ---- mistakes
@@ -322,12 +384,32 @@ def of_words(work):
     yield Mistake('a path that is no text', ['solve', b'\xff.board'], text, 'pebbles', 'UTF-8')
 
 
+def of_typed_lines(work):
+    """Checks of what a person is told who types the lines of a play."""
+    cycle, lone, faulty = board('three-cycle'), board('one-label-two-pebbles'), CHAIN_PROOF
+    asks, answers = ['play', '--side', 'adversary'], ['play', '--side', 'labeller']
+    pebbles, only = 'type a pebble, 0 to 1, or quit', 'type 0, the only pebble, or quit'
+    first, second = (f'labels that pebble {pebble} can take: {labels}; type one, or quit' for pebble, labels in ((0, '1 2'), (1, '2')))
+    plays = [('good requests', [*asks, CHAIN], b'1\nquit\n', [ASKING]),
+             ('wrong requests', [*asks, CHAIN], b'2\n1\n\nquit\n', [ASKING, pebbles, pebbles]),
+             ('wrong answers', [*answers, CHAIN], b'0\nx\n1\n1\nquit\n', [ANSWERING, first, first, second]),
+             ('wrong requests of a climb', ['climb', '3'], b'3\nquit\n', [ASKING, 'type a pebble, 0 to 2, or quit']),
+             ('a wrong request of a climb of one level', ['climb', '1'], b'x\nquit\n', [ASKING, only]),
+             ('no strategy', [*answers, cycle], b'1\nquit\n', []),
+             ('a play that is stuck at once', [*answers, lone], b'0\n', []),
+             ('a play that is stuck at the first request', [*asks, lone], b'0\n', [ASKING])]
+    for name, words, given, told in plays:
+        yield Check(f'typed: {name}', partial(prompted, words, given, told))
+    for words, told in (([*asks, CHAIN], pebbles), ([*answers, CHAIN], first), (['climb', '3'], 'type a pebble')):
+        yield Check(f'typed: the choices in turn, in {" ".join(words[:3])}', partial(prompted_in_turn, words, told))
+    for words in ([*asks, faulty], [*answers, os.path.join(work, 'missing.board')]):
+        yield Check(f'typed: no greeting for {os.path.basename(words[-1])}', partial(ungreeted, words))
+
+
 def checks(work):
     """All checks, which write what they need into `work`."""
     for subject in (of_boards, of_files, of_documents, of_streams, of_permissions, of_words):
         for mistake in subject(work):
             yield Check(f'a mistake: {mistake.name}', partial(explained, mistake))
     yield Check('a terminal without words', partial(greeted, [], 'Ctrl-D', b'\x04'))
-    yield Check('a play at a terminal as the adversary', partial(greeted, ['play', '--side', 'adversary', CHAIN], 'pebble', b'quit\n'))
-    yield Check('a play at a terminal as the labeller', partial(greeted, ['play', '--side', 'labeller', CHAIN], 'label', b'quit\n'))
-    yield Check('a nested play at a terminal', partial(greeted, ['climb', '3'], 'pebble', b'quit\n'))
+    yield from of_typed_lines(work)

@@ -3,6 +3,7 @@
 ghost use Rattle.board_text.specs.Ranges.{InRange};
 
 use crate::outcomes::{NOTHING, PLENTY, outcome_of};
+use board_text::Source;
 use fakes::boards::TOO_MANY_CONFIGURATIONS;
 use fakes::{Drip, Failing, Outcome, Trickle, comes_right};
 use graphs::Numbering;
@@ -46,8 +47,12 @@ fn report_outcome(
 #[test]
 fn reports(rt: HostRuntime) {
     let alloc = rt.alloc();
-    assert!(rt; comes_right(|| report_outcome(&rt, alloc, Numbering::Classes, 1, Ok(()), REPORT.as_bytes())));
-    assert!(rt; comes_right(|| report_outcome(&rt, alloc, Numbering::Classes, 2, Ok(()), REPORT.as_bytes())));
+    assert!(rt;
+        comes_right(|| report_outcome(&rt, alloc, Numbering::Classes, 1, Ok(()), REPORT.as_bytes()))
+    );
+    assert!(rt;
+        comes_right(|| report_outcome(&rt, alloc, Numbering::Classes, 2, Ok(()), REPORT.as_bytes()))
+    );
     let large = Err(RunFault::TooLarge);
     assert!(rt; comes_right(|| report_outcome(&rt, alloc, Numbering::Ordered, 2, large, NOTHING)));
 }

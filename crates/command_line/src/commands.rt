@@ -72,7 +72,8 @@ const ABOUT_REPORTING: &str = "The report is the same for every number of worker
 
 /// The help of `check`.
 const ABOUT_CHECKING: &str =
-    "Writes one line: `accepted` and the claim, or `refused` and the first fault.\n\n\
+    "Writes one line: `accepted` and the claim, or `refused` and the first rule of checking that \
+    the document breaks.\n\n\
     Common faults:\n  \
     board fault line 1 Version  BOARD is not a board; perhaps the two paths are exchanged\n  \
     proof fault line 1 Version  PROOF is not a strategy document\n  \
@@ -155,7 +156,7 @@ fn solve<'a>(alloc: Global) -> Result<Command<'a>, AllocError>
 {
     let board = path(alloc, "board", "BOARD", "The path of a board");
     Command::new(alloc, "solve")
-        .about("Reads a board, and writes its value and the strategies that show it")
+        .about("Reads a board, and writes the value of its start and the strategies that show it")
         .after_help(ABOUT_SOLVING)
         .arg(workers(alloc))?
         .arg(board)

@@ -136,8 +136,9 @@ pub fn nested_boards_are_products()
 
 /// The product of the residues modulo seven and themselves carries five processes for ever on 49
 /// labels, and no six; and that of a chain of 200 labels and these residues lasts 199 requests or
-/// more with four processes. Both have more configurations than the limits of a run.
-pub fn products_beyond_any_run()
+/// more with four processes. Both have more configurations than there may be ranks; the first has
+/// few enough classes for its values to be found by them.
+pub fn large_products()
     ensures for_ever { (residues : PlainBoard) → (board : PlainBoard)
         → IsCircle 7 (1 ∷ 2 ∷ 4 ∷ []) residues → residues.pebbles ≡ 3
         → IsProductOf (residues ∷ residues ∷ []) board

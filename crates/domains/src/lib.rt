@@ -22,9 +22,8 @@ pub use laws_of_followers::{
     withdrawals_change_nothing,
 };
 pub use laws_of_products::{
-    few_labels_carry_many, nested_boards_are_products, products_beyond_any_run,
-    products_carry_no_more, products_exist, products_last, products_last_as_their_factors,
-    several_products_last,
+    few_labels_carry_many, large_products, nested_boards_are_products, products_carry_no_more,
+    products_exist, products_last, products_last_as_their_factors, several_products_last,
 };
 pub use laws_of_starts::{
     chains_have_their_value, dominated_boards_last, one_label_is_the_best_start, orders_end,

@@ -11,3 +11,5 @@ mod plays;
 mod plays_in_memory;
 #[cfg(test)]
 mod plays_without_ranks;
+#[cfg(test)]
+mod prompts;

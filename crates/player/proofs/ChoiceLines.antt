@@ -27,7 +27,8 @@ module _ (inside seat : PlayState) (same : inside ≡ seat) where
   choices_said asked old one two new best first (labels, ascend, legal, listed) last =
       subst (λ (s : PlayState). AddsText old new (AreChoices (PersonAnswers s.board) s.at)) same (
         label_choices asked labels,
-        joined old (codes "labels that pebble ") (decimal asked) (codes " can take:") (spaced_numbers labels) (codes "; type one, or quit") one two new first listed last,
+        joined old (codes "labels that pebble ") (decimal asked) (codes " can take:") (spaced_numbers labels)
+            (codes "; type one, or quit") one two new first listed last,
         (
           asked,
           labels,
@@ -44,9 +45,11 @@ module _ (inside seat : PlayState) (same : inside ≡ seat) where
       )
 
   -- the same, if memory for the last part was given
-  pub choices_said_if : {X E : Type 0} (result : Result X E) (asked : ℕ) (old one two new : List ℕ) → IsBestRequest inside.board inside.at asked
+  pub choices_said_if : {X E : Type 0} (result : Result X E) (asked : ℕ) (old one two new : List ℕ)
+      → IsBestRequest inside.board inside.at asked
       → one ≡ old ++ (codes "labels that pebble " ++ decimal asked ++ codes " can take:")
       → AddsLegalLabels seat one two → new ≡ if is_ok result then two ++ codes "; type one, or quit" else two
       → OnOk result (AddsText old new (AreChoices (PersonAnswers seat.board) seat.at))
-  choices_said_if (Ok done) asked old one two new best first listed last = choices_said asked old one two new best first listed last
+  choices_said_if (Ok done) asked old one two new best first listed last =
+      choices_said asked old one two new best first listed last
   choices_said_if (Err refused) asked old one two new best first listed last = tt

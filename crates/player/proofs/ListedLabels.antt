@@ -1,5 +1,6 @@
 -- The labels of a property, listed one after the other.
-use Rattle.std.proofs.Common.{◌≡◌, ℕ, ◌+◌, ◌<◌, ◌⊎◌, ◌↔◌, List, [], ◌∷◌, ◌++◌, inl, inr, sym, ap, ◌∙◌, subst, arith}
+use Rattle.std.proofs.Common.{◌≡◌, ℕ, ◌+◌, ◌<◌, ◌⊎◌, ◌↔◌, List, [], ◌∷◌, ◌++◌}
+use Rattle.std.proofs.Common.{inl, inr, sym, ap, ◌∙◌, subst, arith}
 use Rattle.std.proofs.lemmas.Bool.{cases_lt}
 use Rattle.std.proofs.lemmas.List.Elements.{All-nil, All-push, Contains-append_left, Contains-push, Contains-push_cases}
 use Rattle.std.proofs.lemmas.List.Quantifiers.{all_pairs_push}
@@ -42,7 +43,8 @@ module _ (Has : ℕ → Type 0) where
     pub one_more : Has bound → AreListed Has (bound + 1) (xs ++ bound ∷ [])
     one_more has = record {
       ascending = all_pairs_push (λ x y. x < y) xs bound listed.ascending listed.below;
-      below = All-push (λ x. x < bound + 1) xs bound (λ k d inside. let low = listed.below k d inside in omega (arith, low)) (omega arith);
+      below = All-push (λ x. x < bound + 1) xs bound
+          (λ k d inside. let low = listed.below k d inside in omega (arith, low)) (omega arith);
       each = λ x contains. each_of x (Contains-push_cases xs bound x contains);
       all = λ x low h. all_of x (low_or_last bound x low) h;
     }

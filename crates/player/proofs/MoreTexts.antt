@@ -1,5 +1,6 @@
 -- Texts that are written one after the other are one text.
-use Rattle.std.proofs.Common.{◌≡◌, ℕ, Bool, not, true, false, List, [], ◌∷◌, ◌++◌, refl, sym, ap, subst, ◌∙◌, inl, inr, arith}
+use Rattle.std.proofs.Common.{◌≡◌, ℕ, Bool, not, true, false, List, [], ◌∷◌, ◌++◌}
+use Rattle.std.proofs.Common.{refl, sym, ap, subst, ◌∙◌, inl, inr, arith}
 use Rattle.std.proofs.lemmas.List.{append-nil, length-append, map-append, take-append-le}
 use Rattle.std.proofs.lemmas.List.Concat.{flat_map-append}
 use Rattle.std.proofs.lemmas.List.Elements.{All-append, All-cons, All-nil}
@@ -26,7 +27,8 @@ nothing (x ∷ s) t none = cc
 module _ {W : Type 0} (known : W → Option (List ℕ)) (failed : W → Bool) where
   -- from a writer that hadn't failed
   abbrev between : W → W → List ℕ → Type 0
-  between before after text = IsTaken (known before) (known after) (failed after ≡ true) text × (text ≡ [] → after ≡ before)
+  between before after text =
+      IsTaken (known before) (known after) (failed after ≡ true) text × (text ≡ [] → after ≡ before)
 
   after_written : (a b c : W) (s t : List ℕ) (was : Bool) → failed b ≡ was → between a b s → IsMore known failed b c
       t → between a c (s ++ t)
@@ -79,7 +81,11 @@ then_shown known failed a b c s t first second =
 
 -- one line
 pub line_for_person : (words : List ℕ) → HasNoControl words → AreForPerson true (with_line_feed words)
-line_for_person words plain = (words ∷ [], All-cons HasNoControl words [] plain (All-nil HasNoControl), sym (append-nil (with_line_feed words)))
+line_for_person words plain = (
+  words ∷ [],
+  All-cons HasNoControl words [] plain (All-nil HasNoControl),
+  sym (append-nil (with_line_feed words)),
+)
 
 pub shown_line : (words : List ℕ) → AreForPerson true (with_line_feed (shown words))
 shown_line words = line_for_person (shown words) (plain_if_shown words)
@@ -90,7 +96,8 @@ nothing_for_person true = ([], All-nil HasNoControl, refl)
 nothing_for_person false = refl
 
 -- lines and then lines
-pub then_for_person : (shows : Bool) (s t : List ℕ) → AreForPerson shows s → AreForPerson shows t → AreForPerson shows (s ++ t)
+pub then_for_person : (shows : Bool) (s t : List ℕ) → AreForPerson shows s → AreForPerson shows t
+    → AreForPerson shows (s ++ t)
 then_for_person true s t (first, plain, is) (second, plain_too, is_too) = (
   first ++ second,
   All-append HasNoControl first second plain plain_too,

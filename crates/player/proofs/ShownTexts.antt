@@ -3,7 +3,7 @@ use Rattle.std.proofs.Common.{◌≡◌, ◌+◌, ◌-◌, ◌<◌, ℕ, suc, Bo
 use Rattle.std.proofs.Common.{length, take, drop, get_or, refl, sym, ap, ◌∙◌, arith, length-drop}
 use Rattle.std.proofs.Math.Seq.{take-length, take-suc, drop-cons}
 use Rattle.std.proofs.lemmas.List.{append_assoc, map-append, take-append-drop}
-use Rattle.std.proofs.lemmas.List.Elements.{All-append, All-cons, All-from_get_or, All-map, All-nil}
+use Rattle.std.proofs.lemmas.List.Elements.{All-from_get_or, All-map}
 use Rattle.std.specs.Prelude.{All, cond}
 use Rattle.player.specs.Showing.{is_control, shown, shown_byte}
 
@@ -19,15 +19,6 @@ pub plain_if_shown : (text : List ℕ) → All IsPlain (shown text)
 plain_if_shown text =
     All-map IsPlain shown_byte text (All-from_get_or (λ b. IsPlain (shown_byte b)) text 0
     (λ i inside. plainly (get_or text i 0) (is_control (get_or text i 0)) refl))
-
--- a line in parts has none
-pub plain_line : (about colon words : List ℕ) → All IsPlain colon → All IsPlain (shown about ++ (colon ++ shown words))
-plain_line about colon words plain =
-    All-append IsPlain (shown about) (colon ++ shown words) (plain_if_shown about)
-    (All-append IsPlain colon (shown words) plain (plain_if_shown words))
-
-pub colon_is_plain : All IsPlain (58 ∷ 32 ∷ [])
-colon_is_plain = All-cons IsPlain 58 (32 ∷ []) refl (All-cons IsPlain 32 [] refl (All-nil IsPlain))
 
 -- ---- texts that are written up to a control byte, one after the other
 

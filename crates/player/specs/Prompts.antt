@@ -7,11 +7,12 @@ use Rattle.board_text.specs.PlainBoard.{PlainBoard}
 use Rattle.positions.specs.Game.{Legal}
 use Rattle.strategies.specs.Best.{IsBestRequest}
 use Rattle.player.specs.Showing.{AreForPerson}
-use Rattle.player.specs.Transcript.{Game, PersonAsks, PersonAnswers, PersonClimbs, Going, BeginsPlay}
+use Rattle.player.specs.Transcript.{Game, PersonAsks, PersonAnswers, PersonClimbs}
+use Rattle.player.specs.Transcript.{BeginsPlay, Going}
 
 -- the labels that are legal for the pebble, in ascending order
-pub record AreLegalLabels (board : PlainBoard) (configuration : List ℕ) (pebble : ℕ) (labels : List ℕ)
-    : Type 0 where
+pub record AreLegalLabels (board : PlainBoard) (configuration : List ℕ) (pebble : ℕ)
+    (labels : List ℕ) : Type 0 where
   pub ascending : AllPairs (λ x y. x < y) labels
   pub legal : (label : ℕ) → Contains labels label ↔ Legal board configuration pebble label
 
@@ -30,7 +31,8 @@ label_choices pebble labels = codes "labels that pebble " ++ decimal pebble ++ c
 -- the best request
 abbrev pub AreChoices : Game → List ℕ → List ℕ → Type 0
 AreChoices (PersonAsks board) at words = words ≡ pebble_choices board.pebbles
-AreChoices (PersonAnswers board) at words = (pebble : ℕ) × (labels : List ℕ) × IsBestRequest board at pebble
+AreChoices (PersonAnswers board) at words =
+    (pebble : ℕ) × (labels : List ℕ) × IsBestRequest board at pebble
     × AreLegalLabels board at pebble labels × (words ≡ label_choices pebble labels)
 AreChoices (PersonClimbs levels) at words = words ≡ pebble_choices levels
 

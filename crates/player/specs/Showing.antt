@@ -23,7 +23,8 @@ shown bytes = map shown_byte bytes
 
 -- lines without control bytes, if there is a person to see them; else nothing
 abbrev pub AreForPerson : Bool → List ℕ → Type 0
-AreForPerson true text = (lines : List (List ℕ)) × All HasNoControl lines × (text ≡ flat_map with_line_feed lines)
+AreForPerson true text =
+    (lines : List (List ℕ)) × All HasNoControl lines × (text ≡ flat_map with_line_feed lines)
 AreForPerson false text = text ≡ []
 
 -- the text was written, and nothing else; or a prefix of it, and then the writer failed
@@ -37,5 +38,6 @@ IsTaken taken_old taken_new HasFailed text =
 abbrev pub IsMore : {W : Type 0} → (W → Option (List ℕ)) → (W → Bool) → W → W → List ℕ → Type 0
 IsMore known has_failed before after text =
     (has_failed before ≡ true → after ≡ before)
-    × (has_failed before ≡ false → IsTaken (known before) (known after) (has_failed after ≡ true) text
+    × (has_failed before ≡ false
+    → IsTaken (known before) (known after) (has_failed after ≡ true) text
     × (text ≡ [] → after ≡ before))

@@ -1,6 +1,7 @@
 //! Plays in which the person is the adversary.
 
-ghost use Rattle.std.specs.Prelude.{◌≡◌, ◌+◌, ◌<◌, ◌≤◌, ◌^◌, ℕ, List, false, None, IfOk, IfErr, string_bytes};
+ghost use Rattle.std.specs.Prelude.{◌≡◌, ◌+◌, ◌<◌, ◌≤◌, ◌^◌, ℕ, List, false, None, IfOk, IfErr};
+ghost use Rattle.std.specs.Prelude.{string_bytes};
 ghost use Rattle.player.specs.Laws.{KeepsToValue};
 ghost use Rattle.player.specs.Play.{HasEnded, BreaksOff, TellsStreams};
 ghost use Rattle.player.specs.Prompts.{ArePrompts};
@@ -40,41 +41,16 @@ pub fn play_adversary_side<R: Source, W: Sink>(
     requires reader_ready { R.has_failed reader.old ≡ false }
     requires reader_unended { R.has_ended reader.old ≡ false }
     requires writer_ready { W.has_failed writer.old ≡ false }
-    ensures ok { IfOk result (HasEnded (IsPlayed (PersonAsks board.now)) (R.remaining reader.old) (R.remaining reader.new)
+    ensures ok { IfOk result (HasEnded (IsPlayed (PersonAsks board.now))
+        (R.remaining reader.old) (R.remaining reader.new)
         (W.contents writer.old) (W.contents writer.new)) }
-    ensures fault { IfErr result (BreaksOff (IsPlayed (PersonAsks board.now)) (R.remaining reader.old) (R.remaining reader.new)
+    ensures fault { IfErr result (BreaksOff (IsPlayed (PersonAsks board.now))
+        (R.remaining reader.old) (R.remaining reader.new)
         (W.contents writer.old) (W.contents writer.new)) }
     ensures value { IfOk result (KeepsToValue (PersonAsks board.now)) }
     ensures streams { TellsStreams result (R.has_failed reader.new) (W.has_failed writer.new) }
 {
     play_adversary(alloc, board, values.numbered(), reader, writer)
-}
-
-/// Plays as `play_adversary_side` does, and prompts the person as `play_adversary_with_prompts` does.
-pub fn play_adversary_side_with_prompts<R: Source, W: Sink, E: Sink>(
-    alloc: Global,
-    board: &Board,
-    values: &Values,
-    reader: &mut R,
-    writer: &mut W,
-    shows: bool,
-    errors: &mut E,
-) -> Result<PlayEnd, PlayFault>
-    requires same_board { values.now ≡ board.now }
-    requires reader_ready { R.has_failed reader.old ≡ false }
-    requires reader_unended { R.has_ended reader.old ≡ false }
-    requires writer_ready { W.has_failed writer.old ≡ false }
-    ensures ok { IfOk result (HasEnded (IsPlayed (PersonAsks board.now)) (R.remaining reader.old) (R.remaining reader.new)
-        (W.contents writer.old) (W.contents writer.new)) }
-    ensures fault { IfErr result (BreaksOff (IsPlayed (PersonAsks board.now)) (R.remaining reader.old) (R.remaining reader.new)
-        (W.contents writer.old) (W.contents writer.new)) }
-    ensures value { IfOk result (KeepsToValue (PersonAsks board.now)) }
-    ensures streams { TellsStreams result (R.has_failed reader.new) (W.has_failed writer.new) }
-    ensures prompts { (told : List ℕ) × ArePrompts shows (PersonAsks board.now) told
-        × IsMore E.contents E.has_failed errors.old errors.new told }
-{
-    let values = values.numbered();
-    play_adversary_with_prompts(alloc, board, values, reader, writer, shows, errors)
 }
 
 /// Plays as `play_adversary_side` does, by the values of a board that may have too many
@@ -90,9 +66,11 @@ pub fn play_adversary<R: Source, W: Sink>(
     requires reader_ready { R.has_failed reader.old ≡ false }
     requires reader_unended { R.has_ended reader.old ≡ false }
     requires writer_ready { W.has_failed writer.old ≡ false }
-    ensures ok { IfOk result (HasEnded (IsPlayed (PersonAsks board.now)) (R.remaining reader.old) (R.remaining reader.new)
+    ensures ok { IfOk result (HasEnded (IsPlayed (PersonAsks board.now))
+        (R.remaining reader.old) (R.remaining reader.new)
         (W.contents writer.old) (W.contents writer.new)) }
-    ensures fault { IfErr result (BreaksOff (IsPlayed (PersonAsks board.now)) (R.remaining reader.old) (R.remaining reader.new)
+    ensures fault { IfErr result (BreaksOff (IsPlayed (PersonAsks board.now))
+        (R.remaining reader.old) (R.remaining reader.new)
         (W.contents writer.old) (W.contents writer.new)) }
     ensures value { IfOk result (KeepsToValue (PersonAsks board.now)) }
     ensures streams { TellsStreams result (R.has_failed reader.new) (W.has_failed writer.new) }
@@ -101,8 +79,8 @@ pub fn play_adversary<R: Source, W: Sink>(
     play_adversary_with_prompts(alloc, board, values, reader, writer, false, &mut nobody)
 }
 
-/// Plays as `play_adversary` does, and if `shows` says so, prompts the person by lines on `errors`: a
-/// greeting before the first line is read, and after the answer to each wrong line the
+/// Plays as `play_adversary` does, and if `shows` says so, prompts the person by lines on
+/// `errors`: a greeting before the first line is read, and after the answer to each wrong line the
 /// pebbles that can be asked for.
 ///
 /// If `errors` fails, or has failed before, nothing more is written there, and the play goes on.
@@ -119,9 +97,11 @@ pub fn play_adversary_with_prompts<R: Source, W: Sink, E: Sink>(
     requires reader_ready { R.has_failed reader.old ≡ false }
     requires reader_unended { R.has_ended reader.old ≡ false }
     requires writer_ready { W.has_failed writer.old ≡ false }
-    ensures ok { IfOk result (HasEnded (IsPlayed (PersonAsks board.now)) (R.remaining reader.old) (R.remaining reader.new)
+    ensures ok { IfOk result (HasEnded (IsPlayed (PersonAsks board.now))
+        (R.remaining reader.old) (R.remaining reader.new)
         (W.contents writer.old) (W.contents writer.new)) }
-    ensures fault { IfErr result (BreaksOff (IsPlayed (PersonAsks board.now)) (R.remaining reader.old) (R.remaining reader.new)
+    ensures fault { IfErr result (BreaksOff (IsPlayed (PersonAsks board.now))
+        (R.remaining reader.old) (R.remaining reader.new)
         (W.contents writer.old) (W.contents writer.new)) }
     ensures value { IfOk result (KeepsToValue (PersonAsks board.now)) }
     ensures streams { TellsStreams result (R.has_failed reader.new) (W.has_failed writer.new) }
@@ -178,7 +158,8 @@ impl<'a> AdversarySide<'a> {
         ensures board { self.new.board ≡ self.old.board }
         ensures count { self.new.requests ≤ self.old.requests + 1 }
         ensures said { IfOk result (λ end. AddsText (string_bytes text.old) (string_bytes text.new)
-            (λ said. Replies self.old.board self.old.at self.old.requests pebble said (standing_of end self.new.at self.new.requests))) }
+            (λ said. Replies self.old.board self.old.at self.old.requests pebble said
+            (standing_of end self.new.at self.new.requests))) }
     {
         let board = self.moves.board();
         match self.moves.answer(self.configuration.as_slice(), pebble) {

@@ -66,9 +66,11 @@ pub fn play_nested_with_prompts<R: Source, W: Sink, E: Sink>(
     requires reader_ready { R.has_failed reader.old ≡ false }
     requires reader_unended { R.has_ended reader.old ≡ false }
     requires writer_ready { W.has_failed writer.old ≡ false }
-    ensures ok { IfOk result (HasEnded (IsPlayed (PersonClimbs levels)) (R.remaining reader.old) (R.remaining reader.new)
+    ensures ok { IfOk result (HasEnded (IsPlayed (PersonClimbs levels)) (R.remaining reader.old)
+        (R.remaining reader.new)
         (W.contents writer.old) (W.contents writer.new)) }
-    ensures fault { IfErr result (BreaksOff (IsPlayed (PersonClimbs levels)) (R.remaining reader.old) (R.remaining reader.new)
+    ensures fault { IfErr result (BreaksOff (IsPlayed (PersonClimbs levels))
+        (R.remaining reader.old) (R.remaining reader.new)
         (W.contents writer.old) (W.contents writer.new)) }
     ensures value { IfOk result (KeepsToValue (PersonClimbs levels)) }
     ensures streams { TellsStreams result (R.has_failed reader.new) (W.has_failed writer.new) }

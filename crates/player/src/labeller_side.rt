@@ -1,6 +1,7 @@
 //! Plays in which the person is the labeller.
 
-ghost use Rattle.std.specs.Prelude.{◌≡◌, ◌↔◌, ◌+◌, ◌<◌, ◌≤◌, ◌^◌, ◌++◌, ℕ, List, false, None, IfOk, IfErr, OnOk, IsTrue, string_bytes};
+ghost use Rattle.std.specs.Prelude.{◌≡◌, ◌↔◌, ◌+◌, ◌<◌, ◌≤◌, ◌^◌, ◌++◌, ℕ, List, false, None, IfOk};
+ghost use Rattle.std.specs.Prelude.{IfErr, OnOk, IsTrue, string_bytes};
 ghost use Rattle.std.specs.Fmt.{decimal};
 ghost use Rattle.board_text.specs.PlainBoard.{IsBoard, IsConfiguration};
 ghost use Rattle.positions.specs.Value.{HasValue};
@@ -8,7 +9,7 @@ ghost use Rattle.positions.specs.declared.value.Value.TheVariants.{Finite};
 ghost use Rattle.strategies.specs.Best.{IsBestRequest};
 ghost use Rattle.player.specs.Laws.{KeepsToValue};
 ghost use Rattle.player.specs.Play.{HasEnded, BreaksOff, TellsStreams};
-ghost use Rattle.player.specs.Inside.PlayState.{HasAsked, IsRequestAt, IsStandingAfter, IsLegalAt, IsPlayState};
+ghost use Rattle.player.specs.Inside.PlayState.{HasAsked, IsRequestAt, IsStandingAfter, IsLegalAt};
 ghost use Rattle.player.specs.Inside.Prompts.{AddsLegalLabels};
 ghost use Rattle.player.specs.Prompts.{ArePrompts};
 ghost use Rattle.player.specs.Showing.{IsMore};
@@ -49,41 +50,16 @@ pub fn play_labeller_side<R: Source, W: Sink>(
     requires reader_ready { R.has_failed reader.old ≡ false }
     requires reader_unended { R.has_ended reader.old ≡ false }
     requires writer_ready { W.has_failed writer.old ≡ false }
-    ensures ok { IfOk result (HasEnded (IsPlayed (PersonAnswers board.now)) (R.remaining reader.old) (R.remaining reader.new)
+    ensures ok { IfOk result (HasEnded (IsPlayed (PersonAnswers board.now))
+        (R.remaining reader.old) (R.remaining reader.new)
         (W.contents writer.old) (W.contents writer.new)) }
-    ensures fault { IfErr result (BreaksOff (IsPlayed (PersonAnswers board.now)) (R.remaining reader.old) (R.remaining reader.new)
+    ensures fault { IfErr result (BreaksOff (IsPlayed (PersonAnswers board.now))
+        (R.remaining reader.old) (R.remaining reader.new)
         (W.contents writer.old) (W.contents writer.new)) }
     ensures value { IfOk result (KeepsToValue (PersonAnswers board.now)) }
     ensures streams { TellsStreams result (R.has_failed reader.new) (W.has_failed writer.new) }
 {
     play_labeller(alloc, board, values.numbered(), reader, writer)
-}
-
-/// Plays as `play_labeller_side` does, and prompts the person as `play_labeller_with_prompts` does.
-pub fn play_labeller_side_with_prompts<R: Source, W: Sink, E: Sink>(
-    alloc: Global,
-    board: &Board,
-    values: &Values,
-    reader: &mut R,
-    writer: &mut W,
-    shows: bool,
-    errors: &mut E,
-) -> Result<PlayEnd, PlayFault>
-    requires same_board { values.now ≡ board.now }
-    requires reader_ready { R.has_failed reader.old ≡ false }
-    requires reader_unended { R.has_ended reader.old ≡ false }
-    requires writer_ready { W.has_failed writer.old ≡ false }
-    ensures ok { IfOk result (HasEnded (IsPlayed (PersonAnswers board.now)) (R.remaining reader.old) (R.remaining reader.new)
-        (W.contents writer.old) (W.contents writer.new)) }
-    ensures fault { IfErr result (BreaksOff (IsPlayed (PersonAnswers board.now)) (R.remaining reader.old) (R.remaining reader.new)
-        (W.contents writer.old) (W.contents writer.new)) }
-    ensures value { IfOk result (KeepsToValue (PersonAnswers board.now)) }
-    ensures streams { TellsStreams result (R.has_failed reader.new) (W.has_failed writer.new) }
-    ensures prompts { (told : List ℕ) × ArePrompts shows (PersonAnswers board.now) told
-        × IsMore E.contents E.has_failed errors.old errors.new told }
-{
-    let values = values.numbered();
-    play_labeller_with_prompts(alloc, board, values, reader, writer, shows, errors)
 }
 
 /// Plays as `play_labeller_side` does, by the values of a board that may have too many
@@ -99,9 +75,11 @@ pub fn play_labeller<R: Source, W: Sink>(
     requires reader_ready { R.has_failed reader.old ≡ false }
     requires reader_unended { R.has_ended reader.old ≡ false }
     requires writer_ready { W.has_failed writer.old ≡ false }
-    ensures ok { IfOk result (HasEnded (IsPlayed (PersonAnswers board.now)) (R.remaining reader.old) (R.remaining reader.new)
+    ensures ok { IfOk result (HasEnded (IsPlayed (PersonAnswers board.now))
+        (R.remaining reader.old) (R.remaining reader.new)
         (W.contents writer.old) (W.contents writer.new)) }
-    ensures fault { IfErr result (BreaksOff (IsPlayed (PersonAnswers board.now)) (R.remaining reader.old) (R.remaining reader.new)
+    ensures fault { IfErr result (BreaksOff (IsPlayed (PersonAnswers board.now))
+        (R.remaining reader.old) (R.remaining reader.new)
         (W.contents writer.old) (W.contents writer.new)) }
     ensures value { IfOk result (KeepsToValue (PersonAnswers board.now)) }
     ensures streams { TellsStreams result (R.has_failed reader.new) (W.has_failed writer.new) }
@@ -110,9 +88,9 @@ pub fn play_labeller<R: Source, W: Sink>(
     play_labeller_with_prompts(alloc, board, values, reader, writer, false, &mut nobody)
 }
 
-/// Plays as `play_labeller` does, and if `shows` says so, prompts the person by lines on `errors`: a
-/// greeting before the first line is read, and after the answer to each wrong line the
-/// labels that are legal for the pebble that is asked for.
+/// Plays as `play_labeller` does, and if `shows` says so, prompts the person by lines on `errors`:
+/// a greeting before the first line is read, and after the answer to each wrong line the labels
+/// that are legal for the pebble that is asked for.
 ///
 /// If `errors` fails, or has failed before, nothing more is written there, and the play goes on.
 pub fn play_labeller_with_prompts<R: Source, W: Sink, E: Sink>(
@@ -128,9 +106,11 @@ pub fn play_labeller_with_prompts<R: Source, W: Sink, E: Sink>(
     requires reader_ready { R.has_failed reader.old ≡ false }
     requires reader_unended { R.has_ended reader.old ≡ false }
     requires writer_ready { W.has_failed writer.old ≡ false }
-    ensures ok { IfOk result (HasEnded (IsPlayed (PersonAnswers board.now)) (R.remaining reader.old) (R.remaining reader.new)
+    ensures ok { IfOk result (HasEnded (IsPlayed (PersonAnswers board.now))
+        (R.remaining reader.old) (R.remaining reader.new)
         (W.contents writer.old) (W.contents writer.new)) }
-    ensures fault { IfErr result (BreaksOff (IsPlayed (PersonAnswers board.now)) (R.remaining reader.old) (R.remaining reader.new)
+    ensures fault { IfErr result (BreaksOff (IsPlayed (PersonAnswers board.now))
+        (R.remaining reader.old) (R.remaining reader.new)
         (W.contents writer.old) (W.contents writer.new)) }
     ensures value { IfOk result (KeepsToValue (PersonAnswers board.now)) }
     ensures streams { TellsStreams result (R.has_failed reader.new) (W.has_failed writer.new) }
@@ -260,7 +240,8 @@ impl<'a> LabellerSide<'a> {
     /// Appends the labels that are legal for the pebble that is asked for, each with a space before
     /// it.
     fn write_legal_labels(&self, text: &mut String) -> Result<(), AllocError>
-        ensures { OnOk result (AddsLegalLabels self.now (string_bytes text.old) (string_bytes text.new)) }
+        ensures { OnOk result (AddsLegalLabels self.now (string_bytes text.old)
+            (string_bytes text.new)) }
     {
         for label in 0..self.moves.board().labels() {
             if self.is_legal(label) {
@@ -281,7 +262,8 @@ impl<'a> LabellerSide<'a> {
         ensures board { self.new.board ≡ self.old.board }
         ensures count { self.new.requests ≤ self.old.requests + 1 }
         ensures said { IfOk result (λ end. AddsText (string_bytes text.old) (string_bytes text.new)
-            (λ said. (line : List ℕ) → line ≡ decimal label → AsksAfterLine self.old.board self.old.at self.old.requests line said
+            (λ said. (line : List ℕ) → line ≡ decimal label
+            → AsksAfterLine self.old.board self.old.at self.old.requests line said
             (standing_of end self.new.at self.new.requests))) }
     {
         let board = self.moves.board();

@@ -73,7 +73,8 @@ fn tell_choices<P: Play, E: Sink>(play: &P, text: &mut String, errors: &mut E)
 /// Appends the words for the pebbles that can be asked for, of which there are `pebbles`.
 pub(crate) fn write_pebble_choices(text: &mut String, pebbles: u8) -> Result<(), AllocError>
     requires { 1 ≤ pebbles }
-    ensures { OnOk result (string_bytes text.new ≡ string_bytes text.old ++ pebble_choices pebbles) }
+    ensures { OnOk result (string_bytes text.new ≡ string_bytes text.old
+        ++ pebble_choices pebbles) }
 {
     if pebbles == 1 {
         return text.push_str("type 0, the only pebble, or quit");

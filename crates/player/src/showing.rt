@@ -24,7 +24,8 @@ fn write_bytes<W: Sink>(writer: &mut W, bytes: &[u8])
 
 /// Writes `words` as one line, as `write_shown` does.
 pub fn write_line<E: Sink>(errors: &mut E, words: &str)
-    ensures { IsMore E.contents E.has_failed errors.old errors.new (with_line_feed (shown words.now)) }
+    ensures { IsMore E.contents E.has_failed errors.old errors.new
+        (with_line_feed (shown words.now)) }
 {
     write_shown(errors, words);
     write_more(errors, "\n");

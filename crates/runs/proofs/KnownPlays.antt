@@ -18,7 +18,7 @@ use Rattle.player.specs.Transcript.{Standing, no_answer_line, no_request_line, s
 use Rattle.player.specs.Words.{BeginsTooLong, HasNoFeed, IsLine}
 use Rattle.player.specs.declared.end.PlayEnd.{PlayEnd}
 use Rattle.player.specs.declared.end.PlayEnd.TheVariants.{Stopped}
-use Rattle.player.proofs.OneTranscript.{one_transcript}
+use Rattle.player.proofs.Cited.{one_transcript}
 
 -- ---- lines that are cut from the same bytes
 

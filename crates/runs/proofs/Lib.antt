@@ -13,8 +13,7 @@ pub mod Solutions
 pub mod OneOutcome
 pub mod Endings
 pub mod Served
-pub mod MoreTexts
-pub mod ShownTexts
+pub mod ErrorTexts
 pub mod PlayFaults
 pub mod KnownRuns
 pub mod KnownPlays

@@ -60,8 +60,9 @@ use Rattle.runs.specs.Outcomes.{EndsAs, outcome_of_check, outcome_of_run, status
 use Rattle.runs.specs.Output.{line_of}
 use Rattle.runs.specs.Report.{Reports}
 use Rattle.runs.specs.Run.{Bytes, Fails, Ran, Stream}
-use Rattle.runs.specs.Serving.{Answers, Asks, EndsWith, HasNoMemory, IsHelped, IsEnding, IsExplained, IsForPerson}
-use Rattle.runs.specs.Serving.{IsGreeting, IsRefusedWith, IsWritten}
+use Rattle.player.specs.Showing.{AreForPerson}
+use Rattle.runs.specs.Serving.{Answers, Asks, EndsWith, HasNoMemory, IsHelped, IsEnding, IsExplained}
+use Rattle.runs.specs.Serving.{IsPrompted, IsRefusedWith, IsWritten}
 use Rattle.runs.specs.Serving.{Serves, ServesWords, is_typed, lacks_input}
 use Rattle.runs.specs.Servings.{AreKnown, HaveOwnText}
 use Rattle.runs.specs.SolveRun.{CannotSolve}
@@ -1013,14 +1014,15 @@ wrote : (stream : Stream) (bytes text : List ℕ) → Had stream bytes → IsWri
 wrote stream bytes text had (inl (sound, appends)) = took stream bytes text had appends
 wrote stream bytes text had (inr (failed, cut)) = absurd (had.sound failed)
 
-greeting_is : (terminals : Terminals) (job : Job) (text : List ℕ) → terminals.errors ≡ false
-    → IsGreeting terminals job text → text ≡ []
-greeting_is terminals job text off is = go terminals.input terminals.errors off is
+prompts_are : (terminals : Terminals) (job : Job) (text : List ℕ) → terminals.errors ≡ false
+    → IsPrompted terminals job text → text ≡ []
+prompts_are terminals job text off is = go (is_typed job) terminals.input terminals.errors off is
   where
-    go : (input errors : Bool) → errors ≡ false → IsForPerson (input && errors && is_typed job) text → text ≡ []
-    go true true e is = absurd (true≢false e)
-    go true false e is = is
-    go false errors e is = is
+    go : (typed input errors : Bool) → errors ≡ false → AreForPerson (typed && (input && errors)) text → text ≡ []
+    go true true true e is = absurd (true≢false e)
+    go true true false e is = is
+    go true false errors e is = is
+    go false input errors e is = is
 
 module _ (at : List ℕ → File) (terminals : Terminals) (off : terminals.errors ≡ false) (lines taken told : List ℕ) where
   -- what a serving gave: its status, and the bytes that it left
@@ -1053,17 +1055,17 @@ module _ (at : List ℕ → File) (terminals : Terminals) (off : terminals.error
       status_is : status ≡ status_of outcome
       errors_are : errors.bytes.new ≡ Some (told ++ ending outcome)
 
-    job_done : (words : List Text) (job : Job) (greeting : List ℕ) (outcome : Outcome) → Asks words job
-        → IsGreeting terminals job greeting
-        → IsDone at input output job outcome → EndsWith at terminals input output errors status greeting outcome
+    job_done : (words : List Text) (job : Job) (told_lines : List ℕ) (outcome : Outcome) → Asks words job
+        → IsPrompted terminals job told_lines
+        → IsDone at input output job outcome → EndsWith at terminals input output errors status told_lines outcome
         → IsJobDone words job outcome
-    job_done words job greeting outcome asks greets done ends = record {
+    job_done words job told_lines outcome asks prompts done ends = record {
       asks = asks;
       done = done;
       fair = fair_by outcome (λ e. done.writes.1 e) ends.1;
       status_is = ends.1;
       errors_are = said_is outcome (subst (λ g. EndsWith at terminals input output errors status g outcome)
-          (greeting_is terminals job greeting off greets) ends);
+          (prompts_are terminals job told_lines off prompts) ends);
     }
 
     -- help or the version was written
@@ -1236,13 +1238,13 @@ module _ (at : List ℕ → File) (known : AreKnown at) (terminals : Terminals) 
   pub both_served : (words : List Text) → ServesWords at terminals input output errors status words
       → ServesWords at terminals other_input other_output other_errors other words
       → (status ≡ other) × ((length words ≤ 1) ⊎ (fault_of program words ≡ []) ⊎ AsksForVersion words → AreSame)
-  both_served words (inl (job, asks, inl (has, greeting, greets, outcome, done, ends)))
-      (inl (more, asks_too, inl (has_too, greeting_too, greets_too, next, done_too, ends_too))) =
+  both_served words (inl (job, asks, inl (has, told_lines, prompts, outcome, done, ends)))
+      (inl (more, asks_too, inl (has_too, told_lines_too, prompts_too, next, done_too, ends_too))) =
       let both = both_jobs words job more outcome next
-      (job_done at terminals off lines taken told input output errors status gives words job greeting outcome asks
-      greets done ends)
+      (job_done at terminals off lines taken told input output errors status gives words job told_lines outcome asks
+      prompts done ends)
       (job_done at terminals off lines taken told other_input other_output other_errors other gives_too words more
-      greeting_too next asks_too greets_too done_too ends_too) in
+      told_lines_too next asks_too prompts_too done_too ends_too) in
       (both.0, λ own. both.1)
   both_served words (inl (job, asks, inr (lacks, kept, kept_too, ends)))
       (inl (more, asks_too, inr (lacks_too, held, held_too, ends_too))) =

@@ -2,4 +2,3 @@
 pub mod Verdicts
 pub mod Faults
 pub mod SolveRun
-pub mod Writing

@@ -1,7 +1,8 @@
 -- Runs of plays: the bytes read, the answer, and the bytes written.
-use Rattle.std.specs.Prelude.{◌≡◌, ℕ}
+use Rattle.std.specs.Prelude.{◌≡◌, ℕ, ◌⊎◌, Bool, List, []}
 use Rattle.board_text.specs.PlainBoard.{PlainBoard}
 use Rattle.graphs.specs.declared.graph.Numbering.{Numbering}
+use Rattle.player.specs.Prompts.{ArePrompts}
 use Rattle.player.specs.Transcript.{Game, PersonAsks, PersonAnswers, IsPlayed}
 use Rattle.player.specs.Laws.{KeepsToValue}
 use Rattle.player.specs.Play.{HasEnded, BreaksOff}
@@ -9,7 +10,7 @@ use Rattle.player.specs.declared.end.PlayEnd.{PlayEnd}
 use Rattle.player.specs.declared.end.PlayFault.{PlayFault}
 use Rattle.positions.specs.declared.side.Side.{Side}
 use Rattle.positions.specs.declared.side.Side.TheVariants.{Labeller, Adversary}
-use Rattle.runs.specs.BoardRun.{RanOn, FailsOn}
+use Rattle.runs.specs.BoardRun.{FailsOn, GaveBoard, RanOn}
 use Rattle.runs.specs.Faults.{fault_of_play}
 use Rattle.runs.specs.Run.{Bytes}
 use Rattle.runs.specs.declared.fault.RunFault.{RunFault}
@@ -39,3 +40,10 @@ abbrev pub PlayFails : Numbering → Side → ℕ → Type 0 → Bytes → Bytes
 PlayFails limit side most_bytes IsUntouched board lines written fault =
     FailsOn limit most_bytes board IsUntouched
     (λ b. IsBrokenOff (game_of side b) lines written) fault
+
+-- nothing was told, or a board within the limit was read, and the person was prompted in the play
+-- on it
+abbrev pub PromptsOnBoard : Numbering → Side → ℕ → Bytes → Bool → List ℕ → Type 0
+PromptsOnBoard limit side most_bytes board shows told =
+    (told ≡ []) ⊎ ((b : PlainBoard) × GaveBoard limit most_bytes board b
+    × ArePrompts shows (game_of side b) told)

@@ -1,17 +1,16 @@
 -- The program, from its words, files and streams to its exit status.
 use Rattle.std.specs.Prelude.{◌≡◌, ℕ, ◌<◌, ◌≤◌, ◌⊎◌, Bool, true, false, ◌&&◌, List, [], ◌++◌}
-use Rattle.std.specs.Prelude.{◌||◌, All, length, codes, nat_eq, nat_lt, string_bytes}
-use Rattle.std.specs.Io.KnownBytes.{Appends}
+use Rattle.std.specs.Prelude.{length, codes, string_bytes}
 use Rattle.clap.specs.Walk.{Text, texts}
 use Rattle.clap.specs.Words.{fault_of, subcommand_of, takes}
 use Rattle.board_text.specs.LineForms.{with_line_feed}
-use Rattle.board_text.specs.Streams.{AppendsPrefix}
 use Rattle.command_line.specs.Commands.{program}
 use Rattle.command_line.specs.Reading.{IsReadAs, Shows}
 use Rattle.command_line.specs.declared.asked.Job.{Job}
 use Rattle.command_line.specs.declared.asked.Job.TheVariants.{Joined, Play, Climb}
 use Rattle.command_line.specs.declared.asked.JobFault.{JobFault}
 use Rattle.command_line.specs.declared.asked.JobFault.TheVariants.{Help, Usage, Memory as NoMemory}
+use Rattle.player.specs.Showing.{AreForPerson, HasNoControl, IsTaken}
 use Rattle.runs.specs.FaultLines.{line_of_fault}
 use Rattle.runs.specs.Folders.{File}
 use Rattle.runs.specs.Jobs.{IsDone}
@@ -33,19 +32,12 @@ Asks words job =
 
 -- the text was written, and nothing else; or a prefix of it, and then the stream failed
 abbrev pub IsWritten : Stream → List ℕ → Type 0
-IsWritten stream text =
-    ((stream.HasFailed → ⊥) × Appends stream.bytes.old stream.bytes.new text)
-    ⊎ (stream.HasFailed × AppendsPrefix stream.bytes.old stream.bytes.new text)
-
--- a control byte, as a line feed is
-abbrev pub is_control : ℕ → Bool
-is_control byte = nat_lt byte 32 || nat_eq byte 127
+IsWritten stream text = IsTaken stream.bytes.old stream.bytes.new stream.HasFailed text
 
 -- one line for a person, without control bytes, if the stream is a terminal; else nothing
 abbrev pub IsForPerson : Bool → List ℕ → Type 0
 IsForPerson true text =
-    (words : List ℕ) × All (λ byte. is_control byte ≡ false) words
-    × (text ≡ with_line_feed words)
+    (words : List ℕ) × HasNoControl words × (text ≡ with_line_feed words)
 IsForPerson false text = text ≡ []
 
 -- the text, and at a terminal one line after it that explains it
@@ -70,10 +62,11 @@ is_typed job = false
 abbrev pub lacks_input : Terminals → Job → Bool
 lacks_input terminals job = terminals.input_closed && is_typed job
 
--- before a job that reads it a line, if standard input and standard error are terminals
-abbrev pub IsGreeting : Terminals → Job → List ℕ → Type 0
-IsGreeting terminals job text =
-    IsForPerson (terminals.input && terminals.errors && is_typed job) text
+-- what a person is told while the job is done: lines, if the job reads typed lines, and standard
+-- input and standard error are terminals; else nothing
+abbrev pub IsPrompted : Terminals → Job → List ℕ → Type 0
+IsPrompted terminals job told =
+    AreForPerson (is_typed job && (terminals.input && terminals.errors)) told
 
 -- the text was written; if it is empty, the stream is as it was
 abbrev pub IsSaid : Stream → List ℕ → Type 0
@@ -81,11 +74,11 @@ IsSaid stream text = IsWritten stream text × (text ≡ [] → stream.IsKept)
 
 module _ (at : List ℕ → File) (terminals : Terminals) (input output errors : Stream)
     (status : ℕ) where
-  -- after this greeting standard error has the outcome's text, and the exit status is the outcome's
+  -- after these lines standard error has the outcome's text, and the exit status is the outcome's
   abbrev pub EndsWith : List ℕ → Outcome → Type 0
-  EndsWith greeting outcome =
+  EndsWith told outcome =
       ((said : List ℕ) × IsEnding terminals.errors outcome said
-      × IsSaid errors (greeting ++ said)) × (status ≡ status_of outcome)
+      × IsSaid errors (told ++ said)) × (status ≡ status_of outcome)
 
   -- a text was written on standard output
   abbrev pub IsHelped : List ℕ → Type 0
@@ -112,8 +105,8 @@ module _ (at : List ℕ → File) (terminals : Terminals) (input output errors :
   -- the job is done or broken off; or it lacks its input, and that alone is told
   abbrev pub ServesJob : Job → Type 0
   ServesJob job =
-      ((lacks_input terminals job ≡ false) × (greeting : List ℕ) × IsGreeting terminals job greeting
-      × (outcome : Outcome) × IsDone at input output job outcome × EndsWith greeting outcome)
+      ((lacks_input terminals job ≡ false) × (told : List ℕ) × IsPrompted terminals job told
+      × (outcome : Outcome) × IsDone at input output job outcome × EndsWith told outcome)
       ⊎ ((lacks_input terminals job ≡ true) × input.IsKept × output.IsKept
       × EndsWith [] (Broken Read))
 

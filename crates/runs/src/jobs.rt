@@ -1,6 +1,6 @@
 //! Doing a job, with the files and the standard streams that it is given.
 
-ghost use Rattle.std.specs.Prelude.{◌≡◌, ◌≢◌, ◌⊎◌, true, false};
+ghost use Rattle.std.specs.Prelude.{◌≡◌, ◌≢◌, ◌⊎◌, ◌&&◌, ℕ, List, true, false};
 ghost use Rattle.runs.specs.declared.fault.RunFault.TheVariants.{Read};
 ghost use Rattle.runs.specs.declared.outcome.Outcome.TheVariants.{Broken};
 ghost use Rattle.board_text.specs.Ranges.{InRange};
@@ -8,7 +8,9 @@ ghost use Rattle.command_line.specs.Reading.{IsInRange};
 ghost use Rattle.runs.specs.Jobs.{IsDone, Checks, ChecksJoined, Climbs, Counts, Plays, Solves};
 ghost use Rattle.runs.specs.Folders.{CanFail};
 ghost use Rattle.runs.specs.Jobs.{TellsReads, TellsWrites, WritesNested};
+ghost use Rattle.player.specs.Showing.{AreForPerson, IsMore};
 ghost use Rattle.runs.specs.Run.{stream_of};
+ghost use Rattle.runs.specs.Serving.{IsPrompted};
 
 use crate::boards::limit_of;
 use crate::checking::{JoinedRun, MAX_PROOF_BYTES, run_check, run_keeping_text};
@@ -16,16 +18,18 @@ use crate::fault::RunFault;
 use crate::folder::{Folder, Trouble};
 use crate::inputs::{INPUT_PATH, Inputs, Origin, Taken};
 use crate::nesting::run_nested;
-use crate::notes::{BOARD_LIMITS, LINE_LIMITS, Note, PROOF_LIMITS, unread};
+use crate::notes::{BOARD_LIMITS, JOINED_GREETING, LINE_LIMITS, Note, PROOF_LIMITS, unread};
 use crate::outcome::Outcome;
-use crate::playing::{run_climb, run_play_within};
+use crate::playing::{run_climb_with_prompts, run_play_with_prompts};
 use crate::reading::MAX_BOARD_BYTES;
 use crate::reporting::run_report_within;
+use crate::serving::Terminals;
 use crate::solving::{run_solve, run_solve_alone};
 use crate::watched::Watched;
 use board_text::{MAX_PEBBLES, Sink, Source};
 use command_line::{Job, MAX_WORKERS};
 use nested_cycles::{MAX_BOARD_LEVELS, MAX_LEVELS};
+use player::write_line;
 use positions::Side;
 use std::alloc::Global;
 use std::sync::Wait;
@@ -100,26 +104,31 @@ fn trouble_of_input<F: Folder, I: Source>(folder: &F, input: &I) -> Option<Troub
 
 /// Does the job, and says how it ended.
 ///
-/// The first bytes of files are kept to explain a fault if `explains` says so.
-/// The streams must not have failed before. With several workers it may wait for them.
-pub fn carry_out<'a, F: Folder, I: Source, O: Sink>(
+/// The first bytes of files are kept to explain a fault if standard error is a terminal. If
+/// standard input is one too, a person who types is told on `errors` what can be typed.
+/// The input and the output must not have failed before. With several workers it may wait for them.
+pub fn carry_out<'a, F: Folder, I: Source, O: Sink, E: Sink>(
     rt: &(impl Threads + Wait + Sync),
     alloc: Global,
     job: &Job<'a>,
-    explains: bool,
+    terminals: Terminals,
     folder: &F,
     input: &mut I,
     output: &mut O,
+    errors: &mut E,
 ) -> Ended<'a>
     requires numbers { IsInRange job.now }
     requires input_ready { I.has_failed input.old ≡ false }
     requires input_unended { I.has_ended input.old ≡ false }
     requires output_ready { O.has_failed output.old ≡ false }
-    ensures { IsDone (F.at folder.now) (stream_of I.remaining I.has_failed input.old input.new)
+    ensures done { IsDone (F.at folder.now) (stream_of I.remaining I.has_failed input.old input.new)
         (stream_of O.contents O.has_failed output.old output.new) job.now result.outcome }
+    ensures prompts { (told : List ℕ) × IsPrompted terminals job.now told
+        × IsMore E.contents E.has_failed errors.old errors.new told }
 {
+    let explains = terminals.errors;
     match *job {
-        Job::Joined => check_joined(rt, alloc, folder, input, output),
+        Job::Joined => check_joined(rt, alloc, terminals, folder, input, output, errors),
         Job::Check { board, proof } => check(rt, alloc, explains, folder, board, proof, output),
         Job::Nested { levels, pebbles } => write_nested(alloc, levels, pebbles, output),
         Job::Solve { workers, board } => solve(rt, alloc, explains, folder, workers, board, output),
@@ -129,19 +138,34 @@ pub fn carry_out<'a, F: Folder, I: Source, O: Sink>(
             board,
         } => report(rt, alloc, explains, folder, workers, large, board, output),
         Job::Play { side, large, board } => {
-            play(alloc, explains, folder, side, large, board, input, output)
+            play(
+                alloc, terminals, folder, side, large, board, input, output, errors,
+            )
         }
-        Job::Climb { levels } => climb(alloc, folder, levels, input, output),
+        Job::Climb { levels } => climb(alloc, terminals, folder, levels, input, output, errors),
     }
 }
 
+/// Greets a person at a terminal with these words.
+fn greet<E: Sink>(words: &str, terminals: Terminals, errors: &mut E)
+    ensures { (told : List ℕ) × AreForPerson (terminals.input && terminals.errors) told
+        × IsMore E.contents E.has_failed errors.old errors.new told }
+{
+    if !terminals.are_both() {
+        return;
+    }
+    write_line(errors, words);
+}
+
 /// Checks the document after a board on standard input.
-fn check_joined<F: Folder, I: Source, O: Sink>(
+fn check_joined<F: Folder, I: Source, O: Sink, E: Sink>(
     rt: &(impl Threads + Sync),
     alloc: Global,
+    terminals: Terminals,
     folder: &F,
     input: &mut I,
     output: &mut O,
+    errors: &mut E,
 ) -> Ended<'static>
     requires input_ready { I.has_failed input.old ≡ false }
     requires input_unended { I.has_ended input.old ≡ false }
@@ -152,7 +176,10 @@ fn check_joined<F: Folder, I: Source, O: Sink>(
         result.outcome }
     ensures reads { TellsReads (stream_of I.remaining I.has_failed input.old input.new)
         result.outcome }
+    ensures prompts { (told : List ℕ) × AreForPerson (terminals.input && terminals.errors) told
+        × IsMore E.contents E.has_failed errors.old errors.new told }
 {
+    greet(JOINED_GREETING, terminals, errors);
     let JoinedRun { result, text } = run_keeping_text(rt, alloc, input, output);
     let outcome = Outcome::of_check(result);
     let origin = Origin {
@@ -282,15 +309,16 @@ fn report<'a, F: Folder, O: Sink>(
 
 /// Plays on the board at a path, which may be `large`, with a person, who is this side and writes
 /// to standard input.
-fn play<'a, F: Folder, I: Source, O: Sink>(
+fn play<'a, F: Folder, I: Source, O: Sink, E: Sink>(
     alloc: Global,
-    explains: bool,
+    terminals: Terminals,
     folder: &F,
     side: Side,
     large: bool,
     board: &'a str,
     input: &mut I,
     output: &mut O,
+    errors: &mut E,
 ) -> Ended<'a>
     requires input_ready { I.has_failed input.old ≡ false }
     requires input_unended { I.has_ended input.old ≡ false }
@@ -303,14 +331,26 @@ fn play<'a, F: Folder, I: Source, O: Sink>(
     ensures reads { I.has_failed input.new ≡ true → result.outcome ≡ Broken Read }
     ensures unread { result.outcome ≡ Broken Read
         → CanFail (F.at folder.now board.now) ⊎ (I.has_failed input.new ≡ true) }
+    ensures prompts { (told : List ℕ) × AreForPerson (terminals.input && terminals.errors) told
+        × IsMore E.contents E.has_failed errors.old errors.new told }
 {
     let Ok(file_of_board) = folder.open(board) else {
         return unopened(folder, board);
     };
-    let mut reader = Watched::new(alloc, file_of_board, explains);
+    let mut reader = Watched::new(alloc, file_of_board, terminals.errors);
     let limit = limit_of(large);
-    let done = run_play_within(alloc, limit, side, &mut reader, input, output);
-    let outcome = Outcome::of_run(done);
+    let shows = terminals.are_both();
+    let ended = run_play_with_prompts(
+        alloc,
+        limit,
+        side,
+        &mut reader,
+        input,
+        output,
+        shows,
+        errors,
+    );
+    let outcome = Outcome::of_run(ended);
     let text = file(folder, board, &reader, MAX_BOARD_BYTES, BOARD_LIMITS);
     let lines = Origin::standard_input(trouble_of_input(folder, input), LINE_LIMITS);
     Ended {
@@ -320,12 +360,14 @@ fn play<'a, F: Folder, I: Source, O: Sink>(
 }
 
 /// Plays on the nested board of a level with a person, who asks by the lines of standard input.
-fn climb<F: Folder, I: Source, O: Sink>(
+fn climb<F: Folder, I: Source, O: Sink, E: Sink>(
     alloc: Global,
+    terminals: Terminals,
     folder: &F,
     levels: u8,
     input: &mut I,
     output: &mut O,
+    errors: &mut E,
 ) -> Ended<'static>
     requires levels { InRange 1 MAX_LEVELS levels }
     requires input_ready { I.has_failed input.old ≡ false }
@@ -337,8 +379,12 @@ fn climb<F: Folder, I: Source, O: Sink>(
         result.outcome }
     ensures reads { TellsReads (stream_of I.remaining I.has_failed input.old input.new)
         result.outcome }
+    ensures prompts { (told : List ℕ) × AreForPerson (terminals.input && terminals.errors) told
+        × IsMore E.contents E.has_failed errors.old errors.new told }
 {
-    let outcome = Outcome::of_run(run_climb(alloc, levels, input, output));
+    let shows = terminals.are_both();
+    let ended = run_climb_with_prompts(alloc, levels, input, output, shows, errors);
+    let outcome = Outcome::of_run(ended);
     Ended {
         outcome,
         note: Note::without_files(outcome, trouble_of_input(folder, input)),

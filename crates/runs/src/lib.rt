@@ -24,7 +24,6 @@ mod reading;
 mod reporting;
 mod serving;
 mod serving_laws;
-mod showing;
 mod sizes;
 mod solving;
 mod usage;
@@ -47,7 +46,9 @@ pub use nesting::{nested_text, run_nested};
 pub use notes::Note;
 pub use outcome::Outcome;
 pub use parts::{Part, Parts};
-pub use playing::{run_climb, run_play, run_play_within};
+pub use playing::{
+    run_climb, run_climb_with_prompts, run_play, run_play_with_prompts, run_play_within,
+};
 pub use reading::MAX_BOARD_BYTES;
 pub use reporting::{
     report_text, report_text_alone, report_text_within, run_report, run_report_alone,

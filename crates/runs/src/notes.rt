@@ -1,8 +1,5 @@
-//! The lines that are written for a person at a terminal: before a job that reads typed lines,
-//! and after the line of a fault.
-
-ghost use Rattle.std.specs.Prelude.{◌≡◌, true, false, MatchOption};
-ghost use Rattle.runs.specs.Serving.{is_typed};
+//! The lines that are written for a person at a terminal: before a joined check, and after the line
+//! of a fault.
 
 use crate::checking::{MAX_JOINED_BYTES, MAX_PROOF_BYTES};
 use crate::fault::RunFault;
@@ -16,8 +13,7 @@ use crate::reading::MAX_BOARD_BYTES;
 use crate::sizes::Sizes;
 use crate::verdicts::Verdict;
 use classes::MAX_CLASSES;
-use command_line::Job;
-use positions::{MAX_CONFIGURATIONS, Side};
+use positions::MAX_CONFIGURATIONS;
 
 // The words say these limits.
 const _: () = prove!(MAX_BOARD_BYTES == 1_048_576);
@@ -39,6 +35,11 @@ pub(crate) const PROOF_LIMITS: &str = "an input has at most 134217728 bytes";
 /// The limits of the lines of a play, in words.
 pub(crate) const LINE_LIMITS: &str =
     "a line of a play has at most 64 bytes, and a play at most 1000000 lines";
+
+/// The greeting of a person who types a board and a document.
+pub(crate) const JOINED_GREETING: &str =
+    "type or paste a board and a strategy document, and Ctrl-D; \
+    `pebbles --help` lists the commands";
 
 /// The explanation of a fault: the name of a file or of a stream, and what to look for there.
 #[derive(Clone, Copy, Debug, PartialEq, Eq)]
@@ -238,29 +239,5 @@ fn ending_hint(sizes: Sizes) -> &'static str {
         "; no start of this board lasts for ever, since n pebbles need 2^n - 1 labels"
     } else {
         ""
-    }
-}
-
-/// The words that say which lines `job` reads from a person; none if it reads no typed lines.
-pub(crate) fn greeting(job: &Job<'_>) -> Option<&'static str>
-    ensures { MatchOption result (is_typed job.now ≡ false) (λ _. is_typed job.now ≡ true) }
-{
-    match *job {
-        Job::Joined => Some(
-            "type or paste a board and a strategy document, and Ctrl-D; `pebbles --help` lists the \
-            commands",
-        ),
-        Job::Play {
-            side: Side::Labeller,
-            ..
-        } => Some("type a label for the pebble that is asked for; `quit` or Ctrl-D ends the play"),
-        Job::Play {
-            side: Side::Adversary,
-            ..
-        }
-        | Job::Climb { .. } => Some(
-            "type the number of a pebble, of which the first is 0; `quit` or Ctrl-D ends the play",
-        ),
-        Job::Check { .. } | Job::Nested { .. } | Job::Solve { .. } | Job::Report { .. } => None,
     }
 }

@@ -1,20 +1,26 @@
 //! Playing with a person, from the bytes of the board and of the lines to the bytes written.
 
-ghost use Rattle.std.specs.Prelude.{◌≡◌, ◌⊎◌, true, false, IfOk, IfErr};
+ghost use Rattle.std.specs.Prelude.{◌≡◌, ◌⊎◌, ℕ, List, true, false, IfOk, IfErr};
 ghost use Rattle.player.specs.Laws.{KeepsToValue};
 ghost use Rattle.player.specs.Play.{HasEnded, BreaksOff, TellsStreams};
 ghost use Rattle.board_text.specs.Ranges.{InRange};
+ghost use Rattle.player.specs.Prompts.{ArePrompts};
+ghost use Rattle.player.specs.Showing.{IsMore};
 ghost use Rattle.player.specs.Transcript.{IsPlayed, PersonClimbs};
-ghost use Rattle.runs.specs.PlayRun.{IsBrokenOff, IsOver, RanPlay, PlayFails, game_of};
+ghost use Rattle.runs.specs.PlayRun.{IsBrokenOff, IsOver, PlayFails, PromptsOnBoard, RanPlay};
+ghost use Rattle.runs.specs.PlayRun.{game_of};
 ghost use Rattle.runs.specs.Run.{TellsFailures, bytes_of, stream_of};
 
 use crate::fault::RunFault;
 use crate::reading::{MAX_BOARD_BYTES, read_board};
 use crate::solving::numbered_of;
-use board_text::{Board, Sink, Source};
+use board_text::{Board, Sink, Source, Through};
 use graphs::Numbering;
 use nested_cycles::MAX_LEVELS;
-use player::{PlayEnd, PlayFault, play_adversary, play_labeller, play_nested};
+use player::{
+    PlayEnd, PlayFault, play_adversary_with_prompts, play_labeller_with_prompts,
+    play_nested_with_prompts,
+};
 use positions::Side;
 use solver::NumberedValues;
 use std::alloc::Global;
@@ -66,17 +72,56 @@ pub fn run_play_within<B: Source, L: Source, W: Sink>(
     requires lines_unended { L.has_ended lines.old ≡ false }
     requires writer_ready { W.has_failed writer.old ≡ false }
     ensures ok { IfOk result (RanPlay limit side MAX_BOARD_BYTES
-        (bytes_of B.remaining board.old board.new)
-        (bytes_of L.remaining lines.old lines.new) (bytes_of W.contents writer.old writer.new)) }
+        (bytes_of B.remaining board.old board.new) (bytes_of L.remaining lines.old lines.new)
+        (bytes_of W.contents writer.old writer.new)) }
     ensures fault { IfErr result (PlayFails limit side MAX_BOARD_BYTES
         ((lines.new ≡ lines.old) × (writer.new ≡ writer.old))
-        (bytes_of B.remaining board.old board.new) (bytes_of L.remaining lines.old lines.new) (bytes_of W.contents writer.old writer.new)) }
-    ensures streams { TellsFailures result ((B.has_failed board.new ≡ true) ⊎ (L.has_failed lines.new ≡ true))
+        (bytes_of B.remaining board.old board.new) (bytes_of L.remaining lines.old lines.new)
+        (bytes_of W.contents writer.old writer.new)) }
+    ensures streams { TellsFailures result
+        ((B.has_failed board.new ≡ true) ⊎ (L.has_failed lines.new ≡ true))
         (stream_of W.contents W.has_failed writer.old writer.new) }
+{
+    let mut nobody = Through::new(Vec::new(alloc));
+    run_play_with_prompts(alloc, limit, side, board, lines, writer, false, &mut nobody)
+}
+
+/// Plays as `run_play_within` does, and if `shows` says so, prompts the person by lines on `errors`:
+/// a greeting before the first line is read, and after the answer to each wrong line the choices.
+///
+/// If `errors` fails, or has failed before, nothing more is written there, and the play goes on.
+pub fn run_play_with_prompts<B: Source, L: Source, W: Sink, E: Sink>(
+    alloc: Global,
+    limit: Numbering,
+    side: Side,
+    board: &mut B,
+    lines: &mut L,
+    writer: &mut W,
+    shows: bool,
+    errors: &mut E,
+) -> Result<PlayEnd, RunFault>
+    requires board_ready { B.has_failed board.old ≡ false }
+    requires board_unended { B.has_ended board.old ≡ false }
+    requires lines_ready { L.has_failed lines.old ≡ false }
+    requires lines_unended { L.has_ended lines.old ≡ false }
+    requires writer_ready { W.has_failed writer.old ≡ false }
+    ensures ok { IfOk result (RanPlay limit side MAX_BOARD_BYTES
+        (bytes_of B.remaining board.old board.new) (bytes_of L.remaining lines.old lines.new)
+        (bytes_of W.contents writer.old writer.new)) }
+    ensures fault { IfErr result (PlayFails limit side MAX_BOARD_BYTES
+        ((lines.new ≡ lines.old) × (writer.new ≡ writer.old))
+        (bytes_of B.remaining board.old board.new) (bytes_of L.remaining lines.old lines.new)
+        (bytes_of W.contents writer.old writer.new)) }
+    ensures streams { TellsFailures result
+        ((B.has_failed board.new ≡ true) ⊎ (L.has_failed lines.new ≡ true))
+        (stream_of W.contents W.has_failed writer.old writer.new) }
+    ensures prompts { (told : List ℕ) × PromptsOnBoard limit side MAX_BOARD_BYTES
+        (bytes_of B.remaining board.old board.new) shows told
+        × IsMore E.contents E.has_failed errors.old errors.new told }
 {
     let board = read_board(alloc, limit, board)?;
     let values = numbered_of(alloc, &board)?;
-    Ok(play(alloc, side, &board, &values, lines, writer)?)
+    Ok(play(alloc, side, &board, &values, lines, writer, shows, errors)?)
 }
 
 /// Plays on the nested board of a level, 1 to `MAX_LEVELS`, with a person, who asks by lines.
@@ -100,17 +145,51 @@ pub fn run_climb<L: Source, W: Sink>(
     ensures streams { TellsFailures result (L.has_failed lines.new ≡ true)
         (stream_of W.contents W.has_failed writer.old writer.new) }
 {
-    Ok(play_nested(alloc, levels, lines, writer)?)
+    let mut nobody = Through::new(Vec::new(alloc));
+    run_climb_with_prompts(alloc, levels, lines, writer, false, &mut nobody)
+}
+
+/// Plays as `run_climb` does, and if `shows` says so, prompts the person by lines on `errors`: a
+/// greeting before the first line is read, and after the answer to each wrong line the pebbles that
+/// can be asked for.
+///
+/// If `errors` fails, or has failed before, nothing more is written there, and the play goes on.
+pub fn run_climb_with_prompts<L: Source, W: Sink, E: Sink>(
+    alloc: Global,
+    levels: u8,
+    lines: &mut L,
+    writer: &mut W,
+    shows: bool,
+    errors: &mut E,
+) -> Result<PlayEnd, RunFault>
+    requires levels { InRange 1 MAX_LEVELS levels }
+    requires lines_ready { L.has_failed lines.old ≡ false }
+    requires lines_unended { L.has_ended lines.old ≡ false }
+    requires writer_ready { W.has_failed writer.old ≡ false }
+    ensures ok { IfOk result (IsOver (PersonClimbs levels)
+        (bytes_of L.remaining lines.old lines.new)
+        (bytes_of W.contents writer.old writer.new)) }
+    ensures fault { IfErr result (IsBrokenOff (PersonClimbs levels)
+        (bytes_of L.remaining lines.old lines.new)
+        (bytes_of W.contents writer.old writer.new)) }
+    ensures streams { TellsFailures result (L.has_failed lines.new ≡ true)
+        (stream_of W.contents W.has_failed writer.old writer.new) }
+    ensures prompts { (told : List ℕ) × ArePrompts shows (PersonClimbs levels) told
+        × IsMore E.contents E.has_failed errors.old errors.new told }
+{
+    Ok(play_nested_with_prompts(alloc, levels, lines, writer, shows, errors)?)
 }
 
 /// Plays with a person who is this `side` on `board`, whose values these are.
-fn play<L: Source, W: Sink>(
+fn play<L: Source, W: Sink, E: Sink>(
     alloc: Global,
     side: Side,
     board: &Board,
     values: &NumberedValues,
     lines: &mut L,
     writer: &mut W,
+    shows: bool,
+    errors: &mut E,
 ) -> Result<PlayEnd, PlayFault>
     requires same_board { values.now.board ≡ board.now }
     requires lines_ready { L.has_failed lines.old ≡ false }
@@ -124,9 +203,15 @@ fn play<L: Source, W: Sink>(
         (W.contents writer.old) (W.contents writer.new)) }
     ensures value { IfOk result (KeepsToValue (game_of side board.now)) }
     ensures streams { TellsStreams result (L.has_failed lines.new) (W.has_failed writer.new) }
+    ensures prompts { (told : List ℕ) × ArePrompts shows (game_of side board.now) told
+        × IsMore E.contents E.has_failed errors.old errors.new told }
 {
     match side {
-        Side::Adversary => play_adversary(alloc, board, values, lines, writer),
-        Side::Labeller => play_labeller(alloc, board, values, lines, writer),
+        Side::Adversary => {
+            play_adversary_with_prompts(alloc, board, values, lines, writer, shows, errors)
+        }
+        Side::Labeller => {
+            play_labeller_with_prompts(alloc, board, values, lines, writer, shows, errors)
+        }
     }
 }

@@ -2,9 +2,9 @@
 
 ghost use Rattle.std.specs.Prelude.{◌≡◌, ◌&&◌, ℕ, List, true, false};
 ghost use Rattle.clap.specs.Walk.{texts};
+ghost use Rattle.player.specs.Showing.{IsMore, shown};
 ghost use Rattle.runs.specs.Run.{stream_of};
-ghost use Rattle.runs.specs.Inside.Writing.{IsMore, shown};
-ghost use Rattle.runs.specs.Serving.{IsEnding, IsExplained, IsForPerson, IsGreeting};
+ghost use Rattle.runs.specs.Serving.{IsEnding, IsExplained, IsForPerson};
 ghost use Rattle.runs.specs.Serving.{Serves, ServesJob, ServesWords, is_typed, lacks_input};
 ghost use Rattle.command_line.specs.Reading.{IsInRange};
 ghost use Rattle.runs.specs.declared.fault.RunFault.TheVariants.{Memory};
@@ -15,16 +15,16 @@ use crate::fault::RunFault;
 use crate::fault_lines::fault_line;
 use crate::folder::Folder;
 use crate::jobs::carry_out;
-use crate::notes::{Note, greeting};
+use crate::notes::Note;
 use crate::outcome::Outcome;
 use crate::parts;
 use crate::parts::{Part, Parts};
-use crate::showing::write_shown;
 use crate::usage::usage_hint;
-use crate::writing::{write_more, write_text};
+use crate::writing::write_text;
 use board_text::{Sink, Source};
 use command_line::{Job, JobFault, job};
 use itoa::Buffer;
+use player::{write_more, write_shown};
 use std::alloc::Global;
 use std::sync::Wait;
 use std::thread::Threads;
@@ -61,7 +61,7 @@ pub struct Terminals {
 
 impl Terminals {
     /// Whether standard input and standard error are terminals.
-    fn are_both(self) -> bool
+    pub(crate) fn are_both(self) -> bool
         ensures { result ≡ (self.input && self.errors) }
     {
         self.input && self.errors
@@ -85,7 +85,8 @@ fn is_typed(job: &Job<'_>) -> bool
 /// Does the job that `words` ask for, and gives the exit status.
 ///
 /// Paths are opened in the folder. Results, transcripts and help go to `output`, fault lines and
-/// usage texts to `errors`, and if that is a terminal, an explanation after each.
+/// usage texts to `errors`, and if that is a terminal, an explanation after each. If standard input
+/// is a terminal too, a person who types is told there what can be typed.
 /// A job that reads standard input isn't begun if that is closed, which is a read fault.
 /// The streams must not have failed before. With several workers it may wait for them.
 pub fn serve<F: Folder, I: Source, O: Sink, E: Sink>(
@@ -185,8 +186,7 @@ fn serve_job<F: Folder, I: Source, O: Sink, E: Sink>(
         let closed = Outcome::Broken(RunFault::Read);
         return tell(closed, Note::no_input(), terminals, errors);
     }
-    greet(job, terminals, errors);
-    let ended = carry_out(rt, alloc, job, terminals.errors, folder, input, output);
+    let ended = carry_out(rt, alloc, job, terminals, folder, input, output, errors);
     tell(ended.outcome, ended.note, terminals, errors)
 }
 
@@ -203,20 +203,6 @@ fn tell_no_memory<E: Sink>(terminals: Terminals, errors: &mut E) -> u8
         terminals,
         errors,
     )
-}
-
-/// Greets a person at a terminal, if `job` reads typed lines.
-fn greet<E: Sink>(job: &Job<'_>, terminals: Terminals, errors: &mut E)
-    ensures { (line : List ℕ) × IsGreeting terminals job.now line
-        × IsMore E.contents E.has_failed errors.old errors.new line }
-{
-    if !terminals.are_both() {
-        return;
-    }
-    if let Some(words) = greeting(job) {
-        write_shown(errors, words);
-        write_more(errors, "\n");
-    }
 }
 
 /// Says on standard error how a job was broken off, if it was, and gives the exit status.

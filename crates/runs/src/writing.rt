@@ -3,7 +3,6 @@
 ghost use Rattle.std.specs.Prelude.{◌≡◌, ◌↔◌, true, false, Err, IfErr, OnOk, OnErr};
 ghost use Rattle.std.specs.Io.KnownBytes.{Appends};
 ghost use Rattle.board_text.specs.Streams.{AppendsPrefix};
-ghost use Rattle.runs.specs.Inside.Writing.{IsMore};
 ghost use Rattle.runs.specs.declared.fault.RunFault.TheVariants.{Write};
 
 use crate::fault::RunFault;
@@ -21,21 +20,5 @@ pub(crate) fn write_text<W: Sink>(writer: &mut W, text: &str) -> Result<(), RunF
     match write_all(writer, text.as_bytes()) {
         Ok(()) => Ok(()),
         Err(Failed) => Err(RunFault::Write),
-    }
-}
-
-/// Writes the text, unless the writer has failed before. Nothing else is done after a failure.
-pub(crate) fn write_more<W: Sink>(writer: &mut W, text: &str)
-    ensures { IsMore W.contents W.has_failed writer.old writer.new text.now }
-{
-    write_bytes(writer, text.as_bytes());
-}
-
-/// Writes the bytes, unless the writer has failed before.
-pub(crate) fn write_bytes<W: Sink>(writer: &mut W, bytes: &[u8])
-    ensures { IsMore W.contents W.has_failed writer.old writer.new bytes.now }
-{
-    if !writer.failed() && !bytes.is_empty() {
-        let _ = write_all(writer, bytes);
     }
 }

@@ -179,8 +179,8 @@ some-counted P count size some = found size.members refl
     found [] e = absurd (let many = size.so_many in let none = ap length e in omega arith)
     found (k ∷ rest) e = (k, (size.each k).0 (subst (λ (l : List ℕ). Contains l k) e (0, omega arith, refl)))
 
-module _ (s : PlainStage) (round : ℕ) (st : IsState s round true) (space : Option PlainBoard) (weights zeros : List ℕ)
-    (equipped : IsEquipped s.game space weights zeros) where
+module _ (s : PlainStage) (round : ℕ) (st : IsState s round true) (space : Option PlainBoard) (weights room : List ℕ)
+    (capacity : ℕ) (equipped : IsEquipped s.game space weights room capacity) where
   abbrev n : Numbered
   n = s.game
 
@@ -188,12 +188,11 @@ module _ (s : PlainStage) (round : ℕ) (st : IsState s round true) (space : Opt
   size = (graph_of s.game).configurations
 
   -- a word that is a value is the index of a size
-  pub words-inside : (x : ℕ) → x < length s.values → is_open s.values x ≡ false → slice_index s.values x < length zeros
-  words-inside x i shut =
+  pub words-inside : (sizes : List ℕ) → length sizes ≡ suc round → (x : ℕ) → x < length s.values
+      → is_open s.values x ≡ false → slice_index s.values x < length sizes
+  words-inside sizes wide x i shut =
       let long = st.stage.words_are.values_length in
-      let wide = equipped.zeros_length in
       let low = word-few s round true st x (omega arith) shut in
-      let below = round-below s round true st in
       omega arith
 
   values-are : AreValues n s.values
@@ -208,16 +207,11 @@ module _ (s : PlainStage) (round : ℕ) (st : IsState s round true) (space : Opt
     };
   }
 
-  module _ (sums sizes : List ℕ) (forever : ℕ) (are : AreSums s.values weights size sums) (wide : length sums ≡ size)
-      (taken : sizes ≡ take (suc round) sums) (forever_is : forever ≡ weighed weights (is_open s.values) size) where
-    sizes-length : length sizes ≡ suc round
-    sizes-length = ap length taken ∙ length-take-le (suc round) sums (let below = round-below s round true st in omega
-        arith)
-
+  module _ (sizes : List ℕ) (forever : ℕ) (are : AreSums s.values weights size sizes)
+      (sizes-length : length sizes ≡ suc round)
+      (forever_is : forever ≡ weighed weights (is_open s.values) size) where
     size-of : (v : ℕ) → v ≤ round → slice_index sizes v ≡ weighed weights (λ x. slice_index s.values x == v) size
-    size-of v low =
-        ap (λ (l : List ℕ). slice_index l v) taken ∙ get_or-take (suc round) sums v 0 (omega arith)
-        ∙ are.each v (let below = round-below s round true st in omega arith)
+    size-of v low = are.each v (omega arith)
 
     counted : (v : ℕ) → v ≤ round → HasCount n.board (Finite v) (slice_index sizes v)
     counted v low = subst (HasCount n.board (Finite v)) (sym (size-of v low))

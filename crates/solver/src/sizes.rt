@@ -1,11 +1,25 @@
 //! How many configurations have each value.
 
-ghost use Rattle.std.specs.Prelude.{◌≡◌, ◌^◌, ◌<◌, ◌≤◌, ℕ, false, length, slice_index};
+ghost use Rattle.std.specs.Prelude.{◌≡◌, ◌^◌, ◌<◌, ◌≤◌, ℕ, [], false, length, slice_index, vec_capacity};
 ghost use Rattle.classes.specs.Sums.{sum_below};
 ghost use Rattle.solver.specs.Inside.Tables.{is_open};
 ghost use Rattle.solver.specs.Inside.Values.{weighed, AreSums, AreZeros};
 
 use crate::word::OPEN;
+
+/// This number of zeros, in the room of an empty list.
+pub(crate) fn zeros(room: Vec<u64>, count: u32) -> Vec<u64>
+    requires empty { room.items ≡ [] }
+    requires room { count ≤ vec_capacity room }
+    ensures size { length result.items ≡ count }
+    ensures zeros { AreZeros result.items }
+{
+    let mut sizes = room;
+    for _ in 0..count {
+        sizes.push_reserved(0);
+    }
+    sizes
+}
 
 /// Adds the weight of each number to the size of the value that is its word, and returns the sum of
 /// the weights of those whose word is `OPEN`.

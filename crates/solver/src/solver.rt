@@ -21,7 +21,7 @@ use crate::fault::SolveFault;
 use crate::next_value::{ByStrikes, FromEnd, NextValue};
 use crate::numbered_values::NumberedValues;
 use crate::progress::Progress;
-use crate::sizes::add_weights;
+use crate::sizes::{add_weights, zeros};
 use crate::source_walk::SourceWalk;
 use crate::stage::Stage;
 use crate::values::Values;
@@ -46,13 +46,13 @@ pub struct Solver<S: ListStore> {
     space: Option<Space>,
     /// How many configurations have each number.
     weights: Vec<u64>,
-    /// Zeros, and room for the number of configurations of each finite value.
+    /// Room for the number of configurations of each finite value.
     sizes: Vec<u64>,
     done: bool,
 }
 
 impl<S: ListStore> Model for Solver<S> {
-    ghost use Rattle.std.specs.Prelude.{◌≡◌, ◌-◌};
+    ghost use Rattle.std.specs.Prelude.{◌≡◌, ◌-◌, vec_capacity};
     ghost use Rattle.solver.specs.Solving.{Solving};
     ghost use Rattle.solver.specs.Inside.Stage.{IsState, IsEquipped, as_solving};
 
@@ -61,7 +61,7 @@ impl<S: ListStore> Model for Solver<S> {
     ghost view = { λ s. as_solving s.stage s.done };
 
     ghost invariant = { λ s. IsState s.stage (s.stage.value - 1) s.done
-        × IsEquipped s.stage.game s.space s.weights.items s.sizes.items };
+        × IsEquipped s.stage.game s.space s.weights.items s.sizes.items (vec_capacity s.sizes) };
 }
 
 impl<S: ListStore + Drop> Solver<S> {
@@ -117,7 +117,7 @@ impl<S: ListStore + Drop> Solver<S> {
     {
         let graph = Graph::of(alloc, board, numbering)?;
         let weights = graph.weights(alloc)?;
-        let sizes = vec![in alloc; 0u64; graph.configurations() as usize]?;
+        let sizes = Vec::with_capacity(alloc, graph.configurations() as usize)?;
         let mut stage = Stage::<S>::open(alloc, graph)?;
         stage.begin_next_value();
         Ok(Solver {
@@ -387,7 +387,7 @@ impl<S: ListStore + Drop> Solver<S> {
             stage,
             space,
             weights,
-            mut sizes,
+            sizes,
             done: _,
         } = self;
         let Stage {
@@ -396,8 +396,8 @@ impl<S: ListStore + Drop> Solver<S> {
             values,
             ..
         } = stage;
+        let mut sizes = zeros(sizes, value);
         let forever = add_weights(&mut sizes, &values, &weights);
-        sizes.truncate(value as usize);
         (NumberedValues::new(graph, values, sizes, forever), space)
     }
 

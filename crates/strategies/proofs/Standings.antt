@@ -19,7 +19,9 @@ module _ (n : Numbered) (held : List ℕ) (standing : Standing) (is : IsStanding
       (gap-in-below n is.is_board held pebble is.is_configuration low)
 
   pub number-fits : standing.number < (graph_of n).configurations
-  number-fits = subst (λ x. x < (graph_of n).configurations) (sym is.number) (number-below n is.is_board held is.is_configuration)
+  number-fits =
+      subst (λ x. x < (graph_of n).configurations) (sym is.number)
+      (number-below n is.is_board held is.is_configuration)
 
   -- a request of a pebble there is one in the pebble's gap
   pub request-there : (pebble : ℕ) → pebble < n.board.pebbles
@@ -36,6 +38,7 @@ module _ (n : Numbered) (held : List ℕ) (standing : Standing) (is : IsStanding
   best-there pebble best low are = are held pebble (request-there pebble low)
 
   -- and the value of the number is the configuration's
-  pub value-there : (value : Value) → ((c : List ℕ) → IsConfiguration n.board c → number_in n c ≡ standing.number → HasValue n.board c value)
+  pub value-there : (value : Value)
+      → ((c : List ℕ) → IsConfiguration n.board c → number_in n c ≡ standing.number → HasValue n.board c value)
       → HasValue n.board held value
   value-there value has = has held is.is_configuration (sym is.number)

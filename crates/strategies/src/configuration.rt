@@ -63,7 +63,7 @@ impl Configuration {
     }
 
     /// The number of pebbles.
-    pub fn pebbles(&self) -> u8
+    pub(crate) fn pebbles(&self) -> u8
         ensures value { result ≡ length self.now }
         ensures few { result ≤ MAX_PEBBLES }
     {

@@ -80,7 +80,8 @@ impl<'a> MovesAt<'a> {
     pub(crate) fn label(&self, pebble: u8) -> Option<u16>
         requires { pebble < self.now.board.pebbles }
         ensures best { IsSmallest (HasGreatestResult self.now.board self.now.held pebble) result }
-        ensures none { (result ≡ None) ↔ ((label : ℕ) → Legal self.now.board self.now.held pebble label → ⊥) }
+        ensures none { (result ≡ None)
+            ↔ ((label : ℕ) → Legal self.now.board self.now.held pebble label → ⊥) }
     {
         let best = self.answer(pebble)?;
         Some(best.label)

@@ -91,8 +91,8 @@ impl<'a> NumberedMoves<'a> {
         self.at(held).label(pebble)
     }
 
-    /// The best request at the configuration `held`, if its value is finite: the smallest pebble all
-    /// of whose legal results have a smaller value.
+    /// The best request at the configuration `held`, if its value is finite: the smallest pebble
+    /// all of whose legal results have a smaller value.
     pub fn request(&self, held: &[u16]) -> Option<u8>
         requires { IsConfiguration self.now held.now }
         ensures best { IsSmallest (LowersValue self.now held.now) result }

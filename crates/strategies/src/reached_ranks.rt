@@ -33,8 +33,8 @@ impl BestMoves<'_> {
         Ok(())
     }
 
-    /// Adds each result of the best request at the configuration of `rank`. The results of a gap are
-    /// added once.
+    /// Adds each result of the best request at the configuration of `rank`. The results of a gap
+    /// are added once.
     pub(crate) fn add_results(
         &self,
         rank: u32,
@@ -75,7 +75,8 @@ impl BestMoves<'_> {
         requires pebble { pebble < self.now.pebbles }
         requires gap { gap ≡ gap_of self.now here.now.held pebble }
         ensures size { IfOk result (λ _. reached.new.size ≡ reached.old.size) }
-        ensures added { IfOk result (λ _. IsWithAll reached.old.ranks (IsAnswerOf self.now gap) reached.new.ranks) }
+        ensures added { IfOk result (λ _. IsWithAll reached.old.ranks
+            (IsAnswerOf self.now gap) reached.new.ranks) }
     {
         let results = here.results(pebble);
         let members = self.space().members(gap);

@@ -17,7 +17,8 @@ pub record PlayState : Type 0 where
 
 -- the label is legal for the pebble of the best request
 abbrev pub IsLegalAt : PlayState → ℕ → Type 0
-IsLegalAt seat label = (pebble : ℕ) × IsBestRequest seat.board seat.at pebble × Legal seat.board seat.at pebble label
+IsLegalAt seat label = (pebble : ℕ) × IsBestRequest seat.board seat.at pebble
+    × Legal seat.board seat.at pebble label
 
 -- the best request, and whether no label is legal for it
 pub record IsRequestAt (board : PlainBoard) (configuration : List ℕ) (request : Request) : Type 0 where

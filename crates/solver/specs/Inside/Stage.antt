@@ -176,14 +176,14 @@ unfoldable pub HasSpaceBy : Numbering → PlainBoard → Option PlainBoard → T
 HasSpaceBy Ordered board space = (space ≡ Some board) × (configurations board ≤ MAX_CONFIGURATIONS)
 HasSpaceBy Classes board space = Unit {0}
 
--- numbers that are ranks have a space, each number has its weight, and there is a zero for each
--- number
-pub record IsEquipped (n : Numbered) (space : Option PlainBoard) (weights zeros : List ℕ)
-    : Type 0 where
+-- numbers that are ranks have a space, each number has its weight, and there is room for the size of
+-- each value
+pub record IsEquipped (n : Numbered) (space : Option PlainBoard) (weights sizes : List ℕ)
+    (capacity : ℕ) : Type 0 where
   pub has_space : HasSpaceBy n.numbering n.board space
   pub weighed : AreNumberWeights n weights
-  pub zeros_length : length zeros ≡ (graph_of n).configurations
-  pub zeros_are : AreZeros zeros
+  pub no_sizes : sizes ≡ []
+  pub room : (graph_of n).configurations ≤ capacity
 
 -- a solver, as its callers see it
 abbrev pub as_solving : PlainStage → Bool → Solving

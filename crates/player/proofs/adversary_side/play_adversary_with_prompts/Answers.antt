@@ -20,28 +20,40 @@ returns-in_err-flush-clause-fault g c =
     let board = c.args.board.now in
     let value = rw (c.new-moves.ensures, c.start.ensures.value) at c.value.ensures in
     let opens = begins board c.value.result value in
-    let text = c.in-Ok.ensures ∙ ap (λ l. l ++ opening_lines board c.value.result board.start) c.new-text.ensures.bytes in
+    let opening = opening_lines board c.value.result board.start in
+    let text = c.in-Ok.ensures ∙ ap (λ l. l ++ opening) c.new-text.ensures.bytes in
     let p = err_from_is_err_and c.from_residual.result c.from_residual.ensures.1 in
-    rw (p.1, p.2, c.in_err-flush.ensures.fault.0) (unshown_opening (PersonAsks board) _ _ opens _ _ _ (subst (AppendsPrefix _ _) text c.in_err-flush.ensures.front))
+    rw (p.1, p.2, c.in_err-flush.ensures.fault.0)
+    (unshown_opening (PersonAsks board) _ _ opens _ _ _ (subst (AppendsPrefix _ _) text c.in_err-flush.ensures.front))
 
 pub returns-clause-ok : goal.returns-clause-ok
 returns-clause-ok g c =
     let board = c.args.board.now in
     let value = rw (c.new-moves.ensures, c.start.ensures.value) at c.value.ensures in
     let opens = begins board c.value.result value in
-    let text = c.in-Ok.ensures ∙ ap (λ l. l ++ opening_lines board c.value.result board.start) c.new-text.ensures.bytes in
-    IfOk-weaker c.play_on.result _ _ (λ end h. has_ended (PersonAsks board) _ _ opens _ _ _ (g.W.Sink.contents c.flush.new.writer) _ (subst (Appends _ _) text c.in_ok-flush.ensures.written) end h) (rw (c.new-play.ensures, c.new-moves.ensures) at c.play_on.ensures.ok)
+    let opening = opening_lines board c.value.result board.start in
+    let text = c.in-Ok.ensures ∙ ap (λ l. l ++ opening) c.new-text.ensures.bytes in
+    let written = subst (Appends _ _) text c.in_ok-flush.ensures.written in
+    IfOk-weaker c.play_on.result _ _
+    (λ end h. has_ended (PersonAsks board) _ _ opens _ _ _ (g.W.Sink.contents c.flush.new.writer) _ written end h)
+    (rw (c.new-play.ensures, c.new-moves.ensures) at c.play_on.ensures.ok)
 
 pub returns-clause-fault : goal.returns-clause-fault
 returns-clause-fault g c =
     let board = c.args.board.now in
     let value = rw (c.new-moves.ensures, c.start.ensures.value) at c.value.ensures in
     let opens = begins board c.value.result value in
-    let text = c.in-Ok.ensures ∙ ap (λ l. l ++ opening_lines board c.value.result board.start) c.new-text.ensures.bytes in
-    IfErr-weaker c.play_on.result _ _ (λ fault h. breaks_off (PersonAsks board) _ _ opens _ _ _ (g.W.Sink.contents c.flush.new.writer) _ (subst (Appends _ _) text c.in_ok-flush.ensures.written) fault h) (rw (c.new-play.ensures, c.new-moves.ensures) at c.play_on.ensures.fault)
+    let opening = opening_lines board c.value.result board.start in
+    let text = c.in-Ok.ensures ∙ ap (λ l. l ++ opening) c.new-text.ensures.bytes in
+    let written = subst (Appends _ _) text c.in_ok-flush.ensures.written in
+    IfErr-weaker c.play_on.result _ _
+    (λ fault h. breaks_off (PersonAsks board) _ _ opens _ _ _ (g.W.Sink.contents c.flush.new.writer) _ written fault h)
+    (rw (c.new-play.ensures, c.new-moves.ensures) at c.play_on.ensures.fault)
 
 pub returns-clause-value : goal.returns-clause-value
-returns-clause-value g c = IfOk-weaker c.play_on.result _ _ (λ end. keeps_to_value (PersonAsks c.args.board.now) _ _ _ _ end) (returns-clause-ok g c)
+returns-clause-value g c =
+    IfOk-weaker c.play_on.result _ _ (λ end. keeps_to_value (PersonAsks c.args.board.now) _ _ _ _ end)
+    (returns-clause-ok g c)
 
 pub returns-clause-prompts : goal.returns-clause-prompts
 returns-clause-prompts g c =

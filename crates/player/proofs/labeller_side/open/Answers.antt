@@ -8,7 +8,8 @@ returns-in-Finite-clause-said c =
     let first = rw c.in-Finite.is at c.in_ok-write_opening.ensures in
     let request = rw (c.start-in-Finite.ensures.value, c.board-board.ensures) at c.request_at.ensures in
     IfOk-weaker c.write_request.result _ _
-    (λ following asked. opens_with _ c.args.moves.now c.in-Finite.field-0 following _ _ _ _ c.board-board.ensures value request first asked)
+    (λ following asked. opens_with _ c.args.moves.now c.in-Finite.field-0 following _ _ _ _ c.board-board.ensures value
+    request first asked)
     c.write_request.ensures
 
 pub returns-in_ok-push_str-in-Forever-clause-said : goal.returns-in_ok-push_str-in-Forever-clause-said

@@ -22,7 +22,9 @@ returns-in_err-flush-clause-fault g c =
     let begins = subst (λ b. BeginsPlay (PersonAnswers b) opening.0 opening.2.0) c.new-moves.ensures opening.2.1 in
     let text = opening.1 ∙ ap (λ l. l ++ opening.0) c.new-text.ensures.bytes in
     let p = err_from_is_err_and c.from_residual.result c.from_residual.ensures.1 in
-    rw (p.1, p.2, c.in_err-flush.ensures.fault.0) (unshown_opening (PersonAnswers c.args.board.now) opening.0 opening.2.0 begins _ _ _ (subst (AppendsPrefix _ _) text c.in_err-flush.ensures.front))
+    let front = subst (AppendsPrefix _ _) text c.in_err-flush.ensures.front in
+    rw (p.1, p.2, c.in_err-flush.ensures.fault.0)
+    (unshown_opening (PersonAnswers c.args.board.now) opening.0 opening.2.0 begins _ _ _ front)
 
 pub new-play-requires : goal.new-play-requires
 new-play-requires g c =
@@ -38,7 +40,8 @@ returns-in-Asks-clause-ok g c =
     let opens = subst (BeginsPlay (PersonAnswers c.args.board.now) opening.0) going begins in
     let written = subst (Appends _ _) text c.in_ok-flush.ensures.written in
     IfOk-weaker c.play_on.result _ _ (λ end h. has_ended (PersonAnswers c.args.board.now) opening.0 _ opens _ _ _
-    (g.W.Sink.contents c.flush.new.writer) _ written end h) (rw (c.new-play.ensures, c.new-moves.ensures) at c.play_on.ensures.ok)
+    (g.W.Sink.contents c.flush.new.writer) _ written end h)
+    (rw (c.new-play.ensures, c.new-moves.ensures) at c.play_on.ensures.ok)
 
 pub returns-in-Asks-clause-fault : goal.returns-in-Asks-clause-fault
 returns-in-Asks-clause-fault g c =
@@ -57,10 +60,13 @@ returns-clause-ok g c =
     let opening = rw c.in-Ends.is at c.in-Ok.ensures.said in
     let begins = subst (λ b. BeginsPlay (PersonAnswers b) opening.0 opening.2.0) c.new-moves.ensures opening.2.1 in
     let text = opening.1 ∙ ap (λ l. l ++ opening.0) c.new-text.ensures.bytes in
-    over_at_once (PersonAnswers c.args.board.now) opening.0 opening.2.0 begins _ _ _ c.in-Ends.end opening.2.2 (subst (Appends _ _) text c.in_ok-flush.ensures.written)
+    let written = subst (Appends _ _) text c.in_ok-flush.ensures.written in
+    over_at_once (PersonAnswers c.args.board.now) opening.0 opening.2.0 begins _ _ _ c.in-Ends.end opening.2.2 written
 
 pub returns-in-Asks-clause-value : goal.returns-in-Asks-clause-value
-returns-in-Asks-clause-value g c = IfOk-weaker c.play_on.result _ _ (λ end. keeps_to_value (PersonAnswers c.args.board.now) _ _ _ _ end) (returns-in-Asks-clause-ok g c)
+returns-in-Asks-clause-value g c =
+    IfOk-weaker c.play_on.result _ _ (λ end. keeps_to_value (PersonAnswers c.args.board.now) _ _ _ _ end)
+    (returns-in-Asks-clause-ok g c)
 
 pub returns-clause-value : goal.returns-clause-value
 returns-clause-value g c = keeps_to_value (PersonAnswers c.args.board.now) _ _ _ _ c.in-Ends.end (returns-clause-ok g c)

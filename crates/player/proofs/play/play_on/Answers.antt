@@ -82,7 +82,8 @@ loop-preserved g c =
       reader = c.in_ok-meaning.ensures.unfailed;
       ended = c.in_ok-meaning.ensures.ended;
       writer = c.in_ok-end.ensures.unfailed;
-      told = then_told g.E.Sink.contents g.E.Sink.has_failed c.args.shows c.args.errors.now c.loop.errors c.prompt.new.errors i.told c.prompt.ensures.told;
+      told = then_told g.E.Sink.contents g.E.Sink.has_failed c.args.shows c.args.errors.now c.loop.errors
+          c.prompt.new.errors i.told c.prompt.ensures.told;
     }
 
 pub returns-clause-fault : goal.returns-clause-fault

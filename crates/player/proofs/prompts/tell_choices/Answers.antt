@@ -14,6 +14,7 @@ returns-clause-told g c =
     c.as_str.ensures.value ∙ choices.1 ∙ ap (λ l. l ++ choices.0) c.requires.empty in (
       with_line_feed (shown choices.0),
       inr (choices.0, choices.2, refl),
-      subst (λ l. IsMore g.E.Sink.contents g.E.Sink.has_failed c.args.errors.now c.write_line.new.errors (with_line_feed (shown l)))
+      subst (λ l. IsMore g.E.Sink.contents g.E.Sink.has_failed c.args.errors.now c.write_line.new.errors
+          (with_line_feed (shown l)))
           same c.write_line.ensures,
     )

@@ -1,8 +1,9 @@
 use Rattle.std.proofs.Common.{refl, sym, true≢false, ◌∙◌}
+use Rattle.runs.proofs.ErrorTexts.{none_prompted}
 use Rattle.runs.proofs.jobs.carry_out.Goals as goal
 
-pub returns-in-Joined : goal.returns-in-Joined
-returns-in-Joined g c =
+pub returns-in-Joined-clause-done : goal.returns-in-Joined-clause-done
+returns-in-Joined-clause-done g c =
     rw c.in-Joined.is record {
       does = c.check_joined.ensures.done;
       writes = c.check_joined.ensures.writes;
@@ -10,8 +11,8 @@ returns-in-Joined g c =
       unread = c.check_joined.ensures.reads.1;
     }
 
-pub returns-in-Play : goal.returns-in-Play
-returns-in-Play g c =
+pub returns-in-Play-clause-done : goal.returns-in-Play-clause-done
+returns-in-Play-clause-done g c =
     rw c.in-Play.is record {
       does = c.play.ensures.done;
       writes = c.play.ensures.writes;
@@ -19,8 +20,8 @@ returns-in-Play g c =
       unread = c.play.ensures.unread;
     }
 
-pub returns-in-Climb : goal.returns-in-Climb
-returns-in-Climb g c =
+pub returns-in-Climb-clause-done : goal.returns-in-Climb-clause-done
+returns-in-Climb-clause-done g c =
     rw c.in-Climb.is record {
       does = c.climb.ensures.done;
       writes = c.climb.ensures.writes;
@@ -28,8 +29,8 @@ returns-in-Climb g c =
       unread = c.climb.ensures.reads.1;
     }
 
-pub returns-in-Check : goal.returns-in-Check
-returns-in-Check g c =
+pub returns-in-Check-clause-done : goal.returns-in-Check-clause-done
+returns-in-Check-clause-done g c =
     rw c.in-Check.is record {
       does = (c.check.ensures.done, refl);
       writes = c.check.ensures.writes;
@@ -37,8 +38,8 @@ returns-in-Check g c =
       unread = c.check.ensures.unread;
     }
 
-pub returns-in-Nested : goal.returns-in-Nested
-returns-in-Nested g c =
+pub returns-in-Nested-clause-done : goal.returns-in-Nested-clause-done
+returns-in-Nested-clause-done g c =
     rw c.in-Nested.is record {
       does = (c.write_nested.ensures.done, refl);
       writes = c.write_nested.ensures.writes;
@@ -46,8 +47,8 @@ returns-in-Nested g c =
       unread = c.write_nested.ensures.unread;
     }
 
-pub returns-in-Solve : goal.returns-in-Solve
-returns-in-Solve g c =
+pub returns-in-Solve-clause-done : goal.returns-in-Solve-clause-done
+returns-in-Solve-clause-done g c =
     rw c.in-Solve.is record {
       does = (c.solve.ensures.done, refl);
       writes = c.solve.ensures.writes;
@@ -55,11 +56,36 @@ returns-in-Solve g c =
       unread = c.solve.ensures.unread;
     }
 
-pub returns-in-Report : goal.returns-in-Report
-returns-in-Report g c =
+pub returns-in-Report-clause-done : goal.returns-in-Report-clause-done
+returns-in-Report-clause-done g c =
     rw c.in-Report.is record {
       does = (c.report.ensures.done, refl);
       writes = c.report.ensures.writes;
       reads = (λ failed. absurd (true≢false (sym failed ∙ c.requires.input_ready)));
       unread = c.report.ensures.unread;
     }
+
+pub returns-in-Joined-clause-prompts : goal.returns-in-Joined-clause-prompts
+returns-in-Joined-clause-prompts g c = rw c.in-Joined.is c.check_joined.ensures.prompts
+
+pub returns-in-Play-clause-prompts : goal.returns-in-Play-clause-prompts
+returns-in-Play-clause-prompts g c = rw c.in-Play.is c.play.ensures.prompts
+
+pub returns-in-Climb-clause-prompts : goal.returns-in-Climb-clause-prompts
+returns-in-Climb-clause-prompts g c = rw c.in-Climb.is c.climb.ensures.prompts
+
+pub returns-in-Check-clause-prompts : goal.returns-in-Check-clause-prompts
+returns-in-Check-clause-prompts g c =
+    none_prompted g.E.Sink.contents g.E.Sink.has_failed c.args.terminals c.args.job.now c.args.errors.now
+
+pub returns-in-Nested-clause-prompts : goal.returns-in-Nested-clause-prompts
+returns-in-Nested-clause-prompts g c =
+    none_prompted g.E.Sink.contents g.E.Sink.has_failed c.args.terminals c.args.job.now c.args.errors.now
+
+pub returns-in-Solve-clause-prompts : goal.returns-in-Solve-clause-prompts
+returns-in-Solve-clause-prompts g c =
+    none_prompted g.E.Sink.contents g.E.Sink.has_failed c.args.terminals c.args.job.now c.args.errors.now
+
+pub returns-in-Report-clause-prompts : goal.returns-in-Report-clause-prompts
+returns-in-Report-clause-prompts g c =
+    none_prompted g.E.Sink.contents g.E.Sink.has_failed c.args.terminals c.args.job.now c.args.errors.now

@@ -1,25 +1,35 @@
-use Rattle.std.proofs.Common.{inl, inr, refl}
+use Rattle.std.proofs.Common.{inl, inr, refl, subst}
+use Rattle.player.specs.Showing.{AreForPerson}
 use Rattle.runs.specs.Outcomes.{outcome_of_run}
 use Rattle.runs.specs.Run.{stream_of}
 use Rattle.runs.specs.declared.fault.RunFault.TheVariants.{Read}
 use Rattle.runs.proofs.Endings.{broken_run, opened_play, told_as}
+use Rattle.runs.proofs.ErrorTexts.{prompts_for_person}
 use Rattle.runs.proofs.jobs.play.Goals as goal
 
 pub returns-clause-done : goal.returns-clause-done
 returns-clause-done g c =
     opened_play c.args.large c.args.side (g.F.Folder.at c.args.folder.now c.args.board.now) _
     (rw c.new-reader.ensures c.in-Ok.ensures.opened)
-    (stream_of g.I.Source.remaining g.I.Source.has_failed c.args.input.now c.run_play_within-done.new.lines)
-    (stream_of g.O.Sink.contents g.O.Sink.has_failed c.args.output.now c.run_play_within-done.new.writer)
-    c.run_play_within-done.result c.of_run-outcome.result c.of_run-outcome.ensures
-    (rw c.limit_of-limit.ensures at c.run_play_within-done.ensures.ok)
-    (rw c.limit_of-limit.ensures at c.run_play_within-done.ensures.fault)
+    (stream_of g.I.Source.remaining g.I.Source.has_failed c.args.input.now c.run_play_with_prompts-ended.new.lines)
+    (stream_of g.O.Sink.contents g.O.Sink.has_failed c.args.output.now c.run_play_with_prompts-ended.new.writer)
+    c.run_play_with_prompts-ended.result c.of_run-outcome.result c.of_run-outcome.ensures
+    (rw c.limit_of-limit.ensures at c.run_play_with_prompts-ended.ensures.ok)
+    (rw c.limit_of-limit.ensures at c.run_play_with_prompts-ended.ensures.fault)
 
 pub returns-clause-unread : goal.returns-clause-unread
 returns-clause-unread g c broke =
-    elim ((told_as outcome_of_run broken_run c.run_play_within-done.result c.of_run-outcome.result
-    c.of_run-outcome.ensures Read
-    refl _ c.run_play_within-done.ensures.streams.read).1 broke) [
+    elim ((told_as outcome_of_run broken_run c.run_play_with_prompts-ended.result c.of_run-outcome.result
+    c.of_run-outcome.ensures Read refl _ c.run_play_with_prompts-ended.ensures.streams.read).1 broke) [
       | inl board ↦ inl (c.in-Ok.ensures.sound _ board)
       | inr lines ↦ inr lines
     ]
+
+pub returns-clause-prompts : goal.returns-clause-prompts
+returns-clause-prompts g c =
+    let p = c.run_play_with_prompts-ended.ensures.prompts in (
+      p.0,
+      subst (λ shows. AreForPerson shows p.0) c.are_both-shows.ensures
+          (prompts_for_person _ _ _ _ c.are_both-shows.result p.0 p.1),
+      p.2,
+    )

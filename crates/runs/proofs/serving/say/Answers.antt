@@ -1,4 +1,5 @@
-use Rattle.runs.proofs.MoreTexts.{explained, was_true}
+use Rattle.player.proofs.Cited.{was_true}
+use Rattle.runs.proofs.ErrorTexts.{explained}
 use Rattle.runs.proofs.serving.say.Goals as goal
 
 pub returns : goal.returns

@@ -3,7 +3,7 @@ use Rattle.board_text.specs.LineForms.{with_line_feed}
 use Rattle.runs.specs.declared.fault.RunFault.TheVariants.{Memory}
 use Rattle.runs.specs.declared.outcome.Outcome.TheVariants.{Broken}
 use Rattle.std.proofs.Common.{refl}
-use Rattle.runs.proofs.MoreTexts.{ended, refused}
+use Rattle.runs.proofs.ErrorTexts.{ended, refused}
 use Rattle.runs.proofs.serving.serve.Goals as goal
 
 pub returns-in-Given : goal.returns-in-Given

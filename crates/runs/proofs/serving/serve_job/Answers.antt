@@ -1,7 +1,7 @@
 use Rattle.std.proofs.Common.{inl, inr, refl, sym, ◌∙◌}
 use Rattle.runs.specs.declared.fault.RunFault.TheVariants.{Read}
 use Rattle.runs.specs.declared.outcome.Outcome.TheVariants.{Broken}
-use Rattle.runs.proofs.MoreTexts.{ended, greeted}
+use Rattle.runs.proofs.ErrorTexts.{ended, prompted}
 use Rattle.runs.proofs.serving.serve_job.Goals as goal
 
 pub returns-then-lacks_input : goal.returns-then-lacks_input
@@ -17,17 +17,19 @@ returns-then-lacks_input g c = inr (
 )
 
 pub returns : goal.returns
-returns g c = inl (
-  sym c.lacks_input.ensures ∙ c.if-lacks_input.false,
-  c.greet.ensures.0,
-  c.greet.ensures.1,
-  c.carry_out-ended.result.outcome,
-  c.carry_out-ended.ensures,
-  (
-    greeted g.E.Sink.contents g.E.Sink.has_failed c.args.errors.now c.requires.errors_ready c.greet.new.errors
-        c.tell-2.new.errors
-        c.greet.ensures.0 c.args.terminals.errors c.carry_out-ended.result.outcome c.greet.ensures.2
-        c.tell-2.ensures.told,
-    c.tell-2.ensures.status,
-  ),
-)
+returns g c =
+    let prompts = c.carry_out-ended.ensures.prompts in
+    inl (
+      sym c.lacks_input.ensures ∙ c.if-lacks_input.false,
+      prompts.0,
+      prompts.1,
+      c.carry_out-ended.result.outcome,
+      c.carry_out-ended.ensures.done,
+      (
+        prompted g.E.Sink.contents g.E.Sink.has_failed c.args.errors.now c.requires.errors_ready
+            c.carry_out-ended.new.errors
+            c.tell-2.new.errors prompts.0 c.args.terminals.errors c.carry_out-ended.result.outcome prompts.2
+            c.tell-2.ensures.told,
+        c.tell-2.ensures.status,
+      ),
+    )

@@ -3,7 +3,7 @@ use Rattle.runs.specs.declared.outcome.Outcome.TheVariants.{Broken}
 use Rattle.std.proofs.Common.{inl, inr, refl, [], string_bytes}
 use Rattle.runs.specs.Run.{stream_of}
 use Rattle.runs.specs.Serving.{EndsWith}
-use Rattle.runs.proofs.MoreTexts.{ended, refused}
+use Rattle.runs.proofs.ErrorTexts.{ended, refused}
 use Rattle.runs.proofs.Served.{asked, helped, more_words, written}
 use Rattle.runs.proofs.serving.serve_words.Goals as goal
 

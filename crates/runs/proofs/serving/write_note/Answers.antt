@@ -1,8 +1,8 @@
 use Rattle.std.proofs.Common.{refl, ◌++◌, ◌∷◌, [], subst}
 use Rattle.board_text.specs.LineForms.{with_line_feed}
-use Rattle.runs.specs.Inside.Writing.{IsMore, shown}
-use Rattle.runs.proofs.MoreTexts.{line_of_parts, then_more}
-use Rattle.runs.proofs.ShownTexts.{colon_is_plain, plain_line}
+use Rattle.player.specs.Showing.{IsMore, shown}
+use Rattle.player.proofs.Cited.{then_more}
+use Rattle.runs.proofs.ErrorTexts.{colon_is_plain, line_of_parts, plain_line}
 use Rattle.runs.proofs.serving.write_note.Goals as goal
 
 pub returns : goal.returns

@@ -1,5 +1,5 @@
 use Rattle.std.proofs.Common.{◌++◌}
-use Rattle.runs.proofs.MoreTexts.{then_shown}
+use Rattle.player.proofs.Cited.{then_shown}
 use Rattle.runs.proofs.serving.write_parts.Goals as goal
 
 pub loop-part-preserved : goal.loop-part-preserved

@@ -1,5 +1,5 @@
 use Rattle.std.proofs.Common.{ℕ, List}
-use Rattle.runs.specs.Inside.Writing.{IsMore, shown}
+use Rattle.player.specs.Showing.{IsMore, shown}
 use Rattle.runs.proofs.serving.write_parts.Given as goal
 
 abbrev pub invariant-loop-part : goal.invariant-loop-part

@@ -9,8 +9,10 @@ request_at-request-requires c =
     let i = c.self.invariant in
     let legal = legal_there _ _ c.self.view_is c.self.inside.asked c.args.label i.best c.requires.legal in
     rw (c.as_slice.ensures.value, c.with-configuration.ensures) (record {
-      held = moved_is_configuration c.self.inside.moves c.self.inside.configuration c.self.inside.asked c.args.label legal.is_label i.is_configuration;
-      finite = finite_after c.self.inside.moves c.self.inside.configuration c.self.inside.asked c.args.label i.best legal;
+      held = moved_is_configuration c.self.inside.moves c.self.inside.configuration c.self.inside.asked c.args.label
+          legal.is_label i.is_configuration;
+      finite = finite_after c.self.inside.moves c.self.inside.configuration c.self.inside.asked c.args.label i.best
+          legal;
     })
 
 pub invariant_of-self : goal.invariant_of-self
@@ -18,11 +20,12 @@ invariant_of-self c =
     let i = c.self.invariant in
     let legal = legal_there _ _ c.self.view_is c.self.inside.asked c.args.label i.best c.requires.legal in
     let asked = rw c.in-Asks.is at c.in_ok-pebble.ensures in
-    let request = subst (λ (held : List ℕ). IsRequestAt c.self.inside.moves held c.request_at-request.result) c.as_slice.ensures.value
-    c.request_at-request.ensures in
+    let request = subst (λ (held : List ℕ). IsRequestAt c.self.inside.moves held c.request_at-request.result)
+    c.as_slice.ensures.value c.request_at-request.ensures in
     record {
       is_configuration = rw c.with-configuration.ensures
-          (moved_is_configuration c.self.inside.moves c.self.inside.configuration c.self.inside.asked c.args.label legal.is_label i.is_configuration);
+          (moved_is_configuration c.self.inside.moves c.self.inside.configuration c.self.inside.asked c.args.label
+          legal.is_label i.is_configuration);
       best = rw asked.2.1 request.best;
     }
 
@@ -31,17 +34,19 @@ returns-in-Asks-clause-said c =
     let i = c.self.invariant in
     let legal = legal_there _ _ c.self.view_is c.self.inside.asked c.args.label i.best c.requires.legal in
     let asked = rw c.in-Asks.is at c.in_ok-pebble.ensures in
-    let request = subst (λ (held : List ℕ). IsRequestAt c.self.inside.moves held c.request_at-request.result) c.as_slice.ensures.value
-    c.request_at-request.ensures in
-    put_said _ _ c.self.view_is _ c.self.inside.asked c.args.label c.with-configuration.result _ _ _ _ _ _ c.board-board.ensures i.best legal
-    c.with-configuration.ensures c.as_slice-2.ensures.value c.in_ok-write_at.ensures asked.1 (asks_on _ _ _ _ c.in-Asks.pebble _ request asked.2)
+    let request = subst (λ (held : List ℕ). IsRequestAt c.self.inside.moves held c.request_at-request.result)
+    c.as_slice.ensures.value c.request_at-request.ensures in
+    put_said _ _ c.self.view_is _ c.self.inside.asked c.args.label c.with-configuration.result _ _ _ _ _ _
+    c.board-board.ensures i.best legal c.with-configuration.ensures c.as_slice-2.ensures.value c.in_ok-write_at.ensures
+    asked.1 (asks_on _ _ _ _ c.in-Asks.pebble _ request asked.2)
 
 pub returns-in-Ends-clause-said : goal.returns-in-Ends-clause-said
 returns-in-Ends-clause-said c =
     let i = c.self.invariant in
     let legal = legal_there _ _ c.self.view_is c.self.inside.asked c.args.label i.best c.requires.legal in
     let asked = rw c.in-Ends.is at c.in_ok-pebble.ensures in
-    let request = subst (λ (held : List ℕ). IsRequestAt c.self.inside.moves held c.request_at-request.result) c.as_slice.ensures.value
-    c.request_at-request.ensures in
-    put_said _ _ c.self.view_is _ c.self.inside.asked c.args.label c.with-configuration.result _ _ _ _ _ _ c.board-board.ensures i.best legal
-    c.with-configuration.ensures c.as_slice-2.ensures.value c.in_ok-write_at.ensures asked.1 (asks_last _ _ _ _ c.in-Ends.end _ request asked.2)
+    let request = subst (λ (held : List ℕ). IsRequestAt c.self.inside.moves held c.request_at-request.result)
+    c.as_slice.ensures.value c.request_at-request.ensures in
+    put_said _ _ c.self.view_is _ c.self.inside.asked c.args.label c.with-configuration.result _ _ _ _ _ _
+    c.board-board.ensures i.best legal c.with-configuration.ensures c.as_slice-2.ensures.value c.in_ok-write_at.ensures
+    asked.1 (asks_last _ _ _ _ c.in-Ends.end _ request asked.2)

@@ -1,4 +1,4 @@
-use Rattle.std.proofs.Common.{◌≡◌, ◌-◌, ◌^◌, ◌<◌, ◌∙◌, ℕ, suc, Bool, true, List, length, take, slice_index, sym, ap}
+use Rattle.std.proofs.Common.{◌≡◌, ◌-◌, ◌^◌, ◌<◌, ◌∙◌, ℕ, suc, Bool, true, List, length, drop, slice_index, sym, ap}
 use Rattle.std.proofs.Common.{subst, arith}
 use Rattle.std.proofs.lemmas.List.{take_at}
 use Rattle.classes.specs.Sums.{sum_below}
@@ -26,6 +26,13 @@ module _ (g : Given.Over) (c : After-deref-2 g) where
   long : length c.deref.result.now ≡ (graph_of s.game).configurations
   long = ap length words-are ∙ c.self.invariant.0.stage.words_are.values_length
 
+  value-is : s.value ≡ suc (s.value - 1)
+  value-is = (let v = c.self.invariant.0.value_is in omega arith)
+
+  -- the zeros are as many as there are values
+  sized : length c.zeros-sizes.result.items ≡ suc (s.value - 1)
+  sized = c.zeros-sizes.ensures.size ∙ ap (λ (v : PlainStage). v.value) c.stage.view_is ∙ value-is
+
 pub add_weights-forever-requires-clause-inside : goal.add_weights-forever-requires-clause-inside
 add_weights-forever-requires-clause-inside g c =
     let at = (goal.at.add_weights-forever-requires-clause-inside g c).After-deref-2 in
@@ -33,7 +40,7 @@ add_weights-forever-requires-clause-inside g c =
     c.deref_mut.result.now) (sym (words-are g at))
     (subst (λ (z : List ℕ). (x : ℕ) → x < length (s g at).values → is_open (s g at).values x ≡ Bool.false → slice_index
     (s g at).values x < length z) (sym c.deref_mut.ensures.value)
-    (words-inside (s g at) _ (state g at) _ _ _ c.self.invariant.1))
+    (words-inside (s g at) _ (state g at) _ _ _ _ c.self.invariant.1 c.zeros-sizes.result.items (sized g at)))
 
 pub add_weights-forever-requires-clause-few : goal.add_weights-forever-requires-clause-few
 add_weights-forever-requires-clause-few g c =
@@ -57,17 +64,15 @@ new-requires g c =
     subst (λ n. AreSums words weights n sums) (long g at)
     (subst (λ (p : List ℕ × List ℕ). AreSums p.0 p.1 (length c.deref.result.now) sums)
     (λ j. (words-are g at j, c.deref-2.ensures.value j)) e.sums) in
-    let wide : length sums ≡ size = e.size ∙ ap length c.deref_mut.ensures.value ∙ c.self.invariant.1.zeros_length in
+    let wide : length sums ≡ suc (now.value - 1) = e.size ∙ ap length c.deref_mut.ensures.value ∙ sized g at in
     let forever : c.add_weights-forever.result ≡ weighed weights (is_open words) size =
     e.forever ∙ ap (λ (p : List ℕ × List ℕ × ℕ). weighed p.1 (is_open p.0) p.2)
     (λ j. (words-are g at j, c.deref-2.ensures.value j, long g at j)) in
-    let value_is : now.value ≡ suc (now.value - 1) = (let v = c.self.invariant.0.value_is in omega arith) in
-    let taken : c.truncate.new.self.items ≡ take c.stage.inside.value sums =
-    c.truncate.ensures.items ∙ ap (take c.stage.inside.value)
-    (take_at sums _ c.self.inside.sizes.len (e.size ∙ c.deref_mut.ensures.len)) in
-    let cut : c.truncate.new.self.items ≡ take (suc (now.value - 1)) sums =
-    taken ∙ ap (λ v. take v sums) (ap (λ (v : PlainStage). v.value) c.stage.view_is ∙ value_is) in
-    let all = values-of now _ (state g at) _ weights _ c.self.invariant.1 sums c.truncate.new.self.items
-    c.add_weights-forever.result added wide cut forever in
-    subst (λ (v : PlainStage). AreNumberedValues v.game v.values c.truncate.new.self.items c.add_weights-forever.result)
-    (sym c.stage.view_is) all
+    let all = values-of now _ (state g at) _ weights _ _ c.self.invariant.1 sums c.add_weights-forever.result added wide
+    forever in
+    let items = take_at sums (drop (length sums) c.zeros-sizes.result.items) c.zeros-sizes.result.len
+    (e.size ∙ c.deref_mut.ensures.len) in
+    subst (λ (l : List ℕ). AreNumberedValues c.stage.inside.graph c.stage.inside.values.items l
+    c.add_weights-forever.result) (sym items)
+    (subst (λ (v : PlainStage). AreNumberedValues v.game v.values sums c.add_weights-forever.result)
+    (sym c.stage.view_is) all)

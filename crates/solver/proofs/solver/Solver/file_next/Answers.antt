@@ -1,4 +1,4 @@
-use Rattle.std.proofs.Common.{◌≡◌, ◌≢◌, ◌-◌, ◌∙◌, ℕ, suc, length, true, false, refl, sym, ap, subst, arith}
+use Rattle.std.proofs.Common.{◌≡◌, ◌≢◌, ◌-◌, ◌∙◌, ℕ, suc, length, true, false, refl, sym, ap, subst, arith, vec_capacity}
 use Rattle.graphs.specs.Numbered.{Numbered}
 use Rattle.solver.specs.Solving.{HasFoundNone, IsSolving, NoneHas, Solving}
 use Rattle.solver.specs.Inside.Stage.{PlainStage, at_next_value, filed_at, IsEquipped, IsState}
@@ -37,7 +37,9 @@ module _ (g : Given.Over) (c : Then-filed-eq0 g) where
   state = subst (λ n. IsState ended n true) same last
 
   equipped : IsEquipped ended.game c.self.inside.space c.self.inside.weights.items c.self.inside.sizes.items
-  equipped = subst (λ (n : Numbered). IsEquipped n c.self.inside.space c.self.inside.weights.items c.self.inside.sizes.items)
+    (vec_capacity c.self.inside.sizes)
+  equipped = subst (λ (n : Numbered). IsEquipped n c.self.inside.space c.self.inside.weights.items c.self.inside.sizes.items
+    (vec_capacity c.self.inside.sizes))
       (sym c.file.ensures.kept.game_is) c.self.invariant.1
 
 pub invariant_of-self : goal.invariant_of-self
@@ -79,7 +81,9 @@ module _ (g : Given.Over) (c : Else-filed-eq0 g) where
       (further-state c.self.inside.stage _ c.self.inside.done c.self.invariant.0 more c.file.ensures.struck c.file.ensures.kept c.if-self.false filed)
 
   equipped-next : IsEquipped more.game c.self.inside.space c.self.inside.weights.items c.self.inside.sizes.items
-  equipped-next = subst (λ (n : Numbered). IsEquipped n c.self.inside.space c.self.inside.weights.items c.self.inside.sizes.items)
+    (vec_capacity c.self.inside.sizes)
+  equipped-next = subst (λ (n : Numbered). IsEquipped n c.self.inside.space c.self.inside.weights.items c.self.inside.sizes.items
+    (vec_capacity c.self.inside.sizes))
       (sym c.file.ensures.kept.game_is) c.self.invariant.1
 
 pub begin_next_value-requires : goal.begin_next_value-requires

@@ -1,6 +1,4 @@
-use Rattle.std.proofs.Common.{◌≡◌, ◌-◌, ◌≤◌, ◌∙◌, ℕ, Option, List, length, replicate, slice_index, false, ap, sym}
-use Rattle.std.proofs.Common.{subst, arith}
-use Rattle.std.proofs.lemmas.List.{length-replicate, get_or-replicate}
+use Rattle.std.proofs.Common.{◌≡◌, ◌-◌, ◌≤◌, ℕ, Option, List, [], false, sym, subst, arith, vec_capacity}
 use Rattle.graphs.specs.NumberedRanks.{AreNumberWeights}
 use Rattle.board_text.specs.PlainBoard.{PlainBoard, IsBoard}
 use Rattle.classes.specs.declared.counting.TheConstants.{MAX_CLASSES}
@@ -20,16 +18,15 @@ opened-state s n same board few few_by opened =
     (subst (λ (m : Numbered). (graph_of m).configurations ≤ MAX_CLASSES) (sym same) few)
     (subst (λ (m : Numbered). IsFewBy m.numbering m.board) (sym same) few_by) opened
 
-equipped : (n : Numbered) (board : PlainBoard) (numbering : Numbering) (weights : List ℕ) (count : ℕ) (zeros : List ℕ)
-    (space : Option PlainBoard) → n ≡ numbered board numbering → HasSpaceBy numbering board space
-    → AreNumberWeights n weights → count ≡ (graph_of n).configurations → zeros ≡ replicate count 0
-    → IsEquipped n space weights zeros
-equipped n board numbering weights count zeros space own has weighed count_is zeros_are = record {
+equipped : (n : Numbered) (board : PlainBoard) (numbering : Numbering) (weights : List ℕ) (sizes : List ℕ)
+    (capacity : ℕ) (space : Option PlainBoard) → n ≡ numbered board numbering → HasSpaceBy numbering board space
+    → AreNumberWeights n weights → sizes ≡ [] → (graph_of n).configurations ≤ capacity
+    → IsEquipped n space weights sizes capacity
+equipped n board numbering weights sizes capacity space own has weighed no_sizes room = record {
   has_space = subst (λ (m : Numbered). HasSpaceBy m.numbering m.board space) (sym own) has;
   weighed = weighed;
-  zeros_length = ap length zeros_are ∙ length-replicate count 0 ∙ count_is;
-  zeros_are = λ k low. ap (λ (l : List ℕ). slice_index l k) zeros_are
-      ∙ get_or-replicate count k 0 0 (let long = ap length zeros_are ∙ length-replicate count 0 in omega arith);
+  no_sizes = no_sizes;
+  room = room;
 }
 
 pub begin_next_value-requires : goal.begin_next_value-requires
@@ -44,12 +41,12 @@ invariant_of-result g c =
     let e = c.in_ok-stage.ensures in
     rw c.begin_next_value.ensures (
       opened-state c.in_ok-stage.stage c.in_ok-graph.graph e.game e.board e.few e.few_by e.opened,
-      subst (λ (n : Numbered). IsEquipped n c.args.space c.in_ok-weights.weights.items c.in_ok-sizes.sizes.items)
+      subst (λ (n : Numbered). IsEquipped n c.args.space c.in_ok-weights.weights.items c.in_ok-sizes.sizes.items
+          (vec_capacity c.in_ok-sizes.sizes))
           (sym e.game)
-          (equipped c.in_ok-graph.graph c.args.board.now c.args.numbering _ _ c.in_ok-sizes.sizes.items c.args.space
-          c.in_ok-graph.ensures
-          c.requires.space c.in_ok-weights.ensures c.configurations.ensures.value
-          (c.in_ok-sizes.ensures.items_if_clones_equal (λ y e. e))),
+          (equipped c.in_ok-graph.graph c.args.board.now c.args.numbering _ c.in_ok-sizes.sizes.items _ c.args.space
+          c.in_ok-graph.ensures c.requires.space c.in_ok-weights.ensures c.in_ok-sizes.ensures.items
+          (let room = c.in_ok-sizes.ensures.capacity in let size = c.configurations.ensures.value in omega arith)),
     )
 
 pub returns-clause-kept : goal.returns-clause-kept

@@ -4,8 +4,8 @@ use Rattle.strategies.specs.Inside.ReachedRanks.{IsAnswerStep, AnswerLeads}
 use Rattle.strategies.proofs.AddedRanks.{Below, added_more, added_same, below_all}
 use Rattle.strategies.proofs.AddedSteps.{no_answer_added, worthless_not_added, answer_added}
 use Rattle.strategies.proofs.best_moves.BestMoves.add_answers.Goals as goal
-use Rattle.strategies.proofs.best_moves.BestMoves.add_answers.Goals.{in-Some+then-lt+in_ok-add, in-Some+else-lt, in_default}
-use Rattle.strategies.proofs.best_moves.BestMoves.add_answers.Goals.{After-pebbles-pebble-end}
+use Rattle.strategies.proofs.best_moves.BestMoves.add_answers.Goals.{After-pebbles-pebble-end, in_default}
+use Rattle.strategies.proofs.best_moves.BestMoves.add_answers.Goals.{in-Some+then-lt+in_ok-add, in-Some+else-lt}
 
 pebbles : (c : After-pebbles-pebble-end) → c.pebbles-pebble-end.result ≡ c.args.self.now.pebbles
 pebbles c = c.pebbles-pebble-end.ensures.value ∙ ap (λ (p : Position). p.board.pebbles) c.at-here.ensures
@@ -16,19 +16,20 @@ loop-pebble-preserved c =
     let rank = c.args.rank in
     let step = IsAnswerStep b rank in
     let pebble = c.loop-pebble.pebble in
-    let is_pebble : pebble < b.pebbles = omega (arith, pebbles (goal.at.loop-pebble-preserved c).After-pebbles-pebble-end, c.loop-pebble-test.true) in
+    let at = (goal.at.loop-pebble-preserved c).After-pebbles-pebble-end in
+    let is_pebble : pebble < b.pebbles = omega (arith, pebbles at, c.loop-pebble-test.true) in
     elim c.match-answer.branch [
       | in-Some+then-lt+in_ok-add w ↦ rw w.reached-is (record {
         size = w.in_ok-add.ensures.size ∙ c.loop-pebble.invariant.size;
         added = added_more _ _ _ step pebble c.loop-pebble.invariant.added
-            (answer_added b rank pebble _ w.in-Some.best w.with.result _ (rw c.at-here.ensures at w.in-Some.ensures) (search rules)
-            is_pebble
-            (rw w.space.ensures.value at w.with.ensures.rank) w.in_ok-add.ensures.added);
+            (answer_added b rank pebble _ w.in-Some.best w.with.result _ (rw c.at-here.ensures at w.in-Some.ensures)
+            (search rules) is_pebble (rw w.space.ensures.value at w.with.ensures.rank) w.in_ok-add.ensures.added);
       })
       | in-Some+else-lt w ↦ rw w.reached-is (record {
         size = c.loop-pebble.invariant.size;
         added = added_more _ _ _ step pebble c.loop-pebble.invariant.added
-            (worthless_not_added b rank pebble _ w.in-Some.best (rw c.at-here.ensures at w.in-Some.ensures) (search rules));
+            (worthless_not_added b rank pebble _ w.in-Some.best (rw c.at-here.ensures at w.in-Some.ensures)
+            (search rules));
       })
       | in_default w ↦ rw w.reached-is (record {
         size = c.loop-pebble.invariant.size;
@@ -44,4 +45,5 @@ returns-clause-added c =
     let end : b.pebbles ≤ c.loop-pebble.pebble =
     omega (arith, pebbles (goal.at.returns-clause-added c).After-pebbles-pebble-end, c.loop-pebble-test.false) in
     added_same _ _ (Below step c.loop-pebble.pebble) (AnswerLeads b c.args.rank)
-    (λ to. below_all step c.loop-pebble.pebble to (λ pebble is. let low : pebble < b.pebbles = is.is_pebble in omega arith)) c.loop-pebble.invariant.added
+    (λ to. below_all step c.loop-pebble.pebble to
+    (λ pebble is. let low : pebble < b.pebbles = is.is_pebble in omega arith)) c.loop-pebble.invariant.added

@@ -48,14 +48,22 @@ pub rank-requires : goal.rank-requires
 rank-requires c =
     let members = rw c.space.ensures.value at c.members-members.ensures in
     let place : c.loop-label.label < places c.args.self.now =
-    omega (arith, end-is (goal.at.rank-requires c).After-results-results _ c.places-label-end.ensures.value, c.loop-label-test.true) in
+    omega (
+      arith,
+      end-is (goal.at.rank-requires c).After-results-results _ c.places-label-end.ensures.value,
+      c.loop-label-test.true,
+    ) in
     omega (arith, members.below c.loop-label.label place, members.few)
 
 pub add-requires : goal.add-requires
 add-requires c =
     let members = rw c.space.ensures.value at c.members-members.ensures in
     let place : c.loop-label.label < places c.args.self.now =
-    omega (arith, end-is (goal.at.add-requires c).After-results-results _ c.places-label-end.ensures.value, c.loop-label-test.true) in
+    omega (
+      arith,
+      end-is (goal.at.add-requires c).After-results-results _ c.places-label-end.ensures.value,
+      c.loop-label-test.true,
+    ) in
     omega (arith, members.below c.loop-label.label place, c.rank.ensures, c.loop-label.invariant.size, c.requires.size)
 
 pub loop-label-preserved : goal.loop-label-preserved
@@ -70,12 +78,13 @@ loop-label-preserved c =
     elim c.if-is_answer.branch [
       | then-is_answer+in_ok-add w ↦ rw w.reached-is (record {
         size = w.in_ok-add.ensures.size ∙ c.loop-label.invariant.size;
-        added = member_added b c.args.gap label w.rank.result _ _ _ (told.0 w.if-is_answer.true) (rw w.rank.ensures (members.ranks label place))
-            c.loop-label.invariant.added w.in_ok-add.ensures.added;
+        added = member_added b c.args.gap label w.rank.result _ _ _ (told.0 w.if-is_answer.true)
+            (rw w.rank.ensures (members.ranks label place)) c.loop-label.invariant.added w.in_ok-add.ensures.added;
       })
       | else-is_answer w ↦ rw w.reached-is (record {
         size = c.loop-label.invariant.size;
-        added = no_member_added b c.args.gap label _ _ (λ answer. let yes = told.1 answer in search (rules, yes, w.if-is_answer.false))
+        added = no_member_added b c.args.gap label _ _
+            (λ answer. let yes = told.1 answer in search (rules, yes, w.if-is_answer.false))
             c.loop-label.invariant.added;
       })
     ]
@@ -89,4 +98,5 @@ returns-clause-added c =
     c.loop-label.invariant.added
 
 pub members-members-requires : goal.members-members-requires
-members-members-requires c = rw c.space.ensures.value (in_gaps (goal.at.members-members-requires c).After-results-results)
+members-members-requires c =
+    rw c.space.ensures.value (in_gaps (goal.at.members-members-requires c).After-results-results)

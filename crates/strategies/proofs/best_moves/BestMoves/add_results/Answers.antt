@@ -5,7 +5,8 @@ use Rattle.strategies.proofs.AddedSteps.{no_request_added, results_known, result
 use Rattle.strategies.proofs.best_moves.BestMoves.add_results.Goals as goal
 use Rattle.strategies.proofs.best_moves.BestMoves.add_results.Goals.{After-gap-gap}
 
-gap-is : (c : After-gap-gap) → c.gap-gap.result ≡ gap_of c.args.self.now (configuration_at c.args.self.now c.args.rank) c.in-Some.pebble
+gap-is : (c : After-gap-gap)
+    → c.gap-gap.result ≡ gap_of c.args.self.now (configuration_at c.args.self.now c.args.rank) c.in-Some.pebble
 gap-is c = rw c.space.ensures.value at c.gap-gap.ensures.gap
 
 gap-below : (c : After-gap-gap) → c.gap-gap.result < gaps c.args.self.now
@@ -16,7 +17,8 @@ returns-in_default-clause-added c =
     no_request_added c.args.self.now c.args.rank _ (rw c.at-here.ensures at c.in_default.ensures.best)
 
 pub add_members-requires-clause-gap : goal.add_members-requires-clause-gap
-add_members-requires-clause-gap c = rw c.at-here.ensures (gap-is (goal.at.add_members-requires-clause-gap c).After-gap-gap)
+add_members-requires-clause-gap c =
+    rw c.at-here.ensures (gap-is (goal.at.add_members-requires-clause-gap c).After-gap-gap)
 
 pub returns-then-get-clause-added : goal.returns-then-get-clause-added
 returns-then-get-clause-added c =

@@ -10,5 +10,5 @@ is_answer-requires c = rw c.results.ensures.board (label_is_place c.args.self.no
 pub returns : goal.returns
 returns c =
     let held = c.args.self.now.held in
-    subst (λ (b : PlainBoard). IsTrue c.is_answer.result ↔ Legal b held c.args.pebble c.args.label) c.results.ensures.board
-    (c.is_answer.ensures _ c.args.pebble c.results.ensures.request)
+    subst (λ (b : PlainBoard). IsTrue c.is_answer.result ↔ Legal b held c.args.pebble c.args.label)
+    c.results.ensures.board (c.is_answer.ensures _ c.args.pebble c.results.ensures.request)

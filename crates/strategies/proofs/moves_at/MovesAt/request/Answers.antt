@@ -15,7 +15,8 @@ returns-then-leads_below c =
 pub loop-pebble-preserved : goal.loop-pebble-preserved
 loop-pebble-preserved c =
     none_lowers c.args.self.now.board c.args.self.now.held c.loop-pebble.pebble c.value-value.result c.answer.result
-    (c.value-value.ensures) c.loop-pebble.invariant c.answer.ensures (λ below. let same = c.if-leads_below.ensures.1 below in absurd cc)
+    (c.value-value.ensures) c.loop-pebble.invariant c.answer.ensures
+    (λ below. let same = c.if-leads_below.ensures.1 below in absurd cc)
 
 pub returns-clause-none : goal.returns-clause-none
 returns-clause-none c =

@@ -33,7 +33,8 @@ loop-rank-init c =
     ]
 
 pub add_answers-requires-clause-rank : goal.add_answers-requires-clause-rank
-add_answers-requires-clause-rank c = spread_below _ _ _ _ _ _ _ c.loop-rank.invariant.spread (sym c.in-Some.ensures.rank)
+add_answers-requires-clause-rank c =
+    spread_below _ _ _ _ _ _ _ c.loop-rank.invariant.spread (sym c.in-Some.ensures.rank)
 
 pub overflow_add-index : goal.overflow_add-index
 overflow_add-index c =

@@ -1,6 +1,6 @@
 use Rattle.domains.proofs.ExactCounts.{forty_nine_exactly}
 use Rattle.domains.proofs.ProductExamples.{forty_nine, forty_nine_exists, fourteen_hundred}
-use Rattle.domains.proofs.laws_of_products.products_beyond_any_run.Goals as goal
+use Rattle.domains.proofs.laws_of_products.large_products.Goals as goal
 
 pub returns : goal.returns
 returns c = record {

@@ -3,7 +3,7 @@ use Rattle.std.specs.Prelude.{Err}
 use Rattle.runs.proofs.PlayFaults.{lines-told, ok_or_err, same_run_fault, writer-told}
 use Rattle.std.proofs.lemmas.Result.{err_from_is_err_and}
 use Rattle.runs.proofs.BoardLimits.{few_classes}
-use Rattle.runs.proofs.playing.run_play_within.Goals as goal
+use Rattle.runs.proofs.playing.run_play_with_prompts.Goals as goal
 
 pub numbered_of-requires : goal.numbered_of-requires
 numbered_of-requires g c = few_classes c.args.limit c.in_ok-board.board c.in_ok-board.ensures.found.2.few
@@ -42,3 +42,13 @@ returns-in_err-play-clause-streams g c =
         λ fault. (writer-told _ _ _ told _ refl).1 (same_run_fault _ _ (sym is ∙ fault)),
       );
     }
+
+pub returns-in_err-play-clause-prompts : goal.returns-in_err-play-clause-prompts
+returns-in_err-play-clause-prompts g c =
+    let told = c.play.ensures.prompts in
+    (told.0, inr (c.in_ok-board.board, c.in_ok-board.ensures.found, told.1), told.2)
+
+pub returns-clause-prompts : goal.returns-clause-prompts
+returns-clause-prompts g c =
+    let told = c.play.ensures.prompts in
+    (told.0, inr (c.in_ok-board.board, c.in_ok-board.ensures.found, told.1), told.2)
