@@ -6,7 +6,7 @@ import subprocess
 from functools import partial
 
 import board_texts
-from program import BOARDS, Check, Ran, board, check, fault, run, shown, stored, strategy, text_of, written
+from program import BOARDS, Check, Ran, board, check, fault, leaves, run, shown, stored, strategy, text_of, written
 
 # the claims of stored boards
 CLAIMS = {

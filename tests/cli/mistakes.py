@@ -129,6 +129,13 @@ def prompted(words, given, told):
     return differs(run_at_terminals(words, given), Ran(piped.status, piped.output, lines)) or differs(at_one, Ran(piped.status, piped.output))
 
 
+def noticed(words, told):
+    """None if a person whose standard error is a terminal is told this line before the work, and nothing is told elsewhere."""
+    piped = quiet(words, b'')
+    at_one = run_at_terminal(Mistake('', words, Ran(), '', ''))
+    return differs(piped, Ran(output=piped.output)) or differs(at_one, Ran(output=piped.output, errors=told.encode()))
+
+
 def prompted_in_turn(words, told):
     """None where a wrong line is answered, and then the choices are told, before another line is typed."""
     with at_terminals(words) as (started, typing, screen):
@@ -402,6 +409,10 @@ def of_typed_lines(work):
         yield Check(f'typed: {name}', partial(prompted, words, given, told))
     for words, told in (([*asks, CHAIN], pebbles), ([*answers, CHAIN], first), (['climb', '3'], 'type a pebble')):
         yield Check(f'typed: the choices in turn, in {" ".join(words[:3])}', partial(prompted_in_turn, words, told))
+    large = written(work, 'noticed.board', chain(17, 5))
+    for words, told in ((['report', '--large', CHAIN], ''),
+                        (['report', '--large', large], 'a large board: its 20349 classes are solved, which can take seconds\n')):
+        yield Check(f'the notice of {" ".join(words[:-1])} {os.path.basename(words[-1])}', partial(noticed, words, told))
     for words in ([*asks, faulty], [*answers, os.path.join(work, 'missing.board')]):
         yield Check(f'typed: no greeting for {os.path.basename(words[-1])}', partial(ungreeted, words))
 

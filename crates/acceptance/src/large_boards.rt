@@ -10,7 +10,10 @@ use graphs::Numbering;
 use player::PlayEnd;
 use positions::Side;
 use round_workers::MAX_WORKERS;
-use runs::{RunFault, board_within, report_text_within, run_play_within, run_report_within};
+use runs::{
+    RunFault, board_within, report_text_within, run_play_within, run_report_with_notice,
+    run_report_within,
+};
 use std::alloc::Global;
 use std::sync::Wait;
 use std::thread::Threads;
@@ -23,6 +26,9 @@ const TOO_MANY_CLASSES: &str = "board 1\nlabels 256\npebbles 4\nstart 0 0 0 0\ne
 /// The report of a board of 58,905 classes, on which no label dominates another.
 const REPORT: &str = "report 1\nlabels 33\npebbles 4\nconfigurations 1185921\nstart value 0\n\
     value 0: 1185921\nforever: 0\nend\n";
+
+/// The line for a person who waits for that report.
+const NOTICE: &[u8] = b"a large board: its 58905 classes are solved, which can take seconds\n";
 
 /// The play on it of a person who answers.
 const TRANSCRIPT: &[u8] = b"value 0\nat 0 0 0 0\nask 0\nno label for pebble 0 after 0 requests\n";
@@ -55,6 +61,34 @@ fn reports(rt: HostRuntime) {
     );
     let large = Err(RunFault::TooLarge);
     assert!(rt; comes_right(|| report_outcome(&rt, alloc, Numbering::Ordered, 2, large, NOTHING)));
+}
+
+/// The outcome of a report by one worker, for a person who is told of the board's size. A run that
+/// is refused memory may have told it before.
+fn notice_outcome(rt: &(impl Threads + Wait + Sync), alloc: Global) -> Outcome {
+    let mut reader = Drip::new(TOO_MANY_CONFIGURATIONS.as_bytes(), PLENTY);
+    let mut writer = Trickle::<ROOM>::new(PLENTY, Failing::Refuses);
+    let mut errors = Trickle::<ROOM>::new(PLENTY, Failing::Refuses);
+    let limit = Numbering::Classes;
+    let answer = run_report_with_notice(
+        rt,
+        alloc,
+        limit,
+        1,
+        &mut reader,
+        &mut writer,
+        true,
+        &mut errors,
+    );
+    let is_refused = answer == Err(RunFault::Memory);
+    let told = errors.taken();
+    Outcome::of(is_refused, told == NOTICE || is_refused && told.is_empty())
+}
+
+#[test]
+fn a_person_is_told_of_the_size(rt: HostRuntime) {
+    let alloc = rt.alloc();
+    assert!(rt; comes_right(|| notice_outcome(&rt, alloc)));
 }
 
 /// The outcome of the report of a text in memory, by two workers.

@@ -247,11 +247,28 @@ fn assert_members(rt: &impl Abort, graph: &Graph, worked: &Worked) {
     }
 }
 
-/// Asserts the members of each gap as one row.
+/// Asserts the members of each gap as one row, and its answers as a set, among three labels.
 fn assert_rows(rt: &impl Abort, graph: &Graph, worked: &Worked) {
     for gap in 0..graph.gaps() {
-        let row = worked.members.get(gap as usize).copied();
-        assert_same(rt, gap, Some(graph.members(gap)), row);
+        let members = graph.members(gap);
+        let row = &members[..graph.places() as usize];
+        assert_same(
+            rt,
+            gap,
+            Some(row),
+            worked.members.get(gap as usize).copied(),
+        );
+        let answers = graph.answers(gap);
+        for label in 0..3 {
+            let wanted = wanted_member(worked, gap, u32::from(label));
+            let is_wanted = wanted.map(|(_, is_answer)| is_answer);
+            assert_same(
+                rt,
+                (gap, u32::from(label)),
+                Some(answers.contains(label)),
+                is_wanted,
+            );
+        }
     }
 }
 

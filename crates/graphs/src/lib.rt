@@ -10,8 +10,8 @@ mod numbers;
 mod ordered_numbers;
 
 pub use graph::{Graph, Numbering, has_few};
-pub use numbers::MAX_PLACES;
 pub use laws::{
     configurations_have_numbers, gaps_answer_requests, graphs_have_the_values_of_boards,
     numbered_graphs_show_their_boards, weights_count_configurations,
 };
+pub use numbers::MAX_PLACES;

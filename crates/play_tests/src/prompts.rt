@@ -1,6 +1,6 @@
 //! What a person at a terminal is told, each call once.
 
-ghost use Rattle.std.specs.Prelude.{◌≡◌};
+ghost use Rattle.std.specs.Prelude.{◌≡◌, false};
 
 use crate::assertions::board_of;
 use fakes::boards::CHAIN_OF_THREE;
@@ -10,7 +10,7 @@ use player::{
     PlayEnd, PlayFault, play_adversary_with_prompts, play_labeller_with_prompts,
     play_nested_with_prompts,
 };
-use solved_boards::values_of;
+use solved_boards::numbered_values_of;
 
 /// A greeting, and the pebbles of two after one wrong line.
 const ASKING: &[u8] =
@@ -53,10 +53,10 @@ fn outcome(
 fn a_person_asks(rt: HostRuntime) {
     let alloc = rt.alloc();
     let board = board_of(&rt, alloc, CHAIN_OF_THREE);
-    let values = values_of(alloc, &board).expect(&rt, "values");
+    let values = numbered_values_of(alloc, &board).expect(&rt, "values");
     let is_right = comes_right(
         || -> Outcome
-            requires { values ≡ board }
+            requires { values.board ≡ board }
         {
             let (mut lines, mut output, mut errors) = (
                 Drip::new(REQUESTS, 1000),
@@ -66,7 +66,7 @@ fn a_person_asks(rt: HostRuntime) {
             let end = play_adversary_with_prompts(
                 alloc,
                 &board,
-                values.numbered(),
+                &values,
                 &mut lines,
                 &mut output,
                 true,
@@ -82,10 +82,10 @@ fn a_person_asks(rt: HostRuntime) {
 fn a_person_answers(rt: HostRuntime) {
     let alloc = rt.alloc();
     let board = board_of(&rt, alloc, CHAIN_OF_THREE);
-    let values = values_of(alloc, &board).expect(&rt, "values");
+    let values = numbered_values_of(alloc, &board).expect(&rt, "values");
     let is_right = comes_right(
         || -> Outcome
-            requires { values ≡ board }
+            requires { values.board ≡ board }
         {
             let (mut lines, mut output, mut errors) = (
                 Drip::new(ANSWERS, 1000),
@@ -95,7 +95,7 @@ fn a_person_answers(rt: HostRuntime) {
             let end = play_labeller_with_prompts(
                 alloc,
                 &board,
-                values.numbered(),
+                &values,
                 &mut lines,
                 &mut output,
                 true,

@@ -1,7 +1,7 @@
 -- Texts that are written one after the other are one text.
 use Rattle.std.proofs.Common.{◌≡◌, ℕ, Bool, not, true, false, List, [], ◌∷◌, ◌++◌}
 use Rattle.std.proofs.Common.{refl, sym, ap, subst, ◌∙◌, inl, inr, arith}
-use Rattle.std.proofs.lemmas.List.{append-nil, length-append, map-append, take-append-le}
+use Rattle.std.proofs.lemmas.List.{append-nil, append_assoc, length-append, map-append, take-append-le}
 use Rattle.std.proofs.lemmas.List.Concat.{flat_map-append}
 use Rattle.std.proofs.lemmas.List.Elements.{All-append, All-cons, All-nil}
 use Rattle.std.specs.Prelude.{Option}
@@ -10,7 +10,8 @@ use Rattle.std.specs.List.{flat_map}
 use Rattle.board_text.specs.LineForms.{with_line_feed}
 use Rattle.board_text.specs.Streams.{AppendsPrefix}
 use Rattle.board_text.proofs.Cited.{Appends-trans}
-use Rattle.player.specs.Showing.{AreForPerson, HasNoControl, IsMore, IsTaken, shown, shown_byte}
+use Rattle.player.specs.Showing.{AreForPerson, AreLines, HasNoControl, IsMore, IsTaken, shown, shown_byte}
+use Rattle.player.specs.Prompts.{AreGreetingAndChoices, ArePrompts, HasChoices}
 use Rattle.player.specs.Inside.Prompts.{TellsChoices}
 use Rattle.player.specs.Transcript.{Game}
 use Rattle.player.proofs.ShownTexts.{plain_if_shown}
@@ -77,56 +78,94 @@ then_shown known failed a b c s t first second =
     subst (IsMore known failed a c) (sym (map-append shown_byte s t))
     (then_more known failed a b c (shown s) (shown t) first second)
 
+-- ---- lines
+
+module _ (IsLine : List ℕ → Type 0) where
+  -- one line
+  pub one_line : (line : List ℕ) → IsLine line → AreLines IsLine true (with_line_feed line)
+  one_line line is = (line ∷ [], All-cons IsLine line [] is (All-nil IsLine), sym (append-nil (with_line_feed line)))
+
+  -- no line
+  pub no_line_told : (shows : Bool) → AreLines IsLine shows []
+  no_line_told true = ([], All-nil IsLine, refl)
+  no_line_told false = refl
+
+  -- lines and then lines
+  pub then_lines : (shows : Bool) (s t : List ℕ) → AreLines IsLine shows s → AreLines IsLine shows t
+      → AreLines IsLine shows (s ++ t)
+  then_lines true s t (first, each, is) (second, each_too, is_too) = (
+    first ++ second,
+    All-append IsLine first second each each_too,
+    ap (λ (l : List ℕ). l ++ t) is ∙ ap (λ (l : List ℕ). flat_map with_line_feed first ++ l) is_too
+        ∙ sym (flat_map-append with_line_feed first second),
+  )
+  then_lines false s t first second = ap (λ (l : List ℕ). l ++ t) first ∙ second
+
 -- ---- lines for a person
 
--- one line
-pub line_for_person : (words : List ℕ) → HasNoControl words → AreForPerson true (with_line_feed words)
-line_for_person words plain = (
-  words ∷ [],
-  All-cons HasNoControl words [] plain (All-nil HasNoControl),
-  sym (append-nil (with_line_feed words)),
-)
-
 pub shown_line : (words : List ℕ) → AreForPerson true (with_line_feed (shown words))
-shown_line words = line_for_person (shown words) (plain_if_shown words)
+shown_line words = one_line HasNoControl (shown words) (plain_if_shown words)
 
--- no line
 pub nothing_for_person : (shows : Bool) → AreForPerson shows []
-nothing_for_person true = ([], All-nil HasNoControl, refl)
-nothing_for_person false = refl
-
--- lines and then lines
-pub then_for_person : (shows : Bool) (s t : List ℕ) → AreForPerson shows s → AreForPerson shows t
-    → AreForPerson shows (s ++ t)
-then_for_person true s t (first, plain, is) (second, plain_too, is_too) = (
-  first ++ second,
-  All-append HasNoControl first second plain plain_too,
-  ap (λ (l : List ℕ). l ++ t) is ∙ ap (λ (l : List ℕ). flat_map with_line_feed first ++ l) is_too
-      ∙ sym (flat_map-append with_line_feed first second),
-)
-then_for_person false s t first second = ap (λ (l : List ℕ). l ++ t) first ∙ second
+nothing_for_person shows = no_line_told HasNoControl shows
 
 pub was_true : (b : Bool) → not b ≡ false → b ≡ true
 was_true true is = refl
 was_true false is = cc
 
+-- a person is there, or not
+pub if_there : (P : Bool → Type 0) (shows is_there : Bool) → shows ≡ is_there → P is_there → P shows
+if_there P shows is_there is holds = subst P (sym is) holds
+
 -- lines for a person who is there
 pub for_person_there : (shows : Bool) (text : List ℕ) → shows ≡ true → AreForPerson true text → AreForPerson shows text
-for_person_there shows text is lines = subst (λ b. AreForPerson b text) (sym is) lines
+for_person_there shows text is lines = if_there (λ b. AreForPerson b text) shows true is lines
 
-module _ {W : Type 0} (known : W → Option (List ℕ)) (failed : W → Bool) where
-  -- what was told, and then no more
-  abbrev pub Told : Bool → W → W → Type 0
-  Told shows before after = (told : List ℕ) × AreForPerson shows told × IsMore known failed before after told
+-- ---- prompts
 
-  pub nothing_told : (shows : Bool) (a : W) → Told shows a a
-  nothing_told shows a = ([], nothing_for_person shows, none_more known failed a)
+module _ (game : Game) where
+  -- a greeting alone
+  pub greeting_told : (words : List ℕ) → AreGreetingAndChoices true game (with_line_feed (shown words))
+  greeting_told words = (
+    shown words,
+    [],
+    plain_if_shown words,
+    no_line_told (HasChoices game) true,
+    sym (append-nil (with_line_feed (shown words))),
+  )
 
-  pub then_told : (shows : Bool) (a b c : W) → Told shows a b → Told shows b c → Told shows a c
-  then_told shows a b c (s, for, more) (t, for_too, more_too) =
-      (s ++ t, then_for_person shows s t for for_too, then_more known failed a b c s t more more_too)
+  -- more choices
+  pub then_choices : (shows : Bool) (s t : List ℕ) → AreGreetingAndChoices shows game s → AreLines
+      (HasChoices game) shows t
+      → AreGreetingAndChoices shows game (s ++ t)
+  then_choices true s t (greeting, rest, plain, lines, is) more = (
+    greeting,
+    rest ++ t,
+    plain,
+    then_lines (HasChoices game) true rest t lines more,
+    ap (λ (l : List ℕ). l ++ t) is ∙ append_assoc (with_line_feed greeting) rest t,
+  )
+  then_choices false s t first second = ap (λ (l : List ℕ). l ++ t) first ∙ second
 
--- the choices are a line for a person
-pub choices_for_person : (game : Game) (at told : List ℕ) → TellsChoices game at told → AreForPerson true told
-choices_for_person game at told (inl none) = subst (AreForPerson true) (sym none) (nothing_for_person true)
-choices_for_person game at told (inr (words, are, is)) = subst (AreForPerson true) (sym is) (shown_line words)
+  -- the choices at a configuration
+  pub choices_told : (at told : List ℕ) → TellsChoices game at told → AreLines (HasChoices game) true told
+  choices_told at told (inl none) =
+      subst (AreLines (HasChoices game) true) (sym none) (no_line_told (HasChoices game) true)
+  choices_told at told (inr (words, are, is)) =
+      subst (AreLines (HasChoices game) true) (sym is) (one_line (HasChoices game) (shown words) (at, words, are, refl))
+
+  plain_choices : (line : List ℕ) → HasChoices game line → HasNoControl line
+  plain_choices line (at, words, are, is) = subst HasNoControl (sym is) (plain_if_shown words)
+
+  -- all are lines for a person
+  pub told_for_person : (shows : Bool) (told : List ℕ) → AreGreetingAndChoices shows game told → AreForPerson shows told
+  told_for_person true told (greeting, rest, plain, (lines, each, same), is) = (
+    greeting ∷ lines,
+    All-cons HasNoControl greeting lines plain (λ k d inside. plain_choices _ (each k d inside)),
+    is ∙ ap (λ (l : List ℕ). with_line_feed greeting ++ l) same,
+  )
+  told_for_person false told none = none
+
+  pub prompts_for_person : (shows : Bool) (told : List ℕ) → ArePrompts shows game told → AreForPerson shows told
+  prompts_for_person shows told (inl none) = subst (AreForPerson shows) (sym none) (nothing_for_person shows)
+  prompts_for_person shows told (inr (asks, are)) = told_for_person shows told are

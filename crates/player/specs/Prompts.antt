@@ -1,12 +1,12 @@
 -- What a person at a terminal is told in a play: the choices that there are.
-use Rattle.std.specs.Prelude.{◌≡◌, ℕ, ◌<◌, ◌-◌, ◌==◌, ◌↔◌, ◌⊎◌, if◌then◌else◌, Bool, List, [], ◌++◌}
-use Rattle.std.specs.Prelude.{AllPairs, Contains, codes}
+use Rattle.std.specs.Prelude.{◌≡◌, ℕ, ◌<◌, ◌-◌, ◌==◌, ◌↔◌, ◌⊎◌, if◌then◌else◌, List, [], ◌++◌}
+use Rattle.std.specs.Prelude.{AllPairs, Bool, Contains, codes, false, true}
 use Rattle.std.specs.Fmt.{decimal}
-use Rattle.board_text.specs.LineForms.{spaced_numbers}
+use Rattle.board_text.specs.LineForms.{spaced_numbers, with_line_feed}
 use Rattle.board_text.specs.PlainBoard.{PlainBoard}
 use Rattle.positions.specs.Game.{Legal}
 use Rattle.strategies.specs.Best.{IsBestRequest}
-use Rattle.player.specs.Showing.{AreForPerson}
+use Rattle.player.specs.Showing.{AreLines, HasNoControl, shown}
 use Rattle.player.specs.Transcript.{Game, PersonAsks, PersonAnswers, PersonClimbs}
 use Rattle.player.specs.Transcript.{BeginsPlay, Going}
 
@@ -36,10 +36,21 @@ AreChoices (PersonAnswers board) at words =
     × AreLegalLabels board at pebble labels × (words ≡ label_choices pebble labels)
 AreChoices (PersonClimbs levels) at words = words ≡ pebble_choices levels
 
+-- the line has the choices at some configuration, as a person is shown them
+abbrev pub HasChoices : Game → List ℕ → Type 0
+HasChoices game line = (at words : List ℕ) × AreChoices game at words × (line ≡ shown words)
+
+-- a line that greets, and lines with choices, if there is a person to see them; else nothing
+abbrev pub AreGreetingAndChoices : Bool → Game → List ℕ → Type 0
+AreGreetingAndChoices true game told = (greeting rest : List ℕ) × HasNoControl greeting
+    × AreLines (HasChoices game) true rest × (told ≡ with_line_feed greeting ++ rest)
+AreGreetingAndChoices false game told = told ≡ []
+
 -- a line is asked for: the play isn't over as soon as it has begun
 abbrev pub AsksForLine : Game → Type 0
 AsksForLine game = (opening at : List ℕ) × BeginsPlay game opening (Going at 0)
 
--- nothing; or if a line is asked for, and there is a person to see them, lines
+-- nothing; or if a line is asked for, a greeting and choices
 abbrev pub ArePrompts : Bool → Game → List ℕ → Type 0
-ArePrompts shows game told = (told ≡ []) ⊎ (AsksForLine game × AreForPerson shows told)
+ArePrompts shows game told =
+    (told ≡ []) ⊎ (AsksForLine game × AreGreetingAndChoices shows game told)

@@ -21,11 +21,15 @@ shown_byte byte = cond (is_control byte) 63 byte
 abbrev pub shown : List ℕ → List ℕ
 shown bytes = map shown_byte bytes
 
+-- lines of this kind, if there is a person to see them; else nothing
+abbrev pub AreLines : (List ℕ → Type 0) → Bool → List ℕ → Type 0
+AreLines IsLine true text =
+    (lines : List (List ℕ)) × All IsLine lines × (text ≡ flat_map with_line_feed lines)
+AreLines IsLine false text = text ≡ []
+
 -- lines without control bytes, if there is a person to see them; else nothing
 abbrev pub AreForPerson : Bool → List ℕ → Type 0
-AreForPerson true text =
-    (lines : List (List ℕ)) × All HasNoControl lines × (text ≡ flat_map with_line_feed lines)
-AreForPerson false text = text ≡ []
+AreForPerson shows text = AreLines HasNoControl shows text
 
 -- the text was written, and nothing else; or a prefix of it, and then the writer failed
 abbrev pub IsTaken : Option (List ℕ) → Option (List ℕ) → Type 0 → List ℕ → Type 0

@@ -5,8 +5,8 @@ ghost use Rattle.std.specs.Io.KnownBytes.{Appends};
 ghost use Rattle.board_text.specs.Streams.{AppendsPrefix};
 ghost use Rattle.player.specs.Transcript.{Game, Standing, Going, AreResponses, stopped_line};
 ghost use Rattle.player.specs.Inside.Transcript.{standing_of};
-ghost use Rattle.player.specs.Prompts.{AreChoices};
-ghost use Rattle.player.specs.Showing.{AreForPerson, IsMore};
+ghost use Rattle.player.specs.Prompts.{AreChoices, AreGreetingAndChoices};
+ghost use Rattle.player.specs.Showing.{IsMore};
 ghost use Rattle.player.specs.Play.{HasEnded, BreaksOff, TellsStreams};
 ghost use Rattle.player.specs.Inside.Steps.{IsResponseToMeaning, AddsText, Writes, FailsToWrite};
 ghost use Rattle.player.specs.declared.end.PlayEnd.TheVariants.{Stopped};
@@ -84,7 +84,7 @@ pub(crate) fn play_on<P: Play, R: Source, W: Sink, E: Sink>(
     ensures fault { IfErr result (BreaksOff (AreResponses (P.game play.old) (Going (P.at play.old) 0))
         (R.remaining reader.old) (R.remaining reader.new) (W.contents writer.old) (W.contents writer.new)) }
     ensures streams { TellsStreams result (R.has_failed reader.new) (W.has_failed writer.new) }
-    ensures told { (told : List ℕ) × AreForPerson shows told
+    ensures told { (told : List ℕ) × AreGreetingAndChoices shows (P.game play.old) told
         × IsMore E.contents E.has_failed errors.old errors.new told }
 {
     greet(play, shows, errors);

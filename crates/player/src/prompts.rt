@@ -4,8 +4,8 @@
 ghost use Rattle.std.specs.Prelude.{◌≡◌, ◌++◌, ◌≤◌, ◌⊎◌, ℕ, List, [], OnOk, string_bytes};
 ghost use Rattle.board_text.specs.LineForms.{with_line_feed};
 ghost use Rattle.player.specs.Inside.Prompts.{TellsChoices};
-ghost use Rattle.player.specs.Prompts.{pebble_choices};
-ghost use Rattle.player.specs.Showing.{AreForPerson, IsMore};
+ghost use Rattle.player.specs.Prompts.{AreGreetingAndChoices, HasChoices, pebble_choices};
+ghost use Rattle.player.specs.Showing.{AreLines, IsMore};
 
 use crate::play::Play;
 use crate::showing::write_line;
@@ -23,7 +23,7 @@ pub(crate) const LABELS_GREETING: &str =
 
 /// Greets the person, if there is one to see it.
 pub(crate) fn greet<P: Play, E: Sink>(play: &P, shows: bool, errors: &mut E)
-    ensures { (told : List ℕ) × AreForPerson shows told
+    ensures { (told : List ℕ) × AreGreetingAndChoices shows (P.game play.now) told
         × IsMore E.contents E.has_failed errors.old errors.new told }
 {
     if !shows {
@@ -43,7 +43,7 @@ pub(crate) fn prompt<P: Play, E: Sink>(
 )
     requires empty { string_bytes text.old ≡ [] }
     ensures empty { string_bytes text.new ≡ [] }
-    ensures told { (told : List ℕ) × AreForPerson shows told
+    ensures told { (told : List ℕ) × AreLines (HasChoices (P.game play.now)) shows told
         × IsMore E.contents E.has_failed errors.old errors.new told }
 {
     if !shows {

@@ -1,17 +1,19 @@
 -- The text that a serving writes on standard error.
-use Rattle.std.proofs.Common.{◌≡◌, ℕ, Bool, ◌&&◌, true, false, List, [], ◌∷◌, ◌++◌, inl, inr, refl, sym, ap, subst}
-use Rattle.std.proofs.Common.{◌∙◌, append-nil, append_assoc}
+use Rattle.std.proofs.Common.{◌≡◌, ℕ, Bool, ◌&&◌, ◌||◌, true, false, List, [], ◌∷◌, ◌++◌, inl, inr, refl, sym, ap}
+use Rattle.std.proofs.Common.{subst, ◌∙◌, append-nil, append_assoc}
 use Rattle.std.proofs.lemmas.List.Elements.{All-append, All-cons, All-nil}
 use Rattle.std.specs.Prelude.{Option}
+use Rattle.std.proofs.lemmas.Grind.{flat_map-append}
+use Rattle.std.specs.List.{flat_map}
 use Rattle.board_text.specs.LineForms.{with_line_feed}
 use Rattle.command_line.specs.declared.asked.Job.{Job}
 use Rattle.graphs.specs.declared.graph.Numbering.{Numbering}
 use Rattle.player.specs.Showing.{AreForPerson, HasNoControl, IsMore, is_control, shown}
-use Rattle.player.proofs.Cited.{none_more, nothing_for_person, plain_if_shown, then_more}
+use Rattle.player.proofs.Cited.{none_more, nothing_for_person, plain_if_shown, prompts_for_person, then_more}
 use Rattle.positions.specs.declared.side.Side.{Side}
-use Rattle.runs.specs.PlayRun.{PromptsOnBoard}
+use Rattle.runs.specs.PlayRun.{PromptsOnBoard, game_of}
 use Rattle.runs.specs.Run.{Bytes, stream_of}
-use Rattle.runs.specs.Serving.{IsEnding, IsExplained, IsForPerson, IsPrompted, IsSaid, IsWritten, is_typed}
+use Rattle.runs.specs.Serving.{IsEnding, IsExplained, IsForPerson, IsPrompted, IsSaid, IsWritten, is_large, is_typed}
 use Rattle.runs.specs.declared.serving.Terminals.{Terminals}
 use Rattle.runs.specs.declared.outcome.Outcome.{Outcome}
 
@@ -79,16 +81,46 @@ colon_is_plain = All-cons IsPlain 58 (32 ∷ []) refl (All-cons IsPlain 32 [] re
 -- ---- prompts
 
 -- what was told in a play on a board is lines for a person
-pub prompts_for_person : (limit : Numbering) (side : Side) (most_bytes : ℕ) (board : Bytes) (shows : Bool)
+pub prompts_on_board : (limit : Numbering) (side : Side) (most_bytes : ℕ) (board : Bytes) (shows : Bool)
     (told : List ℕ) → PromptsOnBoard limit side most_bytes board shows told → AreForPerson shows told
-prompts_for_person limit side most_bytes board shows told (inl none) =
+prompts_on_board limit side most_bytes board shows told (inl none) =
     subst (AreForPerson shows) (sym none) (nothing_for_person shows)
-prompts_for_person limit side most_bytes board shows told (inr (b, gave, inl none)) =
-    subst (AreForPerson shows) (sym none) (nothing_for_person shows)
-prompts_for_person limit side most_bytes board shows told (inr (b, gave, inr (asks, lines))) = lines
+prompts_on_board limit side most_bytes board shows told (inr (b, gave, are)) =
+    prompts_for_person (game_of side b) shows told are
+
+-- a line is lines
+pub one_line : (shows : Bool) → shows ≡ true → (line : List ℕ) → IsForPerson true line → AreForPerson shows line
+one_line false e line is = cc
+one_line true e line (words, plain, is) = (
+  words ∷ [],
+  All-cons HasNoControl words [] plain (All-nil HasNoControl),
+  is ∙ sym (append-nil (with_line_feed words)),
+)
+
+-- lines, and lines after them
+pub lines_then : (choices size : Bool) (notice told : List ℕ) → AreForPerson size notice → AreForPerson choices told
+    → AreForPerson (choices || size) (notice ++ told)
+lines_then true true notice told (lines, plain, is) (more, plain_too, is_too) = (
+  lines ++ more,
+  All-append HasNoControl lines more plain plain_too,
+  ap (λ (l : List ℕ). l ++ told) is ∙ ap (λ (l : List ℕ). flat_map with_line_feed lines ++ l) is_too
+      ∙ sym (flat_map-append with_line_feed lines more),
+)
+lines_then true false notice told none (more, plain, is) = (more, plain, ap (λ (l : List ℕ). l ++ told) none ∙ is)
+lines_then false true notice told (lines, plain, is) none =
+    (lines, plain, ap (λ (l : List ℕ). notice ++ l) none ∙ append-nil notice ∙ is)
+lines_then false false notice told none nothing = ap (λ (l : List ℕ). l ++ told) none ∙ nothing
+
+-- no other lines are told
+pub only_lines : (choices : Bool) (told : List ℕ) → AreForPerson choices told → AreForPerson (choices || false) told
+only_lines true told lines = lines
+only_lines false told none = none
 
 -- nothing is told
 pub none_prompted : {W : Type 0} (known : W → Option (List ℕ)) (failed : W → Bool) (terminals : Terminals) (job : Job)
     (a : W) → (told : List ℕ) × IsPrompted terminals job told × IsMore known failed a a told
-none_prompted known failed terminals job a =
-    ([], nothing_for_person (is_typed job && (terminals.input && terminals.errors)), none_more known failed a)
+none_prompted known failed terminals job a = (
+  [],
+  nothing_for_person ((is_typed job && (terminals.input && terminals.errors)) || (is_large job && terminals.errors)),
+  none_more known failed a,
+)

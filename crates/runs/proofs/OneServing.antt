@@ -63,7 +63,7 @@ use Rattle.runs.specs.Run.{Bytes, Fails, Ran, Stream}
 use Rattle.player.specs.Showing.{AreForPerson}
 use Rattle.runs.specs.Serving.{Answers, Asks, EndsWith, HasNoMemory, IsHelped, IsEnding, IsExplained}
 use Rattle.runs.specs.Serving.{IsPrompted, IsRefusedWith, IsWritten}
-use Rattle.runs.specs.Serving.{Serves, ServesWords, is_typed, lacks_input}
+use Rattle.runs.specs.Serving.{Serves, ServesWords, is_large, is_typed, lacks_input}
 use Rattle.runs.specs.Servings.{AreKnown, HaveOwnText}
 use Rattle.runs.specs.SolveRun.{CannotSolve}
 use Rattle.runs.specs.Texts.{HasNoneWithin, HasNoProof, IsBoardWithin, IsSmallBoard, IsWrongBoard, IsWrongProof}
@@ -1016,13 +1016,18 @@ wrote stream bytes text had (inr (failed, cut)) = absurd (had.sound failed)
 
 prompts_are : (terminals : Terminals) (job : Job) (text : List ℕ) → terminals.errors ≡ false
     → IsPrompted terminals job text → text ≡ []
-prompts_are terminals job text off is = go (is_typed job) terminals.input terminals.errors off is
+prompts_are terminals job text off is =
+    go (is_typed job) terminals.input (is_large job) terminals.errors off is
   where
-    go : (typed input errors : Bool) → errors ≡ false → AreForPerson (typed && (input && errors)) text → text ≡ []
-    go true true true e is = absurd (true≢false e)
-    go true true false e is = is
-    go true false errors e is = is
-    go false input errors e is = is
+    go : (typed input large errors : Bool) → errors ≡ false
+        → AreForPerson ((typed && (input && errors)) || (large && errors)) text → text ≡ []
+    go typed input large true e is = absurd (true≢false e)
+    go true true true false e is = is
+    go true true false false e is = is
+    go true false true false e is = is
+    go true false false false e is = is
+    go false input true false e is = is
+    go false input false false e is = is
 
 module _ (at : List ℕ → File) (terminals : Terminals) (off : terminals.errors ≡ false) (lines taken told : List ℕ) where
   -- what a serving gave: its status, and the bytes that it left

@@ -1,5 +1,5 @@
 -- The program, from its words, files and streams to its exit status.
-use Rattle.std.specs.Prelude.{◌≡◌, ℕ, ◌<◌, ◌≤◌, ◌⊎◌, Bool, true, false, ◌&&◌, List, [], ◌++◌}
+use Rattle.std.specs.Prelude.{◌≡◌, ℕ, ◌<◌, ◌≤◌, ◌⊎◌, Bool, true, false, ◌&&◌, ◌||◌, List, [], ◌++◌}
 use Rattle.std.specs.Prelude.{length, codes, string_bytes}
 use Rattle.clap.specs.Walk.{Text, texts}
 use Rattle.clap.specs.Words.{fault_of, subcommand_of, takes}
@@ -7,7 +7,7 @@ use Rattle.board_text.specs.LineForms.{with_line_feed}
 use Rattle.command_line.specs.Commands.{program}
 use Rattle.command_line.specs.Reading.{IsReadAs, Shows}
 use Rattle.command_line.specs.declared.asked.Job.{Job}
-use Rattle.command_line.specs.declared.asked.Job.TheVariants.{Joined, Play, Climb}
+use Rattle.command_line.specs.declared.asked.Job.TheVariants.{Joined, Report, Play, Climb}
 use Rattle.command_line.specs.declared.asked.JobFault.{JobFault}
 use Rattle.command_line.specs.declared.asked.JobFault.TheVariants.{Help, Usage, Memory as NoMemory}
 use Rattle.player.specs.Showing.{AreForPerson, HasNoControl, IsTaken}
@@ -62,11 +62,18 @@ is_typed job = false
 abbrev pub lacks_input : Terminals → Job → Bool
 lacks_input terminals job = terminals.input_closed && is_typed job
 
--- what a person is told while the job is done: lines, if the job reads typed lines, and standard
--- input and standard error are terminals; else nothing
+-- the job asks for the limit of classes
+abbrev pub is_large : Job → Bool
+is_large (Report workers large board) = large
+is_large (Play side large board) = large
+is_large job = false
+
+-- what a person is told while the job is done: lines, if standard error is a terminal, and the job
+-- reads typed lines, from a terminal too, or the board may be large; else nothing
 abbrev pub IsPrompted : Terminals → Job → List ℕ → Type 0
 IsPrompted terminals job told =
-    AreForPerson (is_typed job && (terminals.input && terminals.errors)) told
+    AreForPerson ((is_typed job && (terminals.input && terminals.errors))
+    || (is_large job && terminals.errors)) told
 
 -- the text was written; if it is empty, the stream is as it was
 abbrev pub IsSaid : Stream → List ℕ → Type 0

@@ -1,6 +1,6 @@
 //! Doing a job, with the files and the standard streams that it is given.
 
-ghost use Rattle.std.specs.Prelude.{◌≡◌, ◌≢◌, ◌⊎◌, ◌&&◌, ℕ, List, true, false};
+ghost use Rattle.std.specs.Prelude.{◌≡◌, ◌≢◌, ◌⊎◌, ◌||◌, ◌&&◌, ℕ, List, true, false};
 ghost use Rattle.runs.specs.declared.fault.RunFault.TheVariants.{Read};
 ghost use Rattle.runs.specs.declared.outcome.Outcome.TheVariants.{Broken};
 ghost use Rattle.board_text.specs.Ranges.{InRange};
@@ -20,9 +20,9 @@ use crate::inputs::{INPUT_PATH, Inputs, Origin, Taken};
 use crate::nesting::run_nested;
 use crate::notes::{BOARD_LIMITS, JOINED_GREETING, LINE_LIMITS, Note, PROOF_LIMITS, unread};
 use crate::outcome::Outcome;
-use crate::playing::{run_climb_with_prompts, run_play_with_prompts};
+use crate::playing::{Telling, run_climb_with_prompts, run_play_with_prompts};
 use crate::reading::MAX_BOARD_BYTES;
-use crate::reporting::run_report_within;
+use crate::reporting::run_report_with_notice;
 use crate::serving::Terminals;
 use crate::solving::{run_solve, run_solve_alone};
 use crate::watched::Watched;
@@ -136,7 +136,9 @@ pub fn carry_out<'a, F: Folder, I: Source, O: Sink, E: Sink>(
             workers,
             large,
             board,
-        } => report(rt, alloc, explains, folder, workers, large, board, output),
+        } => report(
+            rt, alloc, terminals, folder, workers, large, board, output, errors,
+        ),
         Job::Play { side, large, board } => {
             play(
                 alloc, terminals, folder, side, large, board, input, output, errors,
@@ -279,15 +281,16 @@ fn solve<'a, F: Folder, O: Sink>(
 
 /// Reports on the board at a path, which may be `large`, by this number of workers. One is this
 /// thread.
-fn report<'a, F: Folder, O: Sink>(
+fn report<'a, F: Folder, O: Sink, E: Sink>(
     rt: &(impl Threads + Wait + Sync),
     alloc: Global,
-    explains: bool,
+    terminals: Terminals,
     folder: &F,
     workers: u8,
     large: bool,
     board: &'a str,
     output: &mut O,
+    errors: &mut E,
 ) -> Ended<'a>
     requires workers { InRange 1 MAX_WORKERS workers }
     requires output_ready { O.has_failed output.old ≡ false }
@@ -296,13 +299,25 @@ fn report<'a, F: Folder, O: Sink>(
     ensures writes { TellsWrites (stream_of O.contents O.has_failed output.old output.new)
         result.outcome }
     ensures unread { result.outcome ≡ Broken Read → CanFail (F.at folder.now board.now) }
+    ensures notice { (told : List ℕ) × AreForPerson (large && terminals.errors) told
+        × IsMore E.contents E.has_failed errors.old errors.new told }
 {
     let Ok(file_of_board) = folder.open(board) else {
         return unopened(folder, board);
     };
-    let mut reader = Watched::new(alloc, file_of_board, explains);
+    let mut reader = Watched::new(alloc, file_of_board, terminals.errors);
     let limit = limit_of(large);
-    let done = run_report_within(rt, alloc, limit, workers, &mut reader, output);
+    let shows = terminals.see_size(large);
+    let done = run_report_with_notice(
+        rt,
+        alloc,
+        limit,
+        workers,
+        &mut reader,
+        output,
+        shows,
+        errors,
+    );
     let outcome = Outcome::of_run(done);
     on_board(outcome, Taken::large_if(large), folder, board, &reader)
 }
@@ -331,7 +346,8 @@ fn play<'a, F: Folder, I: Source, O: Sink, E: Sink>(
     ensures reads { I.has_failed input.new ≡ true → result.outcome ≡ Broken Read }
     ensures unread { result.outcome ≡ Broken Read
         → CanFail (F.at folder.now board.now) ⊎ (I.has_failed input.new ≡ true) }
-    ensures prompts { (told : List ℕ) × AreForPerson (terminals.input && terminals.errors) told
+    ensures prompts { (told : List ℕ)
+        × AreForPerson ((terminals.input && terminals.errors) || (large && terminals.errors)) told
         × IsMore E.contents E.has_failed errors.old errors.new told }
 {
     let Ok(file_of_board) = folder.open(board) else {
@@ -339,7 +355,10 @@ fn play<'a, F: Folder, I: Source, O: Sink, E: Sink>(
     };
     let mut reader = Watched::new(alloc, file_of_board, terminals.errors);
     let limit = limit_of(large);
-    let shows = terminals.are_both();
+    let telling = Telling {
+        size: terminals.see_size(large),
+        choices: terminals.are_both(),
+    };
     let ended = run_play_with_prompts(
         alloc,
         limit,
@@ -347,7 +366,7 @@ fn play<'a, F: Folder, I: Source, O: Sink, E: Sink>(
         &mut reader,
         input,
         output,
-        shows,
+        telling,
         errors,
     );
     let outcome = Outcome::of_run(ended);

@@ -14,6 +14,7 @@ mod joined;
 mod laws;
 mod lines;
 mod nesting;
+mod note_lines;
 mod notes;
 mod outcome;
 mod output;
@@ -47,12 +48,12 @@ pub use notes::Note;
 pub use outcome::Outcome;
 pub use parts::{Part, Parts};
 pub use playing::{
-    run_climb, run_climb_with_prompts, run_play, run_play_with_prompts, run_play_within,
+    Telling, run_climb, run_climb_with_prompts, run_play, run_play_with_prompts, run_play_within,
 };
 pub use reading::MAX_BOARD_BYTES;
 pub use reporting::{
     report_text, report_text_alone, report_text_within, run_report, run_report_alone,
-    run_report_within,
+    run_report_with_notice, run_report_within,
 };
 pub use serving::{Terminals, Words, serve};
 pub use serving_laws::one_serving;

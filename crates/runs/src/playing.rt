@@ -1,17 +1,18 @@
 //! Playing with a person, from the bytes of the board and of the lines to the bytes written.
 
-ghost use Rattle.std.specs.Prelude.{◌≡◌, ◌⊎◌, ℕ, List, true, false, IfOk, IfErr};
+ghost use Rattle.std.specs.Prelude.{◌≡◌, ◌⊎◌, ◌++◌, ℕ, List, true, false, IfOk, IfErr};
 ghost use Rattle.player.specs.Laws.{KeepsToValue};
 ghost use Rattle.player.specs.Play.{HasEnded, BreaksOff, TellsStreams};
 ghost use Rattle.board_text.specs.Ranges.{InRange};
 ghost use Rattle.player.specs.Prompts.{ArePrompts};
-ghost use Rattle.player.specs.Showing.{IsMore};
+ghost use Rattle.player.specs.Showing.{AreForPerson, IsMore};
 ghost use Rattle.player.specs.Transcript.{IsPlayed, PersonClimbs};
 ghost use Rattle.runs.specs.PlayRun.{IsBrokenOff, IsOver, PlayFails, PromptsOnBoard, RanPlay};
 ghost use Rattle.runs.specs.PlayRun.{game_of};
 ghost use Rattle.runs.specs.Run.{TellsFailures, bytes_of, stream_of};
 
 use crate::fault::RunFault;
+use crate::note_lines::tell_size;
 use crate::reading::{MAX_BOARD_BYTES, read_board};
 use crate::solving::numbered_of;
 use board_text::{Board, Sink, Source, Through};
@@ -83,11 +84,41 @@ pub fn run_play_within<B: Source, L: Source, W: Sink>(
         (stream_of W.contents W.has_failed writer.old writer.new) }
 {
     let mut nobody = Through::new(Vec::new(alloc));
-    run_play_with_prompts(alloc, limit, side, board, lines, writer, false, &mut nobody)
+    let telling = Telling::nothing();
+    run_play_with_prompts(
+        alloc,
+        limit,
+        side,
+        board,
+        lines,
+        writer,
+        telling,
+        &mut nobody,
+    )
 }
 
-/// Plays as `run_play_within` does, and if `shows` says so, prompts the person by lines on `errors`:
-/// a greeting before the first line is read, and after the answer to each wrong line the choices.
+/// What a person at a terminal is told of a play.
+#[derive(Clone, Copy, Debug, PartialEq, Eq)]
+pub struct Telling {
+    /// That a large board is solved, before it is.
+    pub size: bool,
+    /// A greeting before the first line is read, and the choices after the answer to each wrong line.
+    pub choices: bool,
+}
+
+impl Telling {
+    /// Nothing is told.
+    pub(crate) fn nothing() -> Telling
+        ensures { result ≡ record { size = false; choices = false } }
+    {
+        Telling {
+            size: false,
+            choices: false,
+        }
+    }
+}
+
+/// Plays as `run_play_within` does, and tells the person on `errors` what `telling` says.
 ///
 /// If `errors` fails, or has failed before, nothing more is written there, and the play goes on.
 pub fn run_play_with_prompts<B: Source, L: Source, W: Sink, E: Sink>(
@@ -97,7 +128,7 @@ pub fn run_play_with_prompts<B: Source, L: Source, W: Sink, E: Sink>(
     board: &mut B,
     lines: &mut L,
     writer: &mut W,
-    shows: bool,
+    telling: Telling,
     errors: &mut E,
 ) -> Result<PlayEnd, RunFault>
     requires board_ready { B.has_failed board.old ≡ false }
@@ -115,12 +146,15 @@ pub fn run_play_with_prompts<B: Source, L: Source, W: Sink, E: Sink>(
     ensures streams { TellsFailures result
         ((B.has_failed board.new ≡ true) ⊎ (L.has_failed lines.new ≡ true))
         (stream_of W.contents W.has_failed writer.old writer.new) }
-    ensures prompts { (told : List ℕ) × PromptsOnBoard limit side MAX_BOARD_BYTES
-        (bytes_of B.remaining board.old board.new) shows told
-        × IsMore E.contents E.has_failed errors.old errors.new told }
+    ensures prompts { (notice told : List ℕ) × AreForPerson telling.size notice
+        × PromptsOnBoard limit side MAX_BOARD_BYTES
+        (bytes_of B.remaining board.old board.new) telling.choices told
+        × IsMore E.contents E.has_failed errors.old errors.new (notice ++ told) }
 {
     let board = read_board(alloc, limit, board)?;
+    tell_size(&board, telling.size, errors);
     let values = numbered_of(alloc, &board)?;
+    let shows = telling.choices;
     Ok(play(alloc, side, &board, &values, lines, writer, shows, errors)?)
 }
 

@@ -3,6 +3,7 @@
 ghost use Rattle.std.specs.Prelude.{◌≡◌, ℕ, List, ◌++◌, true, false, IfOk, IfErr, OnOk};
 ghost use Rattle.std.specs.Prelude.{string_bytes};
 ghost use Rattle.board_text.specs.Ranges.{InRange};
+ghost use Rattle.player.specs.Showing.{AreForPerson, IsMore};
 ghost use Rattle.positions.specs.Ranks.{configurations};
 ghost use Rattle.runs.specs.Report.{AreCounts, IsReportOf, IsReportOfText, Reports};
 ghost use Rattle.runs.specs.Report.{count_line, count_lines, end_lines, head_lines};
@@ -13,10 +14,11 @@ ghost use Rattle.runs.specs.Texts.{HasNoBoard};
 
 use crate::boards::board_within;
 use crate::fault::RunFault;
+use crate::note_lines::tell_size;
 use crate::reading::{MAX_BOARD_BYTES, read_text};
 use crate::solving::{numbered_by, numbered_of};
 use crate::writing::write_text;
-use board_text::{Board, Sink, Source};
+use board_text::{Board, Sink, Source, Through};
 use graphs::Numbering;
 use positions::{Claim, Value};
 use proof_text::write_claim;
@@ -100,8 +102,56 @@ pub fn run_report_within<R: Source, W: Sink>(
     ensures streams { TellsStreams result (R.has_failed reader.new ≡ true)
         (stream_of W.contents W.has_failed writer.old writer.new) }
 {
+    let mut nobody = Through::new(Vec::new(alloc));
+    run_report_with_notice(
+        rt,
+        alloc,
+        limit,
+        workers,
+        reader,
+        writer,
+        false,
+        &mut nobody,
+    )
+}
+
+/// Reports as `run_report_within` does, and if `shows` says so, tells a person on `errors` that a
+/// large board is solved, before it is.
+///
+/// If `errors` fails, or has failed before, nothing more is written there, and the run goes on.
+pub fn run_report_with_notice<R: Source, W: Sink, E: Sink>(
+    rt: &(impl Threads + Wait + Sync),
+    alloc: Global,
+    limit: Numbering,
+    workers: u8,
+    reader: &mut R,
+    writer: &mut W,
+    shows: bool,
+    errors: &mut E,
+) -> Result<(), RunFault>
+    requires workers { InRange 1 MAX_WORKERS workers }
+    requires reader_ready { R.has_failed reader.old ≡ false }
+    requires reader_unended { R.has_ended reader.old ≡ false }
+    requires writer_ready { W.has_failed writer.old ≡ false }
+    ensures ok { IfOk result (Ran (Reports limit) MAX_BOARD_BYTES
+        (bytes_of R.remaining reader.old reader.new) (bytes_of W.contents writer.old writer.new)) }
+    ensures fault { IfErr result (Fails (Reports limit) (CannotSolve limit workers) MAX_BOARD_BYTES
+        (bytes_of R.remaining reader.old reader.new) (bytes_of W.contents writer.old writer.new)) }
+    ensures streams { TellsStreams result (R.has_failed reader.new ≡ true)
+        (stream_of W.contents W.has_failed writer.old writer.new) }
+    ensures notice { (told : List ℕ) × AreForPerson shows told
+        × IsMore E.contents E.has_failed errors.old errors.new told }
+{
     let text = read_text(alloc, reader, MAX_BOARD_BYTES)?;
-    let report = report_text_within(rt, alloc, limit, workers, text.as_slice())?;
+    let report = report_text_with_notice(
+        rt,
+        alloc,
+        limit,
+        workers,
+        text.as_slice(),
+        shows,
+        errors,
+    )?;
     write_text(writer, &report)
 }
 
@@ -145,7 +195,28 @@ pub fn report_text_within(
     ensures report { IfOk result (λ report. IsReportOfText limit text.now (string_bytes report)) }
     ensures fault { IfErr result (CannotSolve limit workers text.now) }
 {
+    let mut nobody = Through::new(Vec::new(alloc));
+    report_text_with_notice(rt, alloc, limit, workers, text, false, &mut nobody)
+}
+
+/// The same, with a notice that a large board is solved, as `run_report_with_notice` gives it.
+fn report_text_with_notice<E: Sink>(
+    rt: &(impl Threads + Wait + Sync),
+    alloc: Global,
+    limit: Numbering,
+    workers: u8,
+    text: &[u8],
+    shows: bool,
+    errors: &mut E,
+) -> Result<String, RunFault>
+    requires workers { InRange 1 MAX_WORKERS workers }
+    ensures report { IfOk result (λ report. IsReportOfText limit text.now (string_bytes report)) }
+    ensures fault { IfErr result (CannotSolve limit workers text.now) }
+    ensures notice { (told : List ℕ) × AreForPerson shows told
+        × IsMore E.contents E.has_failed errors.old errors.new told }
+{
     let board = board_within(alloc, limit, text)?;
+    tell_size(&board, shows, errors);
     let values = numbered_by(rt, alloc, workers, &board)?;
     Ok(report_of(alloc, &board, &values)?)
 }

@@ -2,9 +2,9 @@
 
 ghost use Rattle.std.specs.Prelude.{◌≡◌, ◌&&◌, ℕ, List, true, false};
 ghost use Rattle.clap.specs.Walk.{texts};
-ghost use Rattle.player.specs.Showing.{IsMore, shown};
+ghost use Rattle.player.specs.Showing.{IsMore};
 ghost use Rattle.runs.specs.Run.{stream_of};
-ghost use Rattle.runs.specs.Serving.{IsEnding, IsExplained, IsForPerson};
+ghost use Rattle.runs.specs.Serving.{IsEnding, IsExplained};
 ghost use Rattle.runs.specs.Serving.{Serves, ServesJob, ServesWords, is_typed, lacks_input};
 ghost use Rattle.command_line.specs.Reading.{IsInRange};
 ghost use Rattle.runs.specs.declared.fault.RunFault.TheVariants.{Memory};
@@ -15,16 +15,16 @@ use crate::fault::RunFault;
 use crate::fault_lines::fault_line;
 use crate::folder::Folder;
 use crate::jobs::carry_out;
+use crate::note_lines::write_note;
 use crate::notes::Note;
 use crate::outcome::Outcome;
 use crate::parts;
-use crate::parts::{Part, Parts};
+use crate::parts::Parts;
 use crate::usage::usage_hint;
 use crate::writing::write_text;
 use board_text::{Sink, Source};
 use command_line::{Job, JobFault, job};
-use itoa::Buffer;
-use player::{write_more, write_shown};
+use player::write_more;
 use std::alloc::Global;
 use std::sync::Wait;
 use std::thread::Threads;
@@ -65,6 +65,13 @@ impl Terminals {
         ensures { result ≡ (self.input && self.errors) }
     {
         self.input && self.errors
+    }
+
+    /// Whether a person sees that a large board is solved, if the board may be `large`.
+    pub(crate) fn see_size(self, large: bool) -> bool
+        ensures { result ≡ (large && self.errors) }
+    {
+        large && self.errors
     }
 
     /// Whether `job` reads standard input, and that is closed.
@@ -240,39 +247,6 @@ fn say<E: Sink>(text: &str, note: Note<'_>, terminals: Terminals, errors: &mut E
         return;
     }
     write_note(note, errors);
-}
-
-/// Writes an explanation, as one line.
-fn write_note<E: Sink>(note: Note<'_>, errors: &mut E)
-    ensures { (line : List ℕ) × IsForPerson true line
-        × IsMore E.contents E.has_failed errors.old errors.new line }
-{
-    write_shown(errors, note.about);
-    write_more(errors, ": ");
-    write_parts(note.parts.as_slice(), errors);
-    write_more(errors, "\n");
-}
-
-/// Writes the parts of an explanation, one after the other.
-fn write_parts<E: Sink>(parts: &[Part], errors: &mut E)
-    ensures { (text : List ℕ) × IsMore E.contents E.has_failed errors.old errors.new (shown text) }
-{
-    for part in parts {
-        write_part(*part, errors);
-    }
-}
-
-/// Writes a part of an explanation.
-fn write_part<E: Sink>(part: Part, errors: &mut E)
-    ensures { (text : List ℕ) × IsMore E.contents E.has_failed errors.old errors.new (shown text) }
-{
-    match part {
-        Part::Words(words) => write_shown(errors, words),
-        Part::Number(number) => {
-            let mut digits = Buffer::new();
-            write_shown(errors, digits.format(number));
-        }
-    }
 }
 
 /// Writes a text that says that the use was wrong, and gives the exit status.

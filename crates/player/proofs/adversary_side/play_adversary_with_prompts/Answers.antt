@@ -60,5 +60,5 @@ returns-clause-prompts g c =
     let board = c.args.board.now in
     let value = rw (c.new-moves.ensures, c.start.ensures.value) at c.value.ensures in
     let opens = begins board c.value.result value in
-    let told = c.play_on.ensures.told in
+    let told = rw (c.new-play.ensures, c.new-moves.ensures) at c.play_on.ensures.told in
     (told.0, inr ((_, _, opens), told.1), told.2)

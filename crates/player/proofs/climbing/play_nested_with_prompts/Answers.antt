@@ -1,4 +1,4 @@
-use Rattle.std.proofs.Common.{refl, subst, replicate}
+use Rattle.std.proofs.Common.{inr, refl, subst, replicate}
 use Rattle.std.proofs.lemmas.Result.{IfOk-weaker, IfErr-weaker, err_from_is_err_and}
 use Rattle.std.specs.Io.KnownBytes.{Appends}
 use Rattle.board_text.specs.Streams.{AppendsPrefix}
@@ -39,3 +39,8 @@ returns-clause-fault g c =
 
 pub returns-clause-value : goal.returns-clause-value
 returns-clause-value g c = IfOk-weaker c.play_on.result _ _ (λ end. keeps_to_value (PersonClimbs c.args.levels) _ _ _ _ end) (returns-clause-ok g c)
+
+pub returns-clause-prompts : goal.returns-clause-prompts
+returns-clause-prompts g c =
+    let told = rw c.in-Ok.ensures.0 at c.play_on.ensures.told in
+    (told.0, inr ((_, _, (refl, refl)), told.1), told.2)

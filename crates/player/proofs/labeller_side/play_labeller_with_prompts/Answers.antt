@@ -77,5 +77,5 @@ returns-in-Asks-clause-prompts g c =
     let begins = subst (λ b. BeginsPlay (PersonAnswers b) opening.0 opening.2.0) c.new-moves.ensures opening.2.1 in
     let going = subst (λ b. opening.2.0 ≡ Going b.start 0) c.new-moves.ensures opening.2.2.1 in
     let opens = subst (BeginsPlay (PersonAnswers c.args.board.now) opening.0) going begins in
-    let told = c.play_on.ensures.told in
+    let told = rw (c.new-play.ensures, c.new-moves.ensures) at c.play_on.ensures.told in
     (told.0, inr ((_, _, opens), told.1), told.2)

@@ -1,8 +1,10 @@
-use Rattle.std.proofs.Common.{refl, [], ◌++◌, ◌+◌, ◌∷◌, ap, ◌∙◌, arith, inl}
+use Rattle.std.proofs.Common.{refl, [], ◌++◌, ◌+◌, ◌∷◌, ap, ◌∙◌, arith, inl, subst}
 use Rattle.std.proofs.lemmas.List.{length_push}
 use Rattle.std.proofs.lemmas.Result.{err_from_is_err_and}
 use Rattle.board_text.proofs.Cited.{Appends-trans}
-use Rattle.player.proofs.MoreTexts.{then_told}
+use Rattle.player.proofs.MoreTexts.{then_choices, then_more}
+use Rattle.player.specs.Prompts.{HasChoices}
+use Rattle.player.specs.Showing.{AreLines}
 use Rattle.player.proofs.ReadLines.{none_yet, line_came, all_came, came_of}
 use Rattle.player.proofs.WrittenPlay.{brings_more, no_line, stopped, not_stopped, ended, broken, Appends-none}
 use Rattle.player.proofs.play.play_on.Goals as goal
@@ -21,7 +23,9 @@ loop-init g c = record {
   reader = c.requires.reader_ready;
   ended = rw c.new-lines.ensures c.requires.reader_unended;
   writer = c.requires.writer_ready;
-  told = c.greet.ensures;
+  told = c.greet.ensures.0;
+  are_told = c.greet.ensures.1;
+  more = c.greet.ensures.2;
 }
 
 pub returns-in_err-meaning-clause-fault : goal.returns-in_err-meaning-clause-fault
@@ -82,8 +86,12 @@ loop-preserved g c =
       reader = c.in_ok-meaning.ensures.unfailed;
       ended = c.in_ok-meaning.ensures.ended;
       writer = c.in_ok-end.ensures.unfailed;
-      told = then_told g.E.Sink.contents g.E.Sink.has_failed c.args.shows c.args.errors.now c.loop.errors
-          c.prompt.new.errors i.told c.prompt.ensures.told;
+      told = i.told ++ c.prompt.ensures.told.0;
+      are_told = then_choices _ c.args.shows i.told c.prompt.ensures.told.0 i.are_told
+          (subst (λ game. AreLines (HasChoices game) c.args.shows c.prompt.ensures.told.0)
+          (c.in_ok-end.ensures.game ∙ i.same) c.prompt.ensures.told.1);
+      more = then_more g.E.Sink.contents g.E.Sink.has_failed c.args.errors.now c.loop.errors c.prompt.new.errors i.told
+          c.prompt.ensures.told.0 i.more c.prompt.ensures.told.2;
     }
 
 pub returns-clause-fault : goal.returns-clause-fault

@@ -1,8 +1,9 @@
 use Rattle.std.proofs.Common.{◌≡◌, ◌≤◌, ℕ, List, [], length, false}
 use Rattle.std.specs.Prelude.{string_bytes}
 use Rattle.std.specs.Io.KnownBytes.{Appends}
+use Rattle.player.specs.Prompts.{AreGreetingAndChoices}
+use Rattle.player.specs.Showing.{IsMore}
 use Rattle.player.specs.Transcript.{AreResponses, Going}
-use Rattle.player.proofs.MoreTexts.{Told}
 use Rattle.player.proofs.ReadLines.{HasCome}
 use Rattle.player.proofs.play.play_on.Given as goal
 
@@ -20,5 +21,7 @@ invariant-loop g l = record {
   reader : g.R.Source.has_failed l.reader ≡ false;
   ended : g.R.Source.has_ended l.reader ≡ l.lines.has_ended;
   writer : g.W.Sink.has_failed l.writer ≡ false;
-  told : Told g.E.Sink.contents g.E.Sink.has_failed l.fn.shows l.fn.errors l.errors;
+  told : List ℕ;
+  are_told : AreGreetingAndChoices l.fn.shows (g.P.Play.game l.initial.play) told;
+  more : IsMore g.E.Sink.contents g.E.Sink.has_failed l.fn.errors l.errors told;
 }

@@ -1,10 +1,11 @@
-use Rattle.std.proofs.Common.{inl, inr, refl, subst}
+use Rattle.std.proofs.Common.{[], ◌++◌, ◌&&◌, ◌||◌, inl, inr, refl, subst}
 use Rattle.player.specs.Showing.{AreForPerson}
+use Rattle.player.proofs.Cited.{none_more, nothing_for_person}
 use Rattle.runs.specs.Outcomes.{outcome_of_run}
 use Rattle.runs.specs.Run.{stream_of}
 use Rattle.runs.specs.declared.fault.RunFault.TheVariants.{Read}
 use Rattle.runs.proofs.Endings.{broken_run, opened_play, told_as}
-use Rattle.runs.proofs.ErrorTexts.{prompts_for_person}
+use Rattle.runs.proofs.ErrorTexts.{lines_then, prompts_on_board}
 use Rattle.runs.proofs.jobs.play.Goals as goal
 
 pub returns-clause-done : goal.returns-clause-done
@@ -27,9 +28,15 @@ returns-clause-unread g c broke =
 
 pub returns-clause-prompts : goal.returns-clause-prompts
 returns-clause-prompts g c =
-    let p = c.run_play_with_prompts-ended.ensures.prompts in (
-      p.0,
-      subst (λ shows. AreForPerson shows p.0) c.are_both-shows.ensures
-          (prompts_for_person _ _ _ _ c.are_both-shows.result p.0 p.1),
-      p.2,
-    )
+    let p = c.run_play_with_prompts-ended.ensures.prompts in
+    let size = subst (λ shows. AreForPerson shows p.0) c.see_size.ensures p.2 in
+    let choices = subst (λ shows. AreForPerson shows p.1) c.are_both.ensures
+    (prompts_on_board _ _ _ _ c.are_both.result p.1 p.3) in
+    (p.0 ++ p.1, lines_then _ _ p.0 p.1 size choices, p.4)
+
+pub returns-in_default-clause-prompts : goal.returns-in_default-clause-prompts
+returns-in_default-clause-prompts g c = (
+  [],
+  nothing_for_person ((c.args.terminals.input && c.args.terminals.errors) || (c.args.large && c.args.terminals.errors)),
+  none_more g.E.Sink.contents g.E.Sink.has_failed c.args.errors.now,
+)

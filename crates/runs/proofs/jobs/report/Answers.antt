@@ -1,4 +1,5 @@
-use Rattle.std.proofs.Common.{refl, ◌∙◌}
+use Rattle.std.proofs.Common.{refl, subst, ◌∙◌}
+use Rattle.player.specs.Showing.{AreForPerson}
 use Rattle.runs.specs.Jobs.{limit_of}
 use Rattle.runs.specs.Run.{stream_of}
 use Rattle.runs.specs.Outcomes.{outcome_of_run}
@@ -14,15 +15,20 @@ returns-clause-done g c =
     opened_board (Reports limit) (CannotSolve limit c.args.workers) limit c.args.workers
     (these_workers limit c.args.workers)
     (g.F.Folder.at c.args.folder.now c.args.board.now) _ (rw c.new-reader.ensures c.in-Ok.ensures.opened)
-    (stream_of g.O.Sink.contents g.O.Sink.has_failed c.args.output.now c.run_report_within-done.new.writer)
-    c.run_report_within-done.result c.on_board.result.outcome (c.on_board.ensures ∙ c.of_run-outcome.ensures)
-    (rw c.limit_of-limit.ensures at c.run_report_within-done.ensures.ok)
-    (rw c.limit_of-limit.ensures at c.run_report_within-done.ensures.fault)
-    c.run_report_within-done.ensures.streams.unwritten
+    (stream_of g.O.Sink.contents g.O.Sink.has_failed c.args.output.now c.run_report_with_notice-done.new.writer)
+    c.run_report_with_notice-done.result c.on_board.result.outcome (c.on_board.ensures ∙ c.of_run-outcome.ensures)
+    (rw c.limit_of-limit.ensures at c.run_report_with_notice-done.ensures.ok)
+    (rw c.limit_of-limit.ensures at c.run_report_with_notice-done.ensures.fault)
+    c.run_report_with_notice-done.ensures.streams.unwritten
 
 pub returns-clause-unread : goal.returns-clause-unread
 returns-clause-unread g c broke =
-    c.in-Ok.ensures.sound _ ((told_as outcome_of_run broken_run c.run_report_within-done.result
+    c.in-Ok.ensures.sound _ ((told_as outcome_of_run broken_run c.run_report_with_notice-done.result
     c.on_board.result.outcome
     (c.on_board.ensures ∙ c.of_run-outcome.ensures) Read refl _
-    c.run_report_within-done.ensures.streams.failures.read).1 broke)
+    c.run_report_with_notice-done.ensures.streams.failures.read).1 broke)
+
+pub returns-clause-notice : goal.returns-clause-notice
+returns-clause-notice g c =
+    let told = c.run_report_with_notice-done.ensures.notice in
+    (told.0, subst (λ shows. AreForPerson shows told.0) c.see_size-shows.ensures told.1, told.2)

@@ -1,8 +1,10 @@
-use Rattle.std.proofs.Common.{inl, inr, refl, sym, ap, ◌∙◌}
+use Rattle.std.proofs.Common.{[], append-nil, inl, inr, refl, sym, ap, subst, ◌∙◌}
 use Rattle.std.specs.Prelude.{Err}
 use Rattle.runs.proofs.PlayFaults.{lines-told, ok_or_err, same_run_fault, writer-told}
 use Rattle.std.proofs.lemmas.Result.{err_from_is_err_and}
 use Rattle.runs.proofs.BoardLimits.{few_classes}
+use Rattle.player.specs.Showing.{IsMore}
+use Rattle.player.proofs.Cited.{none_more, nothing_for_person, then_more}
 use Rattle.runs.proofs.playing.run_play_with_prompts.Goals as goal
 
 pub numbered_of-requires : goal.numbered_of-requires
@@ -45,10 +47,42 @@ returns-in_err-play-clause-streams g c =
 
 pub returns-in_err-play-clause-prompts : goal.returns-in_err-play-clause-prompts
 returns-in_err-play-clause-prompts g c =
-    let told = c.play.ensures.prompts in
-    (told.0, inr (c.in_ok-board.board, c.in_ok-board.ensures.found, told.1), told.2)
+    let notice = c.tell_size.ensures in
+    let told = c.play.ensures.prompts in (
+      notice.0,
+      told.0,
+      notice.1,
+      inr (c.in_ok-board.board, c.in_ok-board.ensures.found, told.1),
+      then_more g.E.Sink.contents g.E.Sink.has_failed _ _ _ notice.0 told.0 notice.2 told.2,
+    )
 
 pub returns-clause-prompts : goal.returns-clause-prompts
 returns-clause-prompts g c =
-    let told = c.play.ensures.prompts in
-    (told.0, inr (c.in_ok-board.board, c.in_ok-board.ensures.found, told.1), told.2)
+    let notice = c.tell_size.ensures in
+    let told = c.play.ensures.prompts in (
+      notice.0,
+      told.0,
+      notice.1,
+      inr (c.in_ok-board.board, c.in_ok-board.ensures.found, told.1),
+      then_more g.E.Sink.contents g.E.Sink.has_failed _ _ _ notice.0 told.0 notice.2 told.2,
+    )
+
+pub returns-in_err-board-clause-prompts : goal.returns-in_err-board-clause-prompts
+returns-in_err-board-clause-prompts g c = (
+  [],
+  [],
+  nothing_for_person c.args.telling.size,
+  inl refl,
+  none_more g.E.Sink.contents g.E.Sink.has_failed c.args.errors.now,
+)
+
+pub returns-in_err-values-clause-prompts : goal.returns-in_err-values-clause-prompts
+returns-in_err-values-clause-prompts g c =
+    let notice = c.tell_size.ensures in (
+      notice.0,
+      [],
+      notice.1,
+      inl refl,
+      subst (λ said. IsMore g.E.Sink.contents g.E.Sink.has_failed c.args.errors.now c.tell_size.new.errors said)
+          (sym (append-nil notice.0)) notice.2,
+    )

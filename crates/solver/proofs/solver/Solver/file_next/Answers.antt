@@ -37,9 +37,9 @@ module _ (g : Given.Over) (c : Then-filed-eq0 g) where
   state = subst (λ n. IsState ended n true) same last
 
   equipped : IsEquipped ended.game c.self.inside.space c.self.inside.weights.items c.self.inside.sizes.items
-    (vec_capacity c.self.inside.sizes)
+      (vec_capacity c.self.inside.sizes)
   equipped = subst (λ (n : Numbered). IsEquipped n c.self.inside.space c.self.inside.weights.items c.self.inside.sizes.items
-    (vec_capacity c.self.inside.sizes))
+      (vec_capacity c.self.inside.sizes))
       (sym c.file.ensures.kept.game_is) c.self.invariant.1
 
 pub invariant_of-self : goal.invariant_of-self
@@ -81,9 +81,9 @@ module _ (g : Given.Over) (c : Else-filed-eq0 g) where
       (further-state c.self.inside.stage _ c.self.inside.done c.self.invariant.0 more c.file.ensures.struck c.file.ensures.kept c.if-self.false filed)
 
   equipped-next : IsEquipped more.game c.self.inside.space c.self.inside.weights.items c.self.inside.sizes.items
-    (vec_capacity c.self.inside.sizes)
+      (vec_capacity c.self.inside.sizes)
   equipped-next = subst (λ (n : Numbered). IsEquipped n c.self.inside.space c.self.inside.weights.items c.self.inside.sizes.items
-    (vec_capacity c.self.inside.sizes))
+      (vec_capacity c.self.inside.sizes))
       (sym c.file.ensures.kept.game_is) c.self.invariant.1
 
 pub begin_next_value-requires : goal.begin_next_value-requires

@@ -1,6 +1,6 @@
 use Rattle.std.proofs.Common.{ℕ, List}
 use Rattle.player.specs.Showing.{IsMore, shown}
-use Rattle.runs.proofs.serving.write_parts.Given as goal
+use Rattle.runs.proofs.note_lines.write_parts.Given as goal
 
 abbrev pub invariant-loop-part : goal.invariant-loop-part
 invariant-loop-part g l = (text : List ℕ)

@@ -1,4 +1,4 @@
-use Rattle.runs.proofs.serving.write_part.Goals as goal
+use Rattle.runs.proofs.note_lines.write_part.Goals as goal
 
 pub returns-in-Words : goal.returns-in-Words
 returns-in-Words g c = (c.in-Words.words.now, c.write_shown.ensures)

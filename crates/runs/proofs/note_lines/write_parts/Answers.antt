@@ -1,6 +1,6 @@
 use Rattle.std.proofs.Common.{◌++◌}
 use Rattle.player.proofs.Cited.{then_shown}
-use Rattle.runs.proofs.serving.write_parts.Goals as goal
+use Rattle.runs.proofs.note_lines.write_parts.Goals as goal
 
 pub loop-part-preserved : goal.loop-part-preserved
 loop-part-preserved g c = (

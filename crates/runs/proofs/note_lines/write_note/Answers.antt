@@ -3,7 +3,7 @@ use Rattle.board_text.specs.LineForms.{with_line_feed}
 use Rattle.player.specs.Showing.{IsMore, shown}
 use Rattle.player.proofs.Cited.{then_more}
 use Rattle.runs.proofs.ErrorTexts.{colon_is_plain, line_of_parts, plain_line}
-use Rattle.runs.proofs.serving.write_note.Goals as goal
+use Rattle.runs.proofs.note_lines.write_note.Goals as goal
 
 pub returns : goal.returns
 returns g c =

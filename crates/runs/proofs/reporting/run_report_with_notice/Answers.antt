@@ -4,7 +4,7 @@ use Rattle.runs.specs.Run.{bytes_of}
 use Rattle.runs.specs.SolveRun.{CannotSolve}
 use Rattle.runs.specs.declared.reading.TheConstants.{MAX_BOARD_BYTES}
 use Rattle.runs.proofs.FailedRuns.{cut_short_last, nothing_to_write}
-use Rattle.runs.proofs.reporting.run_report_within.Goals as goal
+use Rattle.runs.proofs.reporting.run_report_with_notice.Goals as goal
 
 pub returns-in_err-report-clause-fault : goal.returns-in_err-report-clause-fault
 returns-in_err-report-clause-fault g c =
