@@ -7,6 +7,7 @@ pub mod MoreTexts
 pub mod ListedLabels
 pub mod ChoiceLines
 pub mod OpeningLines
+pub mod ToldPlays
 pub mod AppendedLines
 pub mod RequestLines
 pub mod AnswerLines

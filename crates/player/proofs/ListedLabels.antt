@@ -5,9 +5,11 @@ use Rattle.std.proofs.lemmas.Bool.{cases_lt}
 use Rattle.std.proofs.lemmas.List.Elements.{All-nil, All-push, Contains-append_left, Contains-push, Contains-push_cases}
 use Rattle.std.proofs.lemmas.List.Quantifiers.{all_pairs_push}
 use Rattle.std.proofs.lemmas.List.{flat_map_more}
-use Rattle.std.specs.Prelude.{All, AllPairs, Contains}
+use Rattle.std.specs.Prelude.{All, AllPairs, Bool, Contains, Option}
 use Rattle.std.specs.Fmt.{decimal}
 use Rattle.board_text.specs.LineForms.{spaced_numbers}
+use Rattle.player.specs.Showing.{IsMore, shown}
+use Rattle.player.proofs.MoreTexts.{then_shown}
 
 low_or_last : (bound x : ℕ) → x < bound + 1 → (x < bound) ⊎ (bound ≡ x)
 low_or_last bound x low =
@@ -75,7 +77,10 @@ module _ (Has : ℕ → Type 0) where
     all_listed low x = (listed.each x, λ h. listed.all x (low x h) h)
 
 -- one more number in a text
-pub spaced_more : (old text new xs : List ℕ) (x : ℕ) → text ≡ old ++ spaced_numbers xs → new ≡ text ++ (32 ∷ decimal x)
-    → new ≡ old ++ spaced_numbers (xs ++ x ∷ [])
-spaced_more old text new xs x before more =
-    more ∙ ap (λ (l : List ℕ). l ++ (32 ∷ decimal x)) before ∙ flat_map_more (λ n. 32 ∷ decimal n) old xs x
+pub told_spaced : {W : Type 0} (known : W → Option (List ℕ)) (failed : W → Bool) (a b c d : W) (xs : List ℕ) (x : ℕ)
+    → IsMore known failed a b (shown (spaced_numbers xs)) → IsMore known failed b c (shown (32 ∷ []))
+    → IsMore known failed c d (shown (decimal x)) → IsMore known failed a d (shown (spaced_numbers (xs ++ x ∷ [])))
+told_spaced known failed a b c d xs x before space digits =
+    subst (λ (l : List ℕ). IsMore known failed a d (shown l)) (flat_map_more (λ n. 32 ∷ decimal n) [] xs x)
+    (then_shown known failed a b d (spaced_numbers xs) (32 ∷ decimal x) before
+    (then_shown known failed b c d (32 ∷ []) (decimal x) space digits))

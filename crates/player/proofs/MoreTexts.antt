@@ -11,9 +11,6 @@ use Rattle.board_text.specs.LineForms.{with_line_feed}
 use Rattle.board_text.specs.Streams.{AppendsPrefix}
 use Rattle.board_text.proofs.Cited.{Appends-trans}
 use Rattle.player.specs.Showing.{AreForPerson, AreLines, HasNoControl, IsMore, IsTaken, shown, shown_byte}
-use Rattle.player.specs.Prompts.{AreGreetingAndChoices, ArePrompts, HasChoices}
-use Rattle.player.specs.Inside.Prompts.{TellsChoices}
-use Rattle.player.specs.Transcript.{Game}
 use Rattle.player.proofs.ShownTexts.{plain_if_shown}
 use Rattle.player.proofs.WrittenPlay.{Appends-none, front_behind}
 
@@ -120,52 +117,3 @@ if_there P shows is_there is holds = subst P (sym is) holds
 -- lines for a person who is there
 pub for_person_there : (shows : Bool) (text : List ℕ) → shows ≡ true → AreForPerson true text → AreForPerson shows text
 for_person_there shows text is lines = if_there (λ b. AreForPerson b text) shows true is lines
-
--- ---- prompts
-
-module _ (game : Game) where
-  -- a greeting alone
-  pub greeting_told : (words : List ℕ) → AreGreetingAndChoices true game (with_line_feed (shown words))
-  greeting_told words = (
-    shown words,
-    [],
-    plain_if_shown words,
-    no_line_told (HasChoices game) true,
-    sym (append-nil (with_line_feed (shown words))),
-  )
-
-  -- more choices
-  pub then_choices : (shows : Bool) (s t : List ℕ) → AreGreetingAndChoices shows game s → AreLines
-      (HasChoices game) shows t
-      → AreGreetingAndChoices shows game (s ++ t)
-  then_choices true s t (greeting, rest, plain, lines, is) more = (
-    greeting,
-    rest ++ t,
-    plain,
-    then_lines (HasChoices game) true rest t lines more,
-    ap (λ (l : List ℕ). l ++ t) is ∙ append_assoc (with_line_feed greeting) rest t,
-  )
-  then_choices false s t first second = ap (λ (l : List ℕ). l ++ t) first ∙ second
-
-  -- the choices at a configuration
-  pub choices_told : (at told : List ℕ) → TellsChoices game at told → AreLines (HasChoices game) true told
-  choices_told at told (inl none) =
-      subst (AreLines (HasChoices game) true) (sym none) (no_line_told (HasChoices game) true)
-  choices_told at told (inr (words, are, is)) =
-      subst (AreLines (HasChoices game) true) (sym is) (one_line (HasChoices game) (shown words) (at, words, are, refl))
-
-  plain_choices : (line : List ℕ) → HasChoices game line → HasNoControl line
-  plain_choices line (at, words, are, is) = subst HasNoControl (sym is) (plain_if_shown words)
-
-  -- all are lines for a person
-  pub told_for_person : (shows : Bool) (told : List ℕ) → AreGreetingAndChoices shows game told → AreForPerson shows told
-  told_for_person true told (greeting, rest, plain, (lines, each, same), is) = (
-    greeting ∷ lines,
-    All-cons HasNoControl greeting lines plain (λ k d inside. plain_choices _ (each k d inside)),
-    is ∙ ap (λ (l : List ℕ). with_line_feed greeting ++ l) same,
-  )
-  told_for_person false told none = none
-
-  pub prompts_for_person : (shows : Bool) (told : List ℕ) → ArePrompts shows game told → AreForPerson shows told
-  prompts_for_person shows told (inl none) = subst (AreForPerson shows) (sym none) (nothing_for_person shows)
-  prompts_for_person shows told (inr (asks, are)) = told_for_person shows told are

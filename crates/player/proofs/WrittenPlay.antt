@@ -6,7 +6,7 @@ use Rattle.std.proofs.lemmas.List.{length_push}
 use Rattle.board_text.specs.Streams.{AppendsPrefix}
 use Rattle.board_text.proofs.Cited.{Appends-trans, Appends-kept, front_taken}
 use Rattle.player.specs.Transcript.{Game, Standing, Going, Over, IsResponse, AreResponses, stopped_line}
-use Rattle.player.specs.Inside.Steps.{IsResponseToMeaning, FailsToWrite}
+use Rattle.player.specs.Inside.Steps.{FailsToWrite}
 use Rattle.player.specs.Play.{LinesCame, GoesOnOrEnds, HasEnded, BreaksOff}
 use Rattle.player.specs.Inside.LineInput.{Unread, GivesNoLine}
 use Rattle.player.specs.declared.line_meaning.LineMeaning.{LineMeaning}
@@ -50,12 +50,12 @@ pub front_kept : (a b c : Option (List ℕ)) (front tail : List ℕ) → Appends
 front_kept a b c front tail written kept = front_taken a c (front ++ tail) front tail refl (Appends-kept a b c front written kept)
 
 -- no line came
-pub no_line : (game : Game) (from : Standing) (left_old left_now left_new taken_old taken_now : Option (List ℕ)) (lines : List (List ℕ))
+pub no_line : (Played : List (List ℕ) → List ℕ → Standing → Type 0) (left_old left_now left_new taken_old taken_now : Option (List ℕ)) (lines : List (List ℕ))
     (unread : Unread) (text at : List ℕ) (requests : ℕ) (fault : PlayFault)
-    → AreResponses game from lines text (Going at requests) → Appends taken_old taken_now text
+    → Played lines text (Going at requests) → Appends taken_old taken_now text
     → HasCome left_old left_now lines unread → length lines < MOST_LINES → GivesNoLine unread left_now left_new fault
-    → BreaksOff (AreResponses game from) left_old left_new taken_old taken_now fault
-no_line game from left_old left_now left_new taken_old taken_now lines unread text at requests Read brought written come few gives = (
+    → BreaksOff Played left_old left_new taken_old taken_now fault
+no_line Played left_old left_now left_new taken_old taken_now lines unread text at requests Read brought written come few gives = (
   lines,
   unread.bytes ++ gives.0,
   text,
@@ -66,7 +66,7 @@ no_line game from left_old left_now left_new taken_old taken_now lines unread te
   brought,
   written,
 )
-no_line game from left_old left_now left_new taken_old taken_now lines unread text at requests Limit brought written come few gives = (
+no_line Played left_old left_now left_new taken_old taken_now lines unread text at requests Limit brought written come few gives = (
   lines,
   unread.bytes ++ gives.0,
   text,
@@ -77,25 +77,25 @@ no_line game from left_old left_now left_new taken_old taken_now lines unread te
   brought,
   written,
 )
-no_line game from left_old left_now left_new taken_old taken_now lines unread text at requests Write brought written come few gives =
+no_line Played left_old left_now left_new taken_old taken_now lines unread text at requests Write brought written come few gives =
     absurd gives
-no_line game from left_old left_now left_new taken_old taken_now lines unread text at requests Memory brought written come few gives =
+no_line Played left_old left_now left_new taken_old taken_now lines unread text at requests Memory brought written come few gives =
     absurd gives
 
 -- ---- one turn
 
-module _ (game : Game) (from : Standing) (left_old left_new taken_old taken_now taken_new : Option (List ℕ)) (lines : List (List ℕ)) (text at : List ℕ) (requests : ℕ)
-    (brought : AreResponses game from lines text (Going at requests)) (written : Appends taken_old taken_now text) where
+module _ (Played : List (List ℕ) → List ℕ → Standing → Type 0) (left_old left_new taken_old taken_now taken_new : Option (List ℕ)) (lines : List (List ℕ)) (text at : List ℕ) (requests : ℕ)
+    (brought : Played lines text (Going at requests)) (written : Appends taken_old taken_now text) where
   -- the input ended, and the line that says so was written
   pub stopped : (result : Result PlayEnd PlayFault) → LinesCame left_old left_new lines [] × IsAtEnd left_new × (length lines < MOST_LINES) → IfOk result (λ end. end ≡ Stopped requests)
-      → OnOk result (Appends taken_now taken_new (stopped_line requests)) → IfOk result (HasEnded (AreResponses game from) left_old left_new taken_old taken_new)
+      → OnOk result (Appends taken_now taken_new (stopped_line requests)) → IfOk result (HasEnded Played left_old left_new taken_old taken_new)
   stopped (Ok end) came stops last =
       (lines, [], text ++ stopped_line requests, came.0, inr ((at, text, requests, brought, refl, stops), came.1, refl, came.2), Appends-trans taken_old taken_now taken_new text (stopped_line requests) written last)
   stopped (Err fault) came stops last = tt
 
   -- the input ended, and the line that says so wasn't written whole
   pub not_stopped : (result : Result PlayEnd PlayFault) → LinesCame left_old left_new lines [] × IsAtEnd left_new × (length lines < MOST_LINES)
-      → IfErr result (FailsToWrite taken_now taken_new (λ said. said ≡ stopped_line requests)) → IfErr result (BreaksOff (AreResponses game from) left_old left_new taken_old taken_new)
+      → IfErr result (FailsToWrite taken_now taken_new (λ said. said ≡ stopped_line requests)) → IfErr result (BreaksOff Played left_old left_new taken_old taken_new)
   not_stopped (Ok end) came fails = tt
   not_stopped (Err Write) came fails = (
     lines,
@@ -121,32 +121,33 @@ module _ (game : Game) (from : Standing) (left_old left_new taken_old taken_now 
     all_few = omega (arith, length_push lines next.line, few)
 
     -- a line ended the play
-    pub ended : (end : PlayEnd) (said : List ℕ) → IsResponseToMeaning game (Going at requests) word said (Over end) → Appends taken_now taken_new said
-        → HasEnded (AreResponses game from) left_old left_new taken_old taken_new end
+    pub ended : (end : PlayEnd) (said : List ℕ) → Played (lines ++ next.line ∷ []) (text ++ said) (Over end) → Appends taken_now taken_new said
+        → HasEnded Played left_old left_new taken_old taken_new end
     ended end said brings last = (
       lines ++ next.line ∷ [],
       unread.bytes,
       text ++ said,
       came_of left_old left_new (lines ++ next.line ∷ []) unread all_few next.come,
-      inl (brings_more game from lines next.line text said (Going at requests) (Over end) brought (brings next.line next.spells)),
+      inl brings,
       Appends-trans taken_old taken_now taken_new text said written last,
     )
 
     -- the response to a line wasn't written whole
-    pub broken : (fault : PlayFault) → FailsToWrite taken_now taken_new (λ said. (to : Standing) × IsResponseToMeaning game (Going at requests) word said to) fault
-        → BreaksOff (AreResponses game from) left_old left_new taken_old taken_new fault
-    broken Write fails =
+    pub broken : (Says : List ℕ → Standing → Type 0)
+        → ((said : List ℕ) (to : Standing) → Says said to → Played (lines ++ next.line ∷ []) (text ++ said) to)
+        → (fault : PlayFault) → FailsToWrite taken_now taken_new (λ said. (to : Standing) × Says said to) fault
+        → BreaksOff Played left_old left_new taken_old taken_new fault
+    broken Says brings Write fails =
         let said = fails.0 in
-        let all = lines ++ next.line ∷ [] in
-        let brought_all = brings_more game from lines next.line text said (Going at requests) fails.2.0 brought (fails.2.1 next.line next.spells) in (
+        let all = lines ++ next.line ∷ [] in (
           all,
           unread.bytes,
           text ++ said,
           came_of left_old left_new all unread all_few next.come,
-          goes_on_or_ends (AreResponses game from) left_new all unread.bytes (text ++ said) fails.2.0 brought_all,
+          goes_on_or_ends Played left_new all unread.bytes (text ++ said) fails.2.0 (brings said fails.2.0 fails.2.1),
           front_behind taken_old taken_now taken_new text said written fails.1,
         )
-    broken Memory fails = (
+    broken Says brings Memory fails = (
       lines,
       next.rest,
       text,
@@ -154,8 +155,8 @@ module _ (game : Game) (from : Standing) (left_old left_new taken_old taken_now 
       inl (at, requests, brought),
       subst (AppendsPrefix taken_old taken_new) (append-nil text) (front_kept taken_old taken_now taken_new text [] written fails),
     )
-    broken Read fails = absurd fails
-    broken Limit fails = absurd fails
+    broken Says brings Read fails = absurd fails
+    broken Says brings Limit fails = absurd fails
 
 -- if the write of a text failed, a prefix of it was written
 pub unshown : {X : Type 0} (result : Result X PlayFault) (fault : PlayFault) (IsRight : List ℕ → Type 0) (taken_old taken_new : Option (List ℕ)) (text said : List ℕ)

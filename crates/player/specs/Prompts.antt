@@ -1,14 +1,32 @@
--- What a person at a terminal is told in a play: the choices that there are.
-use Rattle.std.specs.Prelude.{◌≡◌, ℕ, ◌<◌, ◌-◌, ◌==◌, ◌↔◌, ◌⊎◌, if◌then◌else◌, List, [], ◌++◌}
-use Rattle.std.specs.Prelude.{AllPairs, Bool, Contains, codes, false, true}
+-- What a person at a terminal is told in a play: a greeting, and after each wrong line the choices
+-- that there are.
+use Rattle.std.specs.Prelude.{◌≡◌, ◌≢◌, ℕ, ◌<◌, ◌-◌, ◌==◌, ◌↔◌, ◌⊎◌, if◌then◌else◌, List, [], ◌∷◌}
+use Rattle.std.specs.Prelude.{◌++◌, AllPairs, Bool, Contains, IfErr, IfOk, Option, Result, codes, false, true}
 use Rattle.std.specs.Fmt.{decimal}
 use Rattle.board_text.specs.LineForms.{spaced_numbers, with_line_feed}
 use Rattle.board_text.specs.PlainBoard.{PlainBoard}
 use Rattle.positions.specs.Game.{Legal}
 use Rattle.strategies.specs.Best.{IsBestRequest}
-use Rattle.player.specs.Showing.{AreLines, HasNoControl, shown}
+use Rattle.player.specs.Play.{BreaksOff, HasEnded}
+use Rattle.player.specs.Showing.{shown}
 use Rattle.player.specs.Transcript.{Game, PersonAsks, PersonAnswers, PersonClimbs}
-use Rattle.player.specs.Transcript.{BeginsPlay, Going}
+use Rattle.player.specs.Transcript.{Standing, Going, Over, BeginsPlay, AreResponses, IsPlayed, IsResponse}
+use Rattle.player.specs.declared.end.PlayEnd.{PlayEnd}
+use Rattle.player.specs.declared.end.PlayFault.{PlayFault}
+use Rattle.player.specs.declared.end.PlayFault.TheVariants.{Read, Limit}
+
+-- words as the line that a person is shown
+abbrev pub shown_line : List ℕ → List ℕ
+shown_line words = with_line_feed (shown words)
+
+-- ---- the words
+
+-- the words that greet the person
+abbrev pub greeting_of : Game → List ℕ
+greeting_of (PersonAnswers board) =
+    codes "type a label for the pebble that is asked for; `quit` or Ctrl-D ends the play"
+greeting_of game =
+    codes "type the number of a pebble, of which the first is 0; `quit` or Ctrl-D ends the play"
 
 -- the labels that are legal for the pebble, in ascending order
 pub record AreLegalLabels (board : PlainBoard) (configuration : List ℕ) (pebble : ℕ)
@@ -36,21 +54,78 @@ AreChoices (PersonAnswers board) at words =
     × AreLegalLabels board at pebble labels × (words ≡ label_choices pebble labels)
 AreChoices (PersonClimbs levels) at words = words ≡ pebble_choices levels
 
--- the line has the choices at some configuration, as a person is shown them
-abbrev pub HasChoices : Game → List ℕ → Type 0
-HasChoices game line = (at words : List ℕ) × AreChoices game at words × (line ≡ shown words)
+-- ---- when they are told
 
--- a line that greets, and lines with choices, if there is a person to see them; else nothing
-abbrev pub AreGreetingAndChoices : Bool → Game → List ℕ → Type 0
-AreGreetingAndChoices true game told = (greeting rest : List ℕ) × HasNoControl greeting
-    × AreLines (HasChoices game) true rest × (told ≡ with_line_feed greeting ++ rest)
-AreGreetingAndChoices false game told = told ≡ []
+-- after a line that left the play where it stood, the choices there; after any other, nothing
+abbrev pub IsToldAfter : Game → Standing → Standing → List ℕ → Type 0
+IsToldAfter game (Going at requests) to told =
+    ((to ≡ Going at requests) × (words : List ℕ) × AreChoices game at words
+    × (told ≡ shown_line words))
+    ⊎ ((to ≢ Going at requests) × (told ≡ []))
+IsToldAfter game (Over end) to told = told ≡ []
 
--- a line is asked for: the play isn't over as soon as it has begun
-abbrev pub AsksForLine : Game → Type 0
-AsksForLine game = (opening at : List ℕ) × BeginsPlay game opening (Going at 0)
+-- the replies to these lines, and what is told after each
+abbrev pub AreToldResponses : Game → Standing → List (List ℕ) → List ℕ → List ℕ → Standing → Type 0
+AreToldResponses game from [] text told to = (text ≡ []) × (told ≡ []) × (from ≡ to)
+AreToldResponses game from (line ∷ lines) text told to =
+    (said more prompt later : List ℕ) × (next : Standing) × IsResponse game from line said next
+    × IsToldAfter game from next prompt × AreToldResponses game next lines more later to
+    × (text ≡ said ++ more) × (told ≡ prompt ++ later)
 
--- nothing; or if a line is asked for, a greeting and choices
-abbrev pub ArePrompts : Bool → Game → List ℕ → Type 0
-ArePrompts shows game told =
-    (told ≡ []) ⊎ (AsksForLine game × AreGreetingAndChoices shows game told)
+-- the replies from a standing on, and what is told: nothing if nobody is there to see it, or the
+-- play is over before a line is read; else the greeting, and what is told after each line
+abbrev pub BringsAndTells : Bool → Game → Standing → List ℕ → List (List ℕ) → List ℕ → Standing
+    → Type 0
+BringsAndTells true game (Going at requests) told lines text to =
+    (prompts : List ℕ) × AreToldResponses game (Going at requests) lines text prompts to
+    × (told ≡ shown_line (greeting_of game) ++ prompts)
+BringsAndTells shows game from told lines text to =
+    AreResponses game from lines text to × (told ≡ [])
+
+-- the text written once these lines are read, what a person was told meanwhile, and the state of
+-- the play then
+pub record IsPlayedAndTold (shows : Bool) (game : Game) (told : List ℕ) (lines : List (List ℕ))
+    (text : List ℕ) (to : Standing) : Type 0 where
+  pub opening : List ℕ
+  pub first : Standing
+  pub more : List ℕ
+  pub opens : BeginsPlay game opening first
+  pub brings : BringsAndTells shows game first told lines more to
+  pub text_is : text ≡ opening ++ more
+
+-- ---- a play that is broken off
+
+-- a text that belongs to these lines, where what was told belongs to them; or, since the last of
+-- them may be unanswered, to those before it; or nothing was told, since the opening wasn't written
+abbrev pub NearlyTells : (List ℕ → List (List ℕ) → List ℕ → Standing → Type 0)
+    → (List (List ℕ) → List ℕ → Standing → Type 0) → List ℕ → List (List ℕ) → List ℕ → Standing
+    → Type 0
+NearlyTells Tells Brings told lines text to =
+    Tells told lines text to
+    ⊎ (Brings lines text to × (((before : List (List ℕ)) × (last : List ℕ)
+    × (lines ≡ before ++ last ∷ []) × (front : List ℕ) × (stood : Standing)
+    × Tells told before front stood)
+    ⊎ ((lines ≡ []) × (told ≡ []))))
+
+-- after a fault of reading all lines that came are answered, and what was told belongs to them;
+-- when a text can't be made or written, the last one may not be
+abbrev pub TellsBefore : PlayFault → (List ℕ → List (List ℕ) → List ℕ → Standing → Type 0)
+    → (List (List ℕ) → List ℕ → Standing → Type 0) → List ℕ → List (List ℕ) → List ℕ → Standing
+    → Type 0
+TellsBefore Read Tells Brings = Tells
+TellsBefore Limit Tells Brings = Tells
+TellsBefore fault Tells Brings = NearlyTells Tells Brings
+
+-- what was told in a play with this result, by the lines that came and the text that was written
+pub record IsToldIn (Tells : List ℕ → List (List ℕ) → List ℕ → Standing → Type 0)
+    (Brings : List (List ℕ) → List ℕ → Standing → Type 0)
+    (left_old left_new taken_old taken_new : Option (List ℕ))
+    (result : Result PlayEnd PlayFault) (told : List ℕ) : Type 0 where
+  pub ok : IfOk result (HasEnded (Tells told) left_old left_new taken_old taken_new)
+  pub fault : IfErr result (λ fault. BreaksOff (TellsBefore fault Tells Brings told)
+      left_old left_new taken_old taken_new fault)
+
+-- the same of a play from its opening on
+abbrev pub ArePrompts : Bool → Game → Option (List ℕ) → Option (List ℕ) → Option (List ℕ)
+    → Option (List ℕ) → Result PlayEnd PlayFault → List ℕ → Type 0
+ArePrompts shows game = IsToldIn (IsPlayedAndTold shows game) (IsPlayed game)

@@ -13,7 +13,7 @@ ghost use Rattle.player.specs.Inside.Steps.{AddsText};
 use crate::end::{PlayEnd, PlayFault};
 use crate::line_meaning::LineMeaning;
 use crate::play::{Play, flush, play_on};
-use crate::prompts::{PEBBLES_GREETING, write_pebble_choices};
+use crate::prompts::{PEBBLES_GREETING, tell_pebble_choices};
 use crate::writing::{end_stopped, say_no_request, write_opening, write_reply, write_stuck};
 use board_text::{Board, Sink, Source, Through};
 use solver::{NumberedValues, Values};
@@ -105,7 +105,9 @@ pub fn play_adversary_with_prompts<R: Source, W: Sink, E: Sink>(
         (W.contents writer.old) (W.contents writer.new)) }
     ensures value { IfOk result (KeepsToValue (PersonAsks board.now)) }
     ensures streams { TellsStreams result (R.has_failed reader.new) (W.has_failed writer.new) }
-    ensures prompts { (told : List ℕ) × ArePrompts shows (PersonAsks board.now) told
+    ensures prompts { (told : List ℕ) × ArePrompts shows (PersonAsks board.now)
+        (R.remaining reader.old) (R.remaining reader.new)
+        (W.contents writer.old) (W.contents writer.new) result told
         × IsMore E.contents E.has_failed errors.old errors.new told }
 {
     let mut text = String::new(alloc);
@@ -213,7 +215,7 @@ impl Play for AdversarySide<'_> {
         PEBBLES_GREETING
     }
 
-    fn write_choices(&self, text: &mut String) -> Result<(), AllocError> {
-        write_pebble_choices(text, self.moves.board().pebbles())
+    fn tell_choices<E: Sink>(&self, errors: &mut E) {
+        tell_pebble_choices(errors, self.moves.board().pebbles());
     }
 }

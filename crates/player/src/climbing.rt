@@ -15,7 +15,7 @@ use crate::end::{PlayEnd, PlayFault};
 use crate::line_meaning::LineMeaning;
 use crate::nested_writing::{write_levels, write_nested_reply};
 use crate::play::{Play, flush, play_on};
-use crate::prompts::{PEBBLES_GREETING, write_pebble_choices};
+use crate::prompts::{PEBBLES_GREETING, tell_pebble_choices};
 use crate::writing::{end_stopped, say_no_request};
 use board_text::{Memory, Sink, Source, Through};
 use nested_cycles::{MAX_LEVELS, NestedGame};
@@ -74,7 +74,9 @@ pub fn play_nested_with_prompts<R: Source, W: Sink, E: Sink>(
         (W.contents writer.old) (W.contents writer.new)) }
     ensures value { IfOk result (KeepsToValue (PersonClimbs levels)) }
     ensures streams { TellsStreams result (R.has_failed reader.new) (W.has_failed writer.new) }
-    ensures prompts { (told : List ℕ) × ArePrompts shows (PersonClimbs levels) told
+    ensures prompts { (told : List ℕ) × ArePrompts shows (PersonClimbs levels)
+        (R.remaining reader.old) (R.remaining reader.new)
+        (W.contents writer.old) (W.contents writer.new) result told
         × IsMore E.contents E.has_failed errors.old errors.new told }
 {
     let Ok(mut play) = Climb::new(alloc, levels) else {
@@ -162,7 +164,7 @@ impl Play for Climb {
         PEBBLES_GREETING
     }
 
-    fn write_choices(&self, text: &mut String) -> Result<(), AllocError> {
-        write_pebble_choices(text, self.nested.levels())
+    fn tell_choices<E: Sink>(&self, errors: &mut E) {
+        tell_pebble_choices(errors, self.nested.levels());
     }
 }

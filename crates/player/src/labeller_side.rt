@@ -3,6 +3,7 @@
 ghost use Rattle.std.specs.Prelude.{◌≡◌, ◌↔◌, ◌+◌, ◌<◌, ◌≤◌, ◌^◌, ◌++◌, ℕ, List, false, None, IfOk};
 ghost use Rattle.std.specs.Prelude.{IfErr, OnOk, IsTrue, string_bytes};
 ghost use Rattle.std.specs.Fmt.{decimal};
+ghost use Rattle.board_text.specs.LineForms.{spaced_numbers};
 ghost use Rattle.board_text.specs.PlainBoard.{IsBoard, IsConfiguration};
 ghost use Rattle.positions.specs.Value.{HasValue};
 ghost use Rattle.positions.specs.declared.value.Value.TheVariants.{Finite};
@@ -10,9 +11,9 @@ ghost use Rattle.strategies.specs.Best.{IsBestRequest};
 ghost use Rattle.player.specs.Laws.{KeepsToValue};
 ghost use Rattle.player.specs.Play.{HasEnded, BreaksOff, TellsStreams};
 ghost use Rattle.player.specs.Inside.PlayState.{HasAsked, IsRequestAt, IsStandingAfter, IsLegalAt};
-ghost use Rattle.player.specs.Inside.Prompts.{AddsLegalLabels};
+ghost use Rattle.player.specs.Inside.Prompts.{AreLegalAt};
 ghost use Rattle.player.specs.Prompts.{ArePrompts};
-ghost use Rattle.player.specs.Showing.{IsMore};
+ghost use Rattle.player.specs.Showing.{IsMore, shown};
 ghost use Rattle.player.specs.Transcript.{Standing, IsPlayed, BeginsPlay, PersonAnswers, AsksAfterLine, no_answer_line};
 ghost use Rattle.player.specs.Inside.Transcript.{standing_of};
 ghost use Rattle.player.specs.Inside.Steps.{AddsText};
@@ -21,8 +22,9 @@ use crate::end::{PlayEnd, PlayFault};
 use crate::line_meaning::LineMeaning;
 use crate::play::{Play, flush, play_on};
 use crate::prompts::LABELS_GREETING;
+use crate::showing::{write_digits, write_shown};
 use crate::writing::{end_stopped, write_at, write_opening, write_stuck};
-use board_text::{Board, Sink, Source, Through, write_number};
+use board_text::{Board, Sink, Source, Through};
 use positions::Value;
 use solver::{NumberedValues, Values};
 use std::alloc::{AllocError, Global};
@@ -114,7 +116,9 @@ pub fn play_labeller_with_prompts<R: Source, W: Sink, E: Sink>(
         (W.contents writer.old) (W.contents writer.new)) }
     ensures value { IfOk result (KeepsToValue (PersonAnswers board.now)) }
     ensures streams { TellsStreams result (R.has_failed reader.new) (W.has_failed writer.new) }
-    ensures prompts { (told : List ℕ) × ArePrompts shows (PersonAnswers board.now) told
+    ensures prompts { (told : List ℕ) × ArePrompts shows (PersonAnswers board.now)
+        (R.remaining reader.old) (R.remaining reader.new)
+        (W.contents writer.old) (W.contents writer.new) result told
         × IsMore E.contents E.has_failed errors.old errors.new told }
 {
     let mut text = String::new(alloc);
@@ -237,18 +241,19 @@ impl<'a> LabellerSide<'a> {
             .is_legal(self.configuration.as_slice(), self.asked, label)
     }
 
-    /// Appends the labels that are legal for the pebble that is asked for, each with a space before
+    /// Writes the labels that are legal for the pebble that is asked for, each with a space before
     /// it.
-    fn write_legal_labels(&self, text: &mut String) -> Result<(), AllocError>
-        ensures { OnOk result (AddsLegalLabels self.now (string_bytes text.old)
-            (string_bytes text.new)) }
+    fn tell_legal_labels<E: Sink>(&self, errors: &mut E)
+        ensures { (labels : List ℕ) × AreLegalAt self.now labels
+            × IsMore E.contents E.has_failed errors.old errors.new
+            (shown (spaced_numbers labels)) }
     {
         for label in 0..self.moves.board().labels() {
             if self.is_legal(label) {
-                write_number(text, u32::from(label))?;
+                write_shown(errors, " ");
+                write_digits(errors, u64::from(label));
             }
         }
-        Ok(())
     }
 
     /// Puts the pebble that is asked for on the legal `label`, and makes the next request.
@@ -317,10 +322,12 @@ impl Play for LabellerSide<'_> {
         LABELS_GREETING
     }
 
-    fn write_choices(&self, text: &mut String) -> Result<(), AllocError> {
-        write!(text, "labels that pebble {} can take:", self.asked)?;
-        self.write_legal_labels(text)?;
-        text.push_str("; type one, or quit")
+    fn tell_choices<E: Sink>(&self, errors: &mut E) {
+        write_shown(errors, "labels that pebble ");
+        write_digits(errors, u64::from(self.asked));
+        write_shown(errors, " can take:");
+        self.tell_legal_labels(errors);
+        write_shown(errors, "; type one, or quit");
     }
 }
 

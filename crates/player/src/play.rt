@@ -5,8 +5,8 @@ ghost use Rattle.std.specs.Io.KnownBytes.{Appends};
 ghost use Rattle.board_text.specs.Streams.{AppendsPrefix};
 ghost use Rattle.player.specs.Transcript.{Game, Standing, Going, AreResponses, stopped_line};
 ghost use Rattle.player.specs.Inside.Transcript.{standing_of};
-ghost use Rattle.player.specs.Prompts.{AreChoices, AreGreetingAndChoices};
-ghost use Rattle.player.specs.Showing.{IsMore};
+ghost use Rattle.player.specs.Prompts.{AreChoices, BringsAndTells, IsToldIn, greeting_of};
+ghost use Rattle.player.specs.Showing.{IsMore, shown};
 ghost use Rattle.player.specs.Play.{HasEnded, BreaksOff, TellsStreams};
 ghost use Rattle.player.specs.Inside.Steps.{IsResponseToMeaning, AddsText, Writes, FailsToWrite};
 ghost use Rattle.player.specs.declared.end.PlayEnd.TheVariants.{Stopped};
@@ -53,12 +53,13 @@ pub(crate) trait Play {
         ensures { result ≡ requests self.now };
 
     /// The words that greet the person.
-    fn greeting(&self) -> &'static str;
+    fn greeting(&self) -> &'static str
+        ensures { result.now ≡ greeting_of (game self.now) };
 
-    /// Appends the words for what can be typed now.
-    fn write_choices(&self, text: &mut String) -> Result<(), AllocError>
-        ensures { OnOk result (AddsText (string_bytes text.old) (string_bytes text.new)
-            (AreChoices (game self.now) (at self.now))) };
+    /// Writes the words for what can be typed now.
+    fn tell_choices<E: Sink>(&self, errors: &mut E)
+        ensures { (words : List ℕ) × AreChoices (game self.now) (at self.now) words
+            × IsMore E.contents E.has_failed errors.old errors.new (shown words) };
 }
 
 /// Plays on with the lines of `reader` until the play or the input ends. Each answer is written
@@ -84,7 +85,11 @@ pub(crate) fn play_on<P: Play, R: Source, W: Sink, E: Sink>(
     ensures fault { IfErr result (BreaksOff (AreResponses (P.game play.old) (Going (P.at play.old) 0))
         (R.remaining reader.old) (R.remaining reader.new) (W.contents writer.old) (W.contents writer.new)) }
     ensures streams { TellsStreams result (R.has_failed reader.new) (W.has_failed writer.new) }
-    ensures told { (told : List ℕ) × AreGreetingAndChoices shows (P.game play.old) told
+    ensures told { (told : List ℕ)
+        × IsToldIn (BringsAndTells shows (P.game play.old) (Going (P.at play.old) 0))
+        (AreResponses (P.game play.old) (Going (P.at play.old) 0))
+        (R.remaining reader.old) (R.remaining reader.new)
+        (W.contents writer.old) (W.contents writer.new) result told
         × IsMore E.contents E.has_failed errors.old errors.new told }
 {
     greet(play, shows, errors);
@@ -97,7 +102,7 @@ pub(crate) fn play_on<P: Play, R: Source, W: Sink, E: Sink>(
         if let Some(end) = answer_line(play, meaning, text, writer)? {
             return Ok(end);
         }
-        prompt(play, answered, text, shows, errors);
+        prompt(play, answered, shows, errors);
     }
     Err(PlayFault::Limit)
 }

@@ -1,17 +1,14 @@
 //! What a person at a terminal is told: a greeting, and after a wrong line the choices that there
 //! are.
 
-ghost use Rattle.std.specs.Prelude.{◌≡◌, ◌++◌, ◌≤◌, ◌⊎◌, ℕ, List, [], OnOk, string_bytes};
-ghost use Rattle.board_text.specs.LineForms.{with_line_feed};
-ghost use Rattle.player.specs.Inside.Prompts.{TellsChoices};
-ghost use Rattle.player.specs.Prompts.{AreGreetingAndChoices, HasChoices, pebble_choices};
-ghost use Rattle.player.specs.Showing.{AreLines, IsMore};
+ghost use Rattle.std.specs.Prelude.{◌≡◌, ◌≤◌, ℕ, List};
+ghost use Rattle.player.specs.Inside.Prompts.{TellsAfter, greeting_if};
+ghost use Rattle.player.specs.Prompts.{pebble_choices};
+ghost use Rattle.player.specs.Showing.{IsMore, shown};
 
 use crate::play::Play;
-use crate::showing::write_line;
+use crate::showing::{write_digits, write_line, write_more, write_shown};
 use board_text::Sink;
-use std::alloc::AllocError;
-use std::fmt::Write;
 
 /// The greeting of a person who asks for pebbles.
 pub(crate) const PEBBLES_GREETING: &str =
@@ -23,8 +20,8 @@ pub(crate) const LABELS_GREETING: &str =
 
 /// Greets the person, if there is one to see it.
 pub(crate) fn greet<P: Play, E: Sink>(play: &P, shows: bool, errors: &mut E)
-    ensures { (told : List ℕ) × AreGreetingAndChoices shows (P.game play.now) told
-        × IsMore E.contents E.has_failed errors.old errors.new told }
+    ensures { IsMore E.contents E.has_failed errors.old errors.new
+        (greeting_if shows (P.game play.now)) }
 {
     if !shows {
         return;
@@ -34,50 +31,29 @@ pub(crate) fn greet<P: Play, E: Sink>(play: &P, shows: bool, errors: &mut E)
 
 /// Tells the choices after a wrong line, if there is a person to see them. A line was wrong if no
 /// more requests are answered than the `answered` ones before it.
-pub(crate) fn prompt<P: Play, E: Sink>(
-    play: &P,
-    answered: u32,
-    text: &mut String,
-    shows: bool,
-    errors: &mut E,
-)
-    requires empty { string_bytes text.old ≡ [] }
-    ensures empty { string_bytes text.new ≡ [] }
-    ensures told { (told : List ℕ) × AreLines (HasChoices (P.game play.now)) shows told
+pub(crate) fn prompt<P: Play, E: Sink>(play: &P, answered: u32, shows: bool, errors: &mut E)
+    ensures { (told : List ℕ)
+        × TellsAfter shows (P.game play.now) (P.at play.now) answered (P.requests play.now) told
         × IsMore E.contents E.has_failed errors.old errors.new told }
 {
-    if !shows {
+    if !shows || play.requests() > answered {
         return;
     }
-    if play.requests() > answered {
-        return;
-    }
-    tell_choices(play, text, errors);
+    play.tell_choices(errors);
+    write_more(errors, "\n");
 }
 
-/// Tells the choices. If memory for the words is refused, nothing is told.
-fn tell_choices<P: Play, E: Sink>(play: &P, text: &mut String, errors: &mut E)
-    requires empty { string_bytes text.old ≡ [] }
-    ensures empty { string_bytes text.new ≡ [] }
-    ensures told { (told : List ℕ) × TellsChoices (P.game play.now) (P.at play.now) told
-        × IsMore E.contents E.has_failed errors.old errors.new told }
-{
-    let Ok(()) = play.write_choices(text) else {
-        text.clear();
-        return;
-    };
-    write_line(errors, text.as_str());
-    text.clear();
-}
-
-/// Appends the words for the pebbles that can be asked for, of which there are `pebbles`.
-pub(crate) fn write_pebble_choices(text: &mut String, pebbles: u8) -> Result<(), AllocError>
+/// Writes the words for the pebbles that can be asked for, of which there are `pebbles`.
+pub(crate) fn tell_pebble_choices<E: Sink>(errors: &mut E, pebbles: u8)
     requires { 1 ≤ pebbles }
-    ensures { OnOk result (string_bytes text.new ≡ string_bytes text.old
-        ++ pebble_choices pebbles) }
+    ensures { IsMore E.contents E.has_failed errors.old errors.new
+        (shown (pebble_choices pebbles)) }
 {
     if pebbles == 1 {
-        return text.push_str("type 0, the only pebble, or quit");
+        write_shown(errors, "type 0, the only pebble, or quit");
+        return;
     }
-    write!(text, "type a pebble, 0 to {}, or quit", pebbles - 1)
+    write_shown(errors, "type a pebble, 0 to ");
+    write_digits(errors, u64::from(pebbles - 1));
+    write_shown(errors, ", or quit");
 }

@@ -1,10 +1,12 @@
 //! Writing words for a person, as the lines of a terminal.
 
 ghost use Rattle.std.specs.Prelude.{◌≡◌, ◌<◌, ◌++◌, ◌∷◌, MatchOption, length};
+ghost use Rattle.std.specs.Fmt.{decimal};
 ghost use Rattle.board_text.specs.LineForms.{with_line_feed};
 ghost use Rattle.player.specs.Showing.{IsMore, is_control, shown};
 
 use board_text::{Sink, write_all};
+use itoa::Buffer;
 
 /// Writes `text`, unless the writer has failed before. Nothing else is done after a failure.
 pub fn write_more<W: Sink>(writer: &mut W, text: &str)
@@ -43,6 +45,14 @@ pub fn write_shown<E: Sink>(errors: &mut E, text: &str)
         rest = later;
     }
     write_bytes(errors, rest);
+}
+
+/// Writes the decimal digits of `number`, unless the writer has failed before.
+pub fn write_digits<E: Sink>(errors: &mut E, number: u64)
+    ensures { IsMore E.contents E.has_failed errors.old errors.new (shown (decimal number)) }
+{
+    let mut digits = Buffer::new();
+    write_shown(errors, digits.format(number));
 }
 
 /// The bytes before the first control byte, and those after it, if there is one.

@@ -2,20 +2,27 @@
 use Rattle.std.proofs.Common.{◌≡◌, ℕ, Bool, ◌&&◌, ◌||◌, true, false, List, [], ◌∷◌, ◌++◌, inl, inr, refl, sym, ap}
 use Rattle.std.proofs.Common.{subst, ◌∙◌, append-nil, append_assoc}
 use Rattle.std.proofs.lemmas.List.Elements.{All-append, All-cons, All-nil}
-use Rattle.std.specs.Prelude.{Option}
-use Rattle.std.proofs.lemmas.Grind.{flat_map-append}
-use Rattle.std.specs.List.{flat_map}
+use Rattle.std.specs.Prelude.{Err, Option, Result, ◌⊎◌}
 use Rattle.board_text.specs.LineForms.{with_line_feed}
+use Rattle.board_text.specs.PlainBoard.{PlainBoard}
 use Rattle.command_line.specs.declared.asked.Job.{Job}
 use Rattle.graphs.specs.declared.graph.Numbering.{Numbering}
+use Rattle.player.specs.Prompts.{ArePrompts}
 use Rattle.player.specs.Showing.{AreForPerson, HasNoControl, IsMore, is_control, shown}
-use Rattle.player.proofs.Cited.{none_more, nothing_for_person, plain_if_shown, prompts_for_person, then_more}
+use Rattle.player.specs.declared.end.PlayEnd.{PlayEnd}
+use Rattle.player.specs.declared.end.PlayFault.{PlayFault}
+use Rattle.player.proofs.Cited.{none_more, nothing_for_person, plain_if_shown, prompts_for_person, then_lines}
+use Rattle.player.proofs.Cited.{then_more}
 use Rattle.positions.specs.declared.side.Side.{Side}
-use Rattle.runs.specs.PlayRun.{PromptsOnBoard, game_of}
+use Rattle.runs.specs.Notices.{IsNoticed, notice_for}
+use Rattle.runs.specs.PlayRun.{IsToldInRun, game_of, run_of_play}
 use Rattle.runs.specs.Run.{Bytes, stream_of}
 use Rattle.runs.specs.Serving.{IsEnding, IsExplained, IsForPerson, IsPrompted, IsSaid, IsWritten, is_large, is_typed}
+use Rattle.runs.specs.declared.fault.RunFault.{RunFault}
+use Rattle.runs.specs.declared.fault.RunFault.TheVariants.{Memory}
 use Rattle.runs.specs.declared.serving.Terminals.{Terminals}
 use Rattle.runs.specs.declared.outcome.Outcome.{Outcome}
+use Rattle.runs.proofs.Notices.{noticed}
 
 module _ {W : Type 0} (known : W → Option (List ℕ)) (failed : W → Bool) where
   -- a text without its explanation, and with it
@@ -80,41 +87,44 @@ colon_is_plain = All-cons IsPlain 58 (32 ∷ []) refl (All-cons IsPlain 32 [] re
 
 -- ---- prompts
 
--- what was told in a play on a board is lines for a person
-pub prompts_on_board : (limit : Numbering) (side : Side) (most_bytes : ℕ) (board : Bytes) (shows : Bool)
-    (told : List ℕ) → PromptsOnBoard limit side most_bytes board shows told → AreForPerson shows told
-prompts_on_board limit side most_bytes board shows told (inl none) =
+-- lines of a person who is there for one of two reasons
+pub or_first : (one other : Bool) (told : List ℕ) → AreForPerson one told → AreForPerson (one || other) told
+or_first true other told lines = lines
+or_first false other told none = subst (AreForPerson other) (sym none) (nothing_for_person other)
+
+or_second : (one other : Bool) (told : List ℕ) → AreForPerson other told → AreForPerson (one || other) told
+or_second true true told lines = lines
+or_second true false told none = subst (AreForPerson true) (sym none) (nothing_for_person true)
+or_second false other told lines = lines
+
+-- the notice of a large board is a line for a person
+pub notice_for_person : {Answer : Type 0} (IsGiven : PlainBoard → Type 0) (IsMissing : RunFault → Type 0) (shows : Bool)
+    (result : Result Answer RunFault) (told : List ℕ) → IsNoticed IsGiven IsMissing shows result told
+    → AreForPerson shows told
+notice_for_person IsGiven IsMissing shows result told (inl (board, given, is)) =
+    subst (AreForPerson shows) (sym is) (noticed shows board)
+notice_for_person IsGiven IsMissing shows result told (inr (fault, broke, missing, none)) =
     subst (AreForPerson shows) (sym none) (nothing_for_person shows)
-prompts_on_board limit side most_bytes board shows told (inr (b, gave, are)) =
-    prompts_for_person (game_of side b) shows told are
 
--- a line is lines
-pub one_line : (shows : Bool) → shows ≡ true → (line : List ℕ) → IsForPerson true line → AreForPerson shows line
-one_line false e line is = cc
-one_line true e line (words, plain, is) = (
-  words ∷ [],
-  All-cons HasNoControl words [] plain (All-nil HasNoControl),
-  is ∙ sym (append-nil (with_line_feed words)),
-)
-
--- lines, and lines after them
-pub lines_then : (choices size : Bool) (notice told : List ℕ) → AreForPerson size notice → AreForPerson choices told
-    → AreForPerson (choices || size) (notice ++ told)
-lines_then true true notice told (lines, plain, is) (more, plain_too, is_too) = (
-  lines ++ more,
-  All-append HasNoControl lines more plain plain_too,
-  ap (λ (l : List ℕ). l ++ told) is ∙ ap (λ (l : List ℕ). flat_map with_line_feed lines ++ l) is_too
-      ∙ sym (flat_map-append with_line_feed lines more),
-)
-lines_then true false notice told none (more, plain, is) = (more, plain, ap (λ (l : List ℕ). l ++ told) none ∙ is)
-lines_then false true notice told (lines, plain, is) none =
-    (lines, plain, ap (λ (l : List ℕ). notice ++ l) none ∙ append-nil notice ∙ is)
-lines_then false false notice told none nothing = ap (λ (l : List ℕ). l ++ told) none ∙ nothing
-
--- no other lines are told
-pub only_lines : (choices : Bool) (told : List ℕ) → AreForPerson choices told → AreForPerson (choices || false) told
-only_lines true told lines = lines
-only_lines false told none = none
+-- and so is all that is told in a play
+pub told_in_run : (limit : Numbering) (side : Side) (most_bytes : ℕ) (board lines written : Bytes) (size choices : Bool)
+    (result : Result PlayEnd RunFault) (told : List ℕ)
+    → IsToldInRun limit side most_bytes board lines written size choices result told → AreForPerson (choices || size) told
+told_in_run limit side most_bytes board lines written size choices result told (inl (fault, broke, missing, none)) =
+    subst (AreForPerson (choices || size)) (sym none) (nothing_for_person (choices || size))
+told_in_run limit side most_bytes board lines written size choices result told (inr (b, gave, prompts, is, how)) =
+    subst (AreForPerson (choices || size)) (sym is)
+    (then_lines HasNoControl (choices || size) (notice_for size b) prompts
+    (or_second choices size (notice_for size b) (noticed size b))
+    (or_first choices size prompts (by how)))
+  where
+    by : ((result ≡ Err Memory) × (prompts ≡ []))
+        ⊎ ((played : Result PlayEnd PlayFault) × (result ≡ run_of_play played)
+        × ArePrompts choices (game_of side b) lines.old lines.new written.old written.new played prompts)
+        → AreForPerson choices prompts
+    by (inl (refused, none)) = subst (AreForPerson choices) (sym none) (nothing_for_person choices)
+    by (inr (played, same, are)) =
+        prompts_for_person choices (game_of side b) prompts lines.old lines.new written.old written.new played are
 
 -- nothing is told
 pub none_prompted : {W : Type 0} (known : W → Option (List ℕ)) (failed : W → Bool) (terminals : Terminals) (job : Job)

@@ -13,6 +13,7 @@ pub mod Solutions
 pub mod OneOutcome
 pub mod Endings
 pub mod Served
+pub mod Notices
 pub mod ErrorTexts
 pub mod PlayFaults
 pub mod KnownRuns

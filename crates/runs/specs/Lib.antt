@@ -12,6 +12,7 @@ pub mod NestedText
 pub mod SolveRun
 pub mod Headline
 pub mod Report
+pub mod Notices
 pub mod PlayRun
 pub mod Folders
 pub mod Outcomes

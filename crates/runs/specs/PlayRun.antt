@@ -1,5 +1,5 @@
 -- Runs of plays: the bytes read, the answer, and the bytes written.
-use Rattle.std.specs.Prelude.{◌≡◌, ℕ, ◌⊎◌, Bool, List, []}
+use Rattle.std.specs.Prelude.{◌≡◌, ℕ, ◌⊎◌, Bool, List, [], ◌++◌, Result, Ok, Err}
 use Rattle.board_text.specs.PlainBoard.{PlainBoard}
 use Rattle.graphs.specs.declared.graph.Numbering.{Numbering}
 use Rattle.player.specs.Prompts.{ArePrompts}
@@ -10,10 +10,12 @@ use Rattle.player.specs.declared.end.PlayEnd.{PlayEnd}
 use Rattle.player.specs.declared.end.PlayFault.{PlayFault}
 use Rattle.positions.specs.declared.side.Side.{Side}
 use Rattle.positions.specs.declared.side.Side.TheVariants.{Labeller, Adversary}
-use Rattle.runs.specs.BoardRun.{FailsOn, GaveBoard, RanOn}
+use Rattle.runs.specs.BoardRun.{FailsOn, GaveBoard, GaveNoBoard, RanOn}
 use Rattle.runs.specs.Faults.{fault_of_play}
+use Rattle.runs.specs.Notices.{notice_for}
 use Rattle.runs.specs.Run.{Bytes}
 use Rattle.runs.specs.declared.fault.RunFault.{RunFault}
+use Rattle.runs.specs.declared.fault.RunFault.TheVariants.{Memory}
 
 -- the play on the board in which the person is this side
 abbrev pub game_of : Side → PlainBoard → Game
@@ -41,9 +43,21 @@ PlayFails limit side most_bytes IsUntouched board lines written fault =
     FailsOn limit most_bytes board IsUntouched
     (λ b. IsBrokenOff (game_of side b) lines written) fault
 
--- nothing was told, or a board within the limit was read, and the person was prompted in the play
--- on it
-abbrev pub PromptsOnBoard : Numbering → Side → ℕ → Bytes → Bool → List ℕ → Type 0
-PromptsOnBoard limit side most_bytes board shows told =
-    (told ≡ []) ⊎ ((b : PlainBoard) × GaveBoard limit most_bytes board b
-    × ArePrompts shows (game_of side b) told)
+-- the end of a play as that of a run
+abbrev pub run_of_play : Result PlayEnd PlayFault → Result PlayEnd RunFault
+run_of_play (Ok end) = Ok end
+run_of_play (Err fault) = Err (fault_of_play fault)
+
+-- what a person is told in the run of a play: nothing, if there was no board; else the notice of the
+-- board, and then the prompts of the play on it, or none, if memory for its values was refused
+abbrev pub IsToldInRun : Numbering → Side → ℕ → Bytes → Bytes → Bytes → Bool → Bool
+    → Result PlayEnd RunFault → List ℕ → Type 0
+IsToldInRun limit side most_bytes board lines written sees_size sees_choices result told =
+    ((fault : RunFault) × (result ≡ Err fault) × GaveNoBoard limit most_bytes board fault
+    × (told ≡ []))
+    ⊎ ((b : PlainBoard) × GaveBoard limit most_bytes board b
+    × (prompts : List ℕ) × (told ≡ notice_for sees_size b ++ prompts)
+    × (((result ≡ Err Memory) × (prompts ≡ []))
+    ⊎ ((played : Result PlayEnd PlayFault) × (result ≡ run_of_play played)
+    × ArePrompts sees_choices (game_of side b) lines.old lines.new written.old written.new played
+    prompts)))

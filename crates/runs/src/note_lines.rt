@@ -1,27 +1,29 @@
 //! Writing notes for a person at a terminal.
 
 ghost use Rattle.std.specs.Prelude.{ℕ, List, true};
-ghost use Rattle.player.specs.Showing.{AreForPerson, IsMore, shown};
+ghost use Rattle.player.specs.Showing.{IsMore, shown};
+ghost use Rattle.runs.specs.Notices.{notice_for};
 ghost use Rattle.runs.specs.Serving.{IsForPerson};
 
 use crate::notes::Note;
 use crate::parts::Part;
 use board_text::{Board, Sink};
 use classes::count_classes;
-use itoa::Buffer;
-use player::{write_more, write_shown};
+use player::{write_digits, write_more, write_shown};
 use positions::is_small;
 
 /// Says that a large board is solved, with its number of classes, if `shows` says that a person is
 /// there. Of a board of at most `MAX_CONFIGURATIONS` configurations nothing is said.
 pub(crate) fn tell_size<E: Sink>(board: &Board, shows: bool, errors: &mut E)
-    ensures { (told : List ℕ) × AreForPerson shows told
-        × IsMore E.contents E.has_failed errors.old errors.new told }
+    ensures { IsMore E.contents E.has_failed errors.old errors.new (notice_for shows board.now) }
 {
     if !shows || is_small(board) {
         return;
     }
-    write_note(Note::of_size(count_classes(board)), errors);
+    write_shown(errors, "a large board: its ");
+    write_digits(errors, count_classes(board));
+    write_shown(errors, " classes are solved, which can take seconds");
+    write_more(errors, "\n");
 }
 
 /// Writes an explanation, as one line.
@@ -50,9 +52,6 @@ fn write_part<E: Sink>(part: Part, errors: &mut E)
 {
     match part {
         Part::Words(words) => write_shown(errors, words),
-        Part::Number(number) => {
-            let mut digits = Buffer::new();
-            write_shown(errors, digits.format(number));
-        }
+        Part::Number(number) => write_digits(errors, number),
     }
 }

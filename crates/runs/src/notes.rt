@@ -94,18 +94,6 @@ impl Note<'static> {
         Note::of(outcome, &Inputs::alone(Taken::Small, input, input))
     }
 
-    /// The words for a person who waits for the values of a board of this number of classes.
-    pub(crate) fn of_size(classes: u64) -> Note<'static> {
-        Note {
-            about: "a large board",
-            parts: around(
-                "its ",
-                classes,
-                " classes are solved, which can take seconds",
-            ),
-        }
-    }
-
     /// The explanation of a job that reads standard input, which is closed.
     pub(crate) fn no_input() -> Note<'static> {
         Note::new(

@@ -1,14 +1,16 @@
 //! Playing with a person, from the bytes of the board and of the lines to the bytes written.
 
-ghost use Rattle.std.specs.Prelude.{◌≡◌, ◌⊎◌, ◌++◌, ℕ, List, true, false, IfOk, IfErr};
+ghost use Rattle.std.specs.Prelude.{◌≡◌, ◌⊎◌, ℕ, List, Result, true, false, IfOk, IfErr};
 ghost use Rattle.player.specs.Laws.{KeepsToValue};
 ghost use Rattle.player.specs.Play.{HasEnded, BreaksOff, TellsStreams};
 ghost use Rattle.board_text.specs.Ranges.{InRange};
 ghost use Rattle.player.specs.Prompts.{ArePrompts};
-ghost use Rattle.player.specs.Showing.{AreForPerson, IsMore};
+ghost use Rattle.player.specs.Showing.{IsMore};
 ghost use Rattle.player.specs.Transcript.{IsPlayed, PersonClimbs};
-ghost use Rattle.runs.specs.PlayRun.{IsBrokenOff, IsOver, PlayFails, PromptsOnBoard, RanPlay};
-ghost use Rattle.runs.specs.PlayRun.{game_of};
+ghost use Rattle.player.specs.declared.end.PlayEnd.{PlayEnd};
+ghost use Rattle.player.specs.declared.end.PlayFault.{PlayFault};
+ghost use Rattle.runs.specs.PlayRun.{IsBrokenOff, IsOver, IsToldInRun, PlayFails, RanPlay};
+ghost use Rattle.runs.specs.PlayRun.{game_of, run_of_play};
 ghost use Rattle.runs.specs.Run.{TellsFailures, bytes_of, stream_of};
 
 use crate::fault::RunFault;
@@ -146,10 +148,10 @@ pub fn run_play_with_prompts<B: Source, L: Source, W: Sink, E: Sink>(
     ensures streams { TellsFailures result
         ((B.has_failed board.new ≡ true) ⊎ (L.has_failed lines.new ≡ true))
         (stream_of W.contents W.has_failed writer.old writer.new) }
-    ensures prompts { (notice told : List ℕ) × AreForPerson telling.size notice
-        × PromptsOnBoard limit side MAX_BOARD_BYTES
-        (bytes_of B.remaining board.old board.new) telling.choices told
-        × IsMore E.contents E.has_failed errors.old errors.new (notice ++ told) }
+    ensures prompts { (told : List ℕ) × IsToldInRun limit side MAX_BOARD_BYTES
+        (bytes_of B.remaining board.old board.new) (bytes_of L.remaining lines.old lines.new)
+        (bytes_of W.contents writer.old writer.new) telling.size telling.choices result told
+        × IsMore E.contents E.has_failed errors.old errors.new told }
 {
     let board = read_board(alloc, limit, board)?;
     tell_size(&board, telling.size, errors);
@@ -208,7 +210,10 @@ pub fn run_climb_with_prompts<L: Source, W: Sink, E: Sink>(
         (bytes_of W.contents writer.old writer.new)) }
     ensures streams { TellsFailures result (L.has_failed lines.new ≡ true)
         (stream_of W.contents W.has_failed writer.old writer.new) }
-    ensures prompts { (told : List ℕ) × ArePrompts shows (PersonClimbs levels) told
+    ensures prompts { (told : List ℕ) × (played : Result PlayEnd PlayFault)
+        × (result ≡ run_of_play played)
+        × ArePrompts shows (PersonClimbs levels) (L.remaining lines.old) (L.remaining lines.new)
+        (W.contents writer.old) (W.contents writer.new) played told
         × IsMore E.contents E.has_failed errors.old errors.new told }
 {
     Ok(play_nested_with_prompts(alloc, levels, lines, writer, shows, errors)?)
@@ -237,7 +242,9 @@ fn play<L: Source, W: Sink, E: Sink>(
         (W.contents writer.old) (W.contents writer.new)) }
     ensures value { IfOk result (KeepsToValue (game_of side board.now)) }
     ensures streams { TellsStreams result (L.has_failed lines.new) (W.has_failed writer.new) }
-    ensures prompts { (told : List ℕ) × ArePrompts shows (game_of side board.now) told
+    ensures prompts { (told : List ℕ) × ArePrompts shows (game_of side board.now)
+        (L.remaining lines.old) (L.remaining lines.new)
+        (W.contents writer.old) (W.contents writer.new) result told
         × IsMore E.contents E.has_failed errors.old errors.new told }
 {
     match side {

@@ -3,14 +3,16 @@
 ghost use Rattle.std.specs.Prelude.{◌≡◌, ℕ, List, ◌++◌, true, false, IfOk, IfErr, OnOk};
 ghost use Rattle.std.specs.Prelude.{string_bytes};
 ghost use Rattle.board_text.specs.Ranges.{InRange};
-ghost use Rattle.player.specs.Showing.{AreForPerson, IsMore};
+ghost use Rattle.player.specs.Showing.{IsMore};
 ghost use Rattle.positions.specs.Ranks.{configurations};
+ghost use Rattle.runs.specs.BoardRun.{GaveBoard, GaveNoBoard};
+ghost use Rattle.runs.specs.Notices.{IsNoticed};
 ghost use Rattle.runs.specs.Report.{AreCounts, IsReportOf, IsReportOfText, Reports};
 ghost use Rattle.runs.specs.Report.{count_line, count_lines, end_lines, head_lines};
 ghost use Rattle.runs.specs.Report.{size_line, start_value_line};
 ghost use Rattle.runs.specs.Run.{Ran, Fails, TellsStreams, bytes_of, stream_of};
 ghost use Rattle.runs.specs.SolveRun.{CannotSolve};
-ghost use Rattle.runs.specs.Texts.{HasNoBoard};
+ghost use Rattle.runs.specs.Texts.{HasNoBoard, HasNoneWithin, IsBoardWithin};
 
 use crate::boards::board_within;
 use crate::fault::RunFault;
@@ -139,7 +141,10 @@ pub fn run_report_with_notice<R: Source, W: Sink, E: Sink>(
         (bytes_of R.remaining reader.old reader.new) (bytes_of W.contents writer.old writer.new)) }
     ensures streams { TellsStreams result (R.has_failed reader.new ≡ true)
         (stream_of W.contents W.has_failed writer.old writer.new) }
-    ensures notice { (told : List ℕ) × AreForPerson shows told
+    ensures notice { (told : List ℕ)
+        × IsNoticed (GaveBoard limit MAX_BOARD_BYTES (bytes_of R.remaining reader.old reader.new))
+        (GaveNoBoard limit MAX_BOARD_BYTES (bytes_of R.remaining reader.old reader.new))
+        shows result told
         × IsMore E.contents E.has_failed errors.old errors.new told }
 {
     let text = read_text(alloc, reader, MAX_BOARD_BYTES)?;
@@ -212,7 +217,8 @@ fn report_text_with_notice<E: Sink>(
     requires workers { InRange 1 MAX_WORKERS workers }
     ensures report { IfOk result (λ report. IsReportOfText limit text.now (string_bytes report)) }
     ensures fault { IfErr result (CannotSolve limit workers text.now) }
-    ensures notice { (told : List ℕ) × AreForPerson shows told
+    ensures notice { (told : List ℕ)
+        × IsNoticed (IsBoardWithin limit text.now) (HasNoneWithin limit text.now) shows result told
         × IsMore E.contents E.has_failed errors.old errors.new told }
 {
     let board = board_within(alloc, limit, text)?;

@@ -1,12 +1,14 @@
-use Rattle.std.proofs.Common.{◌≡◌, ◌++◌, ap, ◌∙◌, inr, subst}
+use Rattle.std.proofs.Common.{[], ◌≡◌, ◌++◌, ap, ◌∙◌, subst}
 use Rattle.std.proofs.lemmas.Result.{IfOk-weaker, IfErr-weaker, err_from_is_err_and}
 use Rattle.std.specs.Io.KnownBytes.{Appends}
 use Rattle.board_text.specs.Streams.{AppendsPrefix}
 use Rattle.positions.proofs.Cited.{some_value}
-use Rattle.player.specs.Transcript.{Going, PersonAnswers, BeginsPlay}
+use Rattle.player.specs.Transcript.{AreResponses, BeginsPlay, Going, IsPlayed, Over, PersonAnswers}
 use Rattle.player.proofs.AnswerLines.{has_opening}
 use Rattle.player.proofs.PlayLengths.{keeps_to_value}
 use Rattle.player.proofs.OpeningLines.{has_ended, breaks_off, over_at_once, unopened, unshown_opening, Keeps-same}
+use Rattle.player.proofs.MoreTexts.{none_more}
+use Rattle.player.proofs.ToldPlays.{alone, played, prompted, untold, untold_at_once, untold_opening}
 use Rattle.player.proofs.labeller_side.play_labeller_with_prompts.Goals as goal
 
 pub returns-in_default-clause-fault : goal.returns-in_default-clause-fault
@@ -14,7 +16,8 @@ returns-in_default-clause-fault g c =
     let is_board = rw c.new-moves.ensures at c.open.ensures.is_board in
     let value = some_value c.args.board.now c.args.board.now.start is_board.start in
     let opening = has_opening c.args.board.now value.0 value.1 in
-    unopened (PersonAnswers c.args.board.now) opening.said opening.to opening.opens _ _ _ (Keeps-same _)
+    unopened (IsPlayed (PersonAnswers c.args.board.now)) opening.said opening.to
+    (alone c.args.shows (PersonAnswers c.args.board.now) opening.said opening.to opening.opens) _ _ _ (Keeps-same _)
 
 pub returns-in_err-flush-clause-fault : goal.returns-in_err-flush-clause-fault
 returns-in_err-flush-clause-fault g c =
@@ -24,7 +27,8 @@ returns-in_err-flush-clause-fault g c =
     let p = err_from_is_err_and c.from_residual.result c.from_residual.ensures.1 in
     let front = subst (AppendsPrefix _ _) text c.in_err-flush.ensures.front in
     rw (p.1, p.2, c.in_err-flush.ensures.fault.0)
-    (unshown_opening (PersonAnswers c.args.board.now) opening.0 opening.2.0 begins _ _ _ front)
+    (unshown_opening (IsPlayed (PersonAnswers c.args.board.now)) opening.0 opening.2.0
+    (alone c.args.shows (PersonAnswers c.args.board.now) opening.0 opening.2.0 begins) _ _ _ front)
 
 pub new-play-requires : goal.new-play-requires
 new-play-requires g c =
@@ -39,7 +43,9 @@ returns-in-Asks-clause-ok g c =
     let going = subst (λ b. opening.2.0 ≡ Going b.start 0) c.new-moves.ensures opening.2.2.1 in
     let opens = subst (BeginsPlay (PersonAnswers c.args.board.now) opening.0) going begins in
     let written = subst (Appends _ _) text c.in_ok-flush.ensures.written in
-    IfOk-weaker c.play_on.result _ _ (λ end h. has_ended (PersonAnswers c.args.board.now) opening.0 _ opens _ _ _
+    IfOk-weaker c.play_on.result _ _ (λ end h. has_ended
+    (AreResponses (PersonAnswers c.args.board.now) (Going c.args.board.now.start 0)) (IsPlayed (PersonAnswers c.args.board.now)) opening.0
+    (played c.args.shows (PersonAnswers c.args.board.now) opening.0 _ opens) _ _ _
     (g.W.Sink.contents c.flush.new.writer) _ written end h)
     (rw (c.new-play.ensures, c.new-moves.ensures) at c.play_on.ensures.ok)
 
@@ -51,7 +57,9 @@ returns-in-Asks-clause-fault g c =
     let going = subst (λ b. opening.2.0 ≡ Going b.start 0) c.new-moves.ensures opening.2.2.1 in
     let opens = subst (BeginsPlay (PersonAnswers c.args.board.now) opening.0) going begins in
     let written = subst (Appends _ _) text c.in_ok-flush.ensures.written in
-    IfErr-weaker c.play_on.result _ _ (λ fault h. breaks_off (PersonAnswers c.args.board.now) opening.0 _ opens _ _ _
+    IfErr-weaker c.play_on.result _ _ (λ fault h. breaks_off
+    (AreResponses (PersonAnswers c.args.board.now) (Going c.args.board.now.start 0)) (IsPlayed (PersonAnswers c.args.board.now)) opening.0
+    (played c.args.shows (PersonAnswers c.args.board.now) opening.0 _ opens) _ _ _
     (g.W.Sink.contents c.flush.new.writer) _ written fault h)
     (rw (c.new-play.ensures, c.new-moves.ensures) at c.play_on.ensures.fault)
 
@@ -61,7 +69,8 @@ returns-clause-ok g c =
     let begins = subst (λ b. BeginsPlay (PersonAnswers b) opening.0 opening.2.0) c.new-moves.ensures opening.2.1 in
     let text = opening.1 ∙ ap (λ l. l ++ opening.0) c.new-text.ensures.bytes in
     let written = subst (Appends _ _) text c.in_ok-flush.ensures.written in
-    over_at_once (PersonAnswers c.args.board.now) opening.0 opening.2.0 begins _ _ _ c.in-Ends.end opening.2.2 written
+    over_at_once (IsPlayed (PersonAnswers c.args.board.now)) opening.0 opening.2.0
+    (alone c.args.shows (PersonAnswers c.args.board.now) opening.0 opening.2.0 begins) _ _ _ c.in-Ends.end opening.2.2 written
 
 pub returns-in-Asks-clause-value : goal.returns-in-Asks-clause-value
 returns-in-Asks-clause-value g c =
@@ -75,7 +84,48 @@ pub returns-in-Asks-clause-prompts : goal.returns-in-Asks-clause-prompts
 returns-in-Asks-clause-prompts g c =
     let opening = rw c.in-Asks.is at c.in-Ok.ensures.said in
     let begins = subst (λ b. BeginsPlay (PersonAnswers b) opening.0 opening.2.0) c.new-moves.ensures opening.2.1 in
+    let text = opening.1 ∙ ap (λ l. l ++ opening.0) c.new-text.ensures.bytes in
     let going = subst (λ b. opening.2.0 ≡ Going b.start 0) c.new-moves.ensures opening.2.2.1 in
     let opens = subst (BeginsPlay (PersonAnswers c.args.board.now) opening.0) going begins in
-    let told = rw (c.new-play.ensures, c.new-moves.ensures) at c.play_on.ensures.told in
-    (told.0, inr ((_, _, opens), told.1), told.2)
+    let written = subst (Appends _ _) text c.in_ok-flush.ensures.written in
+    let told = rw (c.new-play.ensures, c.new-moves.ensures) at c.play_on.ensures.told in (
+      told.0,
+      prompted c.args.shows (PersonAnswers c.args.board.now) opening.0 _ opens _ _ _
+          (g.W.Sink.contents c.flush.new.writer) _ written told.0 c.play_on.result told.1,
+      told.2,
+    )
+
+pub returns-clause-prompts : goal.returns-clause-prompts
+returns-clause-prompts g c =
+    let opening = rw c.in-Ends.is at c.in-Ok.ensures.said in
+    let begins = subst (λ b. BeginsPlay (PersonAnswers b) opening.0 opening.2.0) c.new-moves.ensures opening.2.1 in
+    let text = opening.1 ∙ ap (λ l. l ++ opening.0) c.new-text.ensures.bytes in
+    let opens = subst (BeginsPlay (PersonAnswers c.args.board.now) opening.0) opening.2.2 begins in
+    let written = subst (Appends _ _) text c.in_ok-flush.ensures.written in (
+      [],
+      untold_at_once c.args.shows (PersonAnswers c.args.board.now) opening.0 c.in-Ends.end opens _ _ _ written,
+      none_more g.E.Sink.contents g.E.Sink.has_failed c.args.errors.now,
+    )
+
+pub returns-in_default-clause-prompts : goal.returns-in_default-clause-prompts
+returns-in_default-clause-prompts g c =
+    let is_board = rw c.new-moves.ensures at c.open.ensures.is_board in
+    let value = some_value c.args.board.now c.args.board.now.start is_board.start in
+    let opening = has_opening c.args.board.now value.0 value.1 in (
+      [],
+      untold c.args.shows (PersonAnswers c.args.board.now) opening.said opening.to opening.opens _ _ _ (Keeps-same _),
+      none_more g.E.Sink.contents g.E.Sink.has_failed c.args.errors.now,
+    )
+
+pub returns-in_err-flush-clause-prompts : goal.returns-in_err-flush-clause-prompts
+returns-in_err-flush-clause-prompts g c =
+    let opening = c.in-Ok.ensures.said in
+    let begins = subst (λ b. BeginsPlay (PersonAnswers b) opening.0 opening.2.0) c.new-moves.ensures opening.2.1 in
+    let text = opening.1 ∙ ap (λ l. l ++ opening.0) c.new-text.ensures.bytes in
+    let p = err_from_is_err_and c.from_residual.result c.from_residual.ensures.1 in
+    let front = subst (AppendsPrefix _ _) text c.in_err-flush.ensures.front in (
+      [],
+      rw (p.1, p.2, c.in_err-flush.ensures.fault.0)
+          (untold_opening c.args.shows (PersonAnswers c.args.board.now) opening.0 opening.2.0 begins _ _ _ front),
+      none_more g.E.Sink.contents g.E.Sink.has_failed c.args.errors.now,
+    )

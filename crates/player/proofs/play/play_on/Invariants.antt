@@ -1,7 +1,7 @@
 use Rattle.std.proofs.Common.{◌≡◌, ◌≤◌, ℕ, List, [], length, false}
 use Rattle.std.specs.Prelude.{string_bytes}
 use Rattle.std.specs.Io.KnownBytes.{Appends}
-use Rattle.player.specs.Prompts.{AreGreetingAndChoices}
+use Rattle.player.specs.Prompts.{BringsAndTells}
 use Rattle.player.specs.Showing.{IsMore}
 use Rattle.player.specs.Transcript.{AreResponses, Going}
 use Rattle.player.proofs.ReadLines.{HasCome}
@@ -22,6 +22,7 @@ invariant-loop g l = record {
   ended : g.R.Source.has_ended l.reader ≡ l.lines.has_ended;
   writer : g.W.Sink.has_failed l.writer ≡ false;
   told : List ℕ;
-  are_told : AreGreetingAndChoices l.fn.shows (g.P.Play.game l.initial.play) told;
+  tells : BringsAndTells l.fn.shows (g.P.Play.game l.initial.play) (Going (g.P.Play.at l.initial.play) 0) told said text
+      (Going (g.P.Play.at l.play) (g.P.Play.requests l.play));
   more : IsMore g.E.Sink.contents g.E.Sink.has_failed l.fn.errors l.errors told;
 }

@@ -1,5 +1,5 @@
-use Rattle.std.proofs.Common.{◌&&◌, refl, sym, true≢false, ◌∙◌}
-use Rattle.runs.proofs.ErrorTexts.{none_prompted, only_lines}
+use Rattle.std.proofs.Common.{◌&&◌, false, refl, sym, true≢false, ◌∙◌}
+use Rattle.runs.proofs.ErrorTexts.{none_prompted, or_first}
 use Rattle.runs.proofs.jobs.carry_out.Goals as goal
 
 pub returns-in-Joined-clause-done : goal.returns-in-Joined-clause-done
@@ -68,7 +68,7 @@ returns-in-Report-clause-done g c =
 pub returns-in-Joined-clause-prompts : goal.returns-in-Joined-clause-prompts
 returns-in-Joined-clause-prompts g c =
     let p = c.check_joined.ensures.prompts in
-    rw c.in-Joined.is (p.0, only_lines (c.args.terminals.input && c.args.terminals.errors) p.0 p.1, p.2)
+    rw c.in-Joined.is (p.0, or_first (c.args.terminals.input && c.args.terminals.errors) false p.0 p.1, p.2)
 
 pub returns-in-Play-clause-prompts : goal.returns-in-Play-clause-prompts
 returns-in-Play-clause-prompts g c = rw c.in-Play.is c.play.ensures.prompts
@@ -76,7 +76,7 @@ returns-in-Play-clause-prompts g c = rw c.in-Play.is c.play.ensures.prompts
 pub returns-in-Climb-clause-prompts : goal.returns-in-Climb-clause-prompts
 returns-in-Climb-clause-prompts g c =
     let p = c.climb.ensures.prompts in
-    rw c.in-Climb.is (p.0, only_lines (c.args.terminals.input && c.args.terminals.errors) p.0 p.1, p.2)
+    rw c.in-Climb.is (p.0, or_first (c.args.terminals.input && c.args.terminals.errors) false p.0 p.1, p.2)
 
 pub returns-in-Check-clause-prompts : goal.returns-in-Check-clause-prompts
 returns-in-Check-clause-prompts g c =

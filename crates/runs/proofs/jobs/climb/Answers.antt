@@ -9,6 +9,6 @@ returns-clause-prompts g c =
     let p = c.run_climb_with_prompts-ended.ensures.prompts in (
       p.0,
       subst (λ shows. AreForPerson shows p.0) c.are_both-shows.ensures
-          (prompts_for_person (PersonClimbs c.args.levels) c.are_both-shows.result p.0 p.1),
-      p.2,
+          (prompts_for_person c.are_both-shows.result (PersonClimbs c.args.levels) p.0 _ _ _ _ p.1 p.3),
+      p.4,
     )

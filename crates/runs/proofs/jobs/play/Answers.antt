@@ -1,11 +1,11 @@
-use Rattle.std.proofs.Common.{[], ◌++◌, ◌&&◌, ◌||◌, inl, inr, refl, subst}
+use Rattle.std.proofs.Common.{[], ◌&&◌, ◌||◌, inl, inr, refl, subst}
 use Rattle.player.specs.Showing.{AreForPerson}
 use Rattle.player.proofs.Cited.{none_more, nothing_for_person}
 use Rattle.runs.specs.Outcomes.{outcome_of_run}
 use Rattle.runs.specs.Run.{stream_of}
 use Rattle.runs.specs.declared.fault.RunFault.TheVariants.{Read}
 use Rattle.runs.proofs.Endings.{broken_run, opened_play, told_as}
-use Rattle.runs.proofs.ErrorTexts.{lines_then, prompts_on_board}
+use Rattle.runs.proofs.ErrorTexts.{told_in_run}
 use Rattle.runs.proofs.jobs.play.Goals as goal
 
 pub returns-clause-done : goal.returns-clause-done
@@ -29,10 +29,12 @@ returns-clause-unread g c broke =
 pub returns-clause-prompts : goal.returns-clause-prompts
 returns-clause-prompts g c =
     let p = c.run_play_with_prompts-ended.ensures.prompts in
-    let size = subst (λ shows. AreForPerson shows p.0) c.see_size.ensures p.2 in
-    let choices = subst (λ shows. AreForPerson shows p.1) c.are_both.ensures
-    (prompts_on_board _ _ _ _ c.are_both.result p.1 p.3) in
-    (p.0 ++ p.1, lines_then _ _ p.0 p.1 size choices, p.4)
+    let lines = told_in_run _ _ _ _ _ _ c.see_size.result c.are_both.result _ p.0 p.1 in (
+      p.0,
+      subst (λ size. AreForPerson ((c.args.terminals.input && c.args.terminals.errors) || size) p.0) c.see_size.ensures
+          (subst (λ choices. AreForPerson (choices || c.see_size.result) p.0) c.are_both.ensures lines),
+      p.2,
+    )
 
 pub returns-in_default-clause-prompts : goal.returns-in_default-clause-prompts
 returns-in_default-clause-prompts g c = (

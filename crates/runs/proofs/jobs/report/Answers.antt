@@ -6,6 +6,7 @@ use Rattle.runs.specs.Outcomes.{outcome_of_run}
 use Rattle.runs.specs.Report.{Reports}
 use Rattle.runs.specs.SolveRun.{CannotSolve}
 use Rattle.runs.specs.declared.fault.RunFault.TheVariants.{Read}
+use Rattle.runs.proofs.ErrorTexts.{notice_for_person}
 use Rattle.runs.proofs.Endings.{broken_run, opened_board, these_workers, told_as}
 use Rattle.runs.proofs.jobs.report.Goals as goal
 
@@ -30,5 +31,8 @@ returns-clause-unread g c broke =
 
 pub returns-clause-notice : goal.returns-clause-notice
 returns-clause-notice g c =
-    let told = c.run_report_with_notice-done.ensures.notice in
-    (told.0, subst (λ shows. AreForPerson shows told.0) c.see_size-shows.ensures told.1, told.2)
+    let told = c.run_report_with_notice-done.ensures.notice in (
+      told.0,
+      subst (λ shows. AreForPerson shows told.0) c.see_size-shows.ensures (notice_for_person _ _ _ _ told.0 told.1),
+      told.2,
+    )

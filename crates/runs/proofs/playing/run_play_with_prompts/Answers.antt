@@ -1,10 +1,11 @@
-use Rattle.std.proofs.Common.{[], append-nil, inl, inr, refl, sym, ap, subst, ◌∙◌}
+use Rattle.std.proofs.Common.{[], ◌++◌, append-nil, inl, inr, refl, sym, ap, ◌∙◌}
 use Rattle.std.specs.Prelude.{Err}
 use Rattle.runs.proofs.PlayFaults.{lines-told, ok_or_err, same_run_fault, writer-told}
 use Rattle.std.proofs.lemmas.Result.{err_from_is_err_and}
 use Rattle.runs.proofs.BoardLimits.{few_classes}
-use Rattle.player.specs.Showing.{IsMore}
-use Rattle.player.proofs.Cited.{none_more, nothing_for_person, then_more}
+use Rattle.player.proofs.Cited.{none_more, then_more}
+use Rattle.runs.specs.Notices.{notice_for}
+use Rattle.runs.specs.PlayRun.{run_of_play}
 use Rattle.runs.proofs.playing.run_play_with_prompts.Goals as goal
 
 pub numbered_of-requires : goal.numbered_of-requires
@@ -47,42 +48,54 @@ returns-in_err-play-clause-streams g c =
 
 pub returns-in_err-play-clause-prompts : goal.returns-in_err-play-clause-prompts
 returns-in_err-play-clause-prompts g c =
-    let notice = c.tell_size.ensures in
+    let p = err_from_is_err_and c.from_residual-in_err-play.result c.from_residual-in_err-play.ensures.1 in
+    let notice = notice_for c.args.telling.size c.in_ok-board.board in
     let told = c.play.ensures.prompts in (
-      notice.0,
-      told.0,
-      notice.1,
-      inr (c.in_ok-board.board, c.in_ok-board.ensures.found, told.1),
-      then_more g.E.Sink.contents g.E.Sink.has_failed _ _ _ notice.0 told.0 notice.2 told.2,
+      notice ++ told.0,
+      rw (p.1, p.2) (inr (
+        c.in_ok-board.board,
+        c.in_ok-board.ensures.found,
+        told.0,
+        refl,
+        inr (c.play.result, ap run_of_play (sym c.in_err-play.was), told.1),
+      )),
+      then_more g.E.Sink.contents g.E.Sink.has_failed _ _ _ notice told.0 c.tell_size.ensures told.2,
     )
 
 pub returns-clause-prompts : goal.returns-clause-prompts
 returns-clause-prompts g c =
-    let notice = c.tell_size.ensures in
+    let notice = notice_for c.args.telling.size c.in_ok-board.board in
     let told = c.play.ensures.prompts in (
-      notice.0,
-      told.0,
-      notice.1,
-      inr (c.in_ok-board.board, c.in_ok-board.ensures.found, told.1),
-      then_more g.E.Sink.contents g.E.Sink.has_failed _ _ _ notice.0 told.0 notice.2 told.2,
+      notice ++ told.0,
+      inr (
+        c.in_ok-board.board,
+        c.in_ok-board.ensures.found,
+        told.0,
+        refl,
+        inr (c.play.result, ap run_of_play (sym c.in_ok-play.was), told.1),
+      ),
+      then_more g.E.Sink.contents g.E.Sink.has_failed _ _ _ notice told.0 c.tell_size.ensures told.2,
     )
 
 pub returns-in_err-board-clause-prompts : goal.returns-in_err-board-clause-prompts
-returns-in_err-board-clause-prompts g c = (
-  [],
-  [],
-  nothing_for_person c.args.telling.size,
-  inl refl,
-  none_more g.E.Sink.contents g.E.Sink.has_failed c.args.errors.now,
-)
+returns-in_err-board-clause-prompts g c =
+    let p = err_from_is_err_and c.from_residual.result c.from_residual.ensures.1 in (
+      [],
+      rw (p.1, p.2) (inl (c.in_err-board.field-0.0, refl, c.in_err-board.ensures.fault, refl)),
+      none_more g.E.Sink.contents g.E.Sink.has_failed c.args.errors.now,
+    )
 
 pub returns-in_err-values-clause-prompts : goal.returns-in_err-values-clause-prompts
 returns-in_err-values-clause-prompts g c =
-    let notice = c.tell_size.ensures in (
-      notice.0,
-      [],
-      notice.1,
-      inl refl,
-      subst (λ said. IsMore g.E.Sink.contents g.E.Sink.has_failed c.args.errors.now c.tell_size.new.errors said)
-          (sym (append-nil notice.0)) notice.2,
+    let p = err_from_is_err_and c.from_residual-in_err-values.result c.from_residual-in_err-values.ensures.1 in
+    let notice = notice_for c.args.telling.size c.in_ok-board.board in (
+      notice,
+      rw (p.1, p.2) (inr (
+        c.in_ok-board.board,
+        c.in_ok-board.ensures.found,
+        [],
+        sym (append-nil notice),
+        inl (ap Err c.in_err-values.ensures.memory, refl),
+      )),
+      c.tell_size.ensures,
     )

@@ -1,8 +1,11 @@
+use Rattle.std.proofs.Common.{[], inl, inr, refl}
 use Rattle.std.proofs.lemmas.Result.{err_from_is_err_and}
 use Rattle.runs.specs.Report.{Reports}
 use Rattle.runs.specs.Run.{bytes_of}
 use Rattle.runs.specs.SolveRun.{CannotSolve}
 use Rattle.runs.specs.declared.reading.TheConstants.{MAX_BOARD_BYTES}
+use Rattle.player.proofs.Cited.{none_more}
+use Rattle.runs.proofs.Notices.{noticed_before, noticed_then}
 use Rattle.runs.proofs.FailedRuns.{cut_short_last, nothing_to_write}
 use Rattle.runs.proofs.reporting.run_report_with_notice.Goals as goal
 
@@ -24,3 +27,32 @@ returns-clause-fault g c =
     c.in_ok-text.text.items c.in_ok-text.ensures.ok
     c.write_text.result tt _ (rw c.as_slice.ensures.value at c.in_ok-report.ensures.report)
     (rw c.deref.ensures at c.write_text.ensures.prefix) c.write_text.ensures.fault
+
+pub returns-in_err-text-clause-notice : goal.returns-in_err-text-clause-notice
+returns-in_err-text-clause-notice g c =
+    let p = err_from_is_err_and c.from_residual.result c.from_residual.ensures.1 in (
+      [],
+      rw (p.1, p.2) (inr (c.in_err-text.field-0.0, refl, inl c.in_err-text.ensures.fault, refl)),
+      none_more g.E.Sink.contents g.E.Sink.has_failed c.args.errors.now,
+    )
+
+pub returns-in_err-report-clause-notice : goal.returns-in_err-report-clause-notice
+returns-in_err-report-clause-notice g c =
+    let p = err_from_is_err_and c.from_residual-in_err-report.result c.from_residual-in_err-report.ensures.1 in
+    let read = bytes_of g.R.Source.remaining c.args.reader.now c.read_text.new.reader in
+    let told = rw c.as_slice.ensures.value at c.report_text_with_notice.ensures.notice in (
+      told.0,
+      rw (p.1, p.2) (noticed_before c.args.limit MAX_BOARD_BYTES read c.in_ok-text.text.items c.in_ok-text.ensures.ok
+          c.args.shows told.0 c.report_text_with_notice.result told.1 c.in_err-report.field-0.0 c.in_err-report.was),
+      told.2,
+    )
+
+pub returns-clause-notice : goal.returns-clause-notice
+returns-clause-notice g c =
+    let read = bytes_of g.R.Source.remaining c.args.reader.now c.read_text.new.reader in
+    let told = rw c.as_slice.ensures.value at c.report_text_with_notice.ensures.notice in (
+      told.0,
+      noticed_then c.args.limit MAX_BOARD_BYTES read c.in_ok-text.text.items c.in_ok-text.ensures.ok c.args.shows told.0
+          c.report_text_with_notice.result told.1 c.in_ok-report.report c.in_ok-report.was c.write_text.result,
+      told.2,
+    )

@@ -1,0 +1,53 @@
+use Rattle.std.proofs.Common.{◌∙◌, ◌++◌, ◌∷◌, [], ap, arith, subst, sym}
+use Rattle.board_text.specs.LineForms.{spaced_numbers}
+use Rattle.player.specs.Showing.{IsMore, shown}
+use Rattle.player.specs.Inside.PlayState.{IsLegalAt}
+use Rattle.player.proofs.ListedLabels.{all_listed, none_listed, none_more, one_more, told_spaced}
+use Rattle.player.proofs.MoreTexts.{none_more as nothing_more}
+use Rattle.player.proofs.labeller_side.LabellerSide.tell_legal_labels.Goals as goal
+use Rattle.player.proofs.labeller_side.LabellerSide.tell_legal_labels.Goals.{else-is_legal, then-is_legal}
+
+pub loop-label-init : goal.loop-label-init
+loop-label-init g c =
+    ([], none_listed (IsLegalAt c.args.self.now), nothing_more g.E.Sink.contents g.E.Sink.has_failed c.args.errors.now)
+
+pub loop-label-preserved : goal.loop-label-preserved
+loop-label-preserved g c =
+    let i = c.loop-label.invariant in
+    let label = c.loop-label.label in
+    let Has = IsLegalAt c.args.self.now in
+    let known = g.E.Sink.contents in
+    let failed = g.E.Sink.has_failed in
+    elim c.if-is_legal.branch [
+      | then-is_legal w ↦ (
+        i.0 ++ label ∷ [],
+        one_more Has label i.0 i.1 (c.is_legal.ensures.0 w.if-is_legal.true),
+        subst (λ e. IsMore known failed c.args.errors.now e (shown (spaced_numbers (i.0 ++ label ∷ [])))) (sym w.errors-is)
+            (told_spaced known failed c.args.errors.now c.loop-label.errors w.write_shown.new.errors w.write_digits.new.errors
+            i.0 label i.2 w.write_shown.ensures (rw w.from.ensures at w.write_digits.ensures)),
+      )
+      | else-is_legal w ↦ (
+        i.0,
+        none_more Has label i.0 i.1 (λ has. let legal = c.is_legal.ensures.1 has in cc),
+        subst (λ e. IsMore known failed c.args.errors.now e (shown (spaced_numbers i.0))) (sym w.errors-is) i.2,
+      )
+    ]
+
+pub returns : goal.returns
+returns g c =
+    let i = c.loop-label.invariant in
+    let of_seat = c.board.ensures ∙ ap (λ s. s.board) c.self.view_is in (
+      i.0,
+      (
+        i.1.ascending,
+        all_listed (IsLegalAt c.args.self.now) c.loop-label.label i.0 i.1
+            (λ x has. omega (
+              arith,
+              has.2.is_label,
+              c.loop-label-test.false,
+              c.labels-label-end.ensures.value,
+              ap (λ b. b.labels) of_seat,
+            )),
+      ),
+      i.2,
+    )

@@ -1,0 +1,28 @@
+-- The notice that a large board is solved.
+use Rattle.std.specs.Prelude.{◌≡◌, ℕ, ◌&&◌, ◌⊎◌, nat_lt, if◌then◌else◌, Bool, List, [], ◌++◌, Result}
+use Rattle.std.specs.Prelude.{Err, codes}
+use Rattle.std.specs.Fmt.{decimal}
+use Rattle.board_text.specs.PlainBoard.{PlainBoard}
+use Rattle.classes.specs.Numbers.{class_count}
+use Rattle.player.specs.Prompts.{shown_line}
+use Rattle.positions.specs.Ranks.{configurations}
+use Rattle.positions.specs.declared.space.TheConstants.{MAX_CONFIGURATIONS}
+use Rattle.runs.specs.declared.fault.RunFault.{RunFault}
+
+-- the line with the number of classes
+abbrev pub size_notice : PlainBoard → List ℕ
+size_notice board = shown_line (codes "a large board: its " ++ decimal (class_count board)
+    ++ codes " classes are solved, which can take seconds")
+
+-- that line, if a person is there to see it and the board has more configurations than are ranked;
+-- else nothing
+abbrev pub notice_for : Bool → PlainBoard → List ℕ
+notice_for shows board =
+    if shows && nat_lt MAX_CONFIGURATIONS (configurations board) then size_notice board else []
+
+-- the notice of the board that was given was told; or none was given, and nothing was told
+abbrev pub IsNoticed : {Answer : Type 0} → (PlainBoard → Type 0) → (RunFault → Type 0) → Bool
+    → Result Answer RunFault → List ℕ → Type 0
+IsNoticed IsGiven IsMissing shows result told =
+    ((board : PlainBoard) × IsGiven board × (told ≡ notice_for shows board))
+    ⊎ ((fault : RunFault) × (result ≡ Err fault) × IsMissing fault × (told ≡ []))
