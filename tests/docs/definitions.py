@@ -2,8 +2,8 @@
 
 A passage begins with a mark and ends with `<!-- end -->`. `<!-- table of A B, beyond C -->` is followed by a table of all definitions that
 A and B reach, themselves included, and C doesn't; `<!-- count of A B, beyond C -->` by their number and that of their lines, without
-comments, imports and empty lines; `<!-- code of A B -->` by the types and the constants of the code that they reach. Where two crates
-have a definition of one name, the mark names the crate too: `positions.Shows`.
+comments, imports and empty lines; `<!-- code of A B -->` by the types and the constants of the code that they reach. No two definitions
+have one name, whichever crates they are in.
 """
 import os
 import re
@@ -71,11 +71,17 @@ class Specs:
 
     def one_of(self, name):
         """The definition that a mark names."""
-        crate, _, last = name.rpartition('.')
-        keys = [key for key in self.defined if key[2] == last and crate in ('', key[0])]
+        keys = [key for key in self.defined if key[2] == name]
         if len(keys) != 1:
             raise ValueError(f'{len(keys)} definitions are named {name}')
         return keys[0]
+
+    def named_twice(self):
+        """A line for each name that two definitions have, with their files."""
+        files = {}
+        for key, definition in self.defined.items():
+            files.setdefault(key[2], []).append(definition.file)
+        return [f'{name}: {", ".join(found)}' for name, found in sorted(files.items()) if len(found) > 1]
 
     def reached(self, names):
         """All that these definitions reach, themselves included: definitions, and what is declared in the code."""
@@ -151,6 +157,11 @@ def differs():
     if not PASSAGE.search(text):
         return 'docs/theorems.md has no passage that lists definitions'
     return None if written(text) == text else 'docs/theorems.md lists other definitions: tests/docs/run --write mends it'
+
+
+def named_twice():
+    """None where no two definitions have one name; else those that have."""
+    return '\n'.join(Specs().named_twice()) or None
 
 
 def write():

@@ -27,7 +27,7 @@ use Rattle.retro_core.specs.Round.{PlainSeat, Round, IsLawful, IsWorkedOff, spen
 use Rattle.retro_core.specs.Round.{all_won}
 use Rattle.retro_core.specs.declared.step.Seen.{Seen as SeenData}
 use Rattle.retro_core.specs.declared.step.Seen.TheVariants as seen
-use Rattle.retro_core.specs.History.{answer_at}
+use Rattle.retro_core.specs.History.{answer_in_history}
 use Rattle.solver.specs.Ending.{IsRoundEnd}
 use Rattle.graphs.proofs.Cited.{same_or_not}
 use Rattle.retro_core.proofs.Cited.{closed-always, closed-gone, closed-once, lost-opened, won-told, times-together, worked-off}
@@ -179,12 +179,15 @@ module _ (k : Key) (words : List ℕ) (views : List View) (sol : IsSolving k.sol
   told = (view_at (IsToldBy h.steps) views id v h.told at).0
 
   -- the answer of each call at a place was told
-  has_told : (place : ℕ) (answer : SeenData) → answer_at h.steps place ≡ Some answer → calls_of (Some answer) ≡ 1 → Contains v.made (place, answer)
+  has_told : (place : ℕ) (answer : SeenData) → answer_in_history h.steps place ≡ Some answer
+      → calls_of (Some answer) ≡ 1 → Contains v.made (place, answer)
   has_told place answer is call = told-there h.steps v.made place answer told is (let once = told_once place in let one = ap calls_of is in omega arith)
 
   -- each answer that was told is in the history, at its place
-  stands : (place : ℕ) (answer : SeenData) → Contains v.made (place, answer) → answer_at h.steps place ≡ Some answer
-  stands place answer there = All-contains (λ (call : ℕ × SeenData). answer_at h.steps call.0 ≡ Some call.1) v.made (place, answer) told there
+  stands : (place : ℕ) (answer : SeenData) → Contains v.made (place, answer)
+      → answer_in_history h.steps place ≡ Some answer
+  stands place answer there = All-contains (λ (call : ℕ × SeenData). answer_in_history h.steps call.0 ≡ Some call.1)
+      v.made (place, answer) told there
 
   history : HasHistory k v.made (end_of_words k words v.has.won)
   history = record {

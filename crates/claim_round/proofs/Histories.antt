@@ -14,7 +14,7 @@ use Rattle.retro_core.specs.Round.{IsLawful}
 use Rattle.retro_core.specs.declared.step.Step.{Step}
 use Rattle.retro_core.specs.declared.step.Seen.{Seen}
 use Rattle.retro_core.specs.Stepping.{Does}
-use Rattle.retro_core.specs.History.{answer_at}
+use Rattle.retro_core.specs.History.{answer_in_history}
 use Rattle.graphs.proofs.Cited.{same_or_not}
 use Rattle.retro_core.proofs.Cited.{answer-before, answer-last, lead-more, steps-lawful, times_here}
 use Rattle.claim_round.specs.Shared.{Key, View}
@@ -74,12 +74,12 @@ places-more : (place at : ℕ) (answer : Seen) (made : List (ℕ × Seen)) → t
 places-more place at answer made = ap (times place) (map_push (λ (call : ℕ × Seen). call.0) made (at, answer)) ∙ times-append place (indexes_of made) (at ∷ [])
 
 -- if a view was told of a place, it was told the answer there
-pub told-there : (steps : List (Step × Seen)) (made : List (ℕ × Seen)) (place : ℕ) (answer : Seen) → AreTold steps made → answer_at steps place ≡ Some answer → 0 < times place (indexes_of made)
+pub told-there : (steps : List (Step × Seen)) (made : List (ℕ × Seen)) (place : ℕ) (answer : Seen) → AreTold steps made → answer_in_history steps place ≡ Some answer → 0 < times place (indexes_of made)
     → Contains made (place, answer)
 told-there steps [] place answer told at there = absurd (omega arith)
 told-there steps (call ∷ made) place answer told at there = elim (same_or_not call.0 place) [
   | inl here ↦ (
-      let same : call.1 ≡ answer = same_Some call.1 answer (sym (told 0 call (omega arith)) ∙ ap (answer_at steps) here ∙ at) in
+      let same : call.1 ≡ answer = same_Some call.1 answer (sym (told 0 call (omega arith)) ∙ ap (answer_in_history steps) here ∙ at) in
       (0, omega arith, λ j. (here j, same j)))
   | inr other ↦ (
       let none = times-later call.0 place (indexes_of made) other in
@@ -103,7 +103,7 @@ module _ (k : Key) (words words' : List ℕ) (views : List View) (h : IsHistory 
     leads = lead-more h.first h.steps (round_of_words k.solving k.width words (seats_of views)) step answer (round_of_words k.solving k.width words' (seats_of (set views id w))) h.leads does;
     told = All-set (IsToldBy longer) views id w
         (let old = view_at (IsToldBy h.steps) views id v h.told at in (
-          subst (AreTold longer) (sym made) (All-push (λ (call : ℕ × Seen). answer_at longer call.0 ≡ Some call.1) v.made (length h.steps, answer) (told-more h.steps (step, answer) v.made old.0) (answer-last h.steps (step, answer))),
+          subst (AreTold longer) (sym made) (All-push (λ (call : ℕ × Seen). answer_in_history longer call.0 ≡ Some call.1) v.made (length h.steps, answer) (told-more h.steps (step, answer) v.made old.0) (answer-last h.steps (step, answer))),
           (let l = length-append h.steps ((step, answer) ∷ []) in omega arith),
         ))
         (views-more h.steps (step, answer) views h.told);
@@ -153,7 +153,7 @@ module _ (k : Key) (words words' : List ℕ) (views : List View) (h : IsHistory 
         counted = h.counted;
         leads = lead-more h.first h.steps (round_of_words k.solving k.width words (seats_of views)) step answer (round_of_words k.solving k.width words' (seats_of (set (set views id a) other b))) h.leads does;
         told = All-set (IsToldBy longer) (set views id a) other b (subst (AreTold longer) (sym none) (λ i d below. absurd (omega arith)), omega arith)
-            (All-set (IsToldBy longer) views id a (subst (AreTold longer) (sym both) (All-append (λ (call : ℕ × Seen). answer_at longer call.0 ≡ Some call.1) v.made u.made old.0 old'.0), omega arith) (views-more h.steps (step, answer) views h.told));
+            (All-set (IsToldBy longer) views id a (subst (AreTold longer) (sym both) (All-append (λ (call : ℕ × Seen). answer_in_history longer call.0 ≡ Some call.1) v.made u.made old.0 old'.0), omega arith) (views-more h.steps (step, answer) views h.told));
         once = λ place.
             let mine : told_of place a ≡ told_of place v + told_of place u = ap (λ (m : List (ℕ × Seen)). times place (indexes_of m)) both ∙ places-both place v.made u.made in
             let gone : told_of place b ≡ 0 = ap (λ (m : List (ℕ × Seen)). times place (indexes_of m)) none in

@@ -11,7 +11,7 @@ use Rattle.solver.specs.Solving.{Solving, AnswerLasts}
 use Rattle.solver.specs.Words.{AreFirstCounts}
 use Rattle.retro_core.specs.Round.{PlainSeat, Round, IsOpening, IsWorkedOff, all_won}
 use Rattle.retro_core.specs.Stepping.{LeadTo}
-use Rattle.retro_core.specs.History.{answer_at}
+use Rattle.retro_core.specs.History.{answer_in_history}
 use Rattle.claim_round.specs.Shared.{Key, View, Ended}
 use Rattle.claim_round.specs.Words.{round_of_words}
 
@@ -21,7 +21,7 @@ seats_of views = map (λ view. view.has) views
 
 -- each answer that was told is that of the step at its index
 abbrev pub AreTold : List (Step × Seen) → List (ℕ × Seen) → Type 0
-AreTold steps made = All (λ call. answer_at steps call.0 ≡ Some call.1) made
+AreTold steps made = All (λ call. answer_in_history steps call.0 ≡ Some call.1) made
 
 -- the indexes of the answers told
 abbrev pub indexes_of : List (ℕ × Seen) → List ℕ
@@ -38,7 +38,7 @@ calls_of None = 0
 
 -- the number of strikes and tries at an index
 abbrev pub calls_at : List (Step × Seen) → ℕ → ℕ
-calls_at steps index = calls_of (answer_at steps index)
+calls_at steps index = calls_of (answer_in_history steps index)
 
 -- steps of the machine lead from an opening, whose counts are those of the solver, to these words
 -- and seats. The answers told to a seat are those at its indexes, its next one can be at the

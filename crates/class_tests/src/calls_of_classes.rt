@@ -7,6 +7,7 @@ ghost use Rattle.std.specs.Prelude.{◌≡◌, ℕ, ◌-◌, ◌<◌, ◌≤◌,
 ghost use Rattle.board_text.specs.PlainBoard.{places};
 ghost use Rattle.classes.specs.Classes.{Falls};
 ghost use Rattle.classes.specs.Lists.{AreClassLists};
+ghost use Rattle.classes.specs.Numbers.{class_count};
 
 use crate::assertions::{assert_same, board_of};
 use crate::classes_of_boards::classes_of;
@@ -58,8 +59,14 @@ const GAPS_OF_CLASSES: [[u32; 3]; 10] = [
     [5, 5, 5],
 ];
 
+/// How many classes end in each gap's places and a least one.
+const FAMILIES: [u16; 6] = [1, 1, 2, 1, 2, 3];
+
+/// The gap of the two greatest places of each class.
+const FAMILIES_OF_CLASSES: [usize; 10] = [0, 1, 2, 2, 3, 4, 4, 5, 5, 5];
+
 /// The classes of some pebbles, if the board has as many.
-fn lists_of(alloc: Global, classes: &Classes, pebbles: u8) -> Option<Vec<ClassPlaces>>
+pub(crate) fn lists_of(alloc: Global, classes: &Classes, pebbles: u8) -> Option<Vec<ClassPlaces>>
     ensures lists { IfSome result
         (λ lists. AreClassLists (places classes.now) pebbles lists.items) }
     ensures few { IfSome result (λ _. pebbles ≤ classes.now.pebbles) }
@@ -102,6 +109,24 @@ fn member_of(classes: &Classes, lists: &[ClassPlaces], gap: usize, place: u16) -
 {
     let _ = classes.pebbles();
     classes.member(lists[gap].as_slice(), place)
+}
+
+/// The number of places in the family of a listed gap.
+fn least_places(classes: &Classes, lists: &[ClassPlaces], gap: usize) -> u16
+    requires lists { AreClassLists (places classes.now) (classes.now.pebbles - 1) lists.now }
+    requires gap { gap < length lists.now }
+{
+    let _ = classes.pebbles();
+    classes.least_places(lists[gap].as_slice())
+}
+
+/// The gap in whose family a class is.
+fn family_of(classes: &Classes, lists: &[ClassPlaces], number: u32) -> usize
+    requires lists { AreClassLists (places classes.now) (classes.now.pebbles - 1) lists.now }
+    requires number { number < class_count classes.now }
+{
+    let others = classes.pebbles() - 1;
+    classes.family_of(others, lists, number)
 }
 
 /// Asserts the number of each class, and its gaps.
@@ -200,6 +225,35 @@ fn members_of_gaps(rt: HostRuntime) {
     let others = classes.pebbles() - 1;
     let lists = lists_of(rt.alloc(), &classes, others).expect(&rt, "gaps");
     assert_gaps(&rt, &classes, &lists);
+}
+
+/// Asserts how many places the family of each gap has, and the gap of each class's family.
+fn assert_families(rt: &impl Abort, classes: &Classes, lists: &[ClassPlaces])
+    requires { AreClassLists (places classes.now) (classes.now.pebbles - 1) lists.now }
+{
+    assert_same(rt, "gaps", lists.len(), FAMILIES.len());
+    for gap in 0..lists.len() {
+        let many = least_places(classes, lists, gap);
+        assert_same(rt, ("places of", gap), Some(&many), FAMILIES.get(gap));
+    }
+    for number in 0..classes.count() {
+        let gap = family_of(classes, lists, number);
+        assert_same(
+            rt,
+            ("family of", number),
+            Some(&gap),
+            FAMILIES_OF_CLASSES.get(number as usize),
+        );
+    }
+}
+
+#[test]
+fn families_of_gaps(rt: HostRuntime) {
+    let board = board_of(&rt, rt.alloc(), THREE_PEBBLES);
+    let classes = classes_of(rt.alloc(), &board).expect(&rt, "classes");
+    let others = classes.pebbles() - 1;
+    let lists = lists_of(rt.alloc(), &classes, others).expect(&rt, "gaps");
+    assert_families(&rt, &classes, &lists);
 }
 
 /// Puts a place among the others, if there is room.

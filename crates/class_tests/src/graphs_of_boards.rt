@@ -25,7 +25,7 @@ struct Worked {
     struck: &'static [Option<u32>],
     /// The number of each rank's configuration, and the gaps of its pebbles.
     ranks: &'static [(u32, u32, u32)],
-    weights: &'static [u64],
+    weights: &'static [u16],
 }
 
 /// The three-cycle, in which 1 dominates 0, 2 dominates 1, and 0 dominates 2.
@@ -224,7 +224,7 @@ fn number_of(graph: &Graph, board: &Board, held: &[u16]) -> Option<u32>
 }
 
 /// The weights of a graph's numbers.
-fn weights_of(alloc: Global, graph: &Graph) -> Option<Vec<u64>> {
+fn weights_of(alloc: Global, graph: &Graph) -> Option<Vec<u16>> {
     match graph.weights(alloc) {
         Ok(weights) => Some(weights),
         Err(_) => graph.weights(alloc).ok(),

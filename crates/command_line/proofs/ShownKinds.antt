@@ -6,7 +6,7 @@ use Rattle.clap.specs.Walk.{Text}
 use Rattle.clap.specs.declared.error.kind.ErrorKind.{ErrorKind}
 use Rattle.clap.specs.declared.error.kind.ErrorKind.TheVariants as kinds
 use Rattle.command_line.specs.Commands.{program}
-use Rattle.command_line.specs.Reading.{AsksForHelpBy, Shows, ShowsKind}
+use Rattle.command_line.specs.Reading.{AsksForHelpBy, ShowsWords, ShowsKind}
 use Rattle.command_line.specs.Inside.Reading.{ShowsHelp}
 use Rattle.command_line.specs.declared.asked.JobFault.{JobFault}
 use Rattle.command_line.specs.declared.asked.JobFault.TheVariants.{Help, Usage, Memory}
@@ -23,7 +23,7 @@ help_among found is =
 
 pub shown : (words : List Text) (kind : ErrorKind) (fault : JobFault) → (kind ≡ kinds.OutOfMemory → fault ≡ Memory)
     → ShowsKind words kind fault → (kind ≡ kinds.OutOfMemory) ⊎ IsAmong kind (fault_of program words)
-    → Shows words fault
+    → ShowsWords words fault
 shown words kind (Help text) none shows (inl out) = let bad = none out in cc
 shown words kind (Usage text) none shows (inl out) = let bad = none out in cc
 shown words kind Memory none shows has = tt

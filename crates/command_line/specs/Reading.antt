@@ -144,8 +144,8 @@ IsWrongUse words =
     × (asks_for_help words ≡ true → has_topic words ≡ false)
 
 -- the words ask for the version, for help, or are used wrongly, and the text is of that
-abbrev pub Shows : List Text → JobFault → Type 0
-Shows words (Help text) = (AsksForVersion words × (string_bytes text ≡ version_text))
+abbrev pub ShowsWords : List Text → JobFault → Type 0
+ShowsWords words (Help text) = (AsksForVersion words × (string_bytes text ≡ version_text))
     ⊎ (AsksForHelp words × IsHelp words (string_bytes text))
-Shows words (Usage text) = IsWrongUse words
-Shows words Memory = Unit {0}
+ShowsWords words (Usage text) = IsWrongUse words
+ShowsWords words Memory = Unit {0}

@@ -5,7 +5,7 @@ ghost use Rattle.std.specs.Prelude.{length, codes, option_map};
 ghost use Rattle.clap.specs.Words.{fault_of, first_of, found_of, kind_of, rows_of, subcommand_of, subcommand_rows_of, takes};
 ghost use Rattle.clap.specs.Walk.{texts};
 ghost use Rattle.command_line.specs.Commands as commands;
-ghost use Rattle.command_line.specs.Reading.{HasFlag, HasNumber, IsInRange, IsReadAs, Shows};
+ghost use Rattle.command_line.specs.Reading.{HasFlag, HasNumber, IsInRange, IsReadAs, ShowsWords};
 ghost use Rattle.command_line.specs.Reading.{ShowsKind};
 ghost use Rattle.command_line.specs.Reading.{AsksForHelpBy, Names, NamesCommands};
 ghost use Rattle.command_line.specs.Reading.{asks_for_help, has_topic, is_topic, side_word};
@@ -38,7 +38,7 @@ pub fn job<'a, 'w>(alloc: Global, words: &'a [&'w str]) -> Result<Job<'a>, JobFa
     ensures numbers { IfOk result IsInRange }
     ensures takes { takes commands.program (texts words.now) ≡ true
         → IfErr result (λ f. f ≡ JobFault.Memory) }
-    ensures shows { IfErr result (Shows (texts words.now)) }
+    ensures shows { IfErr result (ShowsWords (texts words.now)) }
 {
     if words.len() <= 1 {
         return Ok(Job::Joined);
@@ -53,7 +53,7 @@ fn named_job<'a, 'w>(alloc: Global, words: &'a [&'w str]) -> Result<Job<'a>, Job
     ensures numbers { IfOk result IsInRange }
     ensures takes { takes commands.program (texts words.now) ≡ true
         → IfErr result (λ f. f ≡ JobFault.Memory) }
-    ensures shows { IfErr result (Shows (texts words.now)) }
+    ensures shows { IfErr result (ShowsWords (texts words.now)) }
 {
     let mut command = program(alloc)?;
     let matches = match command.try_get_matches_from_mut(words) {

@@ -19,7 +19,7 @@ use Rattle.classes.proofs.Cited.{legal-answers, dominator-answers, class_of-clas
 use Rattle.classes.proofs.Cited.{ways-more}
 use Rattle.graphs.specs.Graph.{IsGraph}
 use Rattle.graphs.specs.ClassGraph.{class_at, gap_class, gap_number, classes}
-use Rattle.graphs.specs.Shows.{IsAsked, Shows}
+use Rattle.graphs.specs.Shows.{IsAsked, ShowsGame}
 use Rattle.graphs.specs.Struck.{struck_among}
 use Rattle.graphs.proofs.DominatingPebbles.{is_dominator_is, IsStruckBy, struck-found, dominator-found, struck-most}
 
@@ -150,7 +150,7 @@ module _ (b : PlainBoard) (is : IsBoard b) where
   pub gap-below : (c : List ℕ) (p : ℕ) → IsConfiguration b c → p < P → gap_number c p < ways (P - 1) bound
   gap-below c p ok low = is-below bound (P - 1) (gap_at c p) (gap-of-is c p ok low)
 
-  gap-at-number : (c : List ℕ) (p : ℕ) → IsConfiguration b c → p < P → gap_class b (gap_number c p) ≡ gap_at c p
+  pub gap-at-number : (c : List ℕ) (p : ℕ) → IsConfiguration b c → p < P → gap_class b (gap_number c p) ≡ gap_at c p
   gap-at-number c p ok low = with-number bound (P - 1) (gap_at c p) (gap-of-is c p ok low)
 
   -- a configuration's class is the place of a pebble put into its gap
@@ -176,7 +176,7 @@ module _ (b : PlainBoard) (is : IsBoard b) where
   StruckIn c = IsStruckBy b c (gap_number c) none P
 
   -- the pebble of a gap that is struck has an answer of that gap
-  answering : (c : List ℕ) → IsConfiguration b c → (struck : StruckIn c)
+  pub answering : (c : List ℕ) → IsConfiguration b c → (struck : StruckIn c)
       → AnswersGap b (gap_at c struck.pebble) (get_or c struck.pebble 0)
   answering c ok struck =
       (dominator-answers b c struck.pebble ok.each_pebble struck.below).0
@@ -296,7 +296,7 @@ module _ (b : PlainBoard) (is : IsBoard b) where
       → IsAsked b (classes b) (class_at b) c p (gap_number c p)
   asked-in-gap c p ok low = asked c p (gap_number c p) ok low (gap-below c p ok low) (gap-at-number c p ok low)
 
-  pub classes-show : Shows b (classes b) (class_at b)
+  pub classes-show : ShowsGame b (classes b) (class_at b)
   classes-show = record {
     gap_of = λ x p i low.
         let c = class_at b x in

@@ -18,10 +18,10 @@ use Rattle.graphs.proofs.ClassGraphs.{gap-is, struck-there, there-struck}
 
 -- the answers of a gap are its answers in the graph
 module _ (b : PlainBoard) (is : IsBoard b) (g : ℕ) (i : g < ways (b.pebbles - 1) (places b)) where
-  answer-of : (v : ℕ) → IsAnswerIn (classes b) g v → AnswersGap b (gap_class b g) v
+  pub answer-of : (v : ℕ) → IsAnswerIn (classes b) g v → AnswersGap b (gap_class b g) v
   answer-of v is_in = there-struck b is g v i is_in.0 is_in.1
 
-  answer-in : (v : ℕ) → AnswersGap b (gap_class b g) v → IsAnswerIn (classes b) g v
+  pub answer-in : (v : ℕ) → AnswersGap b (gap_class b g) v → IsAnswerIn (classes b) g v
   answer-in v answer =
       let place = label_is_place b v answer.is_label in
       (place, struck-there b is g v i place answer)

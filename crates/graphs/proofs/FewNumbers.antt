@@ -1,5 +1,5 @@
 -- The numbers of a graph and of the members of all its gaps fit 32 bits.
-use Rattle.std.proofs.Common.{◌≡◌, ℕ, ◌*◌, ◌<◌, ◌≤◌, ◌^◌, arith, mul-le-mul_left, mul-le-mul_right}
+use Rattle.std.proofs.Common.{◌*◌, ◌<◌, arith, mul-le-mul_left}
 use Rattle.board_text.specs.PlainBoard.{PlainBoard, IsBoard, places}
 use Rattle.board_text.proofs.Cited.{few_places}
 use Rattle.classes.proofs.Cited.{members-fit}

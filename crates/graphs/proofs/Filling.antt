@@ -1,10 +1,8 @@
 -- The tables of a graph are filled.
-use Rattle.std.proofs.Common.{◌≡◌, ℕ, ◌+◌, ◌*◌, ◌<◌, ◌≤◌, inl, inr, refl, arith, sym, ap, ◌∙◌, subst, List, [], ◌∷◌}
-use Rattle.std.proofs.Common.{◌++◌, length, slice_index, slice_set, get_or, get_or-set_other, get_or-set_same}
-use Rattle.std.proofs.Common.{mul-le-mul_left}
+use Rattle.std.proofs.Common.{◌≡◌, ℕ, ◌+◌, ◌<◌, ◌≤◌, inl, inr, refl, arith, sym, ap, ◌∙◌, subst, List}
+use Rattle.std.proofs.Common.{length, slice_index, slice_set, get_or-set_other, get_or-set_same}
 use Rattle.std.proofs.Math.ListN.{length-set}
 use Rattle.std.proofs.lemmas.Bool.{cases_lt}
-use Rattle.std.proofs.lemmas.List.{length_push, get_or_append_left, get_or_push}
 use Rattle.graphs.specs.Graph.{PlainGraph, IsGraph}
 use Rattle.graphs.specs.Answers.{IsAnswerIn, AreMembers}
 use Rattle.graphs.specs.Inside.Filling.{IsGapNoted, AreStruck}

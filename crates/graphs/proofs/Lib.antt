@@ -9,6 +9,8 @@ pub mod NumberedGraphs
 pub mod ConfigurationNumbers
 pub mod NumberWeights
 pub mod Filling
+pub mod StruckFamilies
+pub mod FilledFamilies
 pub mod RankTables
 pub mod ClassTables
 pub mod NumberedValues

@@ -11,7 +11,7 @@ use Rattle.graphs.specs.Graph.{IsGraph}
 use Rattle.graphs.specs.Numbered.{Numbered, numbered, graph_by, graph_of, configuration_by, configuration_of}
 use Rattle.graphs.specs.Ordered.{ordered}
 use Rattle.graphs.specs.ClassGraph.{classes}
-use Rattle.graphs.specs.Shows.{Shows}
+use Rattle.graphs.specs.Shows.{ShowsGame}
 use Rattle.graphs.proofs.OrderedGraphs.{ordered-is, ordered-shows}
 use Rattle.graphs.proofs.ClassGraphs.{classes-is, classes-show, some-ways}
 
@@ -20,7 +20,7 @@ unfolding graph_by
 graph-by Ordered b is = ordered-is b is
 graph-by Classes b is = classes-is b is
 
-shows-by : (k : Numbering) (b : PlainBoard) → IsBoard b → Shows b (graph_by k b) (configuration_by k b)
+shows-by : (k : Numbering) (b : PlainBoard) → IsBoard b → ShowsGame b (graph_by k b) (configuration_by k b)
 unfolding graph_by configuration_by
 shows-by Ordered b is = ordered-shows b is
 shows-by Classes b is = classes-show b is
@@ -28,7 +28,7 @@ shows-by Classes b is = classes-show b is
 pub numbered-is : (n : Numbered) → IsBoard n.board → IsGraph (graph_of n)
 numbered-is n is = graph-by n.numbering n.board is
 
-pub numbered-shows : (n : Numbered) → IsBoard n.board → Shows n.board (graph_of n) (configuration_of n)
+pub numbered-shows : (n : Numbered) → IsBoard n.board → ShowsGame n.board (graph_of n) (configuration_of n)
 numbered-shows n is = shows-by n.numbering n.board is
 
 -- the graph of ranks, written out

@@ -9,7 +9,7 @@ use Rattle.graphs.specs.Lasting.{LastsForever}
 use Rattle.graphs.specs.Numbered.{Numbered, graph_by, graph_of, configuration_of}
 use Rattle.graphs.specs.declared.graph.Numbering.{Numbering}
 use Rattle.graphs.specs.declared.graph.Numbering.TheVariants.{Ordered, Classes}
-use Rattle.graphs.specs.Shows.{Shows}
+use Rattle.graphs.specs.Shows.{ShowsGame}
 use Rattle.graphs.proofs.NumberedGraphs.{numbered-is, numbered-shows}
 use Rattle.graphs.proofs.Shown.{tree-of-lasts, lasts-of-tree, worth-is, forever-is}
 
@@ -20,7 +20,7 @@ module _ (n : Numbered) (board : IsBoard n.board) where
   is : IsGraph a
   is = numbered-is n board
 
-  shows : Shows n.board a (configuration_of n)
+  shows : ShowsGame n.board a (configuration_of n)
   shows = numbered-shows n board
 
   pub tree_of_lasts : (depth x : ℕ) → x < a.configurations → lasts a depth x ≡ true → LabellerTree n.board depth (configuration_of n x)

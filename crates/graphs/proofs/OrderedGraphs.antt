@@ -14,7 +14,7 @@ use Rattle.positions.proofs.Cited.{configuration_at_is, gap_below, pebble_of-gap
 use Rattle.positions.proofs.Cited.{pebble_below, member_is, label_of_member, gap_of-member_of, legal_is_answer, one_gap}
 use Rattle.graphs.specs.Graph.{IsGraph}
 use Rattle.graphs.specs.Ordered.{ordered}
-use Rattle.graphs.specs.Shows.{IsAsked, Shows}
+use Rattle.graphs.specs.Shows.{IsAsked, ShowsGame}
 use Rattle.graphs.proofs.DominatingPebbles.{is_dominator_is, dominator-legal, legal-dominator, IsStruckBy}
 use Rattle.graphs.proofs.DominatingPebbles.{struck-found, dominator-found, struck-most}
 
@@ -164,7 +164,7 @@ pub asked-in-gap : (b : PlainBoard) → IsBoard b → (c : List ℕ) (p : ℕ) �
     → IsAsked b (ordered b) (configuration_at b) c p (gap_of b c p)
 asked-in-gap b is c p ok low = asked b is c p (gap_of b c p) ok low refl (gap_below b c p ok low)
 
-pub ordered-shows : (b : PlainBoard) → IsBoard b → Shows b (ordered b) (configuration_at b)
+pub ordered-shows : (b : PlainBoard) → IsBoard b → ShowsGame b (ordered b) (configuration_at b)
 ordered-shows b is = record {
   gap_of = λ x p i low.
       let c = configuration_at b x in

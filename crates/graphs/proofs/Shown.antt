@@ -1,4 +1,4 @@
--- A graph that shows a board has its values: from the laws of `Shows` alone.
+-- A graph that shows a board has its values: from the laws of `ShowsGame` alone.
 use Rattle.std.proofs.Common.{◌≡◌, ℕ, ◌<◌, ◌==◌, ◌&&◌, ◌↔◌, inl, inr, true, false, zero, suc, refl, arith, subst, List}
 use Rattle.std.proofs.lemmas.Bool.Decides.{nat_tests}
 use Rattle.board_text.specs.PlainBoard.{PlainBoard}
@@ -8,7 +8,7 @@ use Rattle.positions.specs.Value.{HasValue}
 use Rattle.positions.proofs.Cited.{some_tree, not_both_trees}
 use Rattle.graphs.specs.Graph.{PlainGraph, IsGraph, lasts}
 use Rattle.graphs.specs.Lasting.{LastsExactly, LastsForever}
-use Rattle.graphs.specs.Shows.{IsAsked, Shows}
+use Rattle.graphs.specs.Shows.{IsAsked, ShowsGame}
 use Rattle.graphs.proofs.Counts.{some_below, count_below-some}
 use Rattle.graphs.proofs.LastingRanks.{both_true, and_true, true_or_false, true_not_false, next-gives, next-from}
 use Rattle.graphs.proofs.LastingRanks.{same_is}
@@ -16,7 +16,7 @@ use Rattle.graphs.proofs.LastingRanks.{same_is}
 test_same : (m n : ℕ) → (m == n) ≡ true → m ≡ n
 test_same m n e = grind (arith, nat_tests)
 
-module _ (b : PlainBoard) (a : PlainGraph) (at : ℕ → List ℕ) (is : IsGraph a) (shows : Shows b a at) where
+module _ (b : PlainBoard) (a : PlainGraph) (at : ℕ → List ℕ) (is : IsGraph a) (shows : ShowsGame b a at) where
   pub tree-of-lasts : (k c : ℕ) → c < a.configurations → lasts a k c ≡ true → LabellerTree b k (at c)
   tree-of-lasts zero c i e = tt
   tree-of-lasts (suc k) c i e = λ p j.

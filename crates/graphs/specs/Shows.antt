@@ -16,7 +16,7 @@ pub record IsAsked (b : PlainBoard) (a : PlainGraph) (at : ℕ → List ℕ) (co
 
 -- the configuration `at x` stands for the number x: each of its pebbles has a gap, and each of its
 -- gaps a pebble
-pub record Shows (b : PlainBoard) (a : PlainGraph) (at : ℕ → List ℕ) : Type 0 where
+pub record ShowsGame (b : PlainBoard) (a : PlainGraph) (at : ℕ → List ℕ) : Type 0 where
   pub gap_of : (c p : ℕ) → c < a.configurations → p < b.pebbles
       → (g : ℕ) × (g < a.gaps) × ((v : ℕ) × (v < a.places) × (a.member g v ≡ c))
       × IsAsked b a at (at c) p g

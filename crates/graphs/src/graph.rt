@@ -7,18 +7,21 @@ ghost use Rattle.positions.specs.Ranks.{configurations};
 ghost use Rattle.classes.specs.Numbers.{class_count};
 ghost use Rattle.graphs.specs.Answers.{AreAnswerBits, AreMembers};
 ghost use Rattle.graphs.specs.Graph.{IsGraph};
+ghost use Rattle.graphs.specs.Inside.Tables.{IsStruckTable};
 ghost use Rattle.graphs.specs.Numbered.{IsFewBy, numbered, graph_of};
 ghost use Rattle.graphs.specs.declared.graph.Numbering.TheVariants.{Ordered};
 ghost use Rattle.graphs.specs.declared.graph.Numbering.TheVariants.{Classes as ClassesData};
 
 use crate::class_numbers::ClassNumbers;
-use crate::numbers::{MAX_PLACES, Numbers, Tables};
+use crate::families::struck_by;
+use crate::numbers::{MAX_PLACES, Numbers, Tables, all_struck};
 use crate::ordered_numbers::OrderedNumbers;
 use board_text::{Board, MAX_LABELS, Memory};
 use classes::{MAX_CLASSES, has_few_classes};
 use positions::{LabelSet, MAX_CONFIGURATIONS, is_small};
 use std::alloc::Global;
 use std::marker::Model;
+use std::thread::Threads;
 
 /// What the numbers of configurations and gaps stand for.
 #[derive(Clone, Copy, Debug, Drop, PartialEq, Eq)]
@@ -92,7 +95,8 @@ impl Graph {
         ensures { IfOk result (λ graph. graph ≡ numbered board.now Ordered) }
     {
         let numbers = OrderedNumbers::of(alloc, board)?;
-        let tables = Tables::of(alloc, &numbers)?;
+        let struck = all_struck(alloc, &numbers)?;
+        let tables = Tables::new(&numbers, struck);
         Ok(Graph {
             finder: Finder::Ranks(numbers),
             tables,
@@ -105,11 +109,38 @@ impl Graph {
         ensures { IfOk result (λ graph. graph ≡ numbered board.now ClassesData) }
     {
         let numbers = ClassNumbers::of(alloc, board)?;
-        let tables = Tables::of(alloc, &numbers)?;
-        Ok(Graph {
+        let struck = numbers.all_struck(alloc, board)?;
+        Ok(Graph::with_classes(numbers, struck))
+    }
+
+    /// The graph of the classes of `board`, made by at most this number of `workers`. One is this
+    /// thread, and starts none. The graph is the same for every number of them. The error is that
+    /// memory ran out.
+    pub fn of_classes_by(
+        rt: &(impl Threads + Sync),
+        alloc: Global,
+        board: &Board,
+        workers: u8,
+    ) -> Result<Graph, Memory>
+        requires few { class_count board.now ≤ MAX_CLASSES }
+        requires workers { 1 ≤ workers }
+        ensures { IfOk result (λ graph. graph ≡ numbered board.now ClassesData) }
+    {
+        let numbers = ClassNumbers::of(alloc, board)?;
+        let struck = struck_by(rt, alloc, &numbers, board, workers)?;
+        Ok(Graph::with_classes(numbers, struck))
+    }
+
+    /// The graph of these classes, of which this is the table `struck`.
+    fn with_classes(numbers: ClassNumbers, struck: Vec<u32>) -> Graph
+        requires { IsStruckTable (graph_of (numbered numbers ClassesData)) struck.items }
+        ensures { result ≡ numbered numbers ClassesData }
+    {
+        let tables = Tables::new(&numbers, struck);
+        Graph {
             finder: Finder::Classes(numbers),
             tables,
-        })
+        }
     }
 
     /// The number of configurations, each a number below it.

@@ -13,16 +13,17 @@ ghost use Rattle.graphs.specs.Graph.{PlainGraph, IsGraph};
 ghost use Rattle.graphs.specs.Lasting.{LastsExactly, LastsForever};
 ghost use Rattle.graphs.specs.Numbered.{Numbered, graph_of, configuration_of};
 ghost use Rattle.graphs.specs.NumberedRanks.{number_in, gap_in, number_at, AreNumberWeights};
-ghost use Rattle.graphs.specs.Shows.{Shows};
+ghost use Rattle.graphs.specs.Shows.{ShowsGame};
 
 /// The values of a graph that shows a board are those of the configurations that its numbers stand
 /// for.
 pub fn graphs_have_the_values_of_boards()
     ensures finite { (board : PlainBoard) → (graph : PlainGraph) → (at : ℕ → List ℕ)
-        → IsGraph graph → Shows board graph at → (x : ℕ) → (value : ℕ) → x < graph.configurations
+        → IsGraph graph → ShowsGame board graph at → (x : ℕ) → (value : ℕ)
+        → x < graph.configurations
         → LastsExactly graph x value ↔ HasValue board (at x) (Finite value) }
     ensures forever { (board : PlainBoard) → (graph : PlainGraph) → (at : ℕ → List ℕ)
-        → IsGraph graph → Shows board graph at → (x : ℕ) → x < graph.configurations
+        → IsGraph graph → ShowsGame board graph at → (x : ℕ) → x < graph.configurations
         → LastsForever graph x ↔ HasValue board (at x) Forever }
 {}
 
@@ -30,7 +31,7 @@ pub fn graphs_have_the_values_of_boards()
 pub fn numbered_graphs_show_their_boards()
     ensures graph { (n : Numbered) → IsBoard n.board → IsGraph (graph_of n) }
     ensures shows { (n : Numbered) → IsBoard n.board
-        → Shows n.board (graph_of n) (configuration_of n) }
+        → ShowsGame n.board (graph_of n) (configuration_of n) }
 {}
 
 /// Each configuration has a number of the graph, and the configuration that this number stands for

@@ -3,11 +3,13 @@
 #![tactic(auto)]
 
 mod class_numbers;
+mod families;
 mod graph;
 mod laws;
 mod numbered_ranks;
 mod numbers;
 mod ordered_numbers;
+mod sharing;
 
 pub use graph::{Graph, Numbering, has_few};
 pub use laws::{

@@ -1,7 +1,7 @@
 //! The numbers of a board's configurations and of their gaps, and how many configurations a number
 //! stands for.
 
-ghost use Rattle.std.specs.Prelude.{◌≡◌, ℕ, ◌<◌, IfOk, slice_index};
+ghost use Rattle.std.specs.Prelude.{◌≡◌, ℕ, ◌<◌, ◌≤◌, IfOk, slice_index};
 ghost use Rattle.board_text.specs.PlainBoard.{IsConfiguration};
 ghost use Rattle.positions.specs.Gaps.{gap_of};
 ghost use Rattle.positions.specs.Ranks.{rank_of};
@@ -13,6 +13,7 @@ use board_text::{MAX_PEBBLES, Memory};
 use classes::Standing;
 use positions::Space;
 use std::alloc::Global;
+use std::thread::Threads;
 
 impl Graph {
     /// The number of the configuration `held`: its rank, or the number of its class.
@@ -44,14 +45,31 @@ impl Graph {
         }
     }
 
-    /// The weight of each number: how many configurations have it. All are 1 if numbers are ranks.
-    /// The error is that memory ran out.
-    pub fn weights(&self, alloc: Global) -> Result<Vec<u64>, Memory>
+    /// The weight of each number: how many configurations have it, 1 to 720. All are 1 if numbers
+    /// are ranks. The error is that memory ran out.
+    pub fn weights(&self, alloc: Global) -> Result<Vec<u16>, Memory>
         ensures { IfOk result (λ weights. AreNumberWeights self.now weights.items) }
     {
         match &self.finder {
-            Finder::Ranks(_) => Ok(vec![in alloc; 1u64; self.tables.configurations as usize]?),
-            Finder::Classes(numbers) => numbers.classes().weights(alloc),
+            Finder::Ranks(_) => Ok(vec![in alloc; 1u16; self.tables.configurations as usize]?),
+            Finder::Classes(numbers) => numbers.weights(alloc),
+        }
+    }
+
+    /// The same as `weights`, made by at most this number of `workers`. One is this thread, and
+    /// starts none. The weights are the same for every number of them.
+    pub fn weights_by(
+        &self,
+        rt: &(impl Threads + Sync),
+        alloc: Global,
+        workers: u8,
+    ) -> Result<Vec<u16>, Memory>
+        requires { 1 ≤ workers }
+        ensures { IfOk result (λ weights. AreNumberWeights self.now weights.items) }
+    {
+        match &self.finder {
+            Finder::Ranks(_) => self.weights(alloc),
+            Finder::Classes(numbers) => numbers.weights_by(rt, alloc, workers),
         }
     }
 }

@@ -3,8 +3,8 @@
 ghost use Rattle.std.specs.Prelude.{◌≡◌, ◌+◌, ◌<◌, ◌≤◌, length, IfOk, vec_capacity};
 ghost use Rattle.board_text.specs.PlainBoard.{IsBoard};
 ghost use Rattle.graphs.specs.Answers.{AreAnswerBits, AreMembers};
-ghost use Rattle.graphs.specs.Inside.Filling.{IsGapNoted, AreStruck};
-ghost use Rattle.graphs.specs.Inside.Tables.{AreTables};
+ghost use Rattle.graphs.specs.Inside.Filling.{IsGapNoted};
+ghost use Rattle.graphs.specs.Inside.Tables.{AreTables, IsStruckTable};
 ghost use Rattle.graphs.specs.Numbered.{IsFewBy, Numbered, graph_of};
 
 use board_text::{MAX_LABELS, Memory};
@@ -63,29 +63,24 @@ pub(crate) struct Tables {
 }
 
 impl Tables {
-    /// The tables of the graph of `numbers`.
-    pub(crate) fn of<N: Numbers>(alloc: Global, numbers: &N) -> Result<Tables, Memory>
-        ensures { IfOk result
-            (λ tables. AreTables (N.game numbers.now) tables.configurations tables.gaps
-            tables.places tables.struck.items) }
+    /// The tables of the graph of `numbers`, of which this is `struck`.
+    pub(crate) fn new<N: Numbers>(numbers: &N, struck: Vec<u32>) -> Tables
+        requires { IsStruckTable (graph_of (N.game numbers.now)) struck.items }
+        ensures { AreTables (N.game numbers.now) result.configurations result.gaps result.places
+            result.struck.items }
     {
-        let configurations = numbers.configurations();
-        let gaps = numbers.gaps();
-        let places = numbers.places() as u32;
-        let struck = all_struck(alloc, numbers)?;
-        Ok(Tables {
-            configurations,
-            gaps,
-            places,
+        Tables {
+            configurations: numbers.configurations(),
+            gaps: numbers.gaps(),
+            places: numbers.places() as u32,
             struck,
-        })
+        }
     }
 }
 
 /// The gap in which each configuration is an answer, or the number of gaps.
-fn all_struck<N: Numbers>(alloc: Global, numbers: &N) -> Result<Vec<u32>, Memory>
-    ensures { IfOk result (λ struck. AreStruck (graph_of (N.game numbers.now))
-        (graph_of (N.game numbers.now)).gaps struck.items) }
+pub(crate) fn all_struck<N: Numbers>(alloc: Global, numbers: &N) -> Result<Vec<u32>, Memory>
+    ensures { IfOk result (λ struck. IsStruckTable (graph_of (N.game numbers.now)) struck.items) }
 {
     let gaps = numbers.gaps();
     let mut struck = vec![in alloc; gaps; numbers.configurations() as usize]?;

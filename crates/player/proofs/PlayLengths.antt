@@ -11,7 +11,7 @@ use Rattle.strategies.specs.Best.{IsBestAnswer, IsBestRequest}
 use Rattle.strategies.proofs.Cited.{lasts_after, best_answer, best_request, less_than_finite}
 use Rattle.std.specs.Prelude.{Option}
 use Rattle.player.specs.Play.{Ends, HasEnded}
-use Rattle.player.specs.Laws.{KeepsToValue, HasReached, IsWithin, IsNoSooner, IsNoLater, IsStopped, EndsBestPlay}
+use Rattle.player.specs.Laws.{KeepsToValue, HasReached, IsWithinValue, IsNoSooner, IsNoLater, IsStopped, EndsBestPlay}
 use Rattle.player.specs.Transcript.{Game, Standing, Going, Over, PersonAsks, PersonAnswers, PersonClimbs, BeginsPlay, Asks, IsResponse, AreResponses}
 use Rattle.player.specs.Transcript.{IsPlayed, IsTranscript}
 use Rattle.player.specs.declared.end.PlayEnd.{PlayEnd}
@@ -96,7 +96,7 @@ leaves_at_start board said first (inr (number, asked, has, text, asks)) = asked_
 left_by : (board : PlainBoard) (lines : List (List ℕ)) (text : List ℕ) (to : Standing) → IsPlayed (PersonAnswers board) lines text to → Leaves board to
 left_by board lines text to played = leave_in_turn board played.first lines played.more to played.brings (leaves_at_start board played.opening played.first played.opens)
 
-pub within : (board : PlainBoard) (lines : List (List ℕ)) (text at : List ℕ) (requests : ℕ) → IsPlayed (PersonAnswers board) lines text (Going at requests) → IsWithin board requests
+pub within : (board : PlainBoard) (lines : List (List ℕ)) (text at : List ℕ) (requests : ℕ) → IsPlayed (PersonAnswers board) lines text (Going at requests) → IsWithinValue board requests
 within board lines text at requests played =
     let leaves = left_by board lines text (Going at requests) played in
     (leaves.0, leaves.2, omega (arith, leaves.4))

@@ -67,9 +67,19 @@ module _ (game : Game) where
 stands_or_moves : (game : Game) (at now : List ℕ) (requests answered : ℕ) (line said : List ℕ)
     → IsResponse game (Going at requests) line said (Going now answered)
     → (Going now answered ≡ Going at requests) ⊎ (answered ≡ suc requests)
-stands_or_moves (PersonAsks board) at now requests answered line said (inl (pebble, inside, is, inl (label, best, text, to))) =
+stands_or_moves (PersonAsks board) at now requests answered line said (inl (
+  pebble,
+  inside,
+  is,
+  inl (label, best, text, to),
+)) =
     inr cc
-stands_or_moves (PersonAsks board) at now requests answered line said (inl (pebble, inside, is, inr (none, text, to))) = cc
+stands_or_moves (PersonAsks board) at now requests answered line said (inl (
+  pebble,
+  inside,
+  is,
+  inr (none, text, to),
+)) = cc
 stands_or_moves (PersonAsks board) at now requests answered line said (inr (inl (is, text, to))) = cc
 stands_or_moves (PersonAsks board) at now requests answered line said (inr (inr (is, text, to))) = inl to
 stands_or_moves (PersonAnswers board) at now requests answered line said
@@ -78,7 +88,12 @@ stands_or_moves (PersonAnswers board) at now requests answered line said
     (inl (pebble, label, asked, legal, (next, best, inr (none, text, to)), is)) = cc
 stands_or_moves (PersonAnswers board) at now requests answered line said (inr (inl (is, text, to))) = cc
 stands_or_moves (PersonAnswers board) at now requests answered line said (inr (inr (is, text, to))) = inl to
-stands_or_moves (PersonClimbs levels) at now requests answered line said (inl (pebble, inside, is, (label, low, reply, text, to))) =
+stands_or_moves (PersonClimbs levels) at now requests answered line said (inl (
+  pebble,
+  inside,
+  is,
+  (label, low, reply, text, to),
+)) =
     inr cc
 stands_or_moves (PersonClimbs levels) at now requests answered line said (inr (inl (is, text, to))) = cc
 stands_or_moves (PersonClimbs levels) at now requests answered line said (inr (inr (is, text, to))) = inl to
@@ -96,7 +111,13 @@ after_line : (game : Game) (at now : List ℕ) (requests answered : ℕ) (line s
     → IsToldAfter game (Going at requests) (Going now answered) told
 after_line game at now requests answered line said told is (inl (few, words, choices, told_is)) =
     elim (stands_or_moves game at now requests answered line said is) [
-      | inl same ↦ inl (same, words, subst (λ l. AreChoices game l words) (same_at at now requests answered same) choices, told_is)
+      | inl same ↦ inl (
+        same,
+        words,
+        subst (λ l. AreChoices game l words)
+            (same_at at now requests answered same) choices,
+        told_is,
+      )
       | inr more ↦ absurd (omega (arith, few, more))
     ]
 after_line game at now requests answered line said told is (inr (more, none)) =
@@ -120,10 +141,12 @@ module _ (game : Game) (at : List ℕ) (requests : ℕ) where
       (before answered : ℕ) → BringsAndTells shows game (Going at requests) told lines text (Going stood before)
       → IsResponse game (Going stood before) line said (Going now answered)
       → TellsAfter shows game now before answered prompt
-      → BringsAndTells shows game (Going at requests) (told ++ prompt) (lines ++ line ∷ []) (text ++ said) (Going now answered)
+      → BringsAndTells shows game (Going at requests) (told ++ prompt) (lines ++ line ∷ []) (text ++ said)
+      (Going now answered)
   goes_on_told true told prompt lines line text said stood now before answered (prompts, brings, is) replies after = (
     prompts ++ prompt,
-    told_more game (Going at requests) lines line text said prompts prompt (Going stood before) (Going now answered) brings
+    told_more game (Going at requests) lines line text said prompts prompt (Going stood before)
+        (Going now answered) brings
         replies (after_line game stood now before answered line said prompt replies after),
     ap (λ l. l ++ prompt) is ∙ append_assoc (shown_line (greeting_of game)) prompts prompt,
   )
@@ -139,8 +162,10 @@ module _ (game : Game) (at : List ℕ) (requests : ℕ) where
       → BringsAndTells shows game (Going at requests) told (lines ++ line ∷ []) (text ++ said) (Over end)
   ends_told true told lines line text said stood before end (prompts, brings, is) replies = (
     prompts,
-    subst (λ l. AreToldResponses game (Going at requests) (lines ++ line ∷ []) (text ++ said) l (Over end)) (append-nil prompts)
-        (told_more game (Going at requests) lines line text said prompts [] (Going stood before) (Over end) brings replies
+    subst (λ l. AreToldResponses game (Going at requests) (lines ++ line ∷ []) (text ++ said) l (Over end))
+        (append-nil prompts)
+        (told_more game (Going at requests) lines line text said prompts [] (Going stood before)
+        (Over end) brings replies
         (inr ((λ same. cc), refl))),
     is,
   )
@@ -161,7 +186,8 @@ module _ (game : Game) (at : List ℕ) (requests : ℕ) where
 
 -- ---- faults
 
-module _ (Tells : List ℕ → List (List ℕ) → List ℕ → Standing → Type 0) (Brings : List (List ℕ) → List ℕ → Standing → Type 0)
+module _ (Tells : List ℕ → List (List ℕ) → List ℕ → Standing → Type 0)
+    (Brings : List (List ℕ) → List ℕ → Standing → Type 0)
     (left_old left_new taken_old taken_now taken_new : Option (List ℕ)) (told : List ℕ) where
   -- a text wasn't written whole
   pub near : (IsRight : List ℕ → Type 0) (fault : PlayFault) → FailsToWrite taken_now taken_new IsRight fault
@@ -175,33 +201,42 @@ module _ (Tells : List ℕ → List (List ℕ) → List ℕ → Standing → Typ
   pub near_if : (IsRight : List ℕ → Type 0) (result : Result PlayEnd PlayFault)
       → IfErr result (FailsToWrite taken_now taken_new IsRight)
       → IfErr result (BreaksOff (NearlyTells Tells Brings told) left_old left_new taken_old taken_new)
-      → IfErr result (λ fault. BreaksOff (TellsBefore fault Tells Brings told) left_old left_new taken_old taken_new fault)
+      → IfErr result (λ fault. BreaksOff (TellsBefore fault Tells Brings told) left_old left_new taken_old taken_new
+      fault)
   near_if IsRight (Ok end) fails breaks = tt
   near_if IsRight (Err fault) fails breaks = near IsRight fault fails breaks
 
 -- no line came
-pub unread_told : (Tells : List ℕ → List (List ℕ) → List ℕ → Standing → Type 0) (Brings : List (List ℕ) → List ℕ → Standing → Type 0)
+pub unread_told : (Tells : List ℕ → List (List ℕ) → List ℕ → Standing → Type 0)
+    (Brings : List (List ℕ) → List ℕ → Standing → Type 0)
     (left_old left_now left_new taken_old taken_now : Option (List ℕ)) (lines : List (List ℕ)) (unread : Unread)
     (text at : List ℕ) (requests : ℕ) (told : List ℕ) (fault : PlayFault) → Tells told lines text (Going at requests)
     → Appends taken_old taken_now text → HasCome left_old left_now lines unread → length lines < MOST_LINES
     → GivesNoLine unread left_now left_new fault
     → BreaksOff (TellsBefore fault Tells Brings told) left_old left_new taken_old taken_now fault
-unread_told Tells Brings left_old left_now left_new taken_old taken_now lines unread text at requests told Read tells written
+unread_told Tells Brings left_old left_now left_new taken_old taken_now lines unread text at requests told Read tells
+    written
     come few gives =
-    no_line (Tells told) left_old left_now left_new taken_old taken_now lines unread text at requests Read tells written come
+    no_line (Tells told) left_old left_now left_new taken_old taken_now lines unread text at requests Read tells
+    written come
     few gives
-unread_told Tells Brings left_old left_now left_new taken_old taken_now lines unread text at requests told Limit tells written
+unread_told Tells Brings left_old left_now left_new taken_old taken_now lines unread text at requests told Limit tells
+    written
     come few gives =
-    no_line (Tells told) left_old left_now left_new taken_old taken_now lines unread text at requests Limit tells written come
+    no_line (Tells told) left_old left_now left_new taken_old taken_now lines unread text at requests Limit tells
+    written come
     few gives
-unread_told Tells Brings left_old left_now left_new taken_old taken_now lines unread text at requests told Write tells written
+unread_told Tells Brings left_old left_now left_new taken_old taken_now lines unread text at requests told Write tells
+    written
     come few gives = absurd gives
-unread_told Tells Brings left_old left_now left_new taken_old taken_now lines unread text at requests told Memory tells written
+unread_told Tells Brings left_old left_now left_new taken_old taken_now lines unread text at requests told Memory tells
+    written
     come few gives = absurd gives
 
 -- ---- from the opening on
 
-module _ (shows : Bool) (game : Game) (opening : List ℕ) (first : Standing) (opens : BeginsPlay game opening first) where
+module _ (shows : Bool) (game : Game) (opening : List ℕ) (first : Standing)
+    (opens : BeginsPlay game opening first) where
   pub played : (lines : List (List ℕ)) (more : List ℕ) (to : Standing) → AreResponses game first lines more to
       → IsPlayed game lines (opening ++ more) to
   played lines more to brings =
@@ -222,18 +257,23 @@ module _ (shows : Bool) (game : Game) (opening : List ℕ) (first : Standing) (o
   )
   nearly_played told lines more to (inr (brings, inr none)) = inr (played lines more to brings, inr none)
 
-  module _ (left_old left_new taken_old taken_now taken_new : Option (List ℕ)) (written : Appends taken_old taken_now opening)
+  module _ (left_old left_new taken_old taken_now taken_new : Option (List ℕ))
+      (written : Appends taken_old taken_now opening)
       (told : List ℕ) where
     broken_before : (fault : PlayFault)
-        → BreaksOff (TellsBefore fault (BringsAndTells shows game first) (AreResponses game first) told) left_old left_new
+        → BreaksOff (TellsBefore fault (BringsAndTells shows game first) (AreResponses game first) told) left_old
+        left_new
         taken_now taken_new fault
-        → BreaksOff (TellsBefore fault (IsPlayedAndTold shows game) (IsPlayed game) told) left_old left_new taken_old taken_new
+        → BreaksOff (TellsBefore fault (IsPlayedAndTold shows game) (IsPlayed game) told) left_old left_new taken_old
+        taken_new
         fault
     broken_before Read breaks =
-        breaks_off (BringsAndTells shows game first told) (IsPlayedAndTold shows game told) opening (played_and_told told)
+        breaks_off (BringsAndTells shows game first told) (IsPlayedAndTold shows game told) opening
+        (played_and_told told)
         left_old left_new taken_old taken_now taken_new written Read breaks
     broken_before Limit breaks =
-        breaks_off (BringsAndTells shows game first told) (IsPlayedAndTold shows game told) opening (played_and_told told)
+        breaks_off (BringsAndTells shows game first told) (IsPlayedAndTold shows game told) opening
+        (played_and_told told)
         left_old left_new taken_old taken_now taken_new written Limit breaks
     broken_before Write breaks =
         breaks_off (NearlyTells (BringsAndTells shows game first) (AreResponses game first) told)
@@ -245,10 +285,12 @@ module _ (shows : Bool) (game : Game) (opening : List ℕ) (first : Standing) (o
         left_old left_new taken_old taken_now taken_new written Memory breaks
 
     pub prompted : (result : Result PlayEnd PlayFault)
-        → IsToldIn (BringsAndTells shows game first) (AreResponses game first) left_old left_new taken_now taken_new result told
+        → IsToldIn (BringsAndTells shows game first) (AreResponses game first) left_old left_new taken_now taken_new
+        result told
         → ArePrompts shows game left_old left_new taken_old taken_new result told
     prompted (Ok end) is = record {
-      ok = has_ended (BringsAndTells shows game first told) (IsPlayedAndTold shows game told) opening (played_and_told told)
+      ok = has_ended (BringsAndTells shows game first told) (IsPlayedAndTold shows game told) opening
+          (played_and_told told)
           left_old left_new taken_old taken_now taken_new written end is.ok;
       fault = tt;
     }
@@ -266,7 +308,8 @@ module _ (shows : Bool) (game : Game) (opening : List ℕ) (first : Standing) (o
       → ArePrompts shows game left left taken_old taken_new (Err Memory) []
   untold left taken_old taken_new kept = record {
     ok = tt;
-    fault = unopened (NearlyTells (IsPlayedAndTold shows game) (IsPlayed game) []) opening first nearly_alone left taken_old
+    fault = unopened (NearlyTells (IsPlayedAndTold shows game) (IsPlayed game) []) opening first nearly_alone left
+        taken_old
         taken_new kept;
   }
 
@@ -275,7 +318,8 @@ module _ (shows : Bool) (game : Game) (opening : List ℕ) (first : Standing) (o
       → ArePrompts shows game left left taken_old taken_new (Err Write) []
   untold_opening left taken_old taken_new begun = record {
     ok = tt;
-    fault = unshown_opening (NearlyTells (IsPlayedAndTold shows game) (IsPlayed game) []) opening first nearly_alone left
+    fault = unshown_opening (NearlyTells (IsPlayedAndTold shows game) (IsPlayed game) []) opening first nearly_alone
+        left
         taken_old taken_new begun;
   }
 
@@ -284,7 +328,8 @@ over_alone true game end = ((refl, refl), refl)
 over_alone false game end = ((refl, refl), refl)
 
 -- the play was over before a line was read, and nothing was told
-pub untold_at_once : (shows : Bool) (game : Game) (opening : List ℕ) (end : PlayEnd) → BeginsPlay game opening (Over end)
+pub untold_at_once : (shows : Bool) (game : Game) (opening : List ℕ) (end : PlayEnd)
+    → BeginsPlay game opening (Over end)
     → (left taken_old taken_new : Option (List ℕ)) → Appends taken_old taken_new opening
     → ArePrompts shows game left left taken_old taken_new (Ok end) []
 untold_at_once shows game opening end opens left taken_old taken_new written = record {
@@ -307,18 +352,21 @@ module _ (game : Game) where
   after_for_person : (from to : Standing) (told : List ℕ) → IsToldAfter game from to told → AreForPerson true told
   after_for_person (Going at requests) to told (inl (same, words, choices, is)) =
       subst (AreForPerson true) (sym is) (one_line HasNoControl _ (plain_if_shown words))
-  after_for_person (Going at requests) to told (inr (other, none)) = subst (AreForPerson true) (sym none) (nothing_for_person true)
+  after_for_person (Going at requests) to told (inr (other, none)) = subst (AreForPerson true) (sym none)
+      (nothing_for_person true)
   after_for_person (Over end) to told none = subst (AreForPerson true) (sym none) (nothing_for_person true)
 
   prompts_told : (from : Standing) (lines : List (List ℕ)) (text told : List ℕ) (to : Standing)
       → AreToldResponses game from lines text told to → AreForPerson true told
-  prompts_told from [] text told to (none, nothing, same) = subst (AreForPerson true) (sym nothing) (nothing_for_person true)
+  prompts_told from [] text told to (none, nothing, same) = subst (AreForPerson true) (sym nothing)
+      (nothing_for_person true)
   prompts_told from (line ∷ lines) text told to (said, more, prompt, later, next, is, after, rest, text_is, told_is) =
       subst (AreForPerson true) (sym told_is)
       (then_lines HasNoControl true prompt later (after_for_person from next prompt after)
       (prompts_told next lines more later to rest))
 
-  brings_for_person : (shows : Bool) (from : Standing) (told : List ℕ) (lines : List (List ℕ)) (text : List ℕ) (to : Standing)
+  brings_for_person : (shows : Bool) (from : Standing) (told : List ℕ) (lines : List (List ℕ)) (text : List ℕ)
+      (to : Standing)
       → BringsAndTells shows game from told lines text to → AreForPerson shows told
   brings_for_person true (Going at requests) told lines text to (prompts, brings, is) =
       subst (AreForPerson true) (sym is)
@@ -337,7 +385,8 @@ module _ (game : Game) where
 module _ (Played : List (List ℕ) → List ℕ → Standing → Type 0) (Claim : Type 0)
     (of : (lines : List (List ℕ)) (text : List ℕ) (to : Standing) → Played lines text to → Claim)
     (left_old left_new taken_old taken_new : Option (List ℕ)) where
-  of_ends : (lines : List (List ℕ)) (rest text : List ℕ) (end : PlayEnd) → Ends Played left_new lines rest text end → Claim
+  of_ends : (lines : List (List ℕ)) (rest text : List ℕ) (end : PlayEnd) → Ends Played left_new lines rest text end
+      → Claim
   of_ends lines rest text end (inl over) = of lines text (Over end) over
   of_ends lines rest text end (inr stopped) = let h = stopped.0 in of lines h.1 (Going h.0 h.2) h.3
 
@@ -349,8 +398,10 @@ module _ (Played : List (List ℕ) → List ℕ → Standing → Type 0) (Claim 
   of_ended end (lines, rest, text, came, ends, written) = of_ends lines rest text end ends
 
   of_broken : (fault : PlayFault) → BreaksOff Played left_old left_new taken_old taken_new fault → Claim
-  of_broken Read (lines, rest, text, at, requests, came, waits, played, written) = of lines text (Going at requests) played
-  of_broken Limit (lines, rest, text, at, requests, came, waits, played, written) = of lines text (Going at requests) played
+  of_broken Read (lines, rest, text, at, requests, came, waits, played, written) = of lines text
+      (Going at requests) played
+  of_broken Limit (lines, rest, text, at, requests, came, waits, played, written) = of lines text
+      (Going at requests) played
   of_broken Write (lines, rest, text, came, either, written) = of_either lines rest text either
   of_broken Memory (lines, rest, text, came, either, written) = of_either lines rest text either
 
@@ -373,7 +424,8 @@ module _ (shows : Bool) (game : Game) (told : List ℕ) where
   pub prompts_for_person : (left_old left_new taken_old taken_new : Option (List ℕ)) (result : Result PlayEnd PlayFault)
       → ArePrompts shows game left_old left_new taken_old taken_new result told → AreForPerson shows told
   prompts_for_person left_old left_new taken_old taken_new (Ok end) is =
-      of_ended (IsPlayedAndTold shows game told) (AreForPerson shows told) (played_for_person game shows told) left_old left_new
+      of_ended (IsPlayedAndTold shows game told) (AreForPerson shows told)
+      (played_for_person game shows told) left_old left_new
       taken_old taken_new end is.ok
   prompts_for_person left_old left_new taken_old taken_new (Err fault) is =
       of_broken (TellsBefore fault (IsPlayedAndTold shows game) (IsPlayed game) told) (AreForPerson shows told)

@@ -16,8 +16,8 @@ abbrev pub HasReached : PlainBoard → ℕ → Type 0
 HasReached board requests = (number : ℕ) × HasValue board board.start (Finite number) × (number ≤ requests)
 
 -- the start has a finite value, and no more requests were answered
-abbrev pub IsWithin : PlainBoard → ℕ → Type 0
-IsWithin board requests = (number : ℕ) × HasValue board board.start (Finite number) × (requests ≤ number)
+abbrev pub IsWithinValue : PlainBoard → ℕ → Type 0
+IsWithinValue board requests = (number : ℕ) × HasValue board board.start (Finite number) × (requests ≤ number)
 
 -- an end of a play with a person who is the adversary: no label is legal only once as many requests
 -- are answered as the value has
@@ -29,8 +29,8 @@ IsNoSooner board NoStrategy = ⊥
 -- an end of a play with a person who is the labeller: no more requests are answered than the value
 -- has, unless that is forever
 abbrev pub IsNoLater : PlainBoard → PlayEnd → Type 0
-IsNoLater board (Stuck requests) = IsWithin board requests
-IsNoLater board (Stopped requests) = IsWithin board requests
+IsNoLater board (Stuck requests) = IsWithinValue board requests
+IsNoLater board (Stopped requests) = IsWithinValue board requests
 IsNoLater board NoStrategy = HasValue board board.start Forever
 
 -- an end of a play on a nested board: the person stopped, or the input ended

@@ -67,7 +67,8 @@ module _ (Played : List (List ℕ) → List ℕ → Standing → Type 0) (left_o
   BreaksOff Memory = HasBegun
 
 -- the reader has failed exactly if the fault is `Read`, and the writer exactly if it is `Write`
-pub record TellsStreams (result : Result PlayEnd PlayFault) (reading_failed writing_failed : Bool)
+pub record TellsBothStreams (result : Result PlayEnd PlayFault)
+    (reading_failed writing_failed : Bool)
     : Type 0 where
   pub read : (reading_failed ≡ true) ↔ (result ≡ Err Read)
   pub write : (writing_failed ≡ true) ↔ (result ≡ Err Write)

@@ -1,7 +1,8 @@
 -- What a person at a terminal is told in a play: a greeting, and after each wrong line the choices
 -- that there are.
 use Rattle.std.specs.Prelude.{◌≡◌, ◌≢◌, ℕ, ◌<◌, ◌-◌, ◌==◌, ◌↔◌, ◌⊎◌, if◌then◌else◌, List, [], ◌∷◌}
-use Rattle.std.specs.Prelude.{◌++◌, AllPairs, Bool, Contains, IfErr, IfOk, Option, Result, codes, false, true}
+use Rattle.std.specs.Prelude.{◌++◌, AllPairs, Bool, Contains, IfErr, IfOk, Option, Result, codes}
+use Rattle.std.specs.Prelude.{false, true}
 use Rattle.std.specs.Fmt.{decimal}
 use Rattle.board_text.specs.LineForms.{spaced_numbers, with_line_feed}
 use Rattle.board_text.specs.PlainBoard.{PlainBoard}
@@ -10,7 +11,8 @@ use Rattle.strategies.specs.Best.{IsBestRequest}
 use Rattle.player.specs.Play.{BreaksOff, HasEnded}
 use Rattle.player.specs.Showing.{shown}
 use Rattle.player.specs.Transcript.{Game, PersonAsks, PersonAnswers, PersonClimbs}
-use Rattle.player.specs.Transcript.{Standing, Going, Over, BeginsPlay, AreResponses, IsPlayed, IsResponse}
+use Rattle.player.specs.Transcript.{Standing, Going, Over, BeginsPlay, AreResponses, IsPlayed}
+use Rattle.player.specs.Transcript.{IsResponse}
 use Rattle.player.specs.declared.end.PlayEnd.{PlayEnd}
 use Rattle.player.specs.declared.end.PlayFault.{PlayFault}
 use Rattle.player.specs.declared.end.PlayFault.TheVariants.{Read, Limit}

@@ -3,7 +3,7 @@
 ghost use Rattle.std.specs.Prelude.{◌≡◌, ◌+◌, ◌<◌, ◌≤◌, ◌^◌, ℕ, List, false, None, IfOk, IfErr};
 ghost use Rattle.std.specs.Prelude.{string_bytes};
 ghost use Rattle.player.specs.Laws.{KeepsToValue};
-ghost use Rattle.player.specs.Play.{HasEnded, BreaksOff, TellsStreams};
+ghost use Rattle.player.specs.Play.{HasEnded, BreaksOff, TellsBothStreams};
 ghost use Rattle.player.specs.Prompts.{ArePrompts};
 ghost use Rattle.player.specs.Showing.{IsMore};
 ghost use Rattle.player.specs.Transcript.{IsPlayed, PersonAsks, Replies};
@@ -48,7 +48,7 @@ pub fn play_adversary_side<R: Source, W: Sink>(
         (R.remaining reader.old) (R.remaining reader.new)
         (W.contents writer.old) (W.contents writer.new)) }
     ensures value { IfOk result (KeepsToValue (PersonAsks board.now)) }
-    ensures streams { TellsStreams result (R.has_failed reader.new) (W.has_failed writer.new) }
+    ensures streams { TellsBothStreams result (R.has_failed reader.new) (W.has_failed writer.new) }
 {
     play_adversary(alloc, board, values.numbered(), reader, writer)
 }
@@ -73,7 +73,7 @@ pub fn play_adversary<R: Source, W: Sink>(
         (R.remaining reader.old) (R.remaining reader.new)
         (W.contents writer.old) (W.contents writer.new)) }
     ensures value { IfOk result (KeepsToValue (PersonAsks board.now)) }
-    ensures streams { TellsStreams result (R.has_failed reader.new) (W.has_failed writer.new) }
+    ensures streams { TellsBothStreams result (R.has_failed reader.new) (W.has_failed writer.new) }
 {
     let mut nobody = Through::new(Vec::new(alloc));
     play_adversary_with_prompts(alloc, board, values, reader, writer, false, &mut nobody)
@@ -104,7 +104,7 @@ pub fn play_adversary_with_prompts<R: Source, W: Sink, E: Sink>(
         (R.remaining reader.old) (R.remaining reader.new)
         (W.contents writer.old) (W.contents writer.new)) }
     ensures value { IfOk result (KeepsToValue (PersonAsks board.now)) }
-    ensures streams { TellsStreams result (R.has_failed reader.new) (W.has_failed writer.new) }
+    ensures streams { TellsBothStreams result (R.has_failed reader.new) (W.has_failed writer.new) }
     ensures prompts { (told : List ℕ) × ArePrompts shows (PersonAsks board.now)
         (R.remaining reader.old) (R.remaining reader.new)
         (W.contents writer.old) (W.contents writer.new) result told

@@ -9,7 +9,7 @@ ghost use Rattle.positions.specs.Value.{HasValue};
 ghost use Rattle.positions.specs.declared.value.Value.TheVariants.{Finite};
 ghost use Rattle.strategies.specs.Best.{IsBestRequest};
 ghost use Rattle.player.specs.Laws.{KeepsToValue};
-ghost use Rattle.player.specs.Play.{HasEnded, BreaksOff, TellsStreams};
+ghost use Rattle.player.specs.Play.{HasEnded, BreaksOff, TellsBothStreams};
 ghost use Rattle.player.specs.Inside.PlayState.{HasAsked, IsRequestAt, IsStandingAfter, IsLegalAt};
 ghost use Rattle.player.specs.Inside.Prompts.{AreLegalAt};
 ghost use Rattle.player.specs.Prompts.{ArePrompts};
@@ -59,7 +59,7 @@ pub fn play_labeller_side<R: Source, W: Sink>(
         (R.remaining reader.old) (R.remaining reader.new)
         (W.contents writer.old) (W.contents writer.new)) }
     ensures value { IfOk result (KeepsToValue (PersonAnswers board.now)) }
-    ensures streams { TellsStreams result (R.has_failed reader.new) (W.has_failed writer.new) }
+    ensures streams { TellsBothStreams result (R.has_failed reader.new) (W.has_failed writer.new) }
 {
     play_labeller(alloc, board, values.numbered(), reader, writer)
 }
@@ -84,7 +84,7 @@ pub fn play_labeller<R: Source, W: Sink>(
         (R.remaining reader.old) (R.remaining reader.new)
         (W.contents writer.old) (W.contents writer.new)) }
     ensures value { IfOk result (KeepsToValue (PersonAnswers board.now)) }
-    ensures streams { TellsStreams result (R.has_failed reader.new) (W.has_failed writer.new) }
+    ensures streams { TellsBothStreams result (R.has_failed reader.new) (W.has_failed writer.new) }
 {
     let mut nobody = Through::new(Vec::new(alloc));
     play_labeller_with_prompts(alloc, board, values, reader, writer, false, &mut nobody)
@@ -115,7 +115,7 @@ pub fn play_labeller_with_prompts<R: Source, W: Sink, E: Sink>(
         (R.remaining reader.old) (R.remaining reader.new)
         (W.contents writer.old) (W.contents writer.new)) }
     ensures value { IfOk result (KeepsToValue (PersonAnswers board.now)) }
-    ensures streams { TellsStreams result (R.has_failed reader.new) (W.has_failed writer.new) }
+    ensures streams { TellsBothStreams result (R.has_failed reader.new) (W.has_failed writer.new) }
     ensures prompts { (told : List ℕ) × ArePrompts shows (PersonAnswers board.now)
         (R.remaining reader.old) (R.remaining reader.new)
         (W.contents writer.old) (W.contents writer.new) result told

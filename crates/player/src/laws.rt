@@ -4,7 +4,8 @@ ghost use Rattle.std.specs.Prelude.{◌≡◌, ℕ, List};
 ghost use Rattle.board_text.specs.PlainBoard.{PlainBoard, IsConfiguration};
 ghost use Rattle.positions.specs.declared.value.Value.TheVariants.{Finite};
 ghost use Rattle.positions.specs.Value.{HasValue};
-ghost use Rattle.player.specs.Laws.{IsGame, IsWithin, IsNoSooner, IsNoLater, IsStopped, EndsBestPlay};
+ghost use Rattle.player.specs.Laws.{IsGame, IsWithinValue, IsNoSooner, IsNoLater, IsStopped};
+ghost use Rattle.player.specs.Laws.{EndsBestPlay};
 ghost use Rattle.player.specs.Transcript.{Game, Going, PersonAsks, PersonAnswers, PersonClimbs, IsPlayed, IsTranscript};
 ghost use Rattle.player.specs.declared.end.PlayEnd.{PlayEnd as PlayEndData};
 
@@ -22,7 +23,8 @@ pub fn plays_last_by_the_value()
     ensures answering { (board : PlainBoard) → (lines : List (List ℕ)) → (text : List ℕ) → (end : PlayEndData)
         → IsTranscript (PersonAnswers board) lines text end → IsNoLater board end }
     ensures going { (board : PlainBoard) → (lines : List (List ℕ)) → (text : List ℕ) → (at : List ℕ) → (requests : ℕ)
-        → IsPlayed (PersonAnswers board) lines text (Going at requests) → IsWithin board requests }
+        → IsPlayed (PersonAnswers board) lines text (Going at requests)
+        → IsWithinValue board requests }
     ensures climbing { (levels : ℕ) → (lines : List (List ℕ)) → (text : List ℕ)
         → (end : PlayEndData)
         → IsTranscript (PersonClimbs levels) lines text end → IsStopped end }

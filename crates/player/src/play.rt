@@ -7,7 +7,7 @@ ghost use Rattle.player.specs.Transcript.{Game, Standing, Going, AreResponses, s
 ghost use Rattle.player.specs.Inside.Transcript.{standing_of};
 ghost use Rattle.player.specs.Prompts.{AreChoices, BringsAndTells, IsToldIn, greeting_of};
 ghost use Rattle.player.specs.Showing.{IsMore, shown};
-ghost use Rattle.player.specs.Play.{HasEnded, BreaksOff, TellsStreams};
+ghost use Rattle.player.specs.Play.{HasEnded, BreaksOff, TellsBothStreams};
 ghost use Rattle.player.specs.Inside.Steps.{IsResponseToMeaning, AddsText, Writes, FailsToWrite};
 ghost use Rattle.player.specs.declared.end.PlayEnd.TheVariants.{Stopped};
 ghost use Rattle.player.specs.declared.end.PlayFault.TheVariants.{Write};
@@ -84,7 +84,7 @@ pub(crate) fn play_on<P: Play, R: Source, W: Sink, E: Sink>(
         (R.remaining reader.old) (R.remaining reader.new) (W.contents writer.old) (W.contents writer.new)) }
     ensures fault { IfErr result (BreaksOff (AreResponses (P.game play.old) (Going (P.at play.old) 0))
         (R.remaining reader.old) (R.remaining reader.new) (W.contents writer.old) (W.contents writer.new)) }
-    ensures streams { TellsStreams result (R.has_failed reader.new) (W.has_failed writer.new) }
+    ensures streams { TellsBothStreams result (R.has_failed reader.new) (W.has_failed writer.new) }
     ensures told { (told : List ℕ)
         × IsToldIn (BringsAndTells shows (P.game play.old) (Going (P.at play.old) 0))
         (AreResponses (P.game play.old) (Going (P.at play.old) 0))

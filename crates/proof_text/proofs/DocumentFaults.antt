@@ -15,7 +15,7 @@ use Rattle.proof_text.specs.declared.proof.AdversaryRow.{AdversaryRow}
 use Rattle.proof_text.specs.Proof.{PlainProof, IsProof, IsClaim, AreAnswerRows, IsAnswerRow, IsRequestRow}
 use Rattle.proof_text.specs.Proof.{asks_labeller, asks_adversary, answer_row, request_row, answer_rows, request_rows}
 use Rattle.board_text.specs.BoardText.{end_line}
-use Rattle.proof_text.specs.ProofText.{version_line, claim_words, claim_line, first_two_lines, labeller_section}
+use Rattle.proof_text.specs.ProofText.{proof_version_line, claim_words, claim_line, first_two_lines, labeller_section}
 use Rattle.proof_text.specs.ProofText.{adversary_section, proof_text_before_end, proof_text, labeller_lines}
 use Rattle.proof_text.specs.ProofText.{answer_line, request_line}
 use Rattle.proof_text.specs.ProofFaults.{LabellerFault, AdversaryFault, HasProofFault, InAdversary, AnswerMisread}
@@ -63,10 +63,10 @@ pub record HeadRead (claim : Claim) (text rest : List ℕ) : Type 0 where
   pub is_claim : IsClaim claim
   pub spelled : text ≡ first_two_lines claim ++ rest
 
-pub head_read : (claim : Claim) (text a b : List ℕ) → text ≡ version_line ++ a
+pub head_read : (claim : Claim) (text a b : List ℕ) → text ≡ proof_version_line ++ a
     → IsClaim claim × (a ≡ claim_line claim ++ b)
     → HeadRead claim text b
-head_read claim text a b e (is, f) = record { is_claim = is; spelled = rw (e, f) (sym (append_assoc version_line (claim_line claim) b)) }
+head_read claim text a b e (is, f) = record { is_claim = is; spelled = rw (e, f) (sym (append_assoc proof_version_line (claim_line claim) b)) }
 
 -- all lines before the last
 pub record FrontRead (board : PlainBoard) (proof : PlainProof) (text rest : List ℕ) : Type 0 where
@@ -158,7 +158,7 @@ module _ {board : PlainBoard} {proof : PlainProof} {text a : List ℕ} (read : F
   )
 
 -- a text that is written part by part: its first two lines, and then the sections
-pub first_printed : (claim : Claim) (t0 t1 t2 t3 : List ℕ) → t0 ≡ [] → t1 ≡ t0 ++ version_line
+pub first_printed : (claim : Claim) (t0 t1 t2 t3 : List ℕ) → t0 ≡ [] → t1 ≡ t0 ++ proof_version_line
     → t2 ≡ t1 ++ claim_words claim
     → t3 ≡ t2 ++ 10 ∷ [] → t3 ≡ first_two_lines claim
 first_printed claim t0 t1 t2 t3 e0 e1 e2 e3 = rw (e3, e2, e1, e0) (simp append_assoc)

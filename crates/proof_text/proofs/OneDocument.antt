@@ -13,7 +13,7 @@ use Rattle.proof_text.specs.declared.fault.ProofKind.{ProofKind}
 use Rattle.proof_text.specs.declared.fault.ProofKind.TheVariants as kinds
 use Rattle.proof_text.specs.declared.proof.Proof.{Proof}
 use Rattle.proof_text.specs.Proof.{PlainProof, IsProof, IsDocument, plain_proof, IsClaim, IsAnswerRow, IsRequestRow, asks_labeller, asks_adversary}
-use Rattle.proof_text.specs.ProofText.{version_line, claim_line, first_two_lines, answer_line, request_line, labeller_section, adversary_section, labeller_lines, proof_text_before_end, proof_text}
+use Rattle.proof_text.specs.ProofText.{proof_version_line, claim_line, first_two_lines, answer_line, request_line, labeller_section, adversary_section, labeller_lines, proof_text_before_end, proof_text}
 use Rattle.proof_text.specs.ProofFaults.{AdversaryFault, AnswerMisread, HasProofFault, LabellerFault, RequestMisread, end_number}
 use Rattle.proof_text.proofs.OneStep.{OneReading, Line, one_line}
 use Rattle.proof_text.proofs.OneRow.{answer_laws, request_laws}
@@ -76,7 +76,7 @@ module _ (board : PlainBoard) where
   AfterVersion text found = Line IsClaim claim_line text (fault 2 kinds.Claim) AfterClaim found
 
   abbrev Reading : List ℕ → Finding → Type 0
-  Reading text found = Line NoCondition (λ u. version_line) text (fault 1 kinds.Version) (λ u more. AfterVersion more) found
+  Reading text found = Line NoCondition (λ u. proof_version_line) text (fault 1 kinds.Version) (λ u more. AfterVersion more) found
 
 one_behind : (proof : PlainProof) (text : List ℕ) (v w : Finding) → Behind proof text v → Behind proof text w → v ≡ w
 one_behind proof [] v w e f = e ∙ sym f
@@ -97,7 +97,7 @@ module _ (board : PlainBoard) (is_board : IsBoard board) where
 
   one_reading : (text : List ℕ) (v w : Finding) → Reading board text v → Reading board text w → v ≡ w
   one_reading text =
-      one_line NoCondition (λ u. version_line) text (fault 1 kinds.Version) (λ u more. AfterVersion board more) (one_constant version_line)
+      one_line NoCondition (λ u. proof_version_line) text (fault 1 kinds.Version) (λ u more. AfterVersion board more) (one_constant proof_version_line)
       (λ u rest yes. one_line IsClaim claim_line rest (fault 2 kinds.Claim) (AfterClaim board) one_claim
       (λ claim more is. one_after_claim claim more))
 
@@ -109,7 +109,7 @@ regroup a b c d = simp append_assoc
 head_read : (board : PlainBoard) (text : List ℕ) (claim : Claim) (rest : List ℕ) (found : Finding) → IsClaim claim
     → text ≡ first_two_lines claim ++ rest → AfterClaim board claim rest found → Reading board text found
 head_read board text claim rest found is e after =
-    inr (tt, claim_line claim ++ rest, (tt, e ∙ append_assoc version_line (claim_line claim) rest), inr (claim, rest, (is, refl), after))
+    inr (tt, claim_line claim ++ rest, (tt, e ∙ append_assoc proof_version_line (claim_line claim) rest), inr (claim, rest, (is, refl), after))
 
 front_read : (board : PlainBoard) (text : List ℕ) (proof : PlainProof) (rest : List ℕ) (found : Finding) → IsProof board proof
     → text ≡ proof_text_before_end board proof ++ rest → AfterFront proof rest found → Reading board text found

@@ -13,7 +13,7 @@ use Rattle.proof_text.specs.declared.fault.ProofKind.{ProofKind}
 use Rattle.proof_text.specs.declared.fault.ProofKind.TheVariants as kinds
 use Rattle.proof_text.specs.Proof.{PlainProof, IsProof, IsClaim, asks_labeller, asks_adversary, AreTurns, IsAnswerRow, IsRequestRow}
 use Rattle.proof_text.specs.Proof.{AreAnswerRows, AreRows, IsBefore}
-use Rattle.proof_text.specs.ProofText.{version_line, claim_line, turns_text, answer_line, request_line}
+use Rattle.proof_text.specs.ProofText.{proof_version_line, claim_line, turns_text, answer_line, request_line}
 use Rattle.proof_text.specs.ProofText.{first_two_lines, labeller_section, proof_text_before_end, proof_text, labeller_lines, adversary_lines}
 use Rattle.proof_text.specs.RowWords.{AnswerWords, RequestWords, AreAnswerWords, AreRequestWords, answer_words_line, request_words_line}
 use Rattle.proof_text.specs.declared.proof.TheConstants.{MOST_TURNS}
@@ -151,8 +151,8 @@ end_number proof = 3 + labeller_lines proof.claim proof.labeller + adversary_lin
 -- All lines before this one are faultless, and this one has the fault and none before it in the
 -- order.
 abbrev pub HasProofFault : PlainBoard → List ℕ → ℕ → ProofKind → Type 0
-HasProofFault board text line kinds.Version = (line ≡ 1) × Lacks (λ (u : Unit {0}). Unit {0}) (λ u. version_line) text
-HasProofFault board text line kinds.Claim = (line ≡ 2) × (rest : List ℕ) × (text ≡ version_line ++ rest) × Lacks IsClaim claim_line rest
+HasProofFault board text line kinds.Version = (line ≡ 1) × Lacks (λ (u : Unit {0}). Unit {0}) (λ u. proof_version_line) text
+HasProofFault board text line kinds.Claim = (line ≡ 2) × (rest : List ℕ) × (text ≡ proof_version_line ++ rest) × Lacks IsClaim claim_line rest
 HasProofFault board text line kinds.End =
     (proof : PlainProof) × (rest : List ℕ) × IsProof board proof × (text ≡ proof_text_before_end board proof ++ rest) × (line ≡ end_number proof)
     × Lacks (λ (u : Unit {0}). Unit {0}) (λ u. end_line) rest

@@ -13,8 +13,8 @@ use Rattle.positions.specs.declared.turns.Turns.TheVariants.{Count, Always}
 use Rattle.positions.specs.Table.{AnswerRow, RequestRow}
 use Rattle.proof_text.specs.Proof.{PlainProof, asks_labeller, asks_adversary}
 
-abbrev pub version_line : List ℕ
-version_line = with_line_feed (codes "proof 1")
+abbrev pub proof_version_line : List ℕ
+proof_version_line = with_line_feed (codes "proof 1")
 
 -- a claim, in words
 abbrev pub claim_words : Claim → List ℕ
@@ -44,7 +44,7 @@ request_line board row = with_line_feed
 
 -- the first two lines
 abbrev pub first_two_lines : Claim → List ℕ
-first_two_lines claim = version_line ++ claim_line claim
+first_two_lines claim = proof_version_line ++ claim_line claim
 
 -- the labeller's section, if the claim asks for it
 abbrev pub labeller_section : PlainBoard → Claim → List AnswerRow → List ℕ

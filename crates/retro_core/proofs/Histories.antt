@@ -11,7 +11,7 @@ use Rattle.retro_core.specs.declared.step.Step.TheVariants as steps
 use Rattle.retro_core.specs.declared.step.Seen.{Seen}
 use Rattle.retro_core.specs.declared.step.Seen.TheVariants as seen
 use Rattle.retro_core.specs.Stepping.{Does, LeadTo}
-use Rattle.retro_core.specs.History.{answer_at, IsClosedAt}
+use Rattle.retro_core.specs.History.{answer_in_history, IsClosedAt}
 use Rattle.graphs.proofs.Cited.{same_or_not}
 use Rattle.retro_core.proofs.SeatSums.{total-set, total-cut, total-glue, times-together}
 use Rattle.retro_core.proofs.RoundLaws.{seat-there}
@@ -133,10 +133,12 @@ lost-now before (steps.Join into from) c after sol law does = absurd does
 
 -- a try won the configuration, at an earlier place
 abbrev pub IsWonBefore : List (Step × Seen) → ℕ → ℕ → Type 0
-IsWonBefore made place c = (earlier : ℕ) × (earlier < place) × (answer_at made earlier ≡ Some (seen.Tried c true))
+IsWonBefore made place c = (earlier : ℕ) × (earlier < place) × (answer_in_history made earlier ≡ Some
+    (seen.Tried c true))
 
 pub lost-after : (first : Round) (made : List (Step × Seen)) (last : Round) → IsSolving first.solving → IsLawful first → LeadTo first made last
-    → (place c : ℕ) → answer_at made place ≡ Some (seen.Tried c false) → (0 < times c (all_won first)) ⊎ IsWonBefore made place c
+    → (place c : ℕ) → answer_in_history made place ≡ Some (seen.Tried c false) → (0 < times c (all_won first))
+    ⊎ IsWonBefore made place c
 lost-after first [] last sol law lead place c at = absurd (none-some _ at)
 lost-after first (one ∷ more) last sol law lead zero c at =
     inl (lost-now first one.0 c lead.0 sol law (subst (λ a. Does first one.0 a lead.0) (same_Some _ _ at) lead.1))
@@ -153,7 +155,7 @@ lost-after first (one ∷ more) last sol law lead (suc place) c at =
 
 -- the same from an opening, when no configuration is won
 pub lost-opened : (s : Solving) (width : ℕ) (first : Round) (made : List (Step × Seen)) (last : Round) → IsSolving s → IsOpening s width first → LeadTo first made last
-    → (place c : ℕ) → answer_at made place ≡ Some (seen.Tried c false) → IsWonBefore made place c
+    → (place c : ℕ) → answer_in_history made place ≡ Some (seen.Tried c false) → IsWonBefore made place c
 lost-opened s width first made last sol opens lead place c at =
     let from : first.solving ≡ s = ap (λ r. r.solving) opens.is in
     elim (lost-after first made last (subst IsSolving (sym from) sol) opens.lawful lead place c at) [
@@ -170,7 +172,8 @@ won-stays first (one ∷ more) last lead c =
     omega arith
 
 -- a configuration that an answer says is won is in a won list at the end
-pub won-told : (first : Round) (made : List (Step × Seen)) (last : Round) → LeadTo first made last → (place c : ℕ) → answer_at made place ≡ Some (seen.Tried c true) → 0 < times c (all_won last)
+pub won-told : (first : Round) (made : List (Step × Seen)) (last : Round) → LeadTo first made last → (place c : ℕ)
+    → answer_in_history made place ≡ Some (seen.Tried c true) → 0 < times c (all_won last)
 won-told first [] last lead place c at = absurd (none-some _ at)
 won-told first (one ∷ more) last lead zero c at =
     let here = (won-step first one.0 one.1 lead.0 lead.1 c).told (same_Some _ _ at) in
@@ -321,12 +324,14 @@ lead-more first [] last step answer after same does = (after, subst (λ r. Does 
 lead-more first (one ∷ more) last step answer after lead does = (lead.0, lead.1, lead-more lead.0 more last step answer after lead.2 does)
 
 -- the answers before the last step stay
-pub answer-before : (made : List (Step × Seen)) (one : Step × Seen) (place : ℕ) (answer : Seen) → answer_at made place ≡ Some answer → answer_at (made ++ one ∷ []) place ≡ Some answer
+pub answer-before : (made : List (Step × Seen)) (one : Step × Seen) (place : ℕ) (answer : Seen)
+    → answer_in_history made place ≡ Some answer → answer_in_history (made ++ one ∷ []) place ≡ Some answer
 answer-before [] one place answer at = absurd (none-some _ at)
 answer-before (first ∷ made) one zero answer at = at
 answer-before (first ∷ made) one (suc place) answer at = answer-before made one place answer at
 
 -- the answer of the last step is the last
-pub answer-last : (made : List (Step × Seen)) (one : Step × Seen) → answer_at (made ++ one ∷ []) (length made) ≡ Some one.1
+pub answer-last : (made : List (Step × Seen)) (one : Step × Seen)
+    → answer_in_history (made ++ one ∷ []) (length made) ≡ Some one.1
 answer-last [] one = refl
 answer-last (first ∷ made) one = answer-last made one

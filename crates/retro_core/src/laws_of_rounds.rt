@@ -9,7 +9,7 @@ ghost use Rattle.retro_core.specs.Round.{Round, opening_round, IsOpening, IsLawf
 ghost use Rattle.retro_core.specs.Round.{all_won};
 ghost use Rattle.retro_core.specs.Round.{HasWonAll};
 ghost use Rattle.retro_core.specs.Stepping.{Does, LeadTo};
-ghost use Rattle.retro_core.specs.History.{answer_at, IsClosedAt};
+ghost use Rattle.retro_core.specs.History.{answer_in_history, IsClosedAt};
 ghost use Rattle.retro_core.specs.declared.step.Step.{Step as StepData};
 ghost use Rattle.retro_core.specs.declared.step.Seen.{Seen as SeenData};
 ghost use Rattle.retro_core.specs.declared.step.Seen.TheVariants as answers;
@@ -47,10 +47,14 @@ pub fn worked_off_rounds_have_won_all()
 pub fn answers_have_a_cause()
     ensures lost { (s : Solving) → (width : ℕ) → (first : Round) → (steps : List (StepData × SeenData)) → (last : Round)
         → IsSolving s → IsOpening s width first → LeadTo first steps last
-        → (index : ℕ) → (config : ℕ) → answer_at steps index ≡ Some (answers.Tried config false)
-        → (earlier : ℕ) × (earlier < index) × (answer_at steps earlier ≡ Some (answers.Tried config true)) }
+        → (index : ℕ) → (config : ℕ)
+        → answer_in_history steps index ≡ Some (answers.Tried config false)
+        → (earlier : ℕ) × (earlier < index)
+        × (answer_in_history steps earlier ≡ Some (answers.Tried config true)) }
     ensures won { (first : Round) → (steps : List (StepData × SeenData)) → (last : Round) → LeadTo first steps last
-        → (index : ℕ) → (config : ℕ) → answer_at steps index ≡ Some (answers.Tried config true) → 0 < times config (all_won last) }
+        → (index : ℕ) → (config : ℕ)
+        → answer_in_history steps index ≡ Some (answers.Tried config true)
+        → 0 < times config (all_won last) }
     ensures closed_once { (first : Round) → (steps : List (StepData × SeenData)) → (last : Round) → LeadTo first steps last → (gap : ℕ)
         → (index : ℕ) → (other : ℕ) → IsClosedAt steps gap index → IsClosedAt steps gap other → index ≡ other }
     ensures closed_only { (first : Round) → (steps : List (StepData × SeenData)) → (last : Round) → LeadTo first steps last → (gap : ℕ)

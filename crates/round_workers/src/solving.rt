@@ -23,8 +23,8 @@ use std::thread::Threads;
 /// The largest number of workers that may share a round.
 pub const MAX_WORKERS: u32 = 16;
 
-/// The least number of classes filed last for which `solve_classes` shares a round.
-/// docs/performance.md has the times on both sides of it.
+/// The least number of classes filed last for which `solve_classes` shares a round, if they are
+/// four fifths of all too. docs/performance.md has the times on both sides of it.
 pub const MIN_SHARED: u32 = 131_072;
 
 /// Works a round of `solver` to its end by `workers` workers, each in a thread of its own. Worker
@@ -81,10 +81,11 @@ pub fn solve_values<G: Gate, R: Threads + Wait + Sync>(
 /// The values of `board` by the numbers of its classes, found in rounds over classes of
 /// configurations: all that exchanged pebbles give are one.
 ///
-/// A round that strikes those of at least `MIN_SHARED` classes is shared by all workers, as each
-/// round of `solve_values` is. A smaller one, and every round of one worker, is made by this thread
-/// alone, with no table and no gate. The values are those of the board, whatever the number of
-/// workers, the gate and the schedule are.
+/// The workers make the graph of the classes in parts, if it has enough of them. A round that
+/// strikes those of at least `MIN_SHARED` classes, and of four fifths of all, is shared by all
+/// workers, as each round of `solve_values` is. A smaller one, and every round of one worker, is
+/// made by this thread alone, with no table and no gate. The values are those of the board,
+/// whatever the number of workers, the gate and the schedule are.
 pub fn solve_classes<G: Gate, R: Threads + Wait + Sync>(
     rt: &R,
     alloc: Global,
@@ -99,12 +100,25 @@ pub fn solve_classes<G: Gate, R: Threads + Wait + Sync>(
     ensures enough { result ≡ Err SolveFault.Worker
         → MIN_SHARED ≤ (graph_of (numbered board.now Classes)).configurations }
 {
-    let solver = Solver::<PlainLists>::of_classes(alloc, board)?;
-    let least = if workers == 1 { u32::MAX } else { MIN_SHARED };
+    let solver = Solver::<PlainLists>::of_classes_by(rt, alloc, board, workers as u8)?;
+    let least = least_shared(workers, solver.graph().configurations());
     match run_rounds(rt, alloc, solver, workers, gate, least)?.finish_numbered() {
         Ok(values) => Ok(values),
         Err(_) => unreachable!(),
     }
+}
+
+/// The least number of classes filed last for which a round is shared by this number of `workers`,
+/// if there are as many `classes`. One worker shares none.
+fn least_shared(workers: u32, classes: u32) -> u32
+    ensures { MIN_SHARED ≤ result }
+{
+    if workers == 1 {
+        return u32::MAX;
+    }
+    // A shared round opens a table of all classes and gaps, which costs more than to strike few.
+    let most = classes - classes / 5;
+    if most > MIN_SHARED { most } else { MIN_SHARED }
 }
 
 /// The solver after all rounds that its board takes, of which `workers` workers share those before

@@ -5,7 +5,7 @@ use Rattle.std.specs.Prelude.{Result, Ok, Err, IfOk, IfErr}
 use Rattle.player.specs.declared.end.PlayEnd.{PlayEnd}
 use Rattle.positions.specs.declared.side.Side.{Side}
 use Rattle.runs.specs.CheckRun.{CheckFails, RanCheck}
-use Rattle.runs.specs.Folders.{File, Opens}
+use Rattle.runs.specs.Folders.{File, OpensWith}
 use Rattle.runs.specs.Jobs.{Checks, Opening, Plays, WritesWhole, limit_of}
 use Rattle.runs.specs.Outcomes.{EndsAs, outcome_of_check, outcome_of_run}
 use Rattle.runs.specs.PlayRun.{PlayFails, RanPlay}
@@ -88,7 +88,7 @@ these_workers limit workers text fault h = h
 module _ {A : Type 0} (P : List ℕ → A → List ℕ → Type 0)
     (Nothing : List ℕ → RunFault → Type 0) (limit : Numbering) (workers : ℕ)
     (more : (text : List ℕ) (fault : RunFault) → Nothing text fault → CannotSolve limit workers text fault)
-    (file : File) (read : Bytes) (opens : Opens file read.old) (output : Stream)
+    (file : File) (read : Bytes) (opens : OpensWith file read.old) (output : Stream)
     (r : Result A RunFault) (outcome : Outcome) (is : outcome ≡ outcome_of_run r) where
   pub opened_board : IfOk r (Ran P MAX_BOARD_BYTES read output.bytes)
       → IfErr r (Fails P Nothing MAX_BOARD_BYTES read output.bytes)
@@ -110,7 +110,7 @@ module _ {A : Type 0} (P : List ℕ → A → List ℕ → Type 0)
     whole outcome_of_run broken_run r outcome is output.IsKept unwritten,
   )
 
-module _ (board proof : File) (b p : Bytes) (opens : Opens board b.old) (opens_too : Opens proof p.old)
+module _ (board proof : File) (b p : Bytes) (opens : OpensWith board b.old) (opens_too : OpensWith proof p.old)
     (output : Stream) (r : Result Verdict RunFault) (outcome : Outcome) (is : outcome ≡ outcome_of_check r) where
   pub opened_both : IfOk r (RanCheck MAX_BOARD_BYTES MAX_PROOF_BYTES b p output.bytes) → (Untouched : Type 0)
       → (Untouched → p.new ≡ p.old)
@@ -131,7 +131,8 @@ module _ (board proof : File) (b p : Bytes) (opens : Opens board b.old) (opens_t
     whole outcome_of_check broken_check r outcome is output.IsKept unwritten,
   )
 
-module _ (large : Bool) (side : Side) (file : File) (read : Bytes) (opens : Opens file read.old) (input output : Stream)
+module _ (large : Bool) (side : Side) (file : File) (read : Bytes) (opens : OpensWith file read.old)
+    (input output : Stream)
     (r : Result PlayEnd RunFault) (outcome : Outcome) (is : outcome ≡ outcome_of_run r) where
   pub opened_play : IfOk r (RanPlay (limit_of large) side MAX_BOARD_BYTES read input.bytes output.bytes)
       → IfErr r (PlayFails (limit_of large) side MAX_BOARD_BYTES

@@ -15,7 +15,7 @@ use Rattle.player.proofs.Cited.{none_more, nothing_for_person, plain_if_shown, p
 use Rattle.player.proofs.Cited.{then_more}
 use Rattle.positions.specs.declared.side.Side.{Side}
 use Rattle.runs.specs.Notices.{IsNoticed, notice_for}
-use Rattle.runs.specs.PlayRun.{IsToldInRun, game_of, run_of_play}
+use Rattle.runs.specs.PlayRun.{IsToldInRun, game_played, run_of_play}
 use Rattle.runs.specs.Run.{Bytes, stream_of}
 use Rattle.runs.specs.Serving.{IsEnding, IsExplained, IsForPerson, IsPrompted, IsSaid, IsWritten, is_large, is_typed}
 use Rattle.runs.specs.declared.fault.RunFault.{RunFault}
@@ -109,7 +109,8 @@ notice_for_person IsGiven IsMissing shows result told (inr (fault, broke, missin
 -- and so is all that is told in a play
 pub told_in_run : (limit : Numbering) (side : Side) (most_bytes : ℕ) (board lines written : Bytes) (size choices : Bool)
     (result : Result PlayEnd RunFault) (told : List ℕ)
-    → IsToldInRun limit side most_bytes board lines written size choices result told → AreForPerson (choices || size) told
+    → IsToldInRun limit side most_bytes board lines written size choices result told
+    → AreForPerson (choices || size) told
 told_in_run limit side most_bytes board lines written size choices result told (inl (fault, broke, missing, none)) =
     subst (AreForPerson (choices || size)) (sym none) (nothing_for_person (choices || size))
 told_in_run limit side most_bytes board lines written size choices result told (inr (b, gave, prompts, is, how)) =
@@ -120,11 +121,11 @@ told_in_run limit side most_bytes board lines written size choices result told (
   where
     by : ((result ≡ Err Memory) × (prompts ≡ []))
         ⊎ ((played : Result PlayEnd PlayFault) × (result ≡ run_of_play played)
-        × ArePrompts choices (game_of side b) lines.old lines.new written.old written.new played prompts)
+        × ArePrompts choices (game_played side b) lines.old lines.new written.old written.new played prompts)
         → AreForPerson choices prompts
     by (inl (refused, none)) = subst (AreForPerson choices) (sym none) (nothing_for_person choices)
     by (inr (played, same, are)) =
-        prompts_for_person choices (game_of side b) prompts lines.old lines.new written.old written.new played are
+        prompts_for_person choices (game_played side b) prompts lines.old lines.new written.old written.new played are
 
 -- nothing is told
 pub none_prompted : {W : Type 0} (known : W → Option (List ℕ)) (failed : W → Bool) (terminals : Terminals) (job : Job)

@@ -1,5 +1,6 @@
 -- When the notice of a large board is told.
-use Rattle.std.proofs.Common.{◌≡◌, ◌<◌, ◌≤◌, Bool, List, ℕ, [], ◌++◌, ap, append_assoc, codes, false, inl, inr, le-ltb, lt-ltb}
+use Rattle.std.proofs.Common.{◌≡◌, ◌<◌, ◌≤◌, Bool, List, ℕ, [], ◌++◌, ap, append_assoc, codes, false, inl, inr, le-ltb}
+use Rattle.std.proofs.Common.{lt-ltb}
 use Rattle.std.proofs.Common.{refl, subst, sym, true}
 use Rattle.std.proofs.lemmas.Bool.{cases_lt}
 use Rattle.std.specs.Prelude.{Err, Ok, Result, if◌then◌else◌, nat_lt}
@@ -57,7 +58,8 @@ noticed false board = refl
 
 -- ---- of a board that is read
 
-module _ {Answer Other : Type 0} (limit : Numbering) (most_bytes : ℕ) (read : Bytes) (text : List ℕ) (gave : Gave most_bytes read text)
+module _ {Answer Other : Type 0} (limit : Numbering) (most_bytes : ℕ) (read : Bytes) (text : List ℕ)
+    (gave : Gave most_bytes read text)
     (shows : Bool) (told : List ℕ) (result : Result Answer RunFault)
     (is : IsNoticed (IsBoardWithin limit text) (HasNoneWithin limit text) shows result told) where
   pub noticed_then : (answer : Answer) → result ≡ Ok answer → (other : Result Other RunFault)
@@ -70,14 +72,16 @@ module _ {Answer Other : Type 0} (limit : Numbering) (most_bytes : ℕ) (read : 
       by (inr (fault, broke, missing, none)) = cc
 
   pub noticed_before : (fault : RunFault) → result ≡ Err fault
-      → IsNoticed {Answer = Other} (GaveBoard limit most_bytes read) (GaveNoBoard limit most_bytes read) shows (Err fault) told
+      → IsNoticed {Answer = Other} (GaveBoard limit most_bytes read) (GaveNoBoard limit most_bytes read) shows
+      (Err fault) told
   noticed_before fault broke = by is
     where
       one : (other : RunFault) → result ≡ Err other → other ≡ fault
       one other same = cc
 
       by : IsNoticed (IsBoardWithin limit text) (HasNoneWithin limit text) shows result told
-          → IsNoticed {Answer = Other} (GaveBoard limit most_bytes read) (GaveNoBoard limit most_bytes read) shows (Err fault) told
+          → IsNoticed {Answer = Other} (GaveBoard limit most_bytes read) (GaveNoBoard limit most_bytes read) shows
+          (Err fault) told
       by (inl (board, within, told_is)) = inl (board, (text, gave, within), told_is)
       by (inr (other, same, missing, none)) =
           inr (fault, refl, inr (text, gave, subst (HasNoneWithin limit text) (one other same) missing), none)

@@ -22,7 +22,7 @@ use Rattle.proof_text.specs.ProofText.{proof_text}
 use Rattle.runs.proofs.EndLines.{one_length}
 use Rattle.std.proofs.Common.{take}
 use Rattle.command_line.specs.Commands.{program}
-use Rattle.command_line.specs.Reading.{AsksFor, AsksForVersion, HasFlag, HasNumber, IsReadAs, Shows, side_word}
+use Rattle.command_line.specs.Reading.{AsksFor, AsksForVersion, HasFlag, HasNumber, IsReadAs, ShowsWords, side_word}
 use Rattle.command_line.specs.declared.asked.Job.{Job}
 use Rattle.command_line.specs.declared.asked.Job.TheVariants as jobs
 use Rattle.command_line.specs.declared.asked.JobFault.{JobFault}
@@ -46,7 +46,7 @@ use Rattle.player.specs.declared.end.PlayEnd.{PlayEnd}
 use Rattle.player.specs.declared.end.PlayFault.{PlayFault}
 use Rattle.player.specs.declared.end.PlayFault.TheVariants as play_faults
 use Rattle.runs.specs.Faults.{fault_of_play}
-use Rattle.runs.specs.PlayRun.{IsBrokenOff, IsOver, PlayFails, RanPlay, game_of}
+use Rattle.runs.specs.PlayRun.{IsBrokenOff, IsOver, PlayFails, RanPlay, game_played}
 use Rattle.board_text.specs.BoardText.{board_text}
 use Rattle.runs.specs.BoardRun.{GaveBoard, GaveNoBoard}
 use Rattle.runs.specs.CheckRun.{CheckFails, RanCheck}
@@ -61,7 +61,7 @@ use Rattle.runs.specs.Output.{line_of}
 use Rattle.runs.specs.Report.{Reports}
 use Rattle.runs.specs.Run.{Bytes, Fails, Ran, Stream}
 use Rattle.player.specs.Showing.{AreForPerson}
-use Rattle.runs.specs.Serving.{Answers, Asks, EndsWith, HasNoMemory, IsHelped, IsEnding, IsExplained}
+use Rattle.runs.specs.Serving.{Answers, WordsAskFor, EndsWith, HasNoMemory, IsHelped, IsEnding, IsExplained}
 use Rattle.runs.specs.Serving.{IsPrompted, IsRefusedWith, IsWritten}
 use Rattle.runs.specs.Serving.{Serves, ServesWords, is_large, is_typed, lacks_input}
 use Rattle.runs.specs.Servings.{AreKnown, HaveOwnText}
@@ -621,9 +621,9 @@ BoardPlayEnds limit side lines board_bytes outcome text =
     ⊎ ((length board_bytes ≤ MAX_BOARD_BYTES) × (fault : RunFault) × IsWrongWithin limit board_bytes fault ×
     (outcome ≡ Broken fault) × (text ≡ []))
     ⊎ ((length board_bytes ≤ MAX_BOARD_BYTES) × (board : PlainBoard) × IsBoardWithin limit board_bytes board
-    × PlayEnds (game_of side board) lines outcome text)
+    × PlayEnds (game_played side board) lines outcome text)
 
-is_game : (side : Side) (board : PlainBoard) → IsBoard board → IsGame (game_of side board)
+is_game : (side : Side) (board : PlainBoard) → IsBoard board → IsGame (game_played side board)
 is_game Labeller board is = is
 is_game Adversary board is = is
 
@@ -647,8 +647,8 @@ one_board_play limit side lines b outcome other text line (inr (inr (inside, boa
     (inr (inr (inside_too, second, small_too, two))) =
     let same : board ≡ second = one_board board second small.is_board small_too.is_board
     (sym small.spelled ∙ small_too.spelled) in
-    one_play (game_of side second) (is_game side second small_too.is_board) lines outcome other text line
-    (subst (λ (d : PlainBoard). PlayEnds (game_of side d) lines outcome text) same one) two
+    one_play (game_played side second) (is_game side second small_too.is_board) lines outcome other text line
+    (subst (λ (d : PlainBoard). PlayEnds (game_played side d) lines outcome text) same one) two
 
 module _ (large : Bool) (side : Side) (input output : Stream) (lines taken : List ℕ)
     (old : input.bytes.old ≡ Some lines)
@@ -662,12 +662,12 @@ module _ (large : Bool) (side : Side) (input output : Stream) (lines taken : Lis
     OnBoard = EndsBy output taken (BoardPlayEnds (limit_of large) side lines bytes) outcome
 
     play_on : (board : PlainBoard) → GaveBoard (limit_of large) MAX_BOARD_BYTES read board
-        → EndsAs outcome_of_run (IsOver (game_of side board) input.bytes output.bytes)
-        (IsBrokenOff (game_of side board) input.bytes output.bytes) outcome
+        → EndsAs outcome_of_run (IsOver (game_played side board) input.bytes output.bytes)
+        (IsBrokenOff (game_played side board) input.bytes output.bytes) outcome
         → OnBoard
     play_on board (text, gave, small) run =
         let all : text ≡ bytes = gave_all read bytes text board_old gave.0 in
-        let end = play_known (game_of side board) input output lines taken old had outcome plain run in (
+        let end = play_known (game_played side board) input output lines taken old had outcome plain run in (
           end.0,
           end.1,
           inr (inr (
@@ -1054,13 +1054,13 @@ module _ (at : List ℕ → File) (terminals : Terminals) (off : terminals.error
 
     -- the words ask for a job, which gave this outcome
     record IsJobDone (words : List Text) (job : Job) (outcome : Outcome) : Type 0 where
-      asks : Asks words job
+      asks : WordsAskFor words job
       done : IsDone at input output job outcome
       fair : IsFair outcome
       status_is : status ≡ status_of outcome
       errors_are : errors.bytes.new ≡ Some (told ++ ending outcome)
 
-    job_done : (words : List Text) (job : Job) (told_lines : List ℕ) (outcome : Outcome) → Asks words job
+    job_done : (words : List Text) (job : Job) (told_lines : List ℕ) (outcome : Outcome) → WordsAskFor words job
         → IsPrompted terminals job told_lines
         → IsDone at input output job outcome → EndsWith at terminals input output errors status told_lines outcome
         → IsJobDone words job outcome
@@ -1122,7 +1122,7 @@ typed_as_read (Some found) job more read read_too =
     typed_by_name found.0 found.1 job read ∙ sym (typed_by_name found.0 found.1 more read_too)
 
 -- the same words ask for jobs of which both read standard input, or none
-typed_alike : (words : List Text) (job more : Job) → Asks words job → Asks words more
+typed_alike : (words : List Text) (job more : Job) → WordsAskFor words job → WordsAskFor words more
     → is_typed job ≡ is_typed more
 typed_alike words job more (inl joined) (inl joined_too) = ap is_typed (joined.1 ∙ sym joined_too.1)
 typed_alike words job more (inl joined) (inr read) = absurd (omega (arith, joined.0, read.0))
@@ -1130,7 +1130,8 @@ typed_alike words job more (inr read) (inl joined) = absurd (omega (arith, joine
 typed_alike words job more (inr read) (inr read_too) =
     typed_as_read (subcommand_of program words) job more read.2 read_too.2
 
-lack_alike : (terminals : Terminals) (words : List Text) (job more : Job) → Asks words job → Asks words more
+lack_alike : (terminals : Terminals) (words : List Text) (job more : Job) → WordsAskFor words job
+    → WordsAskFor words more
     → lacks_input terminals job ≡ false → lacks_input terminals more ≡ true → ⊥
 lack_alike terminals words job more asks asks_too has lacks =
     let alike = ap (λ t. terminals.input_closed && t) (typed_alike words job more asks asks_too) in
@@ -1140,7 +1141,7 @@ none_among : (kind : ErrorKind) (found : Kinds) → found ≡ [] → IsAmong kin
 none_among kind found none has = subst (λ (k : Kinds). IsAmong kind k) none has
 
 not_faultless : (words : List Text) (fault : JobFault) → fault ≢ NoMemory → fault_of program words ≡ []
-    → Shows words fault → ⊥
+    → ShowsWords words fault → ⊥
 not_faultless words (Help text) not none (inl version) =
     none_among kinds.DisplayVersion (fault_of program words) none version.0
 not_faultless words (Help text) not none (inr help) = none_among kinds.DisplayHelp
@@ -1185,7 +1186,7 @@ module _ (at : List ℕ → File) (known : AreKnown at) (terminals : Terminals) 
         (same.1, is.errors_are ∙ ap (λ o. Some (told ++ ending o)) same.0 ∙ sym also.errors_are),
       )
 
-      go : Asks words job → Asks words more → (status ≡ other) × AreSame
+      go : WordsAskFor words job → WordsAskFor words more → (status ≡ other) × AreSame
       go (inl joined) (inl joined_too) =
           let first : IsDone at input output jobs.Joined outcome =
           subst (λ j. IsDone at input output j outcome) joined.1 is.done in
@@ -1200,7 +1201,7 @@ module _ (at : List ℕ → File) (known : AreKnown at) (terminals : Terminals) 
           alike_so (both_read (subcommand_of program words) job more outcome next
           read.2 read_too.2 is.done also.done is.fair also.fair)
 
-  both_faults : (words : List Text) (fault next : JobFault) → Shows words fault → Shows words next
+  both_faults : (words : List Text) (fault next : JobFault) → ShowsWords words fault → ShowsWords words next
       → Answers at terminals input output errors status fault
       → Answers at terminals other_input other_output other_errors other next
       → (status ≡ other) × (AsksForVersion words → AreSame)
@@ -1235,8 +1236,8 @@ module _ (at : List ℕ → File) (known : AreKnown at) (terminals : Terminals) 
             (one.1 ∙ ap (λ t. Some (taken ++ t)) same ∙ sym two.1, one.2 ∙ sym two.2),
       )
 
-  job_or_fault : (words : List Text) (job : Job) (fault : JobFault) → Asks words job → 1 < length words
-      → Shows words fault → fault ≢ NoMemory → ⊥
+  job_or_fault : (words : List Text) (job : Job) (fault : JobFault) → WordsAskFor words job → 1 < length words
+      → ShowsWords words fault → fault ≢ NoMemory → ⊥
   job_or_fault words job fault (inl joined) more shows not = absurd (omega (arith, joined.0, more))
   job_or_fault words job fault (inr read) more shows not = not_faultless words fault not read.1 shows
 

@@ -2,7 +2,7 @@
 use Rattle.std.proofs.Common.{◌≡◌, ◌↔◌, true, Bool, refl, sym, ap, ◌∙◌}
 use Rattle.std.specs.Prelude.{Result, Ok, Err}
 use Rattle.player.specs.declared.end.PlayEnd.{PlayEnd}
-use Rattle.player.specs.Play.{TellsStreams}
+use Rattle.player.specs.Play.{TellsBothStreams}
 use Rattle.player.specs.declared.end.PlayFault.{PlayFault}
 use Rattle.player.specs.declared.end.PlayFault.TheVariants as play_faults
 use Rattle.runs.specs.Faults.{fault_of_play}
@@ -28,7 +28,7 @@ write-fault play_faults.Memory same = cc
 write-fault play_faults.Limit same = cc
 
 -- a play that broke off tells its streams by the fault of the run
-module _ (lines writer : Bool) (result : Result PlayEnd PlayFault) (told : TellsStreams result lines writer)
+module _ (lines writer : Bool) (result : Result PlayEnd PlayFault) (told : TellsBothStreams result lines writer)
     (e : PlayFault) (is : result ≡ Err e) where
   pub lines-told : (lines ≡ true) ↔ (fault_of_play e ≡ Read)
   lines-told = (

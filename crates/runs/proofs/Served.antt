@@ -15,7 +15,7 @@ use Rattle.command_line.specs.declared.asked.Job.TheVariants.{Joined}
 use Rattle.command_line.specs.declared.asked.JobFault.{JobFault}
 use Rattle.runs.specs.Run.{Stream}
 use Rattle.runs.specs.Outcomes.{outcome_of_run}
-use Rattle.runs.specs.Serving.{Asks, IsWritten}
+use Rattle.runs.specs.Serving.{WordsAskFor, IsWritten}
 use Rattle.runs.specs.declared.outcome.Outcome.{Outcome}
 use Rattle.runs.specs.declared.fault.RunFault.{RunFault}
 use Rattle.runs.specs.declared.fault.RunFault.TheVariants.{Write}
@@ -44,11 +44,11 @@ module _ (words : List (Bor Text)) (r : Result Job JobFault) (joined : (r ≡ Ok
   as_many : length (texts words) ≡ length words
   as_many = length-map words (λ (s : Bor Text). s.now)
 
-  plainly : (j : Job) → r ≡ Ok j → j ≡ Joined → Asks (texts words) j
+  plainly : (j : Job) → r ≡ Ok j → j ≡ Joined → WordsAskFor (texts words) j
   plainly j is plain = inl (rw as_many (joined.0 (is ∙ ap (λ x. Ok x) plain)), plain)
 
   pub asked : (j : Job) → r ≡ Ok j → (j ≡ Joined) ⊎ IsReadAs (subcommand_of program (texts words)) j
-      → (j ≡ Joined) ⊎ (fault_of program (texts words) ≡ []) → Asks (texts words) j
+      → (j ≡ Joined) ⊎ (fault_of program (texts words) ≡ []) → WordsAskFor (texts words) j
   asked j is (inl plain) faultless = plainly j is plain
   asked j is (inr read) (inl plain) = plainly j is plain
   asked j is (inr read) (inr none) =

@@ -8,10 +8,10 @@ pub data File : Type 0 where
   Holds : List ℕ → File
 
 -- the file can be opened, and its reader has these bytes, if they are known
-abbrev pub Opens : File → Option (List ℕ) → Type 0
-Opens Unknown left = Unit {0}
-Opens Closed left = ⊥
-Opens (Holds bytes) left = left ≡ Some bytes
+abbrev pub OpensWith : File → Option (List ℕ) → Type 0
+OpensWith Unknown left = Unit {0}
+OpensWith Closed left = ⊥
+OpensWith (Holds bytes) left = left ≡ Some bytes
 
 -- opening the file or reading it can fail: nothing is known of it, or it can't be opened
 abbrev pub CanFail : File → Type 0

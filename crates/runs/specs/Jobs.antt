@@ -8,7 +8,7 @@ use Rattle.graphs.specs.declared.graph.Numbering.TheVariants.{Ordered, Classes}
 use Rattle.player.specs.Transcript.{PersonClimbs}
 use Rattle.positions.specs.declared.side.Side.{Side}
 use Rattle.runs.specs.CheckRun.{RanCheck, CheckFails}
-use Rattle.runs.specs.Folders.{File, Opens, CanFail}
+use Rattle.runs.specs.Folders.{File, OpensWith, CanFail}
 use Rattle.runs.specs.Headline.{Solution}
 use Rattle.runs.specs.NestedText.{IsNestedText}
 use Rattle.runs.specs.Outcomes.{EndsAs, outcome_of_check, outcome_of_run}
@@ -28,7 +28,7 @@ use Rattle.runs.specs.declared.outcome.Outcome.TheVariants.{Broken}
 abbrev pub Opening : File → Type 0 → (Bytes → Outcome → Type 0) → Outcome → Type 0
 Opening file IsUntouched Then outcome =
     (CanFail file × IsUntouched × (outcome ≡ Broken Read))
-    ⊎ ((read : Bytes) × Opens file read.old × Then read outcome)
+    ⊎ ((read : Bytes) × OpensWith file read.old × Then read outcome)
 
 -- nothing was written before a fault, but for one of writing
 abbrev pub WritesWhole : Stream → Outcome → Type 0
@@ -54,7 +54,7 @@ ChecksJoined input output outcome =
 abbrev pub Checks : File → File → Stream → Outcome → Type 0
 Checks board proof output outcome =
     (((CanFail board ⊎ CanFail proof) × (outcome ≡ Broken Read))
-    ⊎ ((b p : Bytes) × Opens board b.old × Opens proof p.old
+    ⊎ ((b p : Bytes) × OpensWith board b.old × OpensWith proof p.old
     × EndsAs outcome_of_check (RanCheck MAX_BOARD_BYTES MAX_PROOF_BYTES b p output.bytes)
     (CheckFails MAX_BOARD_BYTES MAX_PROOF_BYTES (p.new ≡ p.old) b p output.bytes) outcome))
     × WritesWhole output outcome

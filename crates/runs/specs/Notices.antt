@@ -1,5 +1,6 @@
 -- The notice that a large board is solved.
-use Rattle.std.specs.Prelude.{◌≡◌, ℕ, ◌&&◌, ◌⊎◌, nat_lt, if◌then◌else◌, Bool, List, [], ◌++◌, Result}
+use Rattle.std.specs.Prelude.{◌≡◌, ℕ, ◌&&◌, ◌⊎◌, nat_lt, if◌then◌else◌, Bool, List, [], ◌++◌}
+use Rattle.std.specs.Prelude.{Result}
 use Rattle.std.specs.Prelude.{Err, codes}
 use Rattle.std.specs.Fmt.{decimal}
 use Rattle.board_text.specs.PlainBoard.{PlainBoard}

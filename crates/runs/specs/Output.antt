@@ -4,6 +4,7 @@ use Rattle.std.specs.Fmt.{decimal}
 use Rattle.board_text.specs.LineForms.{with_line_feed}
 use Rattle.board_text.specs.PlaceForms.{spaced_places}
 use Rattle.board_text.specs.PlainBoard.{PlainBoard}
+use Rattle.command_line.specs.Reading.{side_word}
 use Rattle.positions.specs.Ranks.{configuration_at}
 use Rattle.proof_text.specs.ProofText.{claim_words}
 use Rattle.positions.specs.declared.side.Side.{Side}
@@ -12,11 +13,6 @@ use Rattle.proof_check.specs.declared.fault.CheckFault.{CheckFault}
 use Rattle.proof_check.specs.declared.fault.CheckFault.TheVariants as faults
 use Rattle.runs.specs.declared.verdicts.Verdict.{Verdict}
 use Rattle.runs.specs.declared.verdicts.Verdict.TheVariants.{Accepted, Refused}
-
--- a side's name
-abbrev pub side_word : Side → List ℕ
-side_word Labeller = codes "labeller"
-side_word Adversary = codes "adversary"
 
 -- the word for a row's turns: a labeller's row has an answer for each pebble, an adversary's leads
 -- on by labels

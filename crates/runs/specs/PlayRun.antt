@@ -18,9 +18,9 @@ use Rattle.runs.specs.declared.fault.RunFault.{RunFault}
 use Rattle.runs.specs.declared.fault.RunFault.TheVariants.{Memory}
 
 -- the play on the board in which the person is this side
-abbrev pub game_of : Side → PlainBoard → Game
-game_of Adversary board = PersonAsks board
-game_of Labeller board = PersonAnswers board
+abbrev pub game_played : Side → PlainBoard → Game
+game_played Adversary board = PersonAsks board
+game_played Labeller board = PersonAnswers board
 
 -- the play has ended, as the value of its start allows
 abbrev pub IsOver : Game → Bytes → Bytes → PlayEnd → Type 0
@@ -34,22 +34,22 @@ IsBrokenOff game lines written fault =
 -- a board within the limit was read, and the play on it is over
 abbrev pub RanPlay : Numbering → Side → ℕ → Bytes → Bytes → Bytes → PlayEnd → Type 0
 RanPlay limit side most_bytes board lines written end =
-    RanOn limit most_bytes board (λ b. IsOver (game_of side b) lines written end)
+    RanOn limit most_bytes board (λ b. IsOver (game_played side b) lines written end)
 
 -- the faults of a play: there is no board, or no memory for its values, and nothing else is
 -- touched; or the play was broken off
 abbrev pub PlayFails : Numbering → Side → ℕ → Type 0 → Bytes → Bytes → Bytes → RunFault → Type 0
 PlayFails limit side most_bytes IsUntouched board lines written fault =
     FailsOn limit most_bytes board IsUntouched
-    (λ b. IsBrokenOff (game_of side b) lines written) fault
+    (λ b. IsBrokenOff (game_played side b) lines written) fault
 
 -- the end of a play as that of a run
 abbrev pub run_of_play : Result PlayEnd PlayFault → Result PlayEnd RunFault
 run_of_play (Ok end) = Ok end
 run_of_play (Err fault) = Err (fault_of_play fault)
 
--- what a person is told in the run of a play: nothing, if there was no board; else the notice of the
--- board, and then the prompts of the play on it, or none, if memory for its values was refused
+-- what a person is told in the run of a play: nothing, if there was no board; else the notice of
+-- the board, and then the prompts of the play on it, or none, if memory for its values was refused
 abbrev pub IsToldInRun : Numbering → Side → ℕ → Bytes → Bytes → Bytes → Bool → Bool
     → Result PlayEnd RunFault → List ℕ → Type 0
 IsToldInRun limit side most_bytes board lines written sees_size sees_choices result told =
@@ -59,5 +59,6 @@ IsToldInRun limit side most_bytes board lines written sees_size sees_choices res
     × (prompts : List ℕ) × (told ≡ notice_for sees_size b ++ prompts)
     × (((result ≡ Err Memory) × (prompts ≡ []))
     ⊎ ((played : Result PlayEnd PlayFault) × (result ≡ run_of_play played)
-    × ArePrompts sees_choices (game_of side b) lines.old lines.new written.old written.new played
+    × ArePrompts sees_choices (game_played side b) lines.old lines.new written.old written.new
+    played
     prompts)))

@@ -5,7 +5,7 @@ use Rattle.clap.specs.Walk.{Text, texts}
 use Rattle.clap.specs.Words.{fault_of, subcommand_of, takes}
 use Rattle.board_text.specs.LineForms.{with_line_feed}
 use Rattle.command_line.specs.Commands.{program}
-use Rattle.command_line.specs.Reading.{IsReadAs, Shows}
+use Rattle.command_line.specs.Reading.{IsReadAs, ShowsWords}
 use Rattle.command_line.specs.declared.asked.Job.{Job}
 use Rattle.command_line.specs.declared.asked.Job.TheVariants.{Joined, Report, Play, Climb}
 use Rattle.command_line.specs.declared.asked.JobFault.{JobFault}
@@ -24,8 +24,8 @@ use Rattle.runs.specs.declared.serving.Words.{Words}
 use Rattle.runs.specs.declared.serving.Words.TheVariants.{Given, NotText, OutOfMemory}
 
 -- the words, the program's name first, ask for the job: there is no other word, or `clap` reads it
-abbrev pub Asks : List Text → Job → Type 0
-Asks words job =
+abbrev pub WordsAskFor : List Text → Job → Type 0
+WordsAskFor words job =
     ((length words ≤ 1) × (job ≡ Joined))
     ⊎ ((1 < length words) × (fault_of program words ≡ [])
     × IsReadAs (subcommand_of program words) job)
@@ -120,8 +120,8 @@ module _ (at : List ℕ → File) (terminals : Terminals) (input output errors :
   -- the words ask for a job, which is served; or for none, and that is answered
   abbrev pub ServesWords : List Text → Type 0
   ServesWords words =
-      ((job : Job) × Asks words job × ServesJob job)
-      ⊎ ((fault : JobFault) × (1 < length words) × Shows words fault
+      ((job : Job) × WordsAskFor words job × ServesJob job)
+      ⊎ ((fault : JobFault) × (1 < length words) × ShowsWords words fault
       × (takes program words ≡ true → fault ≡ NoMemory) × Answers fault)
 
   -- the same, if the words are there and are text

@@ -1,7 +1,7 @@
 //! Folders, in which files are opened by their paths.
 
 ghost use Rattle.std.specs.Prelude.{◌≡◌, ℕ, List, IfOk, OnOk, OnErr, true, false};
-ghost use Rattle.runs.specs.Folders.{File, Unknown, CanFail, Opens};
+ghost use Rattle.runs.specs.Folders.{File, Unknown, CanFail, OpensWith};
 
 use board_text::{Failed, Source, Through};
 use std::fs;
@@ -39,7 +39,7 @@ pub trait Folder {
     /// A reader of the file at the path. If the bytes of a file are known, no reader ever fails.
     fn open(&self, path: &str) -> Result<Self::Reader, Failed>
         ensures opened { IfOk result (λ reader.
-            Opens (at self.now path.now) (Self.Reader.remaining reader)) }
+            OpensWith (at self.now path.now) (Self.Reader.remaining reader)) }
         ensures ready { IfOk result (λ reader. Self.Reader.has_failed reader ≡ false) }
         ensures unended { IfOk result (λ reader. Self.Reader.has_ended reader ≡ false) }
         ensures sound { OnOk result ((reader : Self.Reader) → Self.Reader.has_failed reader ≡ true

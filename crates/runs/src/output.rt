@@ -3,7 +3,8 @@
 ghost use Rattle.std.specs.Prelude.{◌≡◌, ◌<◌, ◌++◌, IfOk, OnOk, string_bytes};
 ghost use Rattle.positions.specs.Ranks.{configurations};
 ghost use Rattle.proof_check.specs.CheckFaults.{NamesRanks};
-ghost use Rattle.runs.specs.Output.{line_of, side_word as word_of_side, turn_word as word_of_turn, row_words, fault_words};
+ghost use Rattle.command_line.specs.Reading.{side_word as word_of_side};
+ghost use Rattle.runs.specs.Output.{line_of, turn_word as word_of_turn, row_words, fault_words};
 ghost use Rattle.runs.specs.Inside.Verdicts.{NamesRanksOf};
 
 use crate::verdicts::Verdict;

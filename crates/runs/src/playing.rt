@@ -2,7 +2,7 @@
 
 ghost use Rattle.std.specs.Prelude.{◌≡◌, ◌⊎◌, ℕ, List, Result, true, false, IfOk, IfErr};
 ghost use Rattle.player.specs.Laws.{KeepsToValue};
-ghost use Rattle.player.specs.Play.{HasEnded, BreaksOff, TellsStreams};
+ghost use Rattle.player.specs.Play.{HasEnded, BreaksOff, TellsBothStreams};
 ghost use Rattle.board_text.specs.Ranges.{InRange};
 ghost use Rattle.player.specs.Prompts.{ArePrompts};
 ghost use Rattle.player.specs.Showing.{IsMore};
@@ -10,7 +10,7 @@ ghost use Rattle.player.specs.Transcript.{IsPlayed, PersonClimbs};
 ghost use Rattle.player.specs.declared.end.PlayEnd.{PlayEnd};
 ghost use Rattle.player.specs.declared.end.PlayFault.{PlayFault};
 ghost use Rattle.runs.specs.PlayRun.{IsBrokenOff, IsOver, IsToldInRun, PlayFails, RanPlay};
-ghost use Rattle.runs.specs.PlayRun.{game_of, run_of_play};
+ghost use Rattle.runs.specs.PlayRun.{game_played, run_of_play};
 ghost use Rattle.runs.specs.Run.{TellsFailures, bytes_of, stream_of};
 
 use crate::fault::RunFault;
@@ -234,15 +234,16 @@ fn play<L: Source, W: Sink, E: Sink>(
     requires lines_ready { L.has_failed lines.old ≡ false }
     requires lines_unended { L.has_ended lines.old ≡ false }
     requires writer_ready { W.has_failed writer.old ≡ false }
-    ensures ok { IfOk result (HasEnded (IsPlayed (game_of side board.now)) (L.remaining lines.old)
+    ensures ok { IfOk result (HasEnded (IsPlayed (game_played side board.now))
+        (L.remaining lines.old)
         (L.remaining lines.new)
         (W.contents writer.old) (W.contents writer.new)) }
-    ensures fault { IfErr result (BreaksOff (IsPlayed (game_of side board.now))
+    ensures fault { IfErr result (BreaksOff (IsPlayed (game_played side board.now))
         (L.remaining lines.old) (L.remaining lines.new)
         (W.contents writer.old) (W.contents writer.new)) }
-    ensures value { IfOk result (KeepsToValue (game_of side board.now)) }
-    ensures streams { TellsStreams result (L.has_failed lines.new) (W.has_failed writer.new) }
-    ensures prompts { (told : List ℕ) × ArePrompts shows (game_of side board.now)
+    ensures value { IfOk result (KeepsToValue (game_played side board.now)) }
+    ensures streams { TellsBothStreams result (L.has_failed lines.new) (W.has_failed writer.new) }
+    ensures prompts { (told : List ℕ) × ArePrompts shows (game_played side board.now)
         (L.remaining lines.old) (L.remaining lines.new)
         (W.contents writer.old) (W.contents writer.new) result told
         × IsMore E.contents E.has_failed errors.old errors.new told }

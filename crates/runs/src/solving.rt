@@ -58,7 +58,7 @@ pub fn run_solve_alone<R: Source, W: Sink>(
 
 /// The same as `run_solve_alone`, with several workers.
 ///
-/// The number of `workers` is 1 to `MAX_WORKERS`. They share the rounds that `solve_classes` shares,
+/// The number of `workers` is 1 to `MAX_WORKERS`. They share the work that `solve_classes` shares,
 /// and each makes a part of the document's rows if there are thousands of them. The answer and the
 /// bytes written are the same for every number of them. It may wait for workers.
 pub fn run_solve<R: Source, W: Sink>(

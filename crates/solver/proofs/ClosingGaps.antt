@@ -4,7 +4,7 @@ use Rattle.graphs.specs.Numbered.{Numbered, graph_of}
 use Rattle.classes.specs.declared.counting.TheConstants.{MAX_CLASSES}
 use Rattle.graphs.specs.Graph.{PlainGraph, IsGraph}
 use Rattle.graphs.proofs.Cited.{member-is}
-use Rattle.solver.specs.Inside.Stage.{PlainStage, rank_filed, IsFiled, IsKept, Closes}
+use Rattle.solver.specs.Inside.Stage.{PlainStage, rank_filed, IsFiled, IsKeptStage, Closes}
 use Rattle.solver.specs.Inside.Tables.{is_open}
 use Rattle.solver.proofs.FiledRanks.{listed-away, filed-once}
 use Rattle.solver.proofs.ListedWords.{IsClosing, closing-step, closing-end, shut-more, shut-same, all-shut}
@@ -18,7 +18,7 @@ pub record IsToClose (s : PlainStage) (gap : ℕ) : Type 0 where
 
 -- the gap's members with a place below `place` are filed if they were open, and nothing else changes
 pub record IsClosingGap (s : PlainStage) (gap place : ℕ) (now : PlainStage) : Type 0 where
-  pub kept : IsKept s now
+  pub kept : IsKeptStage s now
   pub strikes_is : now.strikes ≡ s.strikes
   pub counts_is : now.counts ≡ s.counts
   pub closing : IsClosing (graph_of s.game) gap s.value s.values now.values

@@ -12,7 +12,7 @@ use Rattle.graphs.specs.Numbered.{Numbered, graph_of}
 use Rattle.solver.specs.Ending.{IsRoundEnd}
 use Rattle.solver.specs.Solving.{IsWorth}
 use Rattle.solver.specs.Solving.{AnswerLasts}
-use Rattle.solver.specs.Inside.Stage.{PlainStage, rank_filed, as_solving, IsKept, IsStriking, IsUnstruck, FilesAll, TakesCounts}
+use Rattle.solver.specs.Inside.Stage.{PlainStage, rank_filed, as_solving, IsKeptStage, IsStriking, IsUnstruck, FilesAll, TakesCounts}
 use Rattle.solver.specs.Inside.Tables.{is_open, is_unstruck, IsCounted, AreWords}
 use Rattle.graphs.proofs.Cited.{value_of_lasts, lasts_of_value, same_test, true_or_false, same_or_not, lasts-less}
 use Rattle.solver.proofs.StruckTables.{IsCounted-same, AreWords-same, same-open}
@@ -152,8 +152,8 @@ module _ (s : PlainStage) (unstruck : IsUnstruck s) where
       once = λ x. omega arith;
     })
 
-    pub end-kept : IsKept s t
-    end-kept = subst (IsKept s) (sym takes.rest) (record {
+    pub end-kept : IsKeptStage s t
+    end-kept = subst (IsKeptStage s) (sym takes.rest) (record {
       game_is = files.kept.game_is;
       value_is = files.kept.value_is;
       others = files.kept.others;

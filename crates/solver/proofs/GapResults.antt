@@ -12,11 +12,13 @@ use Rattle.positions.proofs.Cited.{configuration_at-rank_of, gap_below, gap_of-m
 use Rattle.positions.proofs.Cited.{member_of-gap_of}
 use Rattle.positions.proofs.Cited.{pebble_below, same_value}
 use Rattle.board_text.proofs.Cited.{some_places}
+use Rattle.graphs.specs.Answers.{AreAnswerBits, IsAnswerIn}
 use Rattle.graphs.specs.Numbered.{Numbered, graph_of}
 use Rattle.graphs.specs.NumberedRanks.{gap_in, number_in}
 use Rattle.graphs.proofs.Cited.{gap-in-legal, gap-in-moved, number-below, number-value, places_are}
 use Rattle.graphs.proofs.Cited.{true_or_false}
 use Rattle.solver.specs.GapRequests.{NumberedGap, IsRequestIn, numbered_gap}
+use Rattle.solver.specs.LabelSets.{IsInSet}
 use Rattle.solver.specs.Words.{value_with_word}
 use Rattle.solver.specs.Inside.Tables.{is_open}
 use Rattle.solver.specs.Inside.Values.{IsWordOf, AreValues}
@@ -44,13 +46,16 @@ place-moved board c p place is low inside =
 -- the word of the configuration after it
 module _ (n : Numbered) (is : IsBoard n.board) (gap : ℕ) (c : List ℕ) (p : ℕ)
     (request : IsRequestIn (numbered_gap n gap) c p) where
-  pub legal-there : (place : ℕ) → place < (graph_of n).places
-      → ((graph_of n).struck ((graph_of n).member gap place) ≡ gap) ↔ Legal n.board c p place
-  legal-there place low =
-      let legal = subst (λ g. Legal n.board c p place ↔ ((place < (graph_of n).places) × ((graph_of n).struck ((graph_of n).member g place) ≡ g)))
-      request.its_gap (gap-in-legal n is c p request.is_configuration request.is_pebble place) in (
-        λ struck. legal.1 (low, struck),
-        λ allowed. (legal.0 allowed).1,
+  pub answer-there : (labels : List ℕ) → AreAnswerBits (graph_of n) gap labels
+      → (label : ℕ) → IsInSet labels label ↔ Legal n.board c p label
+  answer-there labels are label =
+      let legal = subst (λ g. Legal n.board c p label ↔ IsAnswerIn (graph_of n) g label) request.its_gap
+      (gap-in-legal n is c p request.is_configuration request.is_pebble label) in (
+        λ set. legal.1 ((are.each label set.0).0 set.1),
+        λ allowed.
+            let answer = legal.0 allowed in
+            let few = are.few label answer in
+            (few, (are.each label few).1 answer),
       )
 
   pub word-there : (words : List ℕ) → AreValues n words → (place : ℕ) → place < places n.board
@@ -61,6 +66,12 @@ module _ (n : Numbered) (is : IsBoard n.board) (gap : ℕ) (c : List ℕ) (p : �
       (gap-in-moved n is c p request.is_configuration request.is_pebble place) in
       subst (IsWordOf n.board (moved c p place) words) (sym number)
       (word-of-number n is words are (moved c p place) (place-moved n.board c p place request.is_configuration request.is_pebble low))
+
+-- an answer of a gap is a place
+pub answer-inside : (n : Numbered) (gap : ℕ) (labels : List ℕ) → AreAnswerBits (graph_of n) gap labels
+    → (label : ℕ) → IsInSet labels label → label < places n.board
+answer-inside n gap labels are label set =
+    subst (λ m. label < m) (places_are n) ((are.each label set.0).0 set.1).0
 
 -- a place is one of the graph's
 pub inside-graph : (n : Numbered) (place : ℕ) → place < places n.board → place < (graph_of n).places
@@ -100,22 +111,24 @@ module _ (board : PlainBoard) (is : IsBoard board) (gap : ℕ) (below : gap < ga
 -- so what the results of the gap's number tell of a place is so of the gap's member there
 module _ (board : PlainBoard) (is : IsBoard board) (gap : ℕ) (below : gap < gaps board) (r : NumberedGap)
     (same : r.game.board ≡ board)
-    (request : IsRequestIn r (member_of board gap 0) (pebble_of board gap)) (place : ℕ) (told : Bool) where
-  pub told-answer : ((c : List ℕ) (p : ℕ) → IsRequestIn r c p → (told ≡ true) ↔ Legal r.game.board c p place)
-      → (told ≡ true) ↔ IsAnswer board gap place
+    (request : IsRequestIn r (member_of board gap 0) (pebble_of board gap)) (place : ℕ) (Told : Type 0) where
+  pub told-answer : ((c : List ℕ) (p : ℕ) → IsRequestIn r c p → Told ↔ Legal r.game.board c p place)
+      → Told ↔ IsAnswer board gap place
   told-answer tells =
-      let here = subst (λ (b : PlainBoard). (told ≡ true) ↔ Legal b (member_of board gap 0) (pebble_of board gap) place) same (tells _ _ request) in
+      let here = subst (λ (b : PlainBoard). Told ↔ Legal b (member_of board gap 0) (pebble_of board gap) place)
+      same (tells _ _ request) in
       let first = first-answer board is gap below place in (
         λ yes. first.0 (here.0 yes),
         λ answer. here.1 (first.1 answer),
       )
 
-  pub told-forever : ((c : List ℕ) (p : ℕ) → IsRequestIn r c p → (told ≡ true) ↔ HasValue r.game.board (moved c p place) Forever)
-      → (told ≡ true) ↔ HasValue board (member_of board gap place) Forever
+  pub told-forever : ((c : List ℕ) (p : ℕ) → IsRequestIn r c p
+      → Told ↔ HasValue r.game.board (moved c p place) Forever)
+      → Told ↔ HasValue board (member_of board gap place) Forever
   told-forever tells =
-      subst (λ (c : List ℕ). (told ≡ true) ↔ HasValue board c Forever) (first-result board is gap below place)
-      (subst (λ (b : PlainBoard). (told ≡ true) ↔ HasValue b (moved (member_of board gap 0) (pebble_of board gap) place) Forever) same
-      (tells _ _ request))
+      subst (λ (c : List ℕ). Told ↔ HasValue board c Forever) (first-result board is gap below place)
+      (subst (λ (b : PlainBoard). Told ↔ HasValue b (moved (member_of board gap 0) (pebble_of board gap) place) Forever)
+      same (tells _ _ request))
 
 -- the value that a word stands for is the configuration's
 pub value-with : (board : PlainBoard) (configuration words : List ℕ) (x : ℕ) (value : Value)

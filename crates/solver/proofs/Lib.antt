@@ -21,3 +21,4 @@ pub mod Cited
 pub mod ValueSizes
 pub mod RankSpaces
 pub mod GapResults
+pub mod SafeWalks

@@ -6,7 +6,7 @@ use Rattle.index_lists.proofs.Cited.{times-here, times-more, times-later}
 use Rattle.graphs.specs.Numbered.{graph_of}
 use Rattle.classes.specs.declared.counting.TheConstants.{MAX_CLASSES}
 use Rattle.graphs.specs.Graph.{PlainGraph, IsGraph, live_answers, lasts}
-use Rattle.solver.specs.Inside.Stage.{PlainStage, with_counts, strikes_copied, IsFiled, IsKept, Closes, IsStruckAt, IsStriking}
+use Rattle.solver.specs.Inside.Stage.{PlainStage, with_counts, strikes_copied, IsFiled, IsKeptStage, Closes, IsStruckAt, IsStriking}
 use Rattle.solver.specs.Inside.Tables.{is_unstruck, IsCounted, AreWords}
 use Rattle.graphs.proofs.Cited.{without, IsBetween}
 use Rattle.solver.proofs.StruckTables.{IsCounted-same, AreWords-same, counted-struck, words-some, words-closed, home-now}
@@ -159,14 +159,14 @@ module _ (s : PlainStage) (is : IsGraph (graph_of s.game)) (c : ℕ) (rest : Lis
 
 -- ---- one strike after another
 
-pub kept-on : (s t u : PlainStage) → IsKept s t → IsKept t u → IsKept s u
+pub kept-on : (s t u : PlainStage) → IsKeptStage s t → IsKeptStage t u → IsKeptStage s u
 kept-on s t u one two = record {
   game_is = two.game_is ∙ one.game_is;
   value_is = two.value_is ∙ one.value_is;
   others = λ v d. two.others v (λ e. d (e ∙ one.value_is)) ∙ one.others v d;
 }
 
-pub kept-self : (s : PlainStage) → IsKept s s
+pub kept-self : (s : PlainStage) → IsKeptStage s s
 kept-self s = record { game_is = refl; value_is = refl; others = λ v d. refl }
 
 -- a stage that has copied the configurations from the store has the same ones to strike
@@ -188,5 +188,5 @@ striking-taken s todo k = record {
   once = k.once;
 }
 
-pub kept-taken : (s t : PlainStage) → IsKept (strikes_copied s) t → IsKept s t
+pub kept-taken : (s t : PlainStage) → IsKeptStage (strikes_copied s) t → IsKeptStage s t
 kept-taken s t k = record { game_is = k.game_is; value_is = k.value_is; others = k.others }

@@ -25,7 +25,7 @@ use Rattle.graphs.specs.NumberedRanks.{number_in}
 use Rattle.graphs.specs.Lasting.{LastsExactly, LastsForever}
 use Rattle.solver.specs.Solving.{Solving, AreOpenMembers, IsSolving, NoneHas, AnswerLasts, AnswerForever}
 use Rattle.solver.specs.Words.{AreFirstCounts, AreFirstValues}
-use Rattle.solver.specs.Inside.Stage.{first_lists, PlainStage, filed_at, due_strikes, at_next_value, IsFiled, IsStage, IsKept, IsStriking, IsUnstruck, IsState}
+use Rattle.solver.specs.Inside.Stage.{first_lists, PlainStage, filed_at, due_strikes, at_next_value, IsFiled, IsStage, IsKeptStage, IsStriking, IsUnstruck, IsState}
 use Rattle.solver.specs.Inside.Tables.{IsLast, is_open, open_members, is_unstruck, struck_rounds, AreWords}
 use Rattle.graphs.proofs.Cited.{member-is}
 use Rattle.graphs.proofs.Cited.{count_below-some, count_below-less, count_below-bound}
@@ -395,7 +395,7 @@ module _ (s : PlainStage) (round : ℕ) (is_done : Bool) (st : IsState s round i
     stage = subst (λ d. IsStage (lasts arena (struck_rounds d round)) s) going st.stage;
   }
 
-  module _ (s' : PlainStage) (struck : IsStriking s' []) (kept : IsKept s s') where
+  module _ (s' : PlainStage) (struck : IsStriking s' []) (kept : IsKeptStage s s') where
     value_is : s'.value ≡ suc round
     value_is = kept.value_is ∙ st.value_is
 

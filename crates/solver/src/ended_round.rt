@@ -5,7 +5,7 @@ ghost use Rattle.index_lists.specs.Lists.{times};
 ghost use Rattle.graphs.specs.Numbered.{graph_of};
 ghost use Rattle.solver.specs.Ending.{IsRoundEnd};
 ghost use Rattle.solver.specs.Inside.Tables.{is_open};
-ghost use Rattle.solver.specs.Inside.Stage.{with_counts, as_solving, IsSmall, IsFiled, IsKept, IsStriking, IsUnstruck, FilesAll, TakesCounts};
+ghost use Rattle.solver.specs.Inside.Stage.{with_counts, as_solving, IsSmall, IsFiled, IsKeptStage, IsStriking, IsUnstruck, FilesAll, TakesCounts};
 
 use crate::end::RoundEnd;
 use crate::stage::Stage;
@@ -18,7 +18,7 @@ impl<S: ListStore> Stage<S> {
         requires unstruck { IsUnstruck self.old }
         requires end { IsRoundEnd (as_solving self.old false) (E.won_list end.now) (E.counts end.now) }
         ensures struck { IsStriking self.new [] }
-        ensures kept { IsKept self.old self.new }
+        ensures kept { IsKeptStage self.old self.new }
     {
         self.file_all(end.won());
         self.take_counts(end);

@@ -3,7 +3,7 @@
 ghost use Rattle.std.specs.Prelude.{false, [], ◌<◌};
 ghost use Rattle.solver.specs.Ending.{IsRoundEnd};
 ghost use Rattle.solver.specs.Solving.{Solving};
-ghost use Rattle.solver.specs.Inside.Stage.{as_solving, due_strikes, IsKept, IsStriking};
+ghost use Rattle.solver.specs.Inside.Stage.{as_solving, due_strikes, IsKeptStage, IsStriking};
 ghost use Rattle.solver.specs.Inside.Stage.{IsUnstruck};
 
 use crate::end::RoundEnd;
@@ -22,7 +22,7 @@ pub(crate) trait NextValue {
         requires unstruck { IsUnstruck stage.old }
         requires serves { serves self.now (as_solving stage.old false) }
         ensures struck { IsStriking stage.new [] }
-        ensures kept { IsKept stage.old stage.new };
+        ensures kept { IsKeptStage stage.old stage.new };
 }
 
 /// By striking the configurations that the round has to strike.

@@ -1,16 +1,17 @@
 //! The results of the answers of a gap.
 
 ghost use Rattle.std.specs.Prelude.{◌≡◌, ◌<◌, ◌↔◌, ℕ, List, IsTrue};
-ghost use Rattle.board_text.specs.PlainBoard.{IsBoard, places};
+ghost use Rattle.board_text.specs.PlainBoard.{places};
 ghost use Rattle.positions.specs.declared.value.Value.TheVariants.{Forever};
 ghost use Rattle.positions.specs.Game.{Legal, moved};
 ghost use Rattle.positions.specs.Value.{HasValue};
 ghost use Rattle.solver.specs.GapRequests.{IsRequestIn};
+ghost use Rattle.solver.specs.LabelSets.{IsInSet};
 ghost use Rattle.solver.specs.Words.{value_with_word};
 
 use crate::word::{OPEN, value_with};
 use graphs::Graph;
-use positions::Value;
+use positions::{LabelSet, Value};
 use std::marker::Model;
 
 /// The answers of a gap, and the values after them. Contracts see the board, what numbers stand
@@ -34,22 +35,15 @@ impl<'a> Model for Results<'a> {
 }
 
 impl<'a> Results<'a> {
-    /// The number of places that a pebble can have.
-    pub fn places(&self) -> u16
-        ensures value { result ≡ places self.now.game.board }
-        ensures is_board { IsBoard self.now.game.board }
-    {
-        self.graph.places() as u16
-    }
-
-    /// Whether `place` is an answer to each request in the gap.
-    pub fn is_answer(&self, place: u16) -> bool
-        requires { place < places self.now.game.board }
-        ensures { (configuration : List ℕ) → (pebble : ℕ)
+    /// The labels that are answers to each request in the gap.
+    pub fn answers(&self) -> LabelSet
+        ensures legal { (configuration : List ℕ) → (pebble : ℕ)
             → IsRequestIn self.now configuration pebble
-            → IsTrue result ↔ Legal self.now.game.board configuration pebble place }
+            → (label : ℕ)
+            → IsInSet result label ↔ Legal self.now.game.board configuration pebble label }
+        ensures inside { (label : ℕ) → IsInSet result label → label < places self.now.game.board }
     {
-        self.graph.is_answer(self.gap, place as u32)
+        self.graph.answers(self.gap)
     }
 
     /// The value of the configuration after each request in the gap, if its pebble gets `place`.

@@ -23,7 +23,7 @@ pub(crate) fn zeros(room: Vec<u64>, count: u32) -> Vec<u64>
 
 /// Adds the weight of each number to the size of the value that is its word, and returns the sum of
 /// the weights of those whose word is `OPEN`.
-pub(crate) fn add_weights(sizes: &mut [u64], words: &[u32], weights: &[u64]) -> u64
+pub(crate) fn add_weights(sizes: &mut [u64], words: &[u32], weights: &[u16]) -> u64
     requires wide { length weights.now ≡ length words.now }
     requires zeros { AreZeros sizes.old }
     requires inside { (x : ℕ) → x < length words.now → is_open words.now x ≡ false
@@ -37,10 +37,11 @@ pub(crate) fn add_weights(sizes: &mut [u64], words: &[u32], weights: &[u64]) -> 
     let mut forever = 0;
     for number in 0..words.len() {
         let word = words[number];
+        let weight = weights[number] as u64;
         if word == OPEN {
-            forever += weights[number];
+            forever += weight;
         } else {
-            sizes[word as usize] += weights[number];
+            sizes[word as usize] += weight;
         }
     }
     forever

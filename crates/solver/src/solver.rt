@@ -9,6 +9,7 @@ ghost use Rattle.positions.specs.Value.{HasValue};
 ghost use Rattle.positions.specs.Ranks.{configurations};
 ghost use Rattle.positions.specs.Gaps.{IsDominator};
 ghost use Rattle.classes.specs.Numbers.{class_count};
+ghost use Rattle.graphs.specs.NumberedRanks.{AreNumberWeights};
 ghost use Rattle.graphs.specs.Numbered.{IsFewBy, numbered, graph_of, configuration_of};
 ghost use Rattle.positions.specs.Counts.{HasSize, IsSmallest};
 ghost use Rattle.solver.specs.Words.{value_of_word, AreFirstCounts, AreFirstValues};
@@ -33,19 +34,20 @@ use index_lists::ListStore;
 use positions::{MAX_CONFIGURATIONS, Space, TooLarge};
 use std::alloc::Global;
 use std::marker::Model;
+use std::thread::Threads;
 
 /// A board whose values are found round by round.
 ///
 /// It holds no board: contracts see it as the board that it was opened for and what the numbers of
 /// its configurations stand for, with the configurations that are filed and those that aren't. No
-/// call but `open`, `of_classes` and `to_strike` takes memory.
+/// call but `open`, `of_classes`, `of_classes_by` and `to_strike` takes memory.
 #[derive(Drop)]
 pub struct Solver<S: ListStore> {
     stage: Stage<S>,
     /// The space of the board, if numbers are ranks.
     space: Option<Space>,
     /// How many configurations have each number.
-    weights: Vec<u64>,
+    weights: Vec<u16>,
     /// Room for the number of configurations of each finite value.
     sizes: Vec<u64>,
     done: bool,
@@ -102,6 +104,31 @@ impl<S: ListStore + Drop> Solver<S> {
         }
     }
 
+    /// The same as `of_classes`, with the graph made by at most this number of `workers`. One is
+    /// this thread, and starts none.
+    pub fn of_classes_by(
+        rt: &(impl Threads + Sync),
+        alloc: Global,
+        board: &Board,
+        workers: u8,
+    ) -> Result<Solver<S>, SolveFault>
+        requires workers { 1 ≤ workers }
+        ensures game { IfOk result (λ solver. solver.game ≡ numbered board.now Numbering.Classes) }
+        ensures start { IfOk result (λ solver. (solver.rounds ≡ 0) × (solver.is_done ≡ false)) }
+        ensures kept { IfOk result (λ solver. IsSolving solver) }
+        ensures too_large { (result ≡ Err SolveFault.TooLarge)
+            ↔ (MAX_CLASSES < class_count board.now) }
+        ensures no_worker { result ≡ Err SolveFault.Worker → ⊥ }
+    {
+        if !has_few_classes(board) {
+            return Err(SolveFault::TooLarge);
+        }
+        match Solver::start_by(rt, alloc, board, workers) {
+            Ok(solver) => Ok(solver),
+            Err(Memory) => Err(SolveFault::Memory),
+        }
+    }
+
     /// A solver of `board` by `numbering`. The space is the board's, if numbers are ranks.
     fn start(
         alloc: Global,
@@ -117,6 +144,41 @@ impl<S: ListStore + Drop> Solver<S> {
     {
         let graph = Graph::of(alloc, board, numbering)?;
         let weights = graph.weights(alloc)?;
+        Solver::of_graph(alloc, graph, weights, space)
+    }
+
+    /// A solver of `board` by its classes, with the graph made by at most this number of `workers`.
+    fn start_by(
+        rt: &(impl Threads + Sync),
+        alloc: Global,
+        board: &Board,
+        workers: u8,
+    ) -> Result<Solver<S>, Memory>
+        requires few { class_count board.now ≤ MAX_CLASSES }
+        requires workers { 1 ≤ workers }
+        ensures game { IfOk result (λ solver. solver.game ≡ numbered board.now Numbering.Classes) }
+        ensures start { IfOk result (λ solver. (solver.rounds ≡ 0) × (solver.is_done ≡ false)) }
+        ensures kept { IfOk result (λ solver. IsSolving solver) }
+    {
+        let graph = Graph::of_classes_by(rt, alloc, board, workers)?;
+        let weights = graph.weights_by(rt, alloc, workers)?;
+        Solver::of_graph(alloc, graph, weights, None)
+    }
+
+    /// A solver of the board of `graph`, whose numbers have these `weights`. The space is the
+    /// board's, if numbers are ranks.
+    fn of_graph(
+        alloc: Global,
+        graph: Graph,
+        weights: Vec<u16>,
+        space: Option<Space>,
+    ) -> Result<Solver<S>, Memory>
+        requires weights { AreNumberWeights graph weights.items }
+        requires space { HasSpaceBy graph.numbering graph.board space }
+        ensures game { IfOk result (λ solver. solver.game ≡ graph) }
+        ensures start { IfOk result (λ solver. (solver.rounds ≡ 0) × (solver.is_done ≡ false)) }
+        ensures kept { IfOk result (λ solver. IsSolving solver) }
+    {
         let sizes = Vec::with_capacity(alloc, graph.configurations() as usize)?;
         let mut stage = Stage::<S>::open(alloc, graph)?;
         stage.begin_next_value();

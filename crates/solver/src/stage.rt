@@ -5,7 +5,7 @@ ghost use Rattle.index_lists.specs.Lists.{times};
 ghost use Rattle.graphs.specs.Graph.{is_struck};
 ghost use Rattle.graphs.specs.Numbered.{graph_of};
 ghost use Rattle.solver.specs.Inside.Tables.{is_open};
-ghost use Rattle.solver.specs.Inside.Stage.{PlainStage, filed_at, due_strikes, rank_listed, rank_filed, at_next_value, strikes_copied, IsFiled, IsKept, Closes, IsStriking};
+ghost use Rattle.solver.specs.Inside.Stage.{PlainStage, filed_at, due_strikes, rank_listed, rank_filed, at_next_value, strikes_copied, IsFiled, IsKeptStage, Closes, IsStriking};
 
 use crate::word::OPEN;
 use graphs::Graph;
@@ -83,7 +83,7 @@ impl<S: ListStore> Stage<S> {
         requires striking { (rest : List ℕ) × IsStriking self.old (rank ∷ rest) }
         requires gap { gap ≡ (graph_of self.old.game).struck rank }
         ensures struck { (rest : List ℕ) → IsStriking self.old (rank ∷ rest) → IsStriking self.new rest }
-        ensures kept { IsKept self.old self.new }
+        ensures kept { IsKeptStage self.old self.new }
         ensures strikes { self.new.strikes ≡ self.old.strikes }
     {
         let left = self.counts[gap as usize] - 1;
@@ -98,7 +98,7 @@ impl<S: ListStore> Stage<S> {
         requires round { 0 < self.old.value }
         requires striking { IsStriking self.old (due_strikes self.old) }
         ensures struck { IsStriking self.new [] }
-        ensures kept { IsKept self.old self.new }
+        ensures kept { IsKeptStage self.old self.new }
     {
         self.take_bucket();
         self.strike_taken();
@@ -118,7 +118,7 @@ impl<S: ListStore> Stage<S> {
         requires ranks { (rank : ℕ) → 0 < times rank self.old.strikes → rank < (graph_of self.old.game).configurations }
         requires striking { IsStriking self.old (filter (is_struck (graph_of self.old.game)) self.old.strikes) }
         ensures struck { IsStriking self.new [] }
-        ensures kept { IsKept self.old self.new }
+        ensures kept { IsKeptStage self.old self.new }
     {
         for index in 0..self.strikes.len() {
             let rank = self.strikes[index];

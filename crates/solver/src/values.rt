@@ -93,9 +93,11 @@ impl Values {
         ensures { IsSmallest (IsSafeAnswer self.now gap) result }
     {
         let results = self.results(gap);
-        for place in 0..results.places() {
-            if results.is_answer(place) && results.lasts_forever(place) {
-                return Some(place);
+        let answers = results.answers();
+        let mut labels = answers.walk();
+        while let Some(label) = labels.take_next() {
+            if results.lasts_forever(label) {
+                return Some(label);
             }
         }
         None
@@ -105,6 +107,7 @@ impl Values {
     fn results(&self, gap: u32) -> Results<'_>
         requires { gap < gaps self.now }
         ensures board { result.game.board ≡ self.now }
+        ensures is_board { IsBoard self.now }
         ensures requests { IsRequestIn result (member_of self.now gap 0) (pebble_of self.now gap) }
     {
         let pebble = self.space.gap_pebble(gap);

@@ -1,27 +1,34 @@
 -- The ranks added at a step: the result of a best answer, or those of all answers of a gap.
-use Rattle.std.proofs.Common.{◌≡◌, ℕ, ◌+◌, ◌<◌, ◌≤◌, ◌↔◌, inl, inr, Bool, true, false, List, Some, None, slice_index_or}
+use Rattle.std.proofs.Common.{◌≡◌, ℕ, ◌<◌, ◌≤◌, ◌↔◌, inl, inr, Bool, true, false, List, Some, None, slice_index_or}
 use Rattle.std.proofs.Common.{slice_set, sym, ap, ◌∙◌, subst, arith}
 use Rattle.std.proofs.Math.ListN.{replicate, length-set, length-replicate}
-use Rattle.std.proofs.lemmas.Bool.{both_ways, cases_eq}
+use Rattle.std.proofs.lemmas.Bool.{both_ways, cases_eq, cases_lt}
 use Rattle.std.proofs.lemmas.List.{get_or-replicate, get_or-set_other}
-use Rattle.board_text.specs.PlainBoard.{PlainBoard}
+use Rattle.board_text.specs.Domination.{has_bit}
+use Rattle.board_text.specs.PlainBoard.{PlainBoard, IsBoard}
+use Rattle.board_text.specs.declared.board.TheConstants.{MAX_LABELS}
 use Rattle.positions.specs.declared.value.Value.TheVariants.{Finite}
 use Rattle.positions.specs.Counts.{IsSmallest}
 use Rattle.positions.specs.Game.{Legal, moved}
 use Rattle.positions.specs.Ranks.{configurations, rank_of, configuration_at}
 use Rattle.positions.specs.Gaps.{gaps, gap_of, member_of, IsAnswer}
+use Rattle.positions.specs.LabelWalk.{Walk, TakesSmallest}
+use Rattle.positions.proofs.Cited.{AreFrom, after_step, from_zero, next_of, none_left, walk_begins}
 use Rattle.positions.proofs.Cited.{configuration_at_is}
+use Rattle.solver.specs.LabelSets.{IsInSet}
 use Rattle.strategies.specs.declared.gap_best.Best.{Best}
 use Rattle.strategies.specs.Best.{IsLess, LowersValue, IsBestRequest}
 use Rattle.strategies.specs.Inside.GapBest.{IsBestFor}
-use Rattle.strategies.specs.Inside.ReachedRanks.{IsAnswerStep, RequestLeads, IsWith, IsWithAll, IsAnswerAt, IsAnswerOf}
+use Rattle.strategies.specs.Inside.ReachedRanks.{IsAnswerStep, RequestLeads, IsWith, IsWithAll, IsAnswerLeadingTo}
+use Rattle.strategies.specs.Inside.ReachedRanks.{IsAnswerOf}
 use Rattle.strategies.specs.Inside.ReachedRanks.{AreExpanded}
 use Rattle.strategies.specs.Document.{IsAnswerable}
 use Rattle.strategies.proofs.ValueOrder.{worthless}
 use Rattle.strategies.proofs.BestAnswers.{same_answer}
 use Rattle.strategies.proofs.BestRequests.{same_request}
 use Rattle.strategies.proofs.GapAnswers.{IsMemberOf, legal_there, member_there}
-use Rattle.strategies.proofs.AddedRanks.{Below, added_known, added_one, added_same, added_more, below_same, below_all}
+use Rattle.strategies.proofs.AddedRanks.{Below, added_known, added_one, added_same, added_start, added_more, below_same}
+use Rattle.strategies.proofs.AddedRanks.{below_all}
 
 -- ---- the best answer to one request
 
@@ -56,30 +63,58 @@ module _ (board : PlainBoard) (rank pebble : ℕ) (ranks : List ℕ) where
       let same : step.label ≡ best.label = same_answer board (configuration_at board rank) pebble step.label best.label step.best is.0 in
       step.to_is ∙ ap (λ (l : ℕ). rank_of board (moved (configuration_at board rank) pebble l)) same ∙ sym to_is)
 
--- ---- all answers of a gap
+-- ---- all answers of a gap, by a walk over them
 
-module _ (board : PlainBoard) (gap : ℕ) where
-  pub member_added : (label to : ℕ) (ranks some more : List ℕ) → IsAnswer board gap label
-      → to ≡ rank_of board (member_of board gap label) → IsWithAll ranks (Below (IsAnswerAt board gap) label) some
-      → IsWith some to more
-      → IsWithAll ranks (Below (IsAnswerAt board gap) (label + 1)) more
-  member_added label to ranks some more answer to_is before with =
-      added_more ranks some more (IsAnswerAt board gap) label before
-      (added_one some more to (IsAnswerAt board gap label) with (answer, to_is) (λ other is. is.1 ∙ sym to_is))
+-- the walk is over the answers of the gap from its bound on, and the results of those below are added
+pub record AreAddedBefore (board : PlainBoard) (gap : ℕ) (walk : Walk) (ranks more : List ℕ) : Type 0 where
+  pub most : walk.from ≤ MAX_LABELS
+  pub left : AreFrom (IsAnswer board gap) walk
+  pub added : IsWithAll ranks (Below (IsAnswerLeadingTo board gap) walk.from) more
 
-  pub no_member_added : (label : ℕ) (ranks some : List ℕ) → ¬ IsAnswer board gap label
-      → IsWithAll ranks (Below (IsAnswerAt board gap) label) some
-      → IsWithAll ranks (Below (IsAnswerAt board gap) (label + 1)) some
-  no_member_added label ranks some none before =
-      added_same ranks some (Below (IsAnswerAt board gap) label) (Below (IsAnswerAt board gap) (label + 1))
-      (λ rank. below_same (IsAnswerAt board gap) label (label + 1) rank (omega arith)
-      (λ number late early is. let same : number ≡ label = omega arith in none (subst (IsAnswer board gap) same is.0))) before
+module _ (board : PlainBoard) (is_board : IsBoard board) (gap : ℕ) (walk : Walk) (ranks some : List ℕ)
+    (so : AreAddedBefore board gap walk ranks some) where
+  few : (label : ℕ) → IsAnswer board gap label → label < MAX_LABELS
+  few label answer = omega (arith, answer.is_label, is_board.labels.1)
 
-  pub members_added : (bound : ℕ) (ranks more : List ℕ) → board.labels ≤ bound
-      → IsWithAll ranks (Below (IsAnswerAt board gap) bound) more → IsWithAll ranks (IsAnswerOf board gap) more
-  members_added bound ranks more all before =
-      added_same ranks more (Below (IsAnswerAt board gap) bound) (IsAnswerOf board gap)
-      (λ rank. below_all (IsAnswerAt board gap) bound rank (λ number is. let low = is.0.is_label in omega arith)) before
+  module _ (after : Walk) (label : ℕ) (step : TakesSmallest walk after label) where
+    pub next_answer : IsSmallest (λ l. (walk.from ≤ l) × IsAnswer board gap l) (Some label)
+    next_answer = next_of (IsAnswer board gap) few walk so.left after label step
+
+    pub member_added : (to : ℕ) (more : List ℕ) → to ≡ rank_of board (member_of board gap label)
+        → IsWith some to more → AreAddedBefore board gap after ranks more
+    member_added to more to_is with =
+        let before = added_same ranks some (Below (IsAnswerLeadingTo board gap) walk.from)
+        (Below (IsAnswerLeadingTo board gap) label)
+        (λ rank. below_same (IsAnswerLeadingTo board gap) walk.from label rank next_answer.0.0 (λ number late early at.
+        let least = next_answer.1 number (late, at.0) in omega (arith, least, early))) so.added in
+        record {
+          most = let small : label < MAX_LABELS = step.smallest.0.0 in omega (arith, small, step.from);
+          left = after_step (IsAnswer board gap) few walk so.left after label step;
+          added = subst (λ bound. IsWithAll ranks (Below (IsAnswerLeadingTo board gap) bound) more) (sym step.from)
+              (added_more ranks some more (IsAnswerLeadingTo board gap) label before
+              (added_one some more to (IsAnswerLeadingTo board gap label) with (next_answer.0.1, to_is)
+              (λ other at. at.1 ∙ sym to_is)));
+        }
+
+  pub members_added : ((label : ℕ) → label < MAX_LABELS → has_bit walk.left label ≡ true → ⊥)
+      → IsWithAll ranks (IsAnswerOf board gap) some
+  members_added over = added_same ranks some (Below (IsAnswerLeadingTo board gap) walk.from) (IsAnswerOf board gap)
+      (λ rank. below_all (IsAnswerLeadingTo board gap) walk.from rank (λ number at. elim (cases_lt number walk.from) [
+        | inl early ↦ early
+        | inr late ↦ absurd (none_left (IsAnswer board gap) few walk so.left over number (late, at.0))
+      ])) so.added
+
+-- a walk over the answers begins
+pub members_begin : (board : PlainBoard) (gap : ℕ) (labels ranks : List ℕ)
+    → ((label : ℕ) → IsInSet labels label ↔ IsAnswer board gap label)
+    → (walk : Walk) → walk ≡ record { left = labels; from = 0 } → AreAddedBefore board gap walk ranks ranks
+members_begin board gap labels ranks each walk begins = record {
+  most = let zero_is = from_zero labels walk begins in omega (arith, zero_is);
+  left = walk_begins (IsAnswer board gap) labels walk begins
+      (λ label small. (λ set. (each label).0 (small, set), λ answer. ((each label).1 answer).1));
+  added = subst (λ bound. IsWithAll ranks (Below (IsAnswerLeadingTo board gap) bound) ranks)
+      (sym (from_zero labels walk begins)) (added_start ranks (IsAnswerLeadingTo board gap));
+}
 
 -- ---- the best request
 

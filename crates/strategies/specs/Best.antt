@@ -1,5 +1,5 @@
 -- Best answers and best requests, by the values of configurations.
-use Rattle.std.specs.Prelude.{ℕ, ◌<◌, List, Some}
+use Rattle.std.specs.Prelude.{◌≡◌, ℕ, ◌<◌, ◌↔◌, List, Option, Some, None}
 use Rattle.board_text.specs.PlainBoard.{PlainBoard}
 use Rattle.positions.specs.declared.value.Value.{Value}
 use Rattle.positions.specs.declared.value.Value.TheVariants.{Finite, Forever}
@@ -39,6 +39,12 @@ pub record HasGreatestResult (board : PlainBoard) (configuration : List ℕ) (pe
 abbrev pub IsBestAnswer : PlainBoard → List ℕ → ℕ → ℕ → Type 0
 IsBestAnswer board configuration pebble label = IsSmallest (HasGreatestResult board configuration pebble) (Some label)
 
+-- the best answer to a request of the pebble; there is none exactly if no label is legal
+pub record IsBestAnswerIfAny (board : PlainBoard) (configuration : List ℕ) (pebble : ℕ)
+    (answer : Option ℕ) : Type 0 where
+  pub best : IsSmallest (HasGreatestResult board configuration pebble) answer
+  pub none : (answer ≡ None) ↔ ((label : ℕ) → Legal board configuration pebble label → ⊥)
+
 -- all legal results of a request of the pebble have a smaller value than the configuration
 pub record LowersValue (board : PlainBoard) (configuration : List ℕ) (pebble : ℕ) : Type 0 where
   pub is_pebble : pebble < board.pebbles
@@ -47,3 +53,9 @@ pub record LowersValue (board : PlainBoard) (configuration : List ℕ) (pebble :
 -- the smallest pebble all of whose legal results have a smaller value
 abbrev pub IsBestRequest : PlainBoard → List ℕ → ℕ → Type 0
 IsBestRequest board configuration pebble = IsSmallest (LowersValue board configuration) (Some pebble)
+
+-- the best request; there is none exactly if the value is forever
+pub record IsBestRequestIfAny (board : PlainBoard) (configuration : List ℕ) (request : Option ℕ)
+    : Type 0 where
+  pub best : IsSmallest (LowersValue board configuration) request
+  pub none : (request ≡ None) ↔ HasValue board configuration Forever

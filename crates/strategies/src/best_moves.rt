@@ -1,13 +1,11 @@
 //! The best answers to requests and the best requests of a board.
 
-ghost use Rattle.std.specs.Prelude.{◌≡◌, ℕ, ◌<◌, ◌≤◌, ◌↔◌, None, IsTrue};
+ghost use Rattle.std.specs.Prelude.{◌≡◌, ◌<◌, ◌≤◌, ◌↔◌, IsTrue};
 ghost use Rattle.board_text.specs.PlainBoard.{IsBoard};
-ghost use Rattle.positions.specs.Counts.{IsSmallest};
 ghost use Rattle.positions.specs.Game.{Legal};
 ghost use Rattle.positions.specs.Ranks.{configurations, rank_of, configuration_at};
 ghost use Rattle.positions.specs.Value.{HasValue};
-ghost use Rattle.positions.specs.declared.value.Value.TheVariants.{Forever};
-ghost use Rattle.strategies.specs.Best.{HasGreatestResult, LowersValue};
+ghost use Rattle.strategies.specs.Best.{IsBestAnswerIfAny, IsBestRequestIfAny};
 ghost use Rattle.strategies.specs.Inside.MovesAt.{position};
 
 use crate::configuration::Configuration;
@@ -116,8 +114,7 @@ impl<'a> BestMoves<'a> {
     pub fn answer(&self, rank: u32, pebble: u8) -> Option<u16>
         requires rank { rank < configurations self.now }
         requires pebble { pebble < self.now.pebbles }
-        ensures best { IsSmallest (HasGreatestResult self.now (configuration_at self.now rank) pebble) result }
-        ensures none { (result ≡ None) ↔ ((label : ℕ) → Legal self.now (configuration_at self.now rank) pebble label → ⊥) }
+        ensures { IsBestAnswerIfAny self.now (configuration_at self.now rank) pebble result }
     {
         self.at(rank).label(pebble)
     }
@@ -126,8 +123,7 @@ impl<'a> BestMoves<'a> {
     /// all of whose legal results have a smaller value.
     pub fn request(&self, rank: u32) -> Option<u8>
         requires { rank < configurations self.now }
-        ensures best { IsSmallest (LowersValue self.now (configuration_at self.now rank)) result }
-        ensures none { (result ≡ None) ↔ HasValue self.now (configuration_at self.now rank) Forever }
+        ensures { IsBestRequestIfAny self.now (configuration_at self.now rank) result }
     {
         self.at(rank).request()
     }
@@ -150,8 +146,7 @@ pub fn best_answer(board: &Board, values: &Values, rank: u32, pebble: u8) -> Opt
     requires same_board { values.now ≡ board.now }
     requires rank { rank < configurations board.now }
     requires pebble { pebble < board.now.pebbles }
-    ensures best { IsSmallest (HasGreatestResult board.now (configuration_at board.now rank) pebble) result }
-    ensures none { (result ≡ None) ↔ ((label : ℕ) → Legal board.now (configuration_at board.now rank) pebble label → ⊥) }
+    ensures { IsBestAnswerIfAny board.now (configuration_at board.now rank) pebble result }
 {
     BestMoves::new(board, values).answer(rank, pebble)
 }
@@ -163,8 +158,7 @@ pub fn best_answer(board: &Board, values: &Values, rank: u32, pebble: u8) -> Opt
 pub fn best_request(board: &Board, values: &Values, rank: u32) -> Option<u8>
     requires same_board { values.now ≡ board.now }
     requires rank { rank < configurations board.now }
-    ensures best { IsSmallest (LowersValue board.now (configuration_at board.now rank)) result }
-    ensures none { (result ≡ None) ↔ HasValue board.now (configuration_at board.now rank) Forever }
+    ensures { IsBestRequestIfAny board.now (configuration_at board.now rank) result }
 {
     BestMoves::new(board, values).request(rank)
 }

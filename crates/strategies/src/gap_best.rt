@@ -99,16 +99,16 @@ fn best_of(results: &Results<'_>) -> Option<Best>
     ensures { IsGapBest results.now result }
 {
     let mut best = None;
-    for label in 0..results.places() {
-        if results.is_answer(label) {
-            let value = results.value(label);
-            let found = better(best, Best { label, value });
-            // Nothing beats Forever, and later labels lose ties.
-            if let Value::Forever = found.value {
-                return Some(found);
-            }
-            best = Some(found);
+    let answers = results.answers();
+    let mut labels = answers.walk();
+    while let Some(label) = labels.take_next() {
+        let value = results.value(label);
+        let found = better(best, Best { label, value });
+        // Nothing beats Forever, and later labels lose ties.
+        if let Value::Forever = found.value {
+            return Some(found);
         }
+        best = Some(found);
     }
     best
 }

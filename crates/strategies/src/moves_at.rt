@@ -1,13 +1,11 @@
 //! The best moves at one configuration.
 
-ghost use Rattle.std.specs.Prelude.{◌≡◌, ◌<◌, ◌↔◌, ℕ, None, IsTrue};
+ghost use Rattle.std.specs.Prelude.{◌≡◌, ◌<◌, ◌↔◌, IsTrue};
 ghost use Rattle.board_text.specs.PlainBoard.{IsBoard, IsConfiguration};
-ghost use Rattle.positions.specs.Counts.{IsSmallest};
 ghost use Rattle.positions.specs.Game.{Legal};
 ghost use Rattle.positions.specs.Value.{HasValue};
-ghost use Rattle.positions.specs.declared.value.Value.TheVariants.{Forever};
 ghost use Rattle.solver.specs.GapRequests.{IsRequestIn};
-ghost use Rattle.strategies.specs.Best.{HasGreatestResult, LowersValue};
+ghost use Rattle.strategies.specs.Best.{IsBestAnswerIfAny, IsBestRequestIfAny};
 ghost use Rattle.strategies.specs.Inside.GapBest.{IsBestFor, LeadsBelow};
 ghost use Rattle.strategies.specs.Inside.MovesAt.{position};
 
@@ -27,9 +25,9 @@ pub(crate) struct MovesAt<'a> {
 }
 
 impl<'a> Model for MovesAt<'a> {
-    ghost use Rattle.strategies.specs.Inside.MovesAt.{Position, position, IsStanding};
+    ghost use Rattle.strategies.specs.Inside.MovesAt.{HeldPosition, position, IsStanding};
 
-    ghost Value = { Position };
+    ghost Value = { HeldPosition };
 
     ghost view = { λ s. position s.best.now.board s.configuration };
 
@@ -73,15 +71,13 @@ impl<'a> MovesAt<'a> {
         requires label { label < self.now.board.labels }
         ensures { IsTrue result ↔ Legal self.now.board self.now.held pebble label }
     {
-        self.results(pebble).is_answer(label)
+        self.results(pebble).answers().contains(label)
     }
 
     /// The label of the best answer to a request of `pebble`, if a label is legal.
     pub(crate) fn label(&self, pebble: u8) -> Option<u16>
         requires { pebble < self.now.board.pebbles }
-        ensures best { IsSmallest (HasGreatestResult self.now.board self.now.held pebble) result }
-        ensures none { (result ≡ None)
-            ↔ ((label : ℕ) → Legal self.now.board self.now.held pebble label → ⊥) }
+        ensures { IsBestAnswerIfAny self.now.board self.now.held pebble result }
     {
         let best = self.answer(pebble)?;
         Some(best.label)
@@ -98,8 +94,7 @@ impl<'a> MovesAt<'a> {
     /// The best request, if the value of the configuration is finite: the smallest pebble all of
     /// whose legal results have a smaller value.
     pub(crate) fn request(&self) -> Option<u8>
-        ensures best { IsSmallest (LowersValue self.now.board self.now.held) result }
-        ensures none { (result ≡ None) ↔ HasValue self.now.board self.now.held Forever }
+        ensures { IsBestRequestIfAny self.now.board self.now.held result }
     {
         let value = self.value();
         for pebble in 0..self.pebbles() {
@@ -114,6 +109,7 @@ impl<'a> MovesAt<'a> {
     pub(crate) fn results(&self, pebble: u8) -> Results<'a>
         requires { pebble < self.now.board.pebbles }
         ensures board { result.game.board ≡ self.now.board }
+        ensures is_board { IsBoard self.now.board }
         ensures request { IsRequestIn result self.now.held pebble }
     {
         self.best

@@ -1,12 +1,10 @@
 //! The best answers to requests and the best requests at configurations given by their places.
 
-ghost use Rattle.std.specs.Prelude.{◌≡◌, ℕ, ◌<◌, ◌↔◌, None, IsTrue};
+ghost use Rattle.std.specs.Prelude.{◌≡◌, ◌<◌, ◌↔◌, IsTrue};
 ghost use Rattle.board_text.specs.PlainBoard.{IsBoard, IsConfiguration};
-ghost use Rattle.positions.specs.Counts.{IsSmallest};
 ghost use Rattle.positions.specs.Game.{Legal};
 ghost use Rattle.positions.specs.Value.{HasValue};
-ghost use Rattle.positions.specs.declared.value.Value.TheVariants.{Forever};
-ghost use Rattle.strategies.specs.Best.{HasGreatestResult, LowersValue};
+ghost use Rattle.strategies.specs.Best.{IsBestAnswerIfAny, IsBestRequestIfAny};
 ghost use Rattle.strategies.specs.Inside.MovesAt.{position};
 
 use crate::configuration::Configuration;
@@ -85,8 +83,7 @@ impl<'a> NumberedMoves<'a> {
     pub fn answer(&self, held: &[u16], pebble: u8) -> Option<u16>
         requires held { IsConfiguration self.now held.now }
         requires pebble { pebble < self.now.pebbles }
-        ensures best { IsSmallest (HasGreatestResult self.now held.now pebble) result }
-        ensures none { (result ≡ None) ↔ ((label : ℕ) → Legal self.now held.now pebble label → ⊥) }
+        ensures { IsBestAnswerIfAny self.now held.now pebble result }
     {
         self.at(held).label(pebble)
     }
@@ -95,8 +92,7 @@ impl<'a> NumberedMoves<'a> {
     /// all of whose legal results have a smaller value.
     pub fn request(&self, held: &[u16]) -> Option<u8>
         requires { IsConfiguration self.now held.now }
-        ensures best { IsSmallest (LowersValue self.now held.now) result }
-        ensures none { (result ≡ None) ↔ HasValue self.now held.now Forever }
+        ensures { IsBestRequestIfAny self.now held.now result }
     {
         self.at(held).request()
     }

@@ -78,12 +78,11 @@ impl BestMoves<'_> {
         ensures added { IfOk result (λ _. IsWithAll reached.old.ranks
             (IsAnswerOf self.now gap) reached.new.ranks) }
     {
-        let results = here.results(pebble);
+        let answers = here.results(pebble).answers();
         let members = self.space().members(gap);
-        for label in 0..results.places() {
-            if results.is_answer(label) {
-                reached.add(members.rank(label))?;
-            }
+        let mut labels = answers.walk();
+        while let Some(label) = labels.take_next() {
+            reached.add(members.rank(label))?;
         }
         Ok(())
     }

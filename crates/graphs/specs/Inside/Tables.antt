@@ -1,17 +1,23 @@
 -- The meaning of a graph's tables.
 use Rattle.std.specs.Prelude.{◌≡◌, ℕ, ◌<◌, ◌≤◌, List, length}
 use Rattle.std.specs.Prelude.{slice_index}
-use Rattle.board_text.specs.PlainBoard.{PlainBoard, IsBoard}
+use Rattle.board_text.specs.PlainBoard.{IsBoard}
 use Rattle.classes.specs.declared.counting.TheConstants.{MAX_CLASSES}
 use Rattle.graphs.specs.declared.graph.Finder.{Finder}
 use Rattle.graphs.specs.declared.graph.Finder.TheVariants.{Ranks, Classes as ByClasses}
 use Rattle.graphs.specs.declared.graph.Numbering.TheVariants.{Ordered, Classes}
+use Rattle.graphs.specs.Graph.{PlainGraph}
 use Rattle.graphs.specs.Numbered.{Numbered, numbered, graph_of, IsFewBy}
 
 -- the board whose numbers are found, and what they stand for
 abbrev pub found_by : Finder → Numbered
 found_by (Ranks board) = numbered board Ordered
 found_by (ByClasses board) = numbered board Classes
+
+-- each configuration has the gap in which it is an answer, or the number of gaps
+pub record IsStruckTable (a : PlainGraph) (struck : List ℕ) : Type 0 where
+  pub size : length struck ≡ a.configurations
+  pub each : (x : ℕ) → x < a.configurations → slice_index struck x ≡ a.struck x
 
 -- these are the sizes of the graph, and the gap in which each configuration is an answer
 pub record AreTables (n : Numbered) (configurations gaps places : ℕ)
@@ -22,5 +28,4 @@ pub record AreTables (n : Numbered) (configurations gaps places : ℕ)
   pub configurations_is : configurations ≡ (graph_of n).configurations
   pub gaps_is : gaps ≡ (graph_of n).gaps
   pub places_is : places ≡ (graph_of n).places
-  pub struck_length : length struck ≡ configurations
-  pub each_struck : (c : ℕ) → c < configurations → slice_index struck c ≡ (graph_of n).struck c
+  pub struck_is : IsStruckTable (graph_of n) struck

@@ -105,14 +105,14 @@ pub record IsStage (test : ℕ → Bool) (s : PlainStage) : Type 0 where
   pub filed_are : IsFiled s
 
 -- nothing is filed but at the value
-pub record IsKept (s s' : PlainStage) : Type 0 where
+pub record IsKeptStage (s s' : PlainStage) : Type 0 where
   pub game_is : s'.game ≡ s.game
   pub value_is : s'.value ≡ s.value
   pub others : (v : ℕ) → v ≢ s.value → filed_at s' v ≡ filed_at s v
 
 -- the open members of the gap are filed at the value, and nothing else changes
 pub record Closes (s : PlainStage) (gap : ℕ) (s' : PlainStage) : Type 0 where
-  pub kept : IsKept s s'
+  pub kept : IsKeptStage s s'
   pub strikes_is : s'.strikes ≡ s.strikes
   pub counts_is : s'.counts ≡ s.counts
   pub words : GapIsClosed (graph_of s.game) gap s.value s.values s'.values
@@ -143,7 +143,7 @@ pub record IsUnstruck (s : PlainStage) : Type 0 where
 
 -- these configurations have the value too and are filed at it, and nothing else changes
 pub record FilesAll (s : PlainStage) (ranks : List ℕ) (s' : PlainStage) : Type 0 where
-  pub kept : IsKept s s'
+  pub kept : IsKeptStage s s'
   pub counts_is : s'.counts ≡ s.counts
   pub there : (x : ℕ) → 0 < times x ranks → slice_index s'.values x ≡ s.value
   pub elsewhere : (x : ℕ) → times x ranks ≡ 0 → slice_index s'.values x ≡ slice_index s.values x

@@ -6,11 +6,11 @@ use Rattle.graphs.specs.Numbered.{Numbered}
 use Rattle.graphs.specs.NumberedRanks.{gap_in, number_in}
 
 -- a board, and the places that the pebbles hold
-pub record Position : Type 0 where
+pub record HeldPosition : Type 0 where
   pub board : PlainBoard
   pub held : List ℕ
 
-abbrev pub position : PlainBoard → List ℕ → Position
+abbrev pub position : PlainBoard → List ℕ → HeldPosition
 position board held = record { board = board; held = held }
 
 -- the number of the configuration, and those of the gaps of its pebbles

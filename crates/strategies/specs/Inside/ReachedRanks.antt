@@ -75,12 +75,12 @@ pub record IsWithAll (before : List ℕ) (P : ℕ → Type 0) (after : List ℕ)
   pub behind : (more : List ℕ) × (after ≡ before ++ more)
 
 -- the label is an answer of the gap, and leads to the rank
-abbrev pub IsAnswerAt : PlainBoard → ℕ → ℕ → ℕ → Type 0
-IsAnswerAt board gap label rank = IsAnswer board gap label × (rank ≡ rank_of board (member_of board gap label))
+abbrev pub IsAnswerLeadingTo : PlainBoard → ℕ → ℕ → ℕ → Type 0
+IsAnswerLeadingTo board gap label rank = IsAnswer board gap label × (rank ≡ rank_of board (member_of board gap label))
 
 -- some answer of the gap leads to the rank
 abbrev pub IsAnswerOf : PlainBoard → ℕ → ℕ → Type 0
-IsAnswerOf board gap rank = (label : ℕ) × IsAnswerAt board gap label rank
+IsAnswerOf board gap rank = (label : ℕ) × IsAnswerLeadingTo board gap label rank
 
 -- the results of all answers of each expanded gap are among the ranks
 pub record AreExpanded (board : PlainBoard) (expanded : List Bool) (ranks : List ℕ) : Type 0 where

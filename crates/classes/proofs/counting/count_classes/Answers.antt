@@ -1,6 +1,6 @@
 use Rattle.std.proofs.Common.{suc, ◌+◌, ◌≤◌, refl, arith}
 use Rattle.board_text.specs.PlainBoard.{places}
-use Rattle.classes.proofs.Heavier.{ways-fit}
+use Rattle.classes.proofs.TableNumbers.{ways-fit}
 use Rattle.classes.proofs.WaysRows.{row-begins, row-first, row-more}
 use Rattle.classes.proofs.counting.count_classes.Goals as goal
 

@@ -1,4 +1,4 @@
-use Rattle.std.proofs.Common.{◌+◌, ◌<◌, ◌≤◌, ℕ, length, sym, subst, arith, slice_set}
+use Rattle.std.proofs.Common.{◌<◌, ◌≤◌, ℕ, length, sym, subst, arith, slice_set}
 use Rattle.positions.proofs.Cited.{next_of, after_step}
 use Rattle.graphs.specs.Graph.{PlainGraph}
 use Rattle.graphs.specs.Answers.{IsAnswerIn}

@@ -95,6 +95,7 @@ returns-in_err-flush-clause-prompts g c =
     let p = err_from_is_err_and c.from_residual.result c.from_residual.ensures.1 in (
       [],
       rw (p.1, p.2, c.in_err-flush.ensures.fault.0)
-          (untold_opening c.args.shows (PersonAsks board) _ _ opens _ _ _ (subst (AppendsPrefix _ _) text c.in_err-flush.ensures.front)),
+          (untold_opening c.args.shows (PersonAsks board) _ _ opens _ _ _
+          (subst (AppendsPrefix _ _) text c.in_err-flush.ensures.front)),
       none_more g.E.Sink.contents g.E.Sink.has_failed c.args.errors.now,
     )

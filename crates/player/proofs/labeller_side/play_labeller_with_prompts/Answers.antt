@@ -44,7 +44,8 @@ returns-in-Asks-clause-ok g c =
     let opens = subst (BeginsPlay (PersonAnswers c.args.board.now) opening.0) going begins in
     let written = subst (Appends _ _) text c.in_ok-flush.ensures.written in
     IfOk-weaker c.play_on.result _ _ (λ end h. has_ended
-    (AreResponses (PersonAnswers c.args.board.now) (Going c.args.board.now.start 0)) (IsPlayed (PersonAnswers c.args.board.now)) opening.0
+    (AreResponses (PersonAnswers c.args.board.now) (Going c.args.board.now.start 0))
+    (IsPlayed (PersonAnswers c.args.board.now)) opening.0
     (played c.args.shows (PersonAnswers c.args.board.now) opening.0 _ opens) _ _ _
     (g.W.Sink.contents c.flush.new.writer) _ written end h)
     (rw (c.new-play.ensures, c.new-moves.ensures) at c.play_on.ensures.ok)
@@ -58,7 +59,8 @@ returns-in-Asks-clause-fault g c =
     let opens = subst (BeginsPlay (PersonAnswers c.args.board.now) opening.0) going begins in
     let written = subst (Appends _ _) text c.in_ok-flush.ensures.written in
     IfErr-weaker c.play_on.result _ _ (λ fault h. breaks_off
-    (AreResponses (PersonAnswers c.args.board.now) (Going c.args.board.now.start 0)) (IsPlayed (PersonAnswers c.args.board.now)) opening.0
+    (AreResponses (PersonAnswers c.args.board.now) (Going c.args.board.now.start 0))
+    (IsPlayed (PersonAnswers c.args.board.now)) opening.0
     (played c.args.shows (PersonAnswers c.args.board.now) opening.0 _ opens) _ _ _
     (g.W.Sink.contents c.flush.new.writer) _ written fault h)
     (rw (c.new-play.ensures, c.new-moves.ensures) at c.play_on.ensures.fault)
@@ -70,7 +72,8 @@ returns-clause-ok g c =
     let text = opening.1 ∙ ap (λ l. l ++ opening.0) c.new-text.ensures.bytes in
     let written = subst (Appends _ _) text c.in_ok-flush.ensures.written in
     over_at_once (IsPlayed (PersonAnswers c.args.board.now)) opening.0 opening.2.0
-    (alone c.args.shows (PersonAnswers c.args.board.now) opening.0 opening.2.0 begins) _ _ _ c.in-Ends.end opening.2.2 written
+    (alone c.args.shows (PersonAnswers c.args.board.now) opening.0 opening.2.0 begins) _ _ _ c.in-Ends.end opening.2.2
+    written
 
 pub returns-in-Asks-clause-value : goal.returns-in-Asks-clause-value
 returns-in-Asks-clause-value g c =

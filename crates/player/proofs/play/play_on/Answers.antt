@@ -47,14 +47,16 @@ pub returns-in_default-clause-ok : goal.returns-in_default-clause-ok
 returns-in_default-clause-ok g c =
     let i = c.loop.invariant in
     let gives = rw c.in_default.is at c.in_ok-meaning.ensures.line in
-    stopped (AreResponses (g.P.Play.game c.args.play.now) (Going (g.P.Play.at c.args.play.now) 0)) _ _ _ _ _ i.said i.text _ _ i.brought i.written c.end_play.result
+    stopped (AreResponses (g.P.Play.game c.args.play.now) (Going (g.P.Play.at c.args.play.now) 0)) _ _ _ _ _ i.said
+    i.text _ _ i.brought i.written c.end_play.result
     (all_came _ _ _ i.said _ _ (omega (arith, i.few, c.loop-test.true)) i.come gives) c.end_play.ensures.end c.end_play.ensures.written
 
 pub returns-in_default-clause-fault : goal.returns-in_default-clause-fault
 returns-in_default-clause-fault g c =
     let i = c.loop.invariant in
     let gives = rw c.in_default.is at c.in_ok-meaning.ensures.line in
-    not_stopped (AreResponses (g.P.Play.game c.args.play.now) (Going (g.P.Play.at c.args.play.now) 0)) _ _ _ _ _ i.said i.text _ _ i.brought i.written c.end_play.result
+    not_stopped (AreResponses (g.P.Play.game c.args.play.now) (Going (g.P.Play.at c.args.play.now) 0)) _ _ _ _ _ i.said
+    i.text _ _ i.brought i.written c.end_play.result
     (all_came _ _ _ i.said _ _ (omega (arith, i.few, c.loop-test.true)) i.come gives) c.end_play.ensures.fault
 
 pub returns-in_err-end-clause-fault : goal.returns-in_err-end-clause-fault
@@ -66,7 +68,8 @@ returns-in_err-end-clause-fault g c =
     rw (p.1, p.2)
     (broken (AreResponses (g.P.Play.game c.args.play.now) (Going (g.P.Play.at c.args.play.now) 0))
     _ _ _ _ _ i.said i.text _ _ i.brought i.written _ _ next (omega (arith, i.few, c.loop-test.true))
-    (IsResponseToMeaning (g.P.Play.game c.args.play.now) (Going (g.P.Play.at c.loop.play) (g.P.Play.requests c.loop.play)) _)
+    (IsResponseToMeaning (g.P.Play.game c.args.play.now) (Going (g.P.Play.at c.loop.play)
+    (g.P.Play.requests c.loop.play)) _)
     (λ said to says. brings_more _ _ i.said next.line i.text said _ to i.brought (says next.line next.spells))
     c.in_err-end.field-0.0 fails)
 
@@ -75,7 +78,8 @@ returns-in-Some-2-clause-ok g c =
     let i = c.loop.invariant in
     let next = line_came _ _ _ i.said _ _ _ i.come (rw c.in-Some.is at c.in_ok-meaning.ensures.line) in
     let wrote = rw (i.same, c.in-Some-2.is) at c.in_ok-end.ensures.written in
-    ended (AreResponses (g.P.Play.game c.args.play.now) (Going (g.P.Play.at c.args.play.now) 0)) _ _ _ _ _ i.said i.text _ _ i.brought i.written _ _ next (omega (arith, i.few, c.loop-test.true))
+    ended (AreResponses (g.P.Play.game c.args.play.now) (Going (g.P.Play.at c.args.play.now) 0)) _ _ _ _ _ i.said
+    i.text _ _ i.brought i.written _ _ next (omega (arith, i.few, c.loop-test.true))
     c.in-Some-2.end wrote.0
     (brings_more _ _ i.said next.line i.text wrote.0 _ _ i.brought (wrote.2 next.line next.spells)) wrote.1
 
@@ -125,7 +129,8 @@ returns-in_err-meaning-clause-told g c =
         ok = tt;
         fault = unread_told
             (BringsAndTells c.args.shows (g.P.Play.game c.args.play.now) (Going (g.P.Play.at c.args.play.now) 0))
-            (AreResponses (g.P.Play.game c.args.play.now) (Going (g.P.Play.at c.args.play.now) 0)) _ _ _ _ _ i.said c.loop.lines i.text _ _ i.told
+            (AreResponses (g.P.Play.game c.args.play.now) (Going (g.P.Play.at c.args.play.now) 0)) _ _ _ _ _ i.said
+            c.loop.lines i.text _ _ i.told
             c.in_err-meaning.field-0.0 i.tells i.written i.come (omega (arith, i.few, c.loop-test.true))
             c.in_err-meaning.ensures.fault;
       }),
@@ -141,10 +146,12 @@ returns-in_default-clause-told g c =
     let Brings = AreResponses (g.P.Play.game c.args.play.now) (Going (g.P.Play.at c.args.play.now) 0) in (
       i.told,
       record {
-        ok = stopped (Tells i.told) _ _ _ _ _ i.said i.text _ _ i.tells i.written c.end_play.result came c.end_play.ensures.end
+        ok = stopped (Tells i.told) _ _ _ _ _ i.said i.text _ _ i.tells i.written c.end_play.result came
+            c.end_play.ensures.end
             c.end_play.ensures.written;
         fault = near_if Tells Brings _ _ _ _ _ i.told _ c.end_play.result c.end_play.ensures.fault
-            (not_stopped (NearlyTells Tells Brings i.told) _ _ _ _ _ i.said i.text _ _ (inl i.tells) i.written c.end_play.result
+            (not_stopped (NearlyTells Tells Brings i.told) _ _ _ _ _ i.said i.text _ _
+            (inl i.tells) i.written c.end_play.result
             came c.end_play.ensures.fault);
       },
       i.more,
@@ -166,7 +173,8 @@ returns-in_err-end-clause-told g c =
             (broken (NearlyTells Tells Brings i.told) _ _ _ _ _ i.said i.text _ _ (inl i.tells) i.written _ _ next
             (omega (arith, i.few, c.loop-test.true))
             (IsResponseToMeaning game (Going (g.P.Play.at c.loop.play) (g.P.Play.requests c.loop.play)) _)
-            (λ said to says. nearly_told game _ 0 c.args.shows i.told i.said next.line i.text said _ _ to i.brought i.tells
+            (λ said to says. nearly_told game _ 0 c.args.shows i.told i.said next.line i.text said _ _ to i.brought
+            i.tells
             (says next.line next.spells))
             c.in_err-end.field-0.0 fails);
       }),
@@ -182,9 +190,14 @@ returns-in-Some-2-clause-told g c =
     let Tells = BringsAndTells c.args.shows game (Going (g.P.Play.at c.args.play.now) 0) in (
       i.told,
       record {
-        ok = ended (Tells i.told) _ _ _ _ _ i.said i.text _ _ i.tells i.written _ _ next (omega (arith, i.few, c.loop-test.true))
+        ok = ended (Tells i.told) _ _ _ _ _ i.said i.text _ _ i.tells i.written _ _ next (omega (
+          arith,
+          i.few,
+          c.loop-test.true,
+        ))
             c.in-Some-2.end wrote.0
-            (ends_told game _ 0 c.args.shows i.told i.said next.line i.text wrote.0 _ _ _ i.tells (wrote.2 next.line next.spells))
+            (ends_told game _ 0 c.args.shows i.told i.said next.line i.text wrote.0 _ _ _ i.tells
+            (wrote.2 next.line next.spells))
             wrote.1;
         fault = tt;
       },
@@ -197,7 +210,21 @@ returns-clause-told g c =
       i.told,
       record {
         ok = tt;
-        fault = (i.said, c.loop.lines.bytes, i.text, _, _, came_of _ _ i.said c.loop.lines (omega (arith, i.few, c.loop.auto.counter-end)) i.come, inl (omega (arith, i.few, c.loop-test.false, c.loop.auto.counter-end)), i.tells, i.written);
+        fault = (
+          i.said,
+          c.loop.lines.bytes,
+          i.text,
+          _,
+          _,
+          came_of _ _ i.said c.loop.lines (omega (
+            arith,
+            i.few,
+            c.loop.auto.counter-end,
+          )) i.come,
+          inl (omega (arith, i.few, c.loop-test.false, c.loop.auto.counter-end)),
+          i.tells,
+          i.written,
+        );
       },
       i.more,
     )

@@ -35,6 +35,7 @@ returns g c =
       if_there (λ b. TellsAfter b game at c.args.answered requests (shown_line choices.0)) c.args.shows true
           c.if-not-shows.false
           (inl (omega (arith, c.requests.ensures, c.if-requests-answered.false), choices.0, choices.1, refl)),
-      then_more g.E.Sink.contents g.E.Sink.has_failed c.args.errors.now c.tell_choices.new.errors c.write_more.new.writer
+      then_more g.E.Sink.contents g.E.Sink.has_failed c.args.errors.now c.tell_choices.new.errors
+          c.write_more.new.writer
           (shown choices.0) (with_line_feed []) choices.2 c.write_more.ensures,
     )

@@ -8,7 +8,8 @@ use Rattle.player.proofs.prompts.tell_pebble_choices.Goals as goal
 
 pub returns-then-pebbles-eq1 : goal.returns-then-pebbles-eq1
 returns-then-pebbles-eq1 g c =
-    subst (λ words. IsMore g.E.Sink.contents g.E.Sink.has_failed c.args.errors.now c.write_shown.new.errors (shown words))
+    subst (λ words. IsMore g.E.Sink.contents g.E.Sink.has_failed c.args.errors.now c.write_shown.new.errors
+    (shown words))
     (one_pebble c.args.pebbles c.if-pebbles-eq1.true) c.write_shown.ensures
 
 pub returns : goal.returns

@@ -18,6 +18,6 @@ pub returns-in-Classes : goal.returns-in-Classes
 returns-in-Classes c =
     let n : Numbered = c.args.self.now in
     let found = by-classes n c.self.inside.finder c.self.view_is c.in-Classes.numbers c.in-Classes.is in
-    IfOk-weaker c.weights.result _ _ (λ weights are. classes-weighed n weights.items c.classes.result.now found.0
-    (c.classes.ensures ∙ found.1) are)
+    IfOk-weaker c.weights.result _ _ (λ weights are. classes-weighed n weights.items c.in-Classes.numbers found.0
+    found.1 are)
     c.weights.ensures

@@ -22,8 +22,10 @@ loop-label-preserved g c =
       | then-is_legal w ↦ (
         i.0 ++ label ∷ [],
         one_more Has label i.0 i.1 (c.is_legal.ensures.0 w.if-is_legal.true),
-        subst (λ e. IsMore known failed c.args.errors.now e (shown (spaced_numbers (i.0 ++ label ∷ [])))) (sym w.errors-is)
-            (told_spaced known failed c.args.errors.now c.loop-label.errors w.write_shown.new.errors w.write_digits.new.errors
+        subst (λ e. IsMore known failed c.args.errors.now e (shown (spaced_numbers (i.0 ++ label ∷ []))))
+            (sym w.errors-is)
+            (told_spaced known failed c.args.errors.now c.loop-label.errors w.write_shown.new.errors
+            w.write_digits.new.errors
             i.0 label i.2 w.write_shown.ensures (rw w.from.ensures at w.write_digits.ensures)),
       )
       | else-is_legal w ↦ (

@@ -30,5 +30,6 @@ returns g c =
       label_choices asked listed.0,
       are_choices _ _ c.self.view_is asked listed.0 c.self.invariant.best listed.1,
       subst (λ words. IsMore known failed e0 e5 (shown words)) (five first (decimal asked) take labels end)
-          (then_shown known failed e0 e1 e5 first (decimal asked ++ (take ++ (labels ++ end))) c.write_shown.ensures after),
+          (then_shown known failed e0 e1 e5 first (decimal asked ++ (take ++ (labels ++ end))) c.write_shown.ensures
+          after),
     )

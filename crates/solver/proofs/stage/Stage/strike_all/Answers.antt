@@ -3,7 +3,7 @@ use Rattle.std.specs.List.{filter}
 use Rattle.index_lists.specs.Lists.{times}
 use Rattle.graphs.specs.Numbered.{graph_of}
 use Rattle.graphs.specs.Graph.{is_struck}
-use Rattle.solver.specs.Inside.Stage.{PlainStage, due_strikes, IsKept, IsStriking}
+use Rattle.solver.specs.Inside.Stage.{PlainStage, due_strikes, IsKeptStage, IsStriking}
 use Rattle.solver.proofs.StageStrikes.{striking-taken, kept-taken}
 use Rattle.solver.proofs.stage.Stage.strike_all.Goals as goal
 
@@ -22,4 +22,4 @@ strike_taken-requires-clause-striking g c =
 pub returns-clause-kept : goal.returns-clause-kept
 returns-clause-kept g c =
     let s : PlainStage = c.args.self.now in
-    kept-taken s _ (subst (λ (v : PlainStage). IsKept v c.strike_taken.new.self) c.take_bucket.ensures c.strike_taken.ensures.kept)
+    kept-taken s _ (subst (λ (v : PlainStage). IsKeptStage v c.strike_taken.new.self) c.take_bucket.ensures c.strike_taken.ensures.kept)

@@ -1,6 +1,10 @@
-use Rattle.std.proofs.Common.{ℕ, ◌<◌}
-use Rattle.solver.specs.SafeAnswers.{IsSafeAnswer}
+use Rattle.std.proofs.Common.{◌-◌}
+use Rattle.board_text.specs.declared.board.TheConstants.{MAX_LABELS}
+use Rattle.solver.proofs.SafeWalks.{IsSafeWalk}
 use Rattle.solver.proofs.values.Values.safe_answer.Given as goal
 
-abbrev pub invariant-loop-place : goal.invariant-loop-place
-invariant-loop-place l = (smaller : ℕ) → smaller < l.place → IsSafeAnswer l.self l.gap smaller → ⊥
+abbrev pub invariant-loop-label : goal.invariant-loop-label
+invariant-loop-label l = IsSafeWalk l.self l.gap l.labels
+
+abbrev pub decreases-loop-label : goal.decreases-loop-label
+decreases-loop-label l = MAX_LABELS - l.labels.from

@@ -1,5 +1,5 @@
 use Rattle.std.proofs.Common.{◌≡◌, ◌<◌, ◌≤◌, ◌∙◌, ap, arith, rules}
-use Rattle.strategies.specs.Inside.MovesAt.{Position}
+use Rattle.strategies.specs.Inside.MovesAt.{HeldPosition}
 use Rattle.strategies.specs.Inside.ReachedRanks.{IsAnswerStep, AnswerLeads}
 use Rattle.strategies.proofs.AddedRanks.{Below, added_more, added_same, below_all}
 use Rattle.strategies.proofs.AddedSteps.{no_answer_added, worthless_not_added, answer_added}
@@ -8,7 +8,7 @@ use Rattle.strategies.proofs.best_moves.BestMoves.add_answers.Goals.{After-pebbl
 use Rattle.strategies.proofs.best_moves.BestMoves.add_answers.Goals.{in-Some+then-lt+in_ok-add, in-Some+else-lt}
 
 pebbles : (c : After-pebbles-pebble-end) → c.pebbles-pebble-end.result ≡ c.args.self.now.pebbles
-pebbles c = c.pebbles-pebble-end.ensures.value ∙ ap (λ (p : Position). p.board.pebbles) c.at-here.ensures
+pebbles c = c.pebbles-pebble-end.ensures.value ∙ ap (λ (p : HeldPosition). p.board.pebbles) c.at-here.ensures
 
 pub loop-pebble-preserved : goal.loop-pebble-preserved
 loop-pebble-preserved c =

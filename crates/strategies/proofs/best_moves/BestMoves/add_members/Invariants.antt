@@ -1,10 +1,13 @@
-use Rattle.std.proofs.Common.{◌≡◌}
-use Rattle.strategies.specs.Inside.ReachedRanks.{IsWithAll, IsAnswerAt}
-use Rattle.strategies.proofs.AddedRanks.{Below}
+use Rattle.std.proofs.Common.{◌≡◌, ◌-◌}
+use Rattle.board_text.specs.declared.board.TheConstants.{MAX_LABELS}
+use Rattle.strategies.proofs.AddedSteps.{AreAddedBefore}
 use Rattle.strategies.proofs.best_moves.BestMoves.add_members.Given as goal
 
 abbrev pub invariant-loop-label : goal.invariant-loop-label
 invariant-loop-label l = record {
   size : l.reached.size ≡ l.fn.reached.size;
-  added : IsWithAll l.fn.reached.ranks (Below (IsAnswerAt l.self l.gap) l.label) l.reached.ranks;
+  added : AreAddedBefore l.self l.gap l.labels l.fn.reached.ranks l.reached.ranks;
 }
+
+abbrev pub decreases-loop-label : goal.decreases-loop-label
+decreases-loop-label l = MAX_LABELS - l.labels.from

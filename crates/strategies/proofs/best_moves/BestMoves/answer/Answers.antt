@@ -1,4 +1,4 @@
 use Rattle.strategies.proofs.best_moves.BestMoves.answer.Goals as goal
 
-pub returns-clause-none : goal.returns-clause-none
-returns-clause-none c = rw c.at.ensures at c.label.ensures.none
+pub returns : goal.returns
+returns c = rw c.at.ensures at c.label.ensures

@@ -1,6 +1,6 @@
 use Rattle.std.proofs.Common.{subst}
 use Rattle.strategies.specs.Inside.GapBest.{IsBestFor}
-use Rattle.strategies.specs.Inside.MovesAt.{Position}
+use Rattle.strategies.specs.Inside.MovesAt.{HeldPosition}
 use Rattle.strategies.proofs.Standings.{best-there, gap-fits}
 use Rattle.strategies.proofs.moves_at.MovesAt.answer.Goals as goal
 
@@ -9,5 +9,5 @@ of-requires c = gap-fits _ _ _ c.self.invariant c.args.pebble (rw (← c.self.vi
 
 pub returns : goal.returns
 returns c =
-    subst (λ (p : Position). IsBestFor p.board p.held c.args.pebble c.of.result) c.self.view_is
+    subst (λ (p : HeldPosition). IsBestFor p.board p.held c.args.pebble c.of.result) c.self.view_is
     (best-there _ _ _ c.self.invariant c.args.pebble c.of.result (rw (← c.self.view_is) at c.requires) c.of.ensures)

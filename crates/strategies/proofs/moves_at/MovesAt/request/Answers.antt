@@ -18,9 +18,12 @@ loop-pebble-preserved c =
     (c.value-value.ensures) c.loop-pebble.invariant c.answer.ensures
     (λ below. let same = c.if-leads_below.ensures.1 below in absurd cc)
 
-pub returns-clause-none : goal.returns-clause-none
-returns-clause-none c =
+pub returns : goal.returns
+returns c =
     let b = c.args.self.now.board in
     let pebbles = c.pebbles-pebble-end.ensures in
     let all : b.pebbles ≤ c.loop-pebble.pebble = omega (arith, pebbles.value, c.loop-pebble-test.false) in
-    no_request b c.args.self.now.held c.loop-pebble.pebble pebbles.is_configuration all c.loop-pebble.invariant
+    record {
+      best = λ other lowers. c.loop-pebble.invariant other (omega (arith, all, lowers.is_pebble)) lowers;
+      none = no_request b c.args.self.now.held c.loop-pebble.pebble pebbles.is_configuration all c.loop-pebble.invariant;
+    }

@@ -1,0 +1,254 @@
+-- The entries of a gap's family in the table of the gaps in which classes are answers.
+use Rattle.std.proofs.Common.{◌≡◌, ◌≢◌, ℕ, suc, ◌+◌, ◌-◌, ◌<◌, ◌≤◌, ◌↔◌, min, inl, inr, refl, sym, ap, ◌∙◌, subst}
+use Rattle.std.proofs.Common.{arith}
+use Rattle.std.proofs.Common.{List, [], ◌∷◌, ◌++◌, length, get_or, take, true, MatchOption, Some, None, Option}
+use Rattle.std.specs.List.{All, remove}
+use Rattle.std.proofs.lemmas.Bool.{cases_lt}
+use Rattle.std.proofs.lemmas.List.{take_more, take_all}
+use Rattle.std.proofs.lemmas.List.Edits.{length-remove, get_or-remove_below, get_or-remove_above}
+use Rattle.std.proofs.lemmas.List.Elements.{All-from_get_or, All-get_or}
+use Rattle.board_text.specs.PlainBoard.{PlainBoard, IsBoard, BeatsPlace, places}
+use Rattle.board_text.specs.Domination.{has_bit}
+use Rattle.board_text.specs.declared.board.TheConstants.{MAX_LABELS}
+use Rattle.classes.specs.Classes.{Falls, IsClass}
+use Rattle.classes.specs.Numbers.{ways}
+use Rattle.classes.specs.ClassGaps.{AnswersGap}
+use Rattle.graphs.specs.Graph.{PlainGraph}
+use Rattle.graphs.specs.Answers.{AreAnswerBits}
+use Rattle.graphs.specs.ClassGraph.{gap_class, classes}
+use Rattle.graphs.specs.declared.graph.Numbering.TheVariants.{Classes}
+use Rattle.graphs.specs.Numbered.{numbered, graph_of, graph_by}
+use Rattle.graphs.specs.declared.families.Dominator.{Dominator}
+use Rattle.graphs.specs.declared.families.Family.{Family}
+use Rattle.graphs.specs.Inside.Families.{family_start, family_size, DominatesOthers, HasNoDominator, IsFamilyDominator}
+use Rattle.graphs.specs.Inside.Families.{IsFamily}
+use Rattle.graphs.specs.Inside.Families.{IsFilledTo}
+use Rattle.graphs.specs.Inside.Tables.{IsStruckTable}
+use Rattle.classes.specs.Families.{IsInFamily}
+use Rattle.classes.proofs.Cited.{last-family, least-below, least-some, next-family}
+use Rattle.graphs.proofs.ClassGraphs.{gap-is, classes-is}
+use Rattle.graphs.proofs.ClassTables.{answer-of, answer-in}
+use Rattle.graphs.proofs.StruckFamilies.{struck-own, struck-left, struck-no, one-dominator, some-place}
+
+-- a fact of all places but the one at an index
+pub of-others : (P : ℕ → Type 0) (list : List ℕ) (index : ℕ) → index < length list
+    → ((k : ℕ) → k < length list → k ≢ index → P (get_or list k 0)) → All P (remove list index)
+of-others P list index inside each =
+    let long = length-remove list index inside in
+    All-from_get_or P (remove list index) 0 (λ k low. elim (cases_lt k index) [
+      | inl before ↦ subst P (sym (get_or-remove_below list index 0 k before inside))
+          (each k (omega arith) (λ same. omega arith))
+      | inr behind ↦ subst P (sym (get_or-remove_above list index 0 k behind inside))
+          (each (k + 1) (omega arith) (λ same. omega arith))
+    ])
+
+pub others-of : (P : ℕ → Type 0) (list : List ℕ) (index : ℕ) → index < length list → All P (remove list index)
+    → (k : ℕ) → k < length list → k ≢ index → P (get_or list k 0)
+others-of P list index inside all k low differs =
+    let long = length-remove list index inside in
+    elim (cases_lt k index) [
+      | inl before ↦ subst P (get_or-remove_below list index 0 k before inside)
+          (All-get_or P (remove list index) k 0 (omega arith) all)
+      | inr behind ↦
+          let late : index ≤ k - 1 = omega (arith, differs) in
+          let one_more : k - 1 + 1 ≡ k = omega (arith, differs) in
+          subst P (get_or-remove_above list index 0 (k - 1) late inside ∙ ap (λ n. get_or list n 0) one_more)
+          (All-get_or P (remove list index) (k - 1) 0 (omega (arith, differs)) all)
+    ]
+
+pub dominates-all : (b : PlainBoard) (list : List ℕ) (index : ℕ) → index < length list
+    → get_or list index 0 < b.labels
+    → ((k : ℕ) → k < length list → k ≢ index → BeatsPlace b (get_or list index 0) (get_or list k 0))
+    → DominatesOthers b list index
+dominates-all b list index inside low each =
+    record { is_label = low; beats = of-others (BeatsPlace b (get_or list index 0)) list index inside each }
+
+pub dominated : (b : PlainBoard) (list : List ℕ) (index k : ℕ) → index < length list → DominatesOthers b list index
+    → k < length list → k ≢ index → BeatsPlace b (get_or list index 0) (get_or list k 0)
+dominated b list index k inside dominates low differs =
+    others-of (BeatsPlace b (get_or list index 0)) list index inside dominates.beats k low differs
+
+label_in : Option Dominator → ℕ
+label_in None = 0
+label_in (Some d) = d.label
+
+pub one-label : (o : Option Dominator) (d e : Dominator) → o ≡ Some d → o ≡ Some e → d.label ≡ e.label
+unfolding label_in
+one-label o d e is also = ap label_in (sym is ∙ also)
+
+-- a list copied before zeros, with one of them
+pub zero-behind : (class held : List ℕ) (index : ℕ) → index ≡ length held → length held < length class
+    → take index class ≡ take index held
+    → ((k : ℕ) → index ≤ k → get_or class k 0 ≡ 0) → take (suc (length held)) class ≡ held ++ (0 ∷ [])
+zero-behind class held index end room same zeros =
+    let one : suc (length held) ≡ length held + 1 = omega arith in
+    let front : take (length held) class ≡ held =
+    ap (λ n. take n class) (sym end) ∙ same ∙ take_all index held (omega arith) in
+    ap (λ n. take n class) one ∙ take_more class (length held) 0 room
+    ∙ ap (λ (l : List ℕ). l ++ (get_or class (length held) 0 ∷ [])) front
+    ∙ ap (λ n. held ++ (n ∷ [])) (zeros (length held) (omega arith))
+
+module _ (b : PlainBoard) (is : IsBoard b) where
+  -- the bits of a gap's row are the labels that answer
+  pub answer-bit : (g : ℕ) (row : List ℕ) → g < ways (b.pebbles - 1) (places b) → AreAnswerBits (classes b) g row
+      → (v : ℕ) → v < MAX_LABELS → (has_bit row v ≡ true) ↔ AnswersGap b (gap_class b g) v
+  answer-bit g row i are v small = (
+    λ set. answer-of b is g i v ((are.each v small).0 set),
+    λ answer. (are.each v small).1 (answer-in b is g i v answer),
+  )
+
+  -- no other place than the dominator dominates the others
+  no-other : (h : List ℕ) (v : ℕ) → Falls (places b) h → (o : Option Dominator)
+      → MatchOption o (HasNoDominator b h) (IsFamilyDominator b h)
+      → ((d : Dominator) → o ≡ Some d → BeatsPlace b d.label v → ⊥)
+      → (p : ℕ) → p < length h → DominatesOthers b h p → BeatsPlace b (get_or h p 0) v → ⊥
+  no-other h v falls None none not_beaten p inside dominates beaten = none p inside dominates
+  no-other h v falls (Some d) found not_beaten p inside dominates beaten =
+      not_beaten d refl (subst (λ x. BeatsPlace b x v)
+      (one-dominator b is h p found.index falls inside found.inside dominates found.dominates
+      ∙ sym found.label_is) beaten)
+
+  module _ (k : Family) (ok : IsFamily b k) (v : ℕ) (low : v < k.size) where
+    abbrev h : List ℕ
+    h = gap_class b k.gap
+
+    abbrev x : ℕ
+    x = k.start + v
+
+    inside : v < family_size b k.gap
+    inside = let size = ok.size_is in omega arith
+
+    here : family_start b k.gap + v ≡ x
+    here = ap (λ n. n + v) (sym ok.start_is)
+
+    dominator-of : (o : Option Dominator) (d : Dominator) → o ≡ Some d
+        → MatchOption o (HasNoDominator b h) (IsFamilyDominator b h) → IsFamilyDominator b h d
+    dominator-of o d e found =
+        subst (λ (q : Option Dominator). MatchOption q (HasNoDominator b h) (IsFamilyDominator b h)) e found
+
+    pub found-own : AnswersGap b h v → k.gap ≡ (classes b).struck x
+    found-own answer = sym (struck-own b is k.gap v ok.is_gap inside answer) ∙ ap (classes b).struck here
+
+    pub found-rest : (d : Dominator) → k.dominator ≡ Some d → BeatsPlace b d.label v
+        → d.rest + v ≡ (classes b).struck x
+    found-rest d e beaten =
+        let found = dominator-of k.dominator d e ok.dominator_is in
+        ap (λ n. n + v) found.rest_is
+        ∙ sym (struck-left b is k.gap v ok.is_gap inside found.index found.inside found.dominates
+        (subst (λ n. BeatsPlace b n v) found.label_is beaten))
+        ∙ ap (classes b).struck here
+
+    pub rest-most : (d : Dominator) → k.dominator ≡ Some d → BeatsPlace b d.label v → d.rest + v ≤ k.none
+    rest-most d e beaten =
+        let same = found-rest d e beaten in
+        let at = here in
+        let below = least-below (places b) (b.pebbles - 1) v h (some-place b is) (gap-is b is k.gap ok.is_gap) inside in
+        let one : suc (b.pebbles - 1) ≡ b.pebbles = (let some = is.pebbles.0 in omega arith) in
+        let whole = ap (λ n. ways n (places b)) one in
+        let most = (classes-is b is).struck_most x (omega arith) in
+        let none = ok.none_is in
+        omega arith
+
+    pub found-none : (AnswersGap b h v → ⊥) → ((d : Dominator) → k.dominator ≡ Some d → BeatsPlace b d.label v → ⊥)
+        → k.none ≡ (classes b).struck x
+    found-none no_answer not_beaten =
+        ok.none_is
+        ∙ sym (struck-no b is k.gap v ok.is_gap inside no_answer
+        (no-other h v (gap-is b is k.gap ok.is_gap).falls k.dominator ok.dominator_is not_beaten))
+        ∙ ap (classes b).struck here
+
+-- a part that is the whole table
+pub whole-part : (a : PlainGraph) (count : ℕ) (part : List ℕ) → IsFilledTo a 0 count part → count ≡ a.configurations
+    → length part ≡ a.configurations → IsStruckTable a part
+whole-part a count part filled count_is size = record {
+  size = size;
+  each = λ x i. filled x (omega arith) ∙ ap a.struck (let same : 0 + x ≡ x = omega arith in same);
+}
+
+-- the same of the graph that a trait's clauses name
+pub struck-shown : (b c : PlainBoard) → b ≡ c → (struck : List ℕ) → IsStruckTable (classes c) struck
+    → IsStruckTable (graph_of (numbered b Classes)) struck
+unfolding graph_by
+struck-shown b c same struck has = subst (λ (p : PlainBoard). IsStruckTable (classes p) struck) (sym same) has
+
+-- ---- from family to family
+
+-- the next entry is of the family of this gap
+pub record IsNext (b : PlainBoard) (gap start first filled : ℕ) : Type 0 where
+  pub is_gap : gap < ways (b.pebbles - 1) (places b)
+  pub start_is : start ≡ family_start b gap
+  pub reached : start ≤ first + filled
+  pub within : first + filled < start + family_size b gap
+
+module _ (b : PlainBoard) (is : IsBoard b) where
+  abbrev bound : ℕ
+  bound = places b
+
+  abbrev count : ℕ
+  count = b.pebbles - 1
+
+  all : ways (suc count) bound ≡ ways b.pebbles bound
+  all = ap (λ n. ways n bound) (let some = is.pebbles.0 in omega arith)
+
+  pub next-of : (gap start first : ℕ) → IsInFamily bound count gap first → start ≡ family_start b gap
+      → IsNext b gap start first 0
+  next-of gap start first in_family start_is =
+      let low = in_family.first in
+      let high = in_family.last in record {
+        is_gap = in_family.inside;
+        start_is = start_is;
+        reached = omega arith;
+        within = omega arith;
+      }
+
+  -- the end of a family is a class, or the end of all
+  pub end-below : (gap : ℕ) → gap < ways count bound → family_start b gap + family_size b gap ≤ ways b.pebbles bound
+  end-below gap low =
+      let whole = all in
+      elim (cases_lt (suc gap) (ways count bound)) [
+        | inl more ↦
+            let next = next-family bound count (some-place b is) gap more in
+            let below = least-below bound count 0 (gap_class b (suc gap)) (some-place b is) (gap-is b is (suc gap) more)
+            (least-some bound (gap_class b (suc gap)) (some-place b is)) in
+            omega arith
+        | inr end ↦ let last = last-family bound count (some-place b is) gap (omega arith) in omega arith
+      ]
+
+  -- if the family ends before the part does, the next one follows
+  pub next-after : (gap start first filled length size end : ℕ) → IsNext b gap start first filled
+      → size ≡ family_size b gap → first + length ≤ ways b.pebbles bound → end ≡ min length (start + size - first)
+      → end < length
+      → IsNext b (gap + 1) (start + size) first end
+  next-after gap start first filled length size end next size_is inside end_is more =
+      let low = next.is_gap in
+      let start_is = next.start_is in
+      let reached = next.reached in
+      let within = next.within in
+      let whole = all in
+      let some = least-some bound (gap_class b (suc gap)) (some-place b is) in
+      let here : first + end ≡ start + size = omega arith in
+      elim (cases_lt (suc gap) (ways count bound)) [
+        | inl another ↦
+            let follows = next-family bound count (some-place b is) gap another in
+            let one : suc gap ≡ gap + 1 = omega arith in
+            subst (λ g. IsNext b g (start + size) first end) one (record {
+              is_gap = another;
+              start_is = omega arith;
+              reached = omega arith;
+              within = omega arith;
+            })
+        | inr last ↦
+            let over = last-family bound count (some-place b is) gap (omega arith) in
+            absurd (omega arith)
+      ]
+
+  -- the places of a gap, as they are held
+  pub held-class : (g : ℕ) (held : List ℕ) → g < ways count bound → held ≡ gap_class b g
+      → (suc (length held) ≡ b.pebbles) × IsClass bound (length held) held
+  held-class g held i held_is =
+      let own = gap-is b is g i in
+      let some = is.pebbles.0 in
+      let size : length held ≡ count = ap length held_is ∙ own.size in (
+        omega arith,
+        subst (λ n. IsClass bound n held) (sym size) (subst (IsClass bound count) (sym held_is) own),
+      )
